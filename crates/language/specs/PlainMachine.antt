@@ -1,0 +1,87 @@
+-- The plain machine is document 01's term ("The third demand's run"): it "is fed the lines alone and sees no memory. It holds a
+-- tree for each channel". Its expressions are figure 4 on trees, "with memory without limit"; refusal 23's premises stay.
+use Prim.Native.Nat.{ℕ, zero, suc, _+_, _≤_, _<_}
+use mathlib.Core.List.{List, [], _∷_, _++_, map}
+use mathlib.Core.Bool.{Bool, true, false}
+use mathlib.Core.Option.{Option, none, some}
+use mathlib.Core.Path.{_≡_}
+use lib.ListN.{length, drop, getElem? as look}
+use Rattle.language.specs.Limits.{sizeMost}
+use Rattle.language.specs.Syntax.{Constructor, Size, ResultType, Op, Expr, ebool, eint, evar, enow, elast, elet, eif, eop, ecall, econ, ecase, eadj, efit, Exprs, enil, econs, lookExpr, Function, Node, File, constructorsOf, initialValues}
+use Rattle.language.specs.PlainTypes.{operandType}
+use Rattle.language.specs.Sizes.{sizeOfType}
+use Rattle.language.specs.Heap.{Constant, kbool, kint, Tree, vleaf, vcon, Trees, vnil, vcons, constantType, applyOp}
+use Rattle.language.specs.Values.{appendTrees, lookTree, treeSize, ownTreeSum, treesWithin}
+use Rattle.language.specs.Line.{lineTrees}
+
+-- the trees that `13` and `14` read: as they stand now, and before the line
+pub record TreeChannels : Type 0 where
+  pub now : List Tree
+  pub last : List Tree
+
+abbrev pub noTrees : TreeChannels
+noTrees = record { now = []; last = [] }
+
+module _ (P : File) where
+  mutual
+    pub data Derives : TreeChannels → Trees → Expr → Tree → Type 0 where
+      p-bool : {N : TreeChannels} {E : Trees} {b : Bool} → Derives N E (ebool b) (vleaf (kbool b))
+      p-int : {N : TreeChannels} {E : Trees} {n : ℕ} → Derives N E (eint n) (vleaf (kint n))
+      p-var : {N : TreeChannels} {E : Trees} {i : ℕ} {v : Tree} → lookTree E i ≡ some v → Derives N E (evar i) v
+      p-node : {N : TreeChannels} {E : Trees} {c : ℕ} {v : Tree} → look (N .now) c ≡ some v → Derives N E (enow c) v
+      p-atlast : {N : TreeChannels} {E : Trees} {c : ℕ} {v : Tree} → look (N .last) c ≡ some v → Derives N E (elast c) v
+      p-let : {N : TreeChannels} {E : Trees} {a b : Expr} {w v : Tree} → Derives N E a w → Derives N (appendTrees E (vcons w vnil)) b v → Derives N E (elet a b) v
+      p-if-then : {N : TreeChannels} {E : Trees} {a b d : Expr} {v : Tree} → Derives N E a (vleaf (kbool true)) → Derives N E b v → Derives N E (eif a b d) v
+      p-if-else : {N : TreeChannels} {E : Trees} {a b d : Expr} {v : Tree} → Derives N E a (vleaf (kbool false)) → Derives N E d v → Derives N E (eif a b d) v
+      p-op : {N : TreeChannels} {E : Trees} {o : Op} {a b : Expr} {x y z : Constant} → Derives N E a (vleaf x) → Derives N E b (vleaf y) →
+        constantType x ≡ operandType o → constantType y ≡ operandType o → z ≡ applyOp o x y → Derives N E (eop o a b) (vleaf z)
+      p-call : {N : TreeChannels} {E vs : Trees} {f : ℕ} {es : Exprs} {F : Function} {v : Tree} → look (P .functions) f ≡ some F → DerivesAll N E es vs → Derives noTrees vs (F .body) v → Derives N E (ecall f es) v
+      p-ctor : {N : TreeChannels} {E vs : Trees} {t c : ℕ} {es : Exprs} {fs : Constructor} → DerivesAll N E es vs → look (constructorsOf P t) c ≡ some fs →
+        ownTreeSum P vs fs < sizeMost → treesWithin P vs fs ≡ true → Derives N E (econ t c es) (vcon t c vs)
+      p-case : {N : TreeChannels} {E vs : Trees} {t c : ℕ} {e b : Expr} {r : ResultType} {bs : Exprs} {v : Tree} → Derives N E e (vcon t c vs) → lookExpr bs c ≡ some b →
+        Derives N (appendTrees E vs) b v → Derives N E (ecase t e r bs) v
+      p-adj : {N : TreeChannels} {E : Trees} {s : Size} {e : Expr} {v : Tree} → Derives N E e v → Derives N E (eadj s e) v
+      p-fit-success : {N : TreeChannels} {E : Trees} {k : ℕ} {a b d : Expr} {w v : Tree} → Derives N E a w → treeSize P w ≤ k → Derives N (appendTrees E (vcons w vnil)) b v → Derives N E (efit k a b d) v
+      p-fit-fail : {N : TreeChannels} {E : Trees} {k : ℕ} {a b d : Expr} {w v : Tree} → Derives N E a w → k < treeSize P w → Derives N E d v → Derives N E (efit k a b d) v
+
+    pub data DerivesAll : TreeChannels → Trees → Exprs → Trees → Type 0 where
+      ps-nil : {N : TreeChannels} {E : Trees} → DerivesAll N E enil vnil
+      ps-cons : {N : TreeChannels} {E vs : Trees} {e : Expr} {es : Exprs} {v : Tree} → Derives N E e v → DerivesAll N E es vs → DerivesAll N E (econs e es) (vcons v vs)
+
+  -- "then for each node, in the iteration's order, the tree that the evaluation rules derive for its update: `13` reads the trees as
+  -- they then stand, `14` those from before the line". done: the trees of the channels before; old: those of the nodes left.
+  pub data Nodes (last : List Tree) : List Node → List Tree → List Tree → List Tree → Type 0 where
+    no-nodes : {done old : List Tree} → Nodes last [] done old done
+    next-node : {n : Node} {ns : List Node} {done old result : List Tree} {v : Tree} →
+      Derives (record { now = done ++ old; last = last }) vnil (n .update) v → treeSize P v ≤ sizeOfType (n .declared) →
+      Nodes last ns (done ++ (v ∷ [])) (drop 1 old) result → Nodes last (n ∷ ns) done old result
+
+  -- "An allowed line puts in its own trees for the inputs"; "Any other line changes nothing."
+  pub data Step (before : List Tree) (line : List ℕ) : List Tree → Type 0 where
+    allowed : {vs result : List Tree} → lineTrees P line ≡ some vs → Nodes before (P .nodes) vs (drop (length (P .inputs)) before) result → Step before line result
+    other : lineTrees P line ≡ none → Step before line before
+
+-- the tree of an initial value, which uses `10`, `11`, `19` and `1B` only
+unfoldable mutual
+  pub initialTree : Expr → Tree
+  initialTree (ebool b) = vleaf (kbool b)
+  initialTree (eint n) = vleaf (kint n)
+  initialTree (evar v) = vleaf (kbool false)
+  initialTree (enow c) = vleaf (kbool false)
+  initialTree (elast c) = vleaf (kbool false)
+  initialTree (elet a b) = vleaf (kbool false)
+  initialTree (eif a b d) = vleaf (kbool false)
+  initialTree (eop o a b) = vleaf (kbool false)
+  initialTree (ecall f es) = vleaf (kbool false)
+  initialTree (econ t c es) = vcon t c (initialFields es)
+  initialTree (ecase t e r bs) = vleaf (kbool false)
+  initialTree (eadj s e) = initialTree e
+  initialTree (efit k a b d) = vleaf (kbool false)
+
+  pub initialFields : Exprs → Trees
+  initialFields enil = vnil
+  initialFields (econs e es) = vcons (initialTree e) (initialFields es)
+
+-- "at first its initial value's"
+abbrev pub initialTrees : File → List Tree
+initialTrees P = map initialTree (initialValues P)

@@ -1,0 +1,17 @@
+pub mod Opened
+pub mod Tins
+pub mod Lists
+pub mod Tests
+pub mod Stopped
+pub mod TypedTrees
+pub mod CellsEquation
+pub mod CellsMost
+pub mod CellsReached
+pub mod HeapTrees
+pub mod Heaps
+pub mod RulesGive
+pub mod PlainTyping
+pub mod PlainTypesAgree
+pub mod PlainValues
+pub mod Fates
+pub mod EvaluatorAgrees

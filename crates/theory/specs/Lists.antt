@@ -1,0 +1,72 @@
+-- Looking into lists, and tests that hold.
+use Prim.Native.Nat.{ℕ, zero, suc, _+_, _<_}
+use mathlib.Core.List.{List, [], _∷_, _++_, map}
+use mathlib.Core.Bool.{Bool, true, false}
+use mathlib.Core.Option.{none, some}
+use mathlib.Core.Path.{_≡_, refl, subst}
+use native.Mathlib.Omega.{arith}
+use native.Mathlib.Nat.{zero-add, suc-add}
+use lib.ListN.{length, getD, getElem? as look}
+use Rattle.language.specs.Result.{both}
+use Rattle.language.specs.Within.{All, all-nil, all-cons}
+
+pub none-is-not-some : {A B : Type 0} {a : A} → none ≡ some a → B
+none-is-not-some e = absurd (let z : _≡_ {A = ℕ} 0 1 = cc in omega arith)
+
+pub false-is-not-true : {B : Type 0} → false ≡ true → B
+false-is-not-true e = absurd (let z : _≡_ {A = ℕ} 0 1 = cc in omega arith)
+
+-- ---- lists
+pub look-getD : {A : Type 0} (l : List A) (i : ℕ) (d : A) {a : A} → look l i ≡ some a → getD l i d ≡ a
+look-getD [] i d e = none-is-not-some e
+look-getD (x ∷ l) zero d e = cc
+look-getD (x ∷ l) (suc i) d e = look-getD l i d e
+
+pub look-less : {A : Type 0} (l : List A) (i : ℕ) {a : A} → look l i ≡ some a → i < length l
+look-less [] i e = none-is-not-some e
+look-less (x ∷ l) zero e = omega arith
+look-less (x ∷ l) (suc i) e = omega (arith, look-less l i e)
+
+-- what is looked up in the i-th list: that list is there
+pub look-inner-less : {A : Type 0} (l : List (List A)) (i j : ℕ) {a : A} → look (getD l i []) j ≡ some a → i < length l
+look-inner-less [] i j e = none-is-not-some e
+look-inner-less (x ∷ l) zero j e = omega arith
+look-inner-less (x ∷ l) (suc i) j e = omega (arith, look-inner-less l i j e)
+
+pub all-at : {A : Type 0} {Q : A → Type 0} {l : List A} → All Q l → (i : ℕ) {a : A} → look l i ≡ some a → Q a
+all-at all-nil i e = none-is-not-some e
+all-at {Q} (all-cons q qs) zero e = subst Q (cc) q
+all-at (all-cons q qs) (suc i) e = all-at qs i e
+
+pub look-new : {A : Type 0} (l : List A) (a : A) → look (l ++ (a ∷ [])) (length l) ≡ some a
+look-new [] a = refl
+look-new (x ∷ l) a = look-new l a
+
+pub look-append : {A : Type 0} (l m : List A) (i : ℕ) {a : A} → look l i ≡ some a → look (l ++ m) i ≡ some a
+look-append [] m i e = none-is-not-some e
+look-append (x ∷ l) m zero e = e
+look-append (x ∷ l) m (suc i) e = look-append l m i e
+
+pub look-past : {A : Type 0} (l m : List A) (i : ℕ) → look (l ++ m) (length l + i) ≡ look m i
+look-past [] m i = rw zero-add
+look-past (x ∷ l) m i = rw suc-add (look-past l m i)
+
+pub look-map : {A B : Type 0} (f : A → B) (l : List A) (i : ℕ) {a : A} → look l i ≡ some a → look (map f l) i ≡ some (f a)
+look-map f [] i e = none-is-not-some e
+look-map f (x ∷ l) zero {a} e = let z : x ≡ a = cc in rw z
+look-map f (x ∷ l) (suc i) e = look-map f l i e
+
+-- ---- tests
+pub both-left : (a b : Bool) → both a b ≡ true → a ≡ true
+unfolding both
+both-left true b e = refl
+both-left false b e = e
+
+pub both-right : (a b : Bool) → both a b ≡ true → b ≡ true
+unfolding both
+both-right true b e = e
+both-right false b e = false-is-not-true e
+
+pub both-true : {a b : Bool} → a ≡ true → b ≡ true → both a b ≡ true
+unfolding both
+both-true p q = rw (p, q)

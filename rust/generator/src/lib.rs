@@ -1,0 +1,23 @@
+//! A seeded generator of rule files, input lines and states, whole and
+//! damaged, and a writer from the syntax to the strict text.
+
+pub mod random;
+pub mod writer;
+
+pub mod build;
+pub mod examples;
+
+pub mod expressions;
+pub mod files;
+pub mod functions;
+pub mod linear;
+pub mod scope;
+pub mod types;
+
+pub mod states;
+pub mod values;
+
+pub mod case;
+pub mod damage;
+pub mod edges;
+pub mod mixture;

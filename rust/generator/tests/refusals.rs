@@ -1,0 +1,230 @@
+//! Refusals of the reader and of plain types: small files, one fault each.
+
+mod support;
+
+use evaluator::answer::Board;
+use support::Lent;
+
+/// A list type, a node of type Int, and a function that is not called.
+const LIST: &str = "010200020102\n";
+const NODE: &str = "040111000000001100000001\n";
+
+/// The number and frame that a text is answered with.
+fn refusal(text: &str) -> (u32, u32) {
+    let answer = Lent::new(Board::LARGEST, 0).check(text.as_bytes());
+    (answer.number, answer.frame)
+}
+
+/// Each row: what is tried, the text, number and frame.
+fn try_rows(rows: &[(&str, String, u32, u32)]) {
+    for (what, text, number, frame) in rows {
+        assert_eq!(refusal(text), (*number, *frame), "{what}: {text}");
+    }
+}
+
+fn node(update: &str) -> String {
+    format!("0401{zero}{update}\n", zero = "1100000000")
+}
+
+fn with_list(rest: &str) -> String {
+    format!("{LIST}{rest}")
+}
+
+#[test]
+fn lines() {
+    try_rows(&[
+        ("the empty text has no node", String::new(), 3, 1),
+        ("an empty line", format!("{LIST}\n{NODE}"), 2, 2),
+        ("an odd line", format!("{LIST}040\n"), 2, 2),
+        ("lower case", NODE.replace("04", "0a"), 2, 1),
+        ("no LF at the end", NODE.trim_end().to_string(), 2, 1),
+        ("CR before LF", NODE.replace('\n', "\r\n"), 2, 1),
+        (
+            "2 is judged over the whole text before 3",
+            "09\nX\n".into(),
+            2,
+            2,
+        ),
+        ("the first bad line", "0G\n\n".into(), 2, 1),
+    ]);
+}
+
+#[test]
+fn kinds() {
+    let nodes = |count: usize| NODE.repeat(count);
+    let input = "03011100000000\n";
+    try_rows(&[
+        ("kind 00", format!("00\n{NODE}"), 3, 1),
+        ("kind 05", format!("05\n{NODE}"), 3, 1),
+        ("a type after a node", format!("{NODE}{LIST}"), 3, 2),
+        ("a ninth type", format!("{}{NODE}", LIST.repeat(9)), 3, 9),
+        ("eight types", format!("{}{NODE}", LIST.repeat(8)), 0, 0),
+        ("a ninth input", format!("{}{NODE}", input.repeat(9)), 3, 9),
+        ("a 17th node", nodes(17), 3, 17),
+        ("sixteen nodes", nodes(16), 0, 0),
+        ("no node", LIST.into(), 3, 2),
+        ("no node, judged after the frames", "0109\n".into(), 7, 1),
+        (
+            "no node, judged before plain types",
+            "030110\n".into(),
+            4,
+            1,
+        ),
+        ("no node before 9", "03011000\n".into(), 3, 2),
+        ("a kind alone", "04\n".into(), 4, 1),
+    ]);
+}
+
+#[test]
+fn bytes_in_order() {
+    try_rows(&[
+        ("bytes go on", node("110000000100"), 4, 1),
+        ("bytes end early", node("11000000"), 4, 1),
+        ("a count of 9 with nothing after it", "0109\n".into(), 7, 1),
+        ("no constructor", "0100\n".into(), 7, 1),
+        ("five fields", "010105\n".into(), 7, 1),
+        ("a field code", "01010104\n".into(), 5, 1),
+        ("a type inside itself", "010101030001\n".into(), 6, 1),
+        ("t before k", "0101010300FF\n".into(), 6, 1),
+        ("k of 0", with_list("010101030000\n"), 7, 2),
+        ("k of 65", with_list("010101030041\n"), 7, 2),
+        (
+            "bytes that go on come before 8",
+            "0101010200\n".into(),
+            4,
+            1,
+        ),
+        (
+            "no constructor is free of the type",
+            "01010102\n".into(),
+            8,
+            1,
+        ),
+        ("an expression code", node("1D"), 5, 1),
+        ("a Bool of 2", node("1002"), 5, 1),
+        ("an operator", node("1708"), 5, 1),
+        ("nine parameters", "0209\n".into(), 7, 1),
+        ("a parameter's type", "020103\n".into(), 5, 1),
+        ("a relation", with_list("02010200010103\n"), 5, 2),
+        ("a size code", with_list("0201020002000500\n"), 5, 2),
+        ("a size variable", with_list("0201020002000201\n"), 6, 2),
+        (
+            "a measure's variable",
+            with_list("02010200010001010000\n"),
+            6,
+            2,
+        ),
+        ("a declared size of 0", with_list("04020000\n"), 7, 2),
+        (
+            "a fit to 0",
+            with_list("0401110000000 01C00\n").replace(' ', ""),
+            7,
+            2,
+        ),
+        ("a fit to 65", node("1C41"), 7, 1),
+        ("a constructor", with_list(&node("190002")), 6, 2),
+        (
+            "a type before its constructor",
+            with_list(&node("1901FF")),
+            6,
+            2,
+        ),
+    ]);
+}
+
+#[test]
+fn names() {
+    let function = |body: &str| format!("0200010000{body}\n{NODE}");
+    try_rows(&[
+        ("a channel in a function", function("1300"), 6, 1),
+        ("a channel's byte missing", "020001000013\n".into(), 4, 1),
+        ("a previous value in a function", function("1400"), 6, 1),
+        ("a channel as initial value", "04011300\n".into(), 6, 1),
+        ("a variable as initial value", "04011200\n".into(), 6, 1),
+        ("a node's own value", node("1300"), 6, 1),
+        ("its previous value", node("1400"), 0, 0),
+        (
+            "a later node's previous value",
+            format!("{}{NODE}", node("1401")),
+            0,
+            0,
+        ),
+        ("no such channel", format!("{}{NODE}", node("1402")), 6, 1),
+        (
+            "a later node's value",
+            format!("{}{NODE}", node("1301")),
+            6,
+            1,
+        ),
+        ("a later function", function("1801"), 6, 1),
+        ("the function itself", function("1800"), 0, 0),
+        ("no such function", node("1800"), 6, 1),
+        (
+            "14 counts lines of a later place too",
+            "0401110000000014010000\n0300\n".into(),
+            4,
+            1,
+        ),
+    ]);
+}
+
+#[test]
+fn plain_types() {
+    try_rows(&[
+        ("a sum of Bools", node("170010001000"), 9, 1),
+        ("a Bool node", "040010001100000000\n".into(), 9, 1),
+        (
+            "an initial value of another type",
+            "040110001100000000\n".into(),
+            9,
+            1,
+        ),
+        (
+            "an operation as initial value",
+            "0401170011000000001100000000110000 0000\n".replace(' ', ""),
+            9,
+            1,
+        ),
+        (
+            "a let that binds inside an initial value",
+            "040115110000000012001100000000\n".into(),
+            9,
+            1,
+        ),
+        (
+            "an unreached function",
+            format!("02000100001000\n{NODE}"),
+            9,
+            1,
+        ),
+        ("adj of an Int", node("1B01011100000001"), 9, 1),
+        (
+            "fit of an Int",
+            node("1C01110000000111000000011100000001"),
+            9,
+            1,
+        ),
+        (
+            "a branch",
+            with_list(&node("1A0019000001100012 00").replace(' ', "")),
+            9,
+            2,
+        ),
+        ("arms", node("161001100111 00000000").replace(' ', ""), 9, 1),
+        (
+            "equal shapes are different types",
+            format!(
+                "{LIST}{LIST}{}",
+                node("1A00190100011100000000110000 0000").replace(' ', "")
+            ),
+            9,
+            3,
+        ),
+        (
+            "the first frame in file order",
+            format!("02000100001000\n{}", node("1000")),
+            9,
+            1,
+        ),
+    ]);
+}
