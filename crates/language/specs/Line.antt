@@ -22,35 +22,35 @@ valueTrees p (suc n) = do
   return (vcons v vs)
 
 -- what stands behind the code of a value; inner reads a field
-unfoldable pub valueOf : File → Parser Tree → Form → Parser Tree
-valueOf P inner boolForm = do
+unfoldable pub valueBehind : File → Parser Tree → Form → Parser Tree
+valueBehind P inner boolForm = do
   b ← code 0x00 bools
   return (vleaf (kbool b))
-valueOf P inner intForm = do
+valueBehind P inner intForm = do
   n ← int
   return (vleaf (kint n))
-valueOf P inner conForm = do
+valueBehind P inner conForm = do
   t ← index (length (P .types))
   c ← index (length (constructorsOf P t))
   vs ← valueTrees inner (length (fieldsOf P t c))
   return (vcon t c vs)
-valueOf P inner varForm = refuse 19
-valueOf P inner nowForm = refuse 19
-valueOf P inner lastForm = refuse 19
-valueOf P inner letForm = refuse 19
-valueOf P inner ifForm = refuse 19
-valueOf P inner opForm = refuse 19
-valueOf P inner callForm = refuse 19
-valueOf P inner caseForm = refuse 19
-valueOf P inner adjForm = refuse 19
-valueOf P inner fitForm = refuse 19
+valueBehind P inner varForm = refuse 19
+valueBehind P inner nowForm = refuse 19
+valueBehind P inner lastForm = refuse 19
+valueBehind P inner letForm = refuse 19
+valueBehind P inner ifForm = refuse 19
+valueBehind P inner opForm = refuse 19
+valueBehind P inner callForm = refuse 19
+valueBehind P inner caseForm = refuse 19
+valueBehind P inner adjForm = refuse 19
+valueBehind P inner fitForm = refuse 19
 
 -- a value that takes at most n bytes
 unfoldable pub valueAt : ℕ → File → Parser Tree
 valueAt zero P = refuse 19
 valueAt (suc n) P = do
   form ← code 0x10 forms
-  valueOf P (valueAt n P) form
+  valueBehind P (valueAt n P) form
 
 -- values for the inputs, and no byte more
 unfoldable pub allRead : Read (List Tree) → Option (List Tree)

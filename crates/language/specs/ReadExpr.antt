@@ -22,11 +22,11 @@ unfoldable pub bound : Parser ℕ
 bound = count 1 sizeMost
 
 -- types is the number of types that may be named here
-unfoldable pub fieldOf : ℕ → FieldForm → Parser Field
-fieldOf types boolField = return fbool
-fieldOf types intField = return fint
-fieldOf types ownField = return own
-fieldOf types otherField = do
+unfoldable pub fieldBehind : ℕ → FieldForm → Parser Field
+fieldBehind types boolField = return fbool
+fieldBehind types intField = return fint
+fieldBehind types ownField = return own
+fieldBehind types otherField = do
   t ← index types
   k ← bound
   return (other t k)
@@ -34,7 +34,7 @@ fieldOf types otherField = do
 unfoldable pub field : ℕ → Parser Field
 field types = do
   form ← code 0x00 fieldForms
-  fieldOf types form
+  fieldBehind types form
 
 -- a type: Bool, Int or a named one
 pub data TypeForm : Type 0 where
@@ -43,22 +43,22 @@ pub data TypeForm : Type 0 where
 abbrev pub typeForms : List TypeForm
 typeForms = boolType ∷ intType ∷ namedType ∷ []
 
-unfoldable pub plainOf : ℕ → TypeForm → Parser Plain
-plainOf types boolType = return pbool
-plainOf types intType = return pint
-plainOf types namedType = do
+unfoldable pub plainBehind : ℕ → TypeForm → Parser Plain
+plainBehind types boolType = return pbool
+plainBehind types intType = return pint
+plainBehind types namedType = do
   t ← index types
   return (pnamed t)
 
 unfoldable pub plain : ℕ → Parser Plain
 plain types = do
   form ← code 0x00 typeForms
-  plainOf types form
+  plainBehind types form
 
-unfoldable pub declaredOf : ℕ → TypeForm → Parser Ty
-declaredOf types boolType = return tbool
-declaredOf types intType = return tint
-declaredOf types namedType = do
+unfoldable pub declaredBehind : ℕ → TypeForm → Parser Ty
+declaredBehind types boolType = return tbool
+declaredBehind types intType = return tint
+declaredBehind types namedType = do
   t ← index types
   k ← bound
   return (tnamed t k)
@@ -66,7 +66,7 @@ declaredOf types namedType = do
 unfoldable pub declared : ℕ → Parser Ty
 declared types = do
   form ← code 0x00 typeForms
-  declaredOf types form
+  declaredBehind types form
 
 pub data SizeForm : Type 0 where
   litSize varSize plusSize minusSize : SizeForm
@@ -75,18 +75,18 @@ abbrev pub sizeForms : List SizeForm
 sizeForms = litSize ∷ varSize ∷ plusSize ∷ minusSize ∷ []
 
 -- vars is the number of size variables in scope; inner reads a size one level further in
-unfoldable pub sizeOf : ℕ → Parser Size → SizeForm → Parser Size
-sizeOf vars inner litSize = do
+unfoldable pub sizeBehind : ℕ → Parser Size → SizeForm → Parser Size
+sizeBehind vars inner litSize = do
   k ← byte
   return (lit k)
-sizeOf vars inner varSize = do
+sizeBehind vars inner varSize = do
   i ← index vars
   return (svar i)
-sizeOf vars inner plusSize = do
+sizeBehind vars inner plusSize = do
   a ← inner
   b ← inner
   return (plus a b)
-sizeOf vars inner minusSize = do
+sizeBehind vars inner minusSize = do
   a ← inner
   b ← inner
   return (minus a b)
@@ -98,15 +98,15 @@ sizeAt zero vars = do
   refuse 7
 sizeAt (suc n) vars = do
   form ← codeIn true 0x01 sizeForms
-  sizeOf vars (sizeAt n vars) form
+  sizeBehind vars (sizeAt n vars) form
 
 abbrev pub size : ℕ → Parser Size
 size vars = sizeAt nestingMost vars
 
-unfoldable pub resultOf : ℕ → ℕ → TypeForm → Parser ResultType
-resultOf types vars boolType = return rbool
-resultOf types vars intType = return rint
-resultOf types vars namedType = do
+unfoldable pub resultBehind : ℕ → ℕ → TypeForm → Parser ResultType
+resultBehind types vars boolType = return rbool
+resultBehind types vars intType = return rint
+resultBehind types vars namedType = do
   t ← index types
   s ← size vars
   return (rnamed t s)
@@ -114,7 +114,7 @@ resultOf types vars namedType = do
 unfoldable pub result : ℕ → ℕ → Parser ResultType
 result types vars = do
   form ← code 0x00 typeForms
-  resultOf types vars form
+  resultBehind types vars form
 
 -- ---- expressions
 
@@ -156,56 +156,56 @@ branches inner S (fs ∷ cs) = do
   return (econs b bs)
 
 -- what stands behind the code of a form; inner reads an expression one level further in
-unfoldable pub exprOf : (Scope → Parser Expr) → Scope → Form → Parser Expr
-exprOf inner S boolForm = do
+unfoldable pub exprBehind : (Scope → Parser Expr) → Scope → Form → Parser Expr
+exprBehind inner S boolForm = do
   b ← code 0x00 bools
   return (ebool b)
-exprOf inner S intForm = do
+exprBehind inner S intForm = do
   n ← int
   return (eint n)
-exprOf inner S varForm = do
+exprBehind inner S varForm = do
   v ← index (S .variables)
   return (evar v)
-exprOf inner S nowForm = do
+exprBehind inner S nowForm = do
   c ← index (S .now)
   return (enow c)
-exprOf inner S lastForm = do
+exprBehind inner S lastForm = do
   c ← index (S .last)
   return (elast c)
-exprOf inner S letForm = do
+exprBehind inner S letForm = do
   a ← inner S
   b ← inner (wider 1 0 S)
   return (elet a b)
-exprOf inner S ifForm = do
+exprBehind inner S ifForm = do
   a ← inner S
   b ← inner S
   d ← inner S
   return (eif a b d)
-exprOf inner S opForm = do
+exprBehind inner S opForm = do
   o ← code 0x00 ops
   a ← inner S
   b ← inner S
   return (eop o a b)
-exprOf inner S callForm = do
+exprBehind inner S callForm = do
   f ← index (length (S .arities))
   es ← exprs (inner S) (getD (S .arities) f 0)
   return (ecall f es)
-exprOf inner S conForm = do
+exprBehind inner S conForm = do
   t ← index (length (S .types))
   c ← index (length (getD (S .types) t []))
   es ← exprs (inner S) (length (getD (getD (S .types) t []) c []))
   return (econ t c es)
-exprOf inner S caseForm = do
+exprBehind inner S caseForm = do
   t ← index (length (S .types))
   e ← inner S
   r ← result (length (S .types)) (S .sizes)
   bs ← branches inner S (getD (S .types) t [])
   return (ecase t e r bs)
-exprOf inner S adjForm = do
+exprBehind inner S adjForm = do
   s ← size (S .sizes)
   e ← inner S
   return (eadj s e)
-exprOf inner S fitForm = do
+exprBehind inner S fitForm = do
   k ← bound
   a ← inner S
   b ← inner (wider 1 0 S)
@@ -219,7 +219,7 @@ exprAt zero S = do
   refuse 7
 exprAt (suc n) S = do
   form ← codeIn (roomIn S) 0x10 forms
-  exprOf (exprAt n) S form
+  exprBehind (exprAt n) S form
 
 abbrev pub expr : Scope → Parser Expr
 expr S = exprAt nestingMost S

@@ -43,8 +43,8 @@ pub struct Loan<'a> {
 /// leaves the old state; scratch and slots end zero either way.
 pub fn start(text: &[u8], board: Board, instances: &mut [Instance], loan: Loan) -> Answer {
     let started = read(text).and_then(|file| {
-        let lent = loan.is_long_enough(board) && instances.len() >= INSTANCES;
-        require(board.within_maximum() && lent)?;
+        require(board.within_maximum())?;
+        require(instances.len() >= INSTANCES && loan.is_long_enough(board))?;
         let bounds = checker::check(&file, InstanceList::new(instances))?;
         Ok((file, bounds))
     });

@@ -3,11 +3,11 @@
 use std::io;
 use std::thread;
 
-/// The checker may go 1,024 bodies deep, each nested 32, in cases one in the
-/// branch of the other, which take most stack a level. Such a file
+/// The checker may go 1,024 bodies deep, each nested 32. Calls one in the
+/// argument of the other take most stack a level. Such a file
 /// (`deepest_bodies` of the generator) was checked on threads of falling stack
-/// size: built for release it passes with 16 MiB and overflows with 12, built
-/// for debugging it passes with 96 MiB and overflows with 64. Pages that are
+/// size: built for release it passes with 24 MiB and overflows with 22, built
+/// for debugging it passes with 72 MiB and overflows with 64. Pages that are
 /// not touched cost nothing, so the margin is wide.
 pub const STACK_BYTES: usize = 1 << 30;
 

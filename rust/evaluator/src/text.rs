@@ -20,7 +20,7 @@ pub fn frames(text: &[u8]) -> Result<Vec<Vec<u8>>, Fault> {
 /// One line with its LF as bytes: not empty, even, hexadecimal.
 pub fn frame(line: &[u8]) -> Option<Vec<u8>> {
     let digits = line.strip_suffix(&[LINE_FEED])?;
-    if digits.is_empty() || digits.len() % 2 != 0 {
+    if digits.is_empty() || !digits.len().is_multiple_of(2) {
         return None;
     }
     digits.chunks_exact(2).map(pair).collect()

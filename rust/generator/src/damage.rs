@@ -63,7 +63,7 @@ fn remove_byte(random: &mut Random, bytes: &mut Vec<u8>) {
 fn telling_byte(random: &mut Random) -> u8 {
     let limits = [LARGEST_SIZE, NESTING, PARAMETERS, SIZE_VARIABLES];
     match random.below(8) {
-        0 => random.next() as u8,
+        0 => random.number() as u8,
         1 => *random.pick(&limits) as u8 + random.below(2) as u8,
         2 | 3 => random.between(expression::BOOL.into(), expression::FIT.into()) as u8,
         _ => random.below(kind::LINE.into()) as u8,
@@ -161,7 +161,7 @@ pub fn damage_state(random: &mut Random, words: &mut Vec<u32>) {
     match random.below(10) {
         0 => words[0] = random_word(random, words[0]),
         1 => drop(words.pop()),
-        2 => words.push(random.next() as u32),
+        2 => words.push(random.number() as u32),
         3 => {
             let anywhere = random.below(words.len());
             words[anywhere] = random_word(random, words[anywhere]);
@@ -173,7 +173,7 @@ pub fn damage_state(random: &mut Random, words: &mut Vec<u32>) {
 
 fn random_word(random: &mut Random, old: u32) -> u32 {
     match random.below(5) {
-        0 => random.next() as u32,
+        0 => random.number() as u32,
         1 => 1 << random.below(32),
         2 => random.below(300) as u32,
         3 => old.wrapping_sub(1),

@@ -165,46 +165,48 @@ pub fn doubling(functions: usize) -> File {
 }
 
 /// As many bodies inside one another as there may be instances, each nested as
-/// deep as an expression may be: what the checker needs most stack for.
+/// deep as an expression may be, in calls one in the argument of the other:
+/// what the checker needs most stack for.
 pub fn deepest_bodies() -> File {
-    let functions = INSTANCES / LARGEST_SIZE;
+    let deep_functions = INSTANCES / LARGEST_SIZE;
+    let identity = int_function(vec![PlainType::Int], vec![], variable(0));
+    let mut functions = vec![identity];
+    functions.extend((1..=deep_functions).map(deep_function));
+    // One size less leaves an instance for the identity.
+    let update = deep_call(deep_functions, LARGEST_SIZE - 1);
     File {
         // Cons first, so that a list is shortened before the next function
-        // begins; then a type with nothing to bind.
-        types: vec![
-            definition(&[&[Field::Int, Field::Own], &[]]),
-            definition(&[&[]]),
-        ],
-        functions: (0..functions).map(deep_function).collect(),
-        nodes: vec![int_node(deep_call(functions - 1))],
+        // begins.
+        types: vec![definition(&[&[Field::Int, Field::Own], &[]])],
+        functions,
+        nodes: vec![int_node(update)],
         ..File::default()
     }
 }
 
-fn deep_call(function: usize) -> Expression {
+const IDENTITY: usize = 0;
+
+fn deep_call(function: usize, size: usize) -> Expression {
     let nil = construction(LIST, 1, vec![]);
-    call(function, vec![adjust(constant(LARGEST_SIZE as u8), nil)])
+    call(function, vec![adjust(constant(size as u8), nil)])
 }
 
 fn deep_function(at: usize) -> Function {
-    // The outer case, the call and its argument are levels too.
-    let cases_of_shorter = NESTING - 3;
-    let cases_of_next = cases_of_shorter - 1;
-    let shorter = deep_cases(cases_of_shorter, call(at, vec![variable(2)]));
-    let next = match at.checked_sub(1) {
-        Some(before) => deep_cases(cases_of_next, deep_call(before)),
-        None => int(0),
+    // The case, the innermost call and its argument are levels too.
+    let calls_of_shorter = NESTING - 3;
+    let calls_of_next = calls_of_shorter - 1;
+    let shorter = deep_calls(calls_of_shorter, call(at, vec![variable(2)]));
+    let next = match at - 1 {
+        IDENTITY => int(0),
+        before => deep_calls(calls_of_next, deep_call(before, LARGEST_SIZE)),
     };
     let body = case(LIST, variable(0), WrittenType::Int, vec![shorter, next]);
     int_function(vec![PlainType::Named(LIST)], vec![0], body)
 }
 
-/// Cases that bind nothing, one in the branch of the other.
-fn deep_cases(count: usize, innermost: Expression) -> Expression {
-    let unit = 1;
-    let scrutinee = || construction(unit, 0, vec![]);
-    let around = |inner, _| case(unit, scrutinee(), WrittenType::Int, vec![inner]);
-    (0..count).fold(innermost, around)
+/// Calls of the identity, one in the argument of the other.
+fn deep_calls(count: usize, innermost: Expression) -> Expression {
+    (0..count).fold(innermost, |inner, _| call(IDENTITY, vec![inner]))
 }
 
 /// One file at each limit and one just over it, as texts.

@@ -96,11 +96,14 @@ pub struct Range {
 
 /// The least value of a form; none where nothing bounds it.
 pub fn least(form: &Linear, ranges: &[Range]) -> Option<i64> {
-    let terms = form.terms.iter().map(|(atom, factor)| match *factor > 0 {
-        true => Some(factor * ranges[*atom].least),
-        false => Some(factor * ranges[*atom].most?),
-    });
-    terms.fold(Some(form.constant), |sum, term| Some(sum? + term?))
+    let mut terms = form.terms.iter();
+    terms.try_fold(form.constant, |sum, (atom, factor)| {
+        let bound = match *factor > 0 {
+            true => Some(ranges[*atom].least),
+            false => ranges[*atom].most,
+        };
+        Some(sum + factor * bound?)
+    })
 }
 
 /// The largest value of a form; none where nothing bounds it.

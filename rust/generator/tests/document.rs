@@ -1,21 +1,19 @@
-//! "Tins to try" of document 01, and its "false friends".
+//! "Tins to try" of document 01.
 
 mod support;
 
 use evaluator::answer::{Answer, Board, Bounds};
-use evaluator::cells::CellTable;
 use evaluator::estimate::Estimate;
 use evaluator::sizes;
-use evaluator::syntax::{Expression, Field, File, Input, Node, Operator, SizedType};
+use evaluator::syntax::{Expression, File, Node, Operator, SizedType};
 use evaluator::value::Tree;
-use generator::build::{
-    adjust, constant, construction, declared, definition, fit, int, operation, variable,
-};
+use generator::build::{adjust, constant, construction, declared, fit, int, operation};
 use generator::examples::listing3::{INSERT, SEARCH, TAIL};
 use generator::examples::{listing3, top10sum};
 use generator::random::Random;
 use generator::writer;
 use std::rc::Rc;
+use support::lists::{list_of, list_to};
 use support::{exact, Lent};
 
 const LISTING3_BOUNDS: Bounds = Bounds {
@@ -86,13 +84,6 @@ fn listing3_is_refused_by_smaller_boards() {
         assert_eq!(lent.check(&text), refused(number, LISTING3_BOUNDS));
         assert_eq!(lent.start(&text), refused(number, LISTING3_BOUNDS));
     }
-}
-
-#[test]
-fn cells_of_that_list_at_1_and_5_are_1_and_9() {
-    let table = CellTable::new(&listing3().types);
-    assert_eq!(table.of(declared(0, 1)), 1);
-    assert_eq!(table.of(declared(0, 5)), 9);
 }
 
 fn listing3_line(reset: bool, v: i32) -> Vec<u8> {
@@ -184,41 +175,6 @@ fn sums_and_products_wrap() {
     assert_eq!(*computed(product), Tree::Int(0));
 }
 
-/// A list input of size `size` and a node computed from it.
-fn list_to(size: usize, declared_node: SizedType, initial: Expression, update: Expression) -> File {
-    File {
-        types: vec![definition(&[&[], &[Field::Int, Field::Own]])],
-        inputs: vec![Input {
-            declared: declared(0, size),
-            initial: adjust(constant(size as u8), construction(0, 0, vec![])),
-        }],
-        nodes: vec![Node {
-            declared: declared_node,
-            initial,
-            update,
-        }],
-        ..File::default()
-    }
-}
-
-fn list_of(length: usize) -> Rc<Tree> {
-    let nil = Rc::new(Tree::Construction {
-        type_index: 0,
-        constructor: 0,
-        size: 1,
-        fields: vec![],
-    });
-    let cons = |tail: Rc<Tree>, head: usize| {
-        Rc::new(Tree::Construction {
-            type_index: 0,
-            constructor: 1,
-            size: 1 + tail.size(),
-            fields: vec![Rc::new(Tree::Int(head as i32)), tail],
-        })
-    };
-    (0..length).fold(nil, cons)
-}
-
 #[test]
 fn adj_from_5_to_4_lowers() {
     let initial = adjust(constant(4), construction(0, 0, vec![]));
@@ -261,73 +217,4 @@ fn the_two_frame_file_needs_4_0_0_and_sums_5_and_7() {
         assert_eq!(*lent.trees(&file)[1], Tree::Int(node));
         assert_eq!(lent.cells_kept(), 2);
     }
-}
-
-#[test]
-fn a_shared_cell_is_kept_once() {
-    // The node holds the input twice.
-    let pair = construction(0, 0, vec![Expression::Channel(0), Expression::Channel(0)]);
-    let file = File {
-        types: vec![definition(&[&[Field::Int, Field::Int]])],
-        inputs: vec![Input {
-            declared: SizedType::Int,
-            initial: int(0),
-        }],
-        nodes: vec![Node {
-            declared: declared(0, 1),
-            initial: construction(0, 0, vec![int(0), int(0)]),
-            update: pair,
-        }],
-        ..File::default()
-    };
-    let text = writer::text(&file);
-    let answer = Lent::new(Board::LARGEST, 0).check(&text);
-    let mut lent = Lent::new(exact(answer.bounds), 0);
-    assert_eq!(lent.start(&text), answer);
-    assert_eq!(lent.cells_kept(), 4);
-    assert_eq!(lent.iterate(&text, b"051100000009\n").number, 0);
-    assert_eq!(lent.cells_kept(), 2);
-    let nine = || Rc::new(Tree::Int(9));
-    let trees = lent.trees(&file);
-    assert_eq!(trees[0], nine());
-    let pair = Tree::Construction {
-        type_index: 0,
-        constructor: 0,
-        size: 1,
-        fields: vec![nine(), nine()],
-    };
-    assert_eq!(*trees[1], pair);
-}
-
-#[test]
-fn an_int_is_a_cell_and_has_no_size() {
-    let file = list_to(5, SizedType::Int, int(0), int(1));
-    let text = writer::text(&file);
-    let answer = Lent::new(Board::LARGEST, 0).check(&text);
-    let mut lent = Lent::new(exact(answer.bounds), 0);
-    lent.start(&text);
-    // Four Ints and five constructions: nine cells, size five.
-    let line = writer::input_line(&[list_of(4)]);
-    assert_eq!(lent.iterate(&text, &line).number, 0);
-    assert_eq!(lent.trees(&file)[0].size(), 5);
-    assert_eq!(lent.trees(&file)[0].cells(), 9);
-}
-
-#[test]
-fn the_estimate_splits_the_declared_size() {
-    // A list of size 1 in a channel of size 3: the branch of cons is checked
-    // at size 2 although it never runs, so its fault is found.
-    let wrong = generator::build::case(
-        0,
-        Expression::Channel(0),
-        evaluator::syntax::WrittenType::Named {
-            type_index: 0,
-            size: constant(3),
-        },
-        vec![adjust(constant(3), construction(0, 0, vec![])), variable(1)],
-    );
-    let initial = adjust(constant(3), construction(0, 0, vec![]));
-    let file = list_to(3, declared(0, 3), initial, wrong);
-    let answer = Lent::new(Board::LARGEST, 0).check(&writer::text(&file));
-    assert_eq!((answer.number, answer.frame), (11, 3));
 }

@@ -76,7 +76,7 @@ fn kinds() {
 }
 
 #[test]
-fn bytes_in_order() {
+fn bytes_of_types_in_order() {
     try_rows(&[
         ("bytes go on", node("110000000100"), 4, 1),
         ("bytes end early", node("11000000"), 4, 1),
@@ -100,6 +100,12 @@ fn bytes_in_order() {
             8,
             1,
         ),
+    ]);
+}
+
+#[test]
+fn bytes_of_functions_and_expressions() {
+    try_rows(&[
         ("an expression code", node("1D"), 5, 1),
         ("a Bool of 2", node("1002"), 5, 1),
         ("an operator", node("1708"), 5, 1),
@@ -115,12 +121,7 @@ fn bytes_in_order() {
             2,
         ),
         ("a declared size of 0", with_list("04020000\n"), 7, 2),
-        (
-            "a fit to 0",
-            with_list("0401110000000 01C00\n").replace(' ', ""),
-            7,
-            2,
-        ),
+        ("a fit to 0", node("1C00"), 7, 1),
         ("a fit to 65", node("1C41"), 7, 1),
         ("a constructor", with_list(&node("190002")), 6, 2),
         (
@@ -169,25 +170,17 @@ fn names() {
 }
 
 #[test]
-fn plain_types() {
+fn plain_types_of_channels() {
+    let zero = "1100000000";
+    let sum = format!("1700{zero}{zero}");
+    let bound = format!("15{zero}1200");
     try_rows(&[
-        ("a sum of Bools", node("170010001000"), 9, 1),
-        ("a Bool node", "040010001100000000\n".into(), 9, 1),
+        ("a Bool node", format!("04001000{zero}\n"), 9, 1),
+        ("an initial value", format!("04011000{zero}\n"), 9, 1),
+        ("a sum as initial value", format!("0401{sum}{zero}\n"), 9, 1),
         (
-            "an initial value of another type",
-            "040110001100000000\n".into(),
-            9,
-            1,
-        ),
-        (
-            "an operation as initial value",
-            "0401170011000000001100000000110000 0000\n".replace(' ', ""),
-            9,
-            1,
-        ),
-        (
-            "a let that binds inside an initial value",
-            "040115110000000012001100000000\n".into(),
+            "a let inside an initial value",
+            format!("0401{bound}{zero}\n"),
             9,
             1,
         ),
@@ -197,34 +190,29 @@ fn plain_types() {
             9,
             1,
         ),
-        ("adj of an Int", node("1B01011100000001"), 9, 1),
+    ]);
+    let both = format!("02000100001000\n{}", node("1000"));
+    try_rows(&[("the first frame in file order", both, 9, 1)]);
+}
+
+#[test]
+fn plain_types_of_expressions() {
+    let zero = "1100000000";
+    let branch = format!("1A00190000{int}10001200", int = "01");
+    let other = format!("1A00190100{int}{zero}{zero}", int = "01");
+    try_rows(&[
+        ("a sum of Bools", node("170010001000"), 9, 1),
+        ("adj of an Int", node(&format!("1B0101{zero}")), 9, 1),
         (
             "fit of an Int",
-            node("1C01110000000111000000011100000001"),
+            node(&format!("1C01{zero}{zero}{zero}")),
             9,
             1,
         ),
-        (
-            "a branch",
-            with_list(&node("1A0019000001100012 00").replace(' ', "")),
-            9,
-            2,
-        ),
-        ("arms", node("161001100111 00000000").replace(' ', ""), 9, 1),
-        (
-            "equal shapes are different types",
-            format!(
-                "{LIST}{LIST}{}",
-                node("1A00190100011100000000110000 0000").replace(' ', "")
-            ),
-            9,
-            3,
-        ),
-        (
-            "the first frame in file order",
-            format!("02000100001000\n{}", node("1000")),
-            9,
-            1,
-        ),
+        ("a branch", with_list(&node(&branch)), 9, 2),
+        ("arms", node(&format!("1610011001{zero}")), 9, 1),
+        ("a condition", node(&format!("16{zero}{zero}{zero}")), 9, 1),
     ]);
+    let equal = format!("{LIST}{LIST}{}", node(&other));
+    try_rows(&[("equal shapes are different types", equal, 9, 3)]);
 }

@@ -86,7 +86,8 @@ fn a_call_takes_its_slots_before_its_arguments_and_its_stack_after_them() {
         measure: vec![],
         body: variable(0),
     };
-    let calling = |free| updated(&[identity.clone()], call(0, vec![int(1)]), free);
+    let functions = [identity];
+    let calling = |free| updated(&functions, call(0, vec![int(1)]), free);
     assert_eq!(calling([0, 0, 0]), 21);
     assert_eq!(calling([0, 1, 0]), 20);
     assert_eq!(calling([1, 1, 0]), 22);

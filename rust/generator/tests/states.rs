@@ -140,36 +140,37 @@ fn iterated(file: &File, board: Board, words: &[u32], line: &[u8]) -> u32 {
     answer.number
 }
 
+/// A state of a generated file, damaged up to twice, and one iteration on it:
+/// whether the state was as described, none where no board can lend it.
+fn damaged_iteration(random: &mut Random) -> Option<bool> {
+    let loose = random.one_in(3);
+    let file = random_file(random, loose);
+    let channels = random_channels(random, &file, file.channel_count());
+    let spare = random.below(30) as u32;
+    let mut words = lay_out(random, &channels, spare);
+    let board = Board {
+        cells: words[0] + spare,
+        slots: random.below(30) as u32,
+        calls: random.below(5) as u32,
+    };
+    board.within_maximum().then_some(())?;
+    (0..random.below(3)).for_each(|_| damage_state(random, &mut words));
+    let line = random_line(random, &file);
+    let number = iterated(&file, board, &words, &line);
+    let lent = words.get(..state_words(board.cells));
+    let as_described = lent.is_some_and(|lent| is_described(&file, lent));
+    assert_eq!(number == 18, !as_described);
+    Some(as_described)
+}
+
 #[test]
 fn damaged_states_are_refused_exactly_where_they_are_not_as_described() {
     let mut random = Random::new(18);
-    let (mut valid, mut invalid) = (0, 0);
-    for _ in 0..12_000 {
-        let loose = random.one_in(3);
-        let file = random_file(&mut random, loose);
-        let channels = random_channels(&mut random, &file, file.channel_count());
-        let spare = random.below(30) as u32;
-        let mut words = lay_out(&mut random, &channels, spare);
-        let board = Board {
-            cells: words[0] + spare,
-            slots: random.below(30) as u32,
-            calls: random.below(5) as u32,
-        };
-        for _ in 0..random.below(3) {
-            damage_state(&mut random, &mut words);
-        }
-        if !board.within_maximum() {
-            continue;
-        }
-        let line = random_line(&mut random, &file);
-        let number = iterated(&file, board, &words, &line);
-        let lent = words.get(..state_words(board.cells));
-        let as_described = lent.is_some_and(|lent| is_described(&file, lent));
-        assert_eq!(number == 18, !as_described);
-        valid += u32::from(as_described);
-        invalid += u32::from(!as_described);
-    }
-    assert!(valid > 2_000 && invalid > 2_000);
+    let judged: Vec<bool> = (0..12_000)
+        .filter_map(|_| damaged_iteration(&mut random))
+        .collect();
+    let valid = judged.iter().filter(|as_described| **as_described).count();
+    assert!(valid > 2_000 && judged.len() - valid > 2_000);
 }
 
 #[test]
@@ -184,12 +185,12 @@ fn each_single_word_of_a_small_state_is_judged_as_described() {
         calls: 5,
     };
     let line = random_line(&mut random, &file);
-    for at in 0..words.len() {
-        for value in [0, 1, 2, 3, 4, 5, 256, 257, 258, 512, u32::MAX] {
-            let mut changed = words.clone();
-            changed[at] = value;
-            let number = iterated(&file, board, &changed, &line);
-            assert_eq!(number == 18, !is_described(&file, &changed));
-        }
+    let values = [0, 1, 2, 3, 4, 5, 256, 257, 258, 512, u32::MAX];
+    let places = (0..words.len()).flat_map(|at| values.map(|value| (at, value)));
+    for (at, value) in places {
+        let mut changed = words.clone();
+        changed[at] = value;
+        let number = iterated(&file, board, &changed, &line);
+        assert_eq!(number == 18, !is_described(&file, &changed));
     }
 }

@@ -70,7 +70,7 @@ fn bytes(part: &str) -> Option<Vec<u8>> {
     if part == NOTHING {
         return Some(Vec::new());
     }
-    if part.len() % 2 != 0 || !part.is_ascii() {
+    if !part.len().is_multiple_of(2) || !part.is_ascii() {
         return None;
     }
     let pairs = (0..part.len()).step_by(2);

@@ -5,6 +5,7 @@ use replay::engine::Reference;
 use replay::format;
 use replay::run::run;
 use std::fs;
+use std::io::{self, Write};
 use std::path::{Path, PathBuf};
 
 /// Names the folder of the shared cases where it is not beside the repository.
@@ -41,10 +42,15 @@ fn agree(folder: &Path, name: &str) -> usize {
     .expect("every case agrees")
 }
 
+/// Writes past the capture of passing tests, so that it is always seen.
+fn say(message: &str) {
+    writeln!(io::stderr(), "{message}").expect("standard error is open");
+}
+
 #[test]
 fn the_sample_of_this_repository_agrees() {
     let count = agree(&own_folder(), "sample");
-    println!("{count} cases of the sample agree");
+    say(&format!("{count} cases of the sample agree"));
     assert!(count >= 200);
 }
 
@@ -53,11 +59,14 @@ fn the_shared_cases_agree_where_they_are_present() {
     let folder = shared_folder();
     if !folder.is_dir() {
         let shown = folder.display();
-        eprintln!("SHARED CASES ABSENT: no folder {shown}; set {FOLDER_VARIABLE} to name it.");
-        eprintln!("Only the sample of this repository has been compared.");
+        say(&format!(
+            "SHARED CASES ABSENT: no folder {shown} (set {FOLDER_VARIABLE} to name it); \
+             only the sample of this repository is compared."
+        ));
         return;
     }
     for name in ["edges", "run"] {
-        println!("{} cases of {name} agree", agree(&folder, name));
+        let count = agree(&folder, name);
+        say(&format!("{count} shared cases of {name} agree"));
     }
 }

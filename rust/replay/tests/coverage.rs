@@ -9,30 +9,31 @@ use replay::run::run;
 use std::collections::BTreeMap;
 
 /// The numbers that a report gives to check, start and iterations.
-pub fn numbers(report: &str) -> Vec<u32> {
+fn numbers(report: &str) -> Vec<u32> {
     let parts = report.split(';').filter_map(|part| part.split_once(':'));
     let answers = parts.filter(|(name, _)| matches!(*name, "check" | "start" | "it"));
     let number = |(_, rest): (&str, &str)| rest.split(',').next()?.parse().ok();
     answers.filter_map(number).collect()
 }
 
+/// How often each number is given in so many generated cases.
+fn counted(cases: usize, seed: u64) -> BTreeMap<u32, usize> {
+    let mut mixture = Mixture::new(seed);
+    let mut engine = Reference::new();
+    let reports = (0..cases).map(|_| run(&mut engine, &mixture.next_case()));
+    let mut counts = BTreeMap::new();
+    for number in reports.flat_map(|report| numbers(&report)) {
+        *counts.entry(number).or_default() += 1;
+    }
+    counts
+}
+
 #[test]
 fn every_number_from_0_to_23_is_met() {
-    let counts = with_deep_stack(|| {
-        let mut mixture = Mixture::new(2023);
-        let mut engine = Reference::new();
-        let mut counts: BTreeMap<u32, usize> = BTreeMap::new();
-        for _ in 0..6_000 {
-            let case = mixture.next_case();
-            for number in numbers(&run(&mut engine, &case)) {
-                *counts.entry(number).or_default() += 1;
-            }
-        }
-        counts
-    })
-    .expect("every case is answered");
+    let counts = with_deep_stack(|| counted(6_000, 2023)).expect("every case is answered");
     println!("{counts:?}");
-    let missing: Vec<u32> = (0..=Refusal::ValueTooLarge.number())
+    let numbers = 0..=Refusal::ValueTooLarge.number();
+    let missing: Vec<u32> = numbers
         .filter(|number| !counts.contains_key(number))
         .collect();
     assert!(missing.is_empty(), "no case is answered with {missing:?}");

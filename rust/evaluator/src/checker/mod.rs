@@ -4,6 +4,7 @@
 mod calls;
 mod cases;
 mod expressions;
+mod mentions;
 
 use crate::answer::{Bounds, Fault, Refusal};
 use crate::cells::CellTable;

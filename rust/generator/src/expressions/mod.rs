@@ -63,14 +63,14 @@ impl Composer<'_> {
     }
 
     fn any_form(&mut self, scope: &Scope, wanted: &Formed, level: usize) -> Option<Expression> {
-        match self.random.below(18) {
+        match self.random.below(20) {
             0..=2 => self.read(scope, wanted),
-            3 => self.let_in(scope, wanted, level),
-            4 | 5 => self.if_then(scope, wanted, level),
-            7 => self.any_case(scope, wanted, level),
-            8 => self.fit(scope, wanted, level),
-            9..=14 => self.call(scope, wanted, level),
-            _ => self.own_form(scope, wanted, level),
+            3..=7 => self.own_form(scope, wanted, level),
+            8 => self.let_in(scope, wanted, level),
+            9 | 10 => self.if_then(scope, wanted, level),
+            11 => self.any_case(scope, wanted, level),
+            12 => self.fit(scope, wanted, level),
+            _ => self.call(scope, wanted, level),
         }
     }
 
@@ -170,7 +170,7 @@ pub fn random_int(random: &mut Random) -> i32 {
     match random.below(10) {
         0 => i32::MAX - random.below(3) as i32,
         1 => i32::MIN + random.below(3) as i32,
-        2 => random.next() as i32,
+        2 => random.number() as i32,
         _ => random.below(20) as i32 - 5,
     }
 }

@@ -2,6 +2,8 @@
 
 #![allow(dead_code)]
 
+pub mod lists;
+
 use evaluator::answer::{Answer, Board, Bounds};
 use evaluator::instances::Instance;
 use evaluator::limits::{state_words, INSTANCES, SCRATCH_WORDS};
