@@ -59,7 +59,7 @@ module _ (P : File) where
   -- "An allowed line puts in its own trees for the inputs"; "Any other line changes nothing."
   pub data Step (before : List Tree) (line : List ℕ) : List Tree → Type 0 where
     allowed : {vs result : List Tree} → lineTrees P line ≡ some vs → Nodes before (P .nodes) vs (drop (length (P .inputs)) before) result → Step before line result
-    other : lineTrees P line ≡ none → Step before line before
+    not-allowed : lineTrees P line ≡ none → Step before line before
 
 -- the tree of an initial value, which uses `10`, `11`, `19` and `1B` only
 unfoldable mutual

@@ -31,3 +31,15 @@ pub mod PlainTypesAgree
 pub mod PlainValues
 pub mod Fates
 pub mod EvaluatorAgrees
+pub mod SplitsCover
+pub mod OneTree
+pub mod HeapValues
+pub mod Growth
+pub mod FieldValues
+pub mod ValuesFit
+pub mod ValueCells
+pub mod ScopeTrees
+pub mod Simulated
+pub mod SimulatesRules
+pub mod SimulatesCase
+pub mod Simulates

@@ -185,12 +185,20 @@ impl Mixture {
         }
     }
 
+    /// A state with a word changed, or judged by a file with a size lowered.
     fn damaged_state(&mut self) -> Case {
-        let (file, _) = self.accepted_file();
+        let (mut file, _) = self.accepted_file();
         let spare = self.random.below(20) as u32;
         let mut case = self.iteration(&file, spare, USUAL.slots, USUAL.calls);
-        if let Case::Iteration { state, line, .. } = &mut case {
-            damage_state(&mut self.random, state);
+        if let Case::Iteration {
+            text, state, line, ..
+        } = &mut case
+        {
+            match self.random.one_in(5) {
+                true => lower_size(&mut self.random, &mut file),
+                false => damage_state(&mut self.random, state),
+            }
+            *text = writer::text(&file);
             if self.random.one_in(4) {
                 *line = self.line(&file);
             }

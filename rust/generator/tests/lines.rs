@@ -45,48 +45,58 @@ fn allowed(file: &File, line: &str) -> bool {
     line::read(file, line.as_bytes()).is_some()
 }
 
+fn assert_refused(file: &File, lines: &[&str]) {
+    for line in lines {
+        assert!(!allowed(file, line), "{line:?}");
+    }
+}
+
 #[test]
 fn a_line_is_one_line() {
     let file = file(SizedType::Bool);
     assert!(allowed(&file, "051001\n"));
-    for line in [
-        "",
-        "\n",
-        "051001",
-        "051001\n\n",
-        "\n051001\n",
-        "051001\n051001\n",
-    ] {
-        assert!(!allowed(&file, line), "{line:?}");
-    }
-    for line in ["05 1001\n", "051001\r\n", "05100\n", "041001\n", "05100x\n"] {
-        assert!(!allowed(&file, line), "{line:?}");
-    }
+    assert_refused(
+        &file,
+        &[
+            "",
+            "\n",
+            "051001",
+            "051001\n\n",
+            "\n051001\n",
+            "051001\n051001\n",
+        ],
+    );
+    assert_refused(
+        &file,
+        &["05 1001\n", "051001\r\n", "05100\n", "041001\n", "05100x\n"],
+    );
 }
 
 #[test]
 fn a_value_is_of_its_type() {
     let file = file(SizedType::Bool);
-    for line in [
-        "051002\n",
-        "0510\n",
-        "05\n",
-        "05100100\n",
-        "051100000001\n",
-        "05190000\n",
-    ] {
-        assert!(!allowed(&file, line), "{line:?}");
-    }
+    assert_refused(
+        &file,
+        &[
+            "051002\n",
+            "0510\n",
+            "05\n",
+            "05100100\n",
+            "051100000001\n",
+            "05190000\n",
+        ],
+    );
     let file = self::file(SizedType::Int);
     assert!(allowed(&file, "0511FFFFFFFF\n"));
-    for line in [
-        "0511FFFFFF\n",
-        "051001\n",
-        "051B01011100000000\n",
-        "051200\n",
-    ] {
-        assert!(!allowed(&file, line), "{line:?}");
-    }
+    assert_refused(
+        &file,
+        &[
+            "0511FFFFFF\n",
+            "051001\n",
+            "051B01011100000000\n",
+            "051200\n",
+        ],
+    );
 }
 
 #[test]
@@ -94,15 +104,16 @@ fn a_construction_names_its_type_and_constructor() {
     let file = file(declared(LIST, 2));
     assert!(allowed(&file, "05190000\n"));
     assert!(allowed(&file, "0519000111000000FF190000\n"));
-    for line in [
-        "05190100\n",
-        "05190002\n",
-        "0519\n",
-        "051900\n",
-        "051B0102190000\n",
-    ] {
-        assert!(!allowed(&file, line), "{line:?}");
-    }
+    assert_refused(
+        &file,
+        &[
+            "05190100\n",
+            "05190002\n",
+            "0519\n",
+            "051900\n",
+            "051B0102190000\n",
+        ],
+    );
 }
 
 #[test]

@@ -7,14 +7,18 @@ use evaluator::answer::Board;
 use evaluator::limits::{state_words, BOARD_SLOTS, SCRATCH_WORDS};
 use evaluator::machine::{iterate, Loan};
 use evaluator::state::State;
-use evaluator::syntax::{Field, File, PlainType, SizedType};
-use generator::damage::damage_state;
+use evaluator::syntax::{Expression, Field, File, Node, PlainType, SizedType};
+use evaluator::value::Tree;
+use generator::build::{construction, declared, definition};
+use generator::damage::{damage_state, lower_size};
 use generator::files::random_file;
 use generator::random::Random;
 use generator::states::lay_out;
 use generator::values::{random_channels, random_line};
 use generator::writer;
 use std::collections::HashMap;
+use std::rc::Rc;
+use support::lists::list_of;
 
 /// A state read from the channels down, sentence by sentence; it shares no
 /// code with the evaluator's own test but the place of each word.
@@ -140,12 +144,16 @@ fn iterated(file: &File, board: Board, words: &[u32], line: &[u8]) -> u32 {
     answer.number
 }
 
-/// A state of a generated file, damaged up to twice, and one iteration on it:
-/// whether the state was as described, none where no board can lend it.
+/// A state of a generated file, damaged up to twice or with a size lowered
+/// under it, and one iteration on it: whether the state was as described, none
+/// where no board can lend it.
 fn damaged_iteration(random: &mut Random) -> Option<bool> {
     let loose = random.one_in(3);
-    let file = random_file(random, loose);
+    let mut file = random_file(random, loose);
     let channels = random_channels(random, &file, file.channel_count());
+    if random.one_in(3) {
+        lower_size(random, &mut file);
+    }
     let spare = random.below(30) as u32;
     let mut words = lay_out(random, &channels, spare);
     let board = Board {
@@ -171,6 +179,50 @@ fn damaged_states_are_refused_exactly_where_they_are_not_as_described() {
         .collect();
     let valid = judged.iter().filter(|as_described| **as_described).count();
     assert!(valid > 2_000 && judged.len() - valid > 2_000);
+}
+
+/// A node that holds a list, and one that holds a list in a field of size `k`.
+fn lists(k: usize, declared_list: usize) -> File {
+    let field = Field::Named {
+        type_index: 0,
+        size: k,
+    };
+    let list = definition(&[&[], &[Field::Int, Field::Own]]);
+    let nil = || construction(0, 0, vec![]);
+    let kept = |at, declared, initial| Node {
+        declared,
+        initial,
+        update: Expression::Previous(at),
+    };
+    File {
+        types: vec![list, definition(&[&[field]])],
+        nodes: vec![
+            kept(0, declared(0, declared_list), nil()),
+            kept(1, declared(1, 1), construction(1, 0, vec![nil()])),
+        ],
+        ..File::default()
+    }
+}
+
+#[test]
+fn a_field_above_its_k_or_a_value_above_its_declaration_is_refused() {
+    let list = list_of(2);
+    let held = Rc::new(Tree::Construction {
+        type_index: 1,
+        constructor: 0,
+        size: 1,
+        fields: vec![list.clone()],
+    });
+    let words = lay_out(&mut Random::new(1), &[list, held], 0);
+    let board = Board {
+        cells: words[0],
+        slots: 0,
+        calls: 0,
+    };
+    let number = |file: &File| iterated(file, board, &words, b"05\n");
+    assert_eq!(number(&lists(3, 3)), 0);
+    assert_eq!(number(&lists(2, 3)), 18);
+    assert_eq!(number(&lists(3, 2)), 18);
 }
 
 #[test]
