@@ -11,11 +11,11 @@ pub const CONSTRUCTORS_MOST: usize = 8;
 pub const FIELDS_MOST: usize = 4;
 pub const SIZE_MOST: u32 = 64;
 pub const PARAMETERS_MOST: usize = 8;
-pub const CONDITIONS_MOST: usize = 8;
-pub const MEASURES_MOST: usize = 8;
-pub const VARIABLES_MOST: usize = 32;
-pub const SIZE_VARIABLES_MOST: usize = 8;
-pub const NESTING_MOST: usize = 32;
+pub const CONDITIONS_MOST: u32 = 8;
+pub const MEASURES_MOST: u32 = 8;
+pub const VARIABLES_MOST: u32 = 32;
+pub const SIZE_VARIABLES_MOST: u32 = 8;
+pub const NESTING_MOST: u32 = 32;
 pub const INSTANCES_MOST: usize = 1024;
 pub const NUMBER_MOST: u32 = 65535;
 pub const CELLS_MOST: u32 = 2048;
@@ -37,11 +37,11 @@ pub struct FileLimits {
     pub fields: usize,
     pub size: u32,
     pub parameters: usize,
-    pub conditions: usize,
-    pub measures: usize,
-    pub variables: usize,
-    pub size_variables: usize,
-    pub nesting: usize,
+    pub conditions: u32,
+    pub measures: u32,
+    pub variables: u32,
+    pub size_variables: u32,
+    pub nesting: u32,
 }
 
 pub struct BoardLimits {

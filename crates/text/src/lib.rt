@@ -1,4 +1,6 @@
 // Hexadecimal text: digits, lines, and a cursor over the bytes that a line spells.
+pub mod lines;
+
 ghost use mathlib.Core.Path.{_≡_};
 ghost use mathlib.Core.Bool.{true, false};
 ghost use Prim.Native.Nat.{_<_, _≤_};

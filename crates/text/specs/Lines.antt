@@ -1,0 +1,47 @@
+-- Lines as parts of a text, and what the pass over a whole text answers (document 01, "By place": refusals 1 and 2).
+use Prim.Native.Nat.{ℕ, zero, suc, _+_}
+use mathlib.Core.List.{List, [], _∷_}
+use mathlib.Core.Bool.{Bool, true, false}
+use mathlib.Core.Option.{Option, none, some}
+use lib.ListN.{length, drop}
+use lib.Dec.{eqb, leb}
+use Rattle.language.specs.Limits.{textMost}
+use Rattle.language.specs.Format.{lineFeed}
+use Rattle.language.specs.Result.{Result, ok, no, need, choose}
+use Rattle.language.specs.Reader.{linesOf, framesOf, isChannel, channelCount}
+use Rattle.text.specs.declared.lines.Judged.{Judged}
+use Rattle.text.specs.declared.lines.Judged.the-variants.{Lines, Refused}
+
+-- the characters before the first LF
+unfoldable pub firstLine : List ℕ → List ℕ
+firstLine [] = []
+firstLine (c ∷ t) = choose (eqb c lineFeed) [] (c ∷ firstLine t)
+
+-- where the line behind the one at a place starts
+abbrev pub nextLine : List ℕ → ℕ → ℕ
+nextLine t at = at + length (firstLine (drop at t)) + 1
+
+-- where line i starts, from 0
+unfoldable pub lineStart : List ℕ → ℕ → ℕ
+lineStart t zero = 0
+lineStart t (suc i) = nextLine t (lineStart t i)
+
+unfoldable pub isSome : {A : Type 0} → Option A → Bool
+isSome (some a) = true
+isSome none = false
+
+-- 1 for the frame of a channel, 0 for any other
+abbrev pub channelsOf : List ℕ → ℕ
+channelsOf bs = choose (isChannel bs) 1 0
+
+-- the frames of a text, its first line being number k
+abbrev pub framesFrom : ℕ → List ℕ → Result (List (List ℕ))
+framesFrom k t = framesOf k (linesOf t .ended) (linesOf t .rest)
+
+-- "Text is judged as a whole": its frames counted, or its refusal
+unfoldable pub judged : Result (List (List ℕ)) → Judged
+judged (ok fs) = Lines (record { lines = length fs; channels = channelCount fs })
+judged (no number frame) = Refused number frame
+
+unfoldable pub judgement : List ℕ → Judged
+judgement t = judged (need (leb (length t) textMost) 1 0 (framesFrom 1 t))

@@ -1,0 +1,90 @@
+-- Lists without repeats, and how many different things satisfy a predicate.
+use Prim.Native.Nat.{ℕ, suc, _≤_, _<_}
+use mathlib.Core.List.{List, [], _∷_, _++_, List·Memᴰ as In, List·Memᴰ·head as in-head, List·Memᴰ·tail as in-tail}
+use mathlib.Core.Path.{_≡_, refl, sym, _∙_}
+use native.Mathlib.Omega.{arith}
+use lib.ListN.{length}
+use Rattle.language.specs.Within.{All, all-nil, all-cons}
+
+-- ---- all of a list
+pub all-left : {A : Type 0} {Q : A → Type 0} (l m : List A) → All Q (l ++ m) → All Q l
+all-left [] m p = all-nil
+all-left (a ∷ l) m (all-cons x p) = all-cons x (all-left l m p)
+
+pub all-right : {A : Type 0} {Q : A → Type 0} (l : List A) {m : List A} → All Q (l ++ m) → All Q m
+all-right [] p = p
+all-right (a ∷ l) (all-cons x p) = all-right l p
+
+pub all-first : {A : Type 0} {Q : A → Type 0} {a : A} {l : List A} → All Q (a ∷ l) → Q a
+all-first (all-cons x p) = x
+
+pub all-rest : {A : Type 0} {Q : A → Type 0} {a : A} {l : List A} → All Q (a ∷ l) → All Q l
+all-rest (all-cons x p) = p
+
+pub all-in : {A : Type 0} {Q : A → Type 0} (l : List A) → ((a : A) → In a l → Q a) → All Q l
+all-in [] f = all-nil
+all-in (a ∷ l) f = all-cons (f a (in-head refl)) (all-in l (λ b i. f b (in-tail i)))
+
+-- ---- no repeats
+pub data Distinct {A : Type 0} : List A → Type 0 where
+  distinct-nil : Distinct []
+  distinct-cons : {a : A} {l : List A} → (In a l → ⊥) → Distinct l → Distinct (a ∷ l)
+
+in-appended : {A : Type 0} {a b : A} (l : List A) → In b (l ++ (a ∷ [])) → (In b l → ⊥) → b ≡ a
+in-appended [] (in-head e) f = e
+in-appended (x ∷ l) (in-head e) f = absurd (f (in-head e))
+in-appended (x ∷ l) (in-tail i) f = in-appended l i (λ j. f (in-tail j))
+
+pub distinct-append : {A : Type 0} {a : A} {l : List A} → Distinct l → (In a l → ⊥) → Distinct (l ++ (a ∷ []))
+distinct-append distinct-nil f = distinct-cons f distinct-nil
+distinct-append {a} (distinct-cons {a = b} {l} g d) f =
+    distinct-cons (λ i. f (in-head (sym (in-appended l i g)))) (distinct-append d (λ i. f (in-tail i)))
+
+-- ---- how many
+-- more than n different things satisfy K
+pub record MoreThan {A : Type 0} (n : ℕ) (K : A → Type 0) : Type 0 where
+  pub these : List A
+  pub distinct : Distinct these
+  pub many : n < length these
+  pub all : All K these
+
+-- at most n things satisfy K: those of a list of at most n
+pub record AtMost {A : Type 0} (n : ℕ) (K : A → Type 0) : Type 0 where
+  pub these : List A
+  pub few : length these ≤ n
+  pub all : (a : A) → K a → In a these
+
+-- a list without one thing that stands in it
+record Without {A : Type 0} (a : A) (l : List A) : Type 0 where
+  rest : List A
+  shorter : length l ≡ suc (length rest)
+  keeps : (b : A) → In b l → (b ≡ a → ⊥) → In b rest
+
+take-out : {A : Type 0} {a : A} {l : List A} → In a l → Without a l
+take-out {A} {a} (in-head {x} {xs} e) = record { rest = xs; shorter = refl; keeps = keep }
+  where
+    keep : (b : A) → In b (x ∷ xs) → (b ≡ a → ⊥) → In b xs
+    keep b (in-head i) f = absurd (f (i ∙ sym e))
+    keep b (in-tail i) f = i
+take-out {A} {a} (in-tail {x} {xs} i) = go (take-out i)
+  where
+    go : Without a xs → Without a (x ∷ xs)
+    go w = record { rest = x ∷ w .rest; shorter = omega (arith, w .shorter); keeps = keep }
+      where
+        keep : (b : A) → In b (x ∷ xs) → (b ≡ a → ⊥) → In b (x ∷ w .rest)
+        keep b (in-head j) f = in-head j
+        keep b (in-tail j) f = in-tail (w .keeps b j f)
+
+-- different things that all stand in m are no more than m is long
+pub pigeonhole : {A : Type 0} {l : List A} → Distinct l → (m : List A) → ((a : A) → In a l → In a m) → length l ≤ length m
+pigeonhole distinct-nil m f = omega arith
+pigeonhole (distinct-cons {a} {l} g d) m f =
+    let w = take-out (f a (in-head refl)) in
+    omega (arith, w .shorter, pigeonhole d (w .rest) (λ b i. w .keeps b (f b (in-tail i)) (λ e. g (rw e at i))))
+
+pub all-member : {A : Type 0} {Q : A → Type 0} {l : List A} {a : A} → All Q l → In a l → Q a
+all-member {Q} (all-cons x p) (in-head e) = rw e x
+all-member (all-cons x p) (in-tail i) = all-member p i
+
+pub not-more-and-at-most : {A : Type 0} {n : ℕ} {K : A → Type 0} → MoreThan n K → AtMost n K → ⊥
+not-more-and-at-most m f = omega (arith, pigeonhole (m .distinct) (f .these) (λ a i. f .all a (all-member (m .all) i)), m .many, f .few)
