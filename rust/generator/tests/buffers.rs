@@ -114,7 +114,7 @@ fn refusals_leave_the_state_and_zero_everything_else() {
     with_deep_stack(|| {
         let mut random = Random::new(25);
         let mut mixture = Mixture::new(26);
-        for _ in 0..15_000 {
+        for _ in 0..10_000 {
             look_at(&mut random, mixture.next_case());
         }
     })

@@ -47,7 +47,7 @@ fn names_a_frame(answer: Answer, frames: usize) -> bool {
 /// Each byte of each frame replaced by each of these, one at a time.
 fn replace_each_byte(file: &File) -> usize {
     let frames = writer::frames(file);
-    let values = [0, 1, 2, 3, 4, 5, 8, 9, 0x10, 0x12, 0x14, 0x19, 0x1B, 0x1D];
+    let values = [0, 1, 2, 3, 4, 9, 0x11, 0x12, 0x19, 0x1D];
     let limits = [LARGEST_SIZE as u8, LARGEST_SIZE as u8 + 1, 0xFF];
     let values: Vec<u8> = values.into_iter().chain(limits).collect();
     let places = frames.iter().enumerate();
@@ -70,7 +70,7 @@ fn each_byte_of_the_papers_files_is_damaged() {
         let files = [listing3(), top10sum()];
         files.iter().map(replace_each_byte).sum::<usize>()
     });
-    assert!(tried.expect("every file is answered") > 5_000);
+    assert!(tried.expect("every file is answered") > 4_000);
 }
 
 #[test]

@@ -114,7 +114,7 @@ fn runs_like_the_plain_machine(random: &mut Random, file: &File, text: &[u8], bo
 
 #[test]
 fn an_accepted_file_runs_like_the_plain_machine() {
-    for_accepted_files(2, 6_000, runs_like_the_plain_machine);
+    for_accepted_files(2, 4_000, runs_like_the_plain_machine);
 }
 
 fn refuses_one_less(_: &mut Random, _: &File, text: &[u8], bounds: Bounds) {

@@ -169,6 +169,30 @@ fn a_branch_is_checked_at_every_split() {
 }
 
 #[test]
+fn a_branch_that_names_only_the_size_of_a_part_is_checked_at_every_split() {
+    let tree = definition(&[&[], &[Field::Own, Field::Own]]);
+    let leaf_of = |size: Size| adjust(size, construction(0, 0, vec![]));
+    // The left part goes from 1 to 5, so the limit less it falls to 0 at 5.
+    let update = |limit: u8| {
+        let rest = difference(constant(limit), size_variable(0));
+        let grown = adjust(constant(7), leaf_of(rest));
+        let branches = vec![leaf_of(constant(7)), grown];
+        case(0, leaf_of(constant(7)), written(0, constant(7)), branches)
+    };
+    let file = |limit| File {
+        types: vec![tree.clone()],
+        nodes: vec![Node {
+            declared: declared(0, 7),
+            initial: leaf_of(constant(7)),
+            update: update(limit),
+        }],
+        ..File::default()
+    };
+    assert_eq!(refusal(&file(8)), (0, 0));
+    assert_eq!(refusal(&file(5)), (10, 2));
+}
+
+#[test]
 fn splits_that_a_body_does_not_name_take_no_time() {
     // Two cases of 37,820 splits each, one inside the other.
     let wide = definition(&[&[], &[Field::Own; 4]]);
@@ -285,7 +309,8 @@ fn numbers_stop_at_65535() {
 }
 
 #[test]
-fn entry_order_and_a_cons_of_a_tail() {
-    let grown = cons(adjust(constant(2), nil()));
-    assert_eq!(refusal(&file(vec![], vec![list_node(3, grown)])), (0, 0));
+fn a_construction_is_one_larger_than_its_own_fields() {
+    let grown = || cons(adjust(constant(2), nil()));
+    assert_eq!(refusal(&file(vec![], vec![list_node(3, grown())])), (0, 0));
+    assert_eq!(refusal(&file(vec![], vec![list_node(4, grown())])), (11, 2));
 }
