@@ -7,10 +7,10 @@ use lib.ListN.{length, getD, take, drop, replicate, getElem? as look}
 use lib.Dec.{ltb, leb, eqb}
 use Rattle.language.specs.Limits.{fieldsMost, channelsMost, headerWords, cellWords, intRange}
 use Rattle.language.specs.Result.{both, when, chain, choose}
-use Rattle.language.specs.Syntax.{Field, fbool, fint, own, other, Ty, tbool, tint, tnamed, File, constructorsOf, fieldsOf, declaredTypes}
+use Rattle.language.specs.Syntax.{Field, fbool, fint, own, other, Ty, tbool, tint, tnamed, File, constructorsOf, declaredTypes}
 use Rattle.language.specs.Format.{bit, spellAll}
 use Rattle.language.specs.Heap.{Constant, kbool, kint, Cell, leaf, con, cellAt, fieldsIn, ownSum}
-use Rattle.language.specs.Values.{constantFits, namedAs}
+use Rattle.language.specs.Values.{constantFits, isConstructor, namedAs}
 use Rattle.language.specs.Slide.{State, mem, reached}
 
 -- ---- the words of a state
@@ -104,10 +104,10 @@ fieldsRight h t k (fint ∷ fs) (l ∷ ls) = both (locationFits h l tint) (field
 fieldsRight h t k (own ∷ fs) (l ∷ ls) = both (locationFits h l (tnamed t k)) (fieldsRight h t k fs ls)
 fieldsRight h t k (other u j ∷ fs) (l ∷ ls) = both (locationFits h l (tnamed u j)) (fieldsRight h t k fs ls)
 
--- a cell over the cells below: "each size word is the true size"
+-- a cell over the cells below, a constructor of the file: "each size word is the true size"
 unfoldable pub cellRight : File → List Cell → Cell → Bool
 cellRight P h (leaf x) = true
-cellRight P h (con t c k ls) = both (fieldsRight h t k (fieldsOf P t c) ls) (eqb k (1 + ownSum h (fieldsOf P t c) ls))
+cellRight P h (con t c k ls) = isConstructor (look (constructorsOf P t) c) (λ fs. both (fieldsRight h t k fs ls) (eqb k (1 + ownSum h fs ls)))
 
 unfoldable pub cellsRight : File → List Cell → List Cell → Bool
 cellsRight P h [] = true

@@ -1,6 +1,12 @@
 pub mod Bytes
+pub mod Codes
 pub mod DigitLaws
 pub mod ReadLaws
+pub mod StepLaws
+pub mod CodeLaws
+pub mod IntLaws
+pub mod SizeLaws
+pub mod TypeLaws
 pub mod Lines
 pub mod LinesEnd
 pub mod LinesSpell

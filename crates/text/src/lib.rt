@@ -3,9 +3,16 @@ pub mod lines;
 
 ghost use mathlib.Core.Path.{_≡_};
 ghost use mathlib.Core.Bool.{true, false};
-ghost use Prim.Native.Nat.{_<_, _≤_};
+ghost use Prim.Native.Nat.{_<_, _≤_, _^_};
 ghost use Rattle.language.specs.Parser.{byte as byteRead, index as indexRead, count as countRead};
-ghost use Rattle.text.specs.Bytes.{digitValue, bytesFrom, ReadsNumber, Below};
+ghost use Rattle.language.specs.ReadExpr.{int as intRead, sizeAt, result as resultRead, plain, declared as declaredRead, field as fieldRead};
+ghost use Rattle.text.specs.Bytes.{digitValue, bytesFrom, ReadsNumber, Passes, Below, stepOf, forget, mapRead, plainWord, declaredWord, fieldWord};
+ghost use Rattle.text.specs.Codes.{codePlace, placeIn, namedWord};
+use language::limits::NESTING_MOST;
+use language::limits::SIZE_MOST;
+
+// A named type as a word: its number and one, times this, and its size.
+pub const TYPE_STEP: u32 = 256;
 
 // The value of a hexadecimal digit, upper case; 0 of any other character.
 pub fn digit(c: u8) -> u32
@@ -46,6 +53,19 @@ pub enum Number {
 pub enum Step {
     Next(Cursor),
     Stop(u32),
+}
+
+// What is left of a number read once its value is not asked for.
+pub fn step_of(x: Number) -> Step
+    ensures { λ r. ⌜ r ≡ stepOf x ⌝ }
+{
+    match x {
+        Number::Is(f) => {
+            let c = f.next;
+            Step::Next(c)
+        }
+        Number::Refused(n) => Step::Stop(n),
+    }
 }
 
 impl Cursor {
@@ -97,5 +117,199 @@ impl Cursor {
             return Number::Refused(7);
         }
         x
+    }
+
+    // A code of a set: its place, counted from the first code; 5 where it is none of them.
+    pub fn code(self, line: &[u8], first: u32, size: u32) -> Number
+        ensures { λ r. ⌜ ReadsNumber (now (line .entry)) (self .at) r (codePlace first size (bytesFrom (now (line .entry)) (self .at))) × Below 256 r ⌝ }
+    {
+        let x = self.byte(line);
+        let Number::Is(f) = x else {
+            return x;
+        };
+        let b = f.value;
+        let c = f.next;
+        if b < first {
+            return Number::Refused(5);
+        }
+        let i = b - first;
+        if size <= i {
+            return Number::Refused(5);
+        }
+        Number::Is(Found { value: i, next: c })
+    }
+
+    // The same where it matters whether there is room: 5 comes before 7.
+    pub fn code_in(self, line: &[u8], room: bool, first: u32, size: u32) -> Number
+        ensures { λ r. ⌜ ReadsNumber (now (line .entry)) (self .at) r (placeIn room first size (bytesFrom (now (line .entry)) (self .at))) × Below 256 r ⌝ }
+    {
+        let x = self.code(line, first, size);
+        let Number::Is(_) = x else {
+            return x;
+        };
+        if !room {
+            return Number::Refused(7);
+        }
+        x
+    }
+
+    // An Int: four bytes, the high byte first.
+    pub fn int(self, line: &[u8]) -> Number
+        ensures { λ r. ⌜ ReadsNumber (now (line .entry)) (self .at) r (intRead (bytesFrom (now (line .entry)) (self .at))) ⌝ }
+    {
+        let x = self.byte(line);
+        let Number::Is(f) = x else {
+            return x;
+        };
+        let c = f.next;
+        let y = c.byte(line);
+        let Number::Is(g) = y else {
+            return y;
+        };
+        let d = g.next;
+        let z = d.byte(line);
+        let Number::Is(h) = z else {
+            return z;
+        };
+        let e = h.next;
+        let w = e.byte(line);
+        let Number::Is(k) = w else {
+            return w;
+        };
+        let value = f.value * 16777216 + g.value * 65536 + h.value * 256 + k.value;
+        let next = k.next;
+        Number::Is(Found {
+            value: value,
+            next: next,
+        })
+    }
+
+    // Passes over a size with so many levels left; vars is the number of size variables in scope.
+    pub fn size(self, line: &[u8], vars: u32, levels: u32) -> Step
+        ensures { λ r. ⌜ Passes (now (line .entry)) (self .at) r (forget (sizeAt levels vars (bytesFrom (now (line .entry)) (self .at)))) ⌝ }
+    {
+        if levels == 0 {
+            let none = self.code_in(line, false, 0x01, 4);
+            return step_of(none);
+        }
+        let x = self.code_in(line, true, 0x01, 4);
+        let Number::Is(f) = x else {
+            return step_of(x);
+        };
+        let form = f.value;
+        let c = f.next;
+        if form == 0 {
+            let k = c.byte(line);
+            return step_of(k);
+        }
+        if form == 1 {
+            let i = c.index(line, vars);
+            return step_of(i);
+        }
+        let y = c.size(line, vars, levels - 1);
+        let Step::Next(d) = y else {
+            return y;
+        };
+        d.size(line, vars, levels - 1)
+    }
+
+    // Passes over a result type.
+    pub fn result(self, line: &[u8], types: u32, vars: u32) -> Step
+        ensures { λ r. ⌜ Passes (now (line .entry)) (self .at) r (forget (resultRead types vars (bytesFrom (now (line .entry)) (self .at)))) ⌝ }
+    {
+        let x = self.code(line, 0x00, 3);
+        let Number::Is(f) = x else {
+            return step_of(x);
+        };
+        let form = f.value;
+        let c = f.next;
+        if form < 2 {
+            return Step::Next(c);
+        }
+        let t = c.index(line, types);
+        let Number::Is(g) = t else {
+            return step_of(t);
+        };
+        let d = g.next;
+        d.size(line, vars, NESTING_MOST)
+    }
+
+    // The type of a parameter, as a word.
+    pub fn parameter(self, line: &[u8], types: u32) -> Number
+        ensures { λ r. ⌜ ReadsNumber (now (line .entry)) (self .at) r (mapRead plainWord (plain types (bytesFrom (now (line .entry)) (self .at)))) × Below (2 ^ 17) r ⌝ }
+    {
+        let x = self.code(line, 0x00, 3);
+        let Number::Is(f) = x else {
+            return x;
+        };
+        let form = f.value;
+        if form < 2 {
+            return x;
+        }
+        let c = f.next;
+        let y = c.index(line, types);
+        let Number::Is(g) = y else {
+            return y;
+        };
+        let t = g.value;
+        let d = g.next;
+        Number::Is(Found {
+            value: TYPE_STEP * (t + 1),
+            next: d,
+        })
+    }
+
+    // A named type with its size, as a word: its number, and a size from 1 on.
+    pub fn named(self, line: &[u8], types: u32) -> Number
+        ensures { λ r. ⌜ ReadsNumber (now (line .entry)) (self .at) r (namedWord types (bytesFrom (now (line .entry)) (self .at))) × Below (2 ^ 17) r ⌝ }
+    {
+        let x = self.index(line, types);
+        let Number::Is(f) = x else {
+            return x;
+        };
+        let t = f.value;
+        let c = f.next;
+        let y = c.count(line, 1, SIZE_MOST);
+        let Number::Is(g) = y else {
+            return y;
+        };
+        let k = g.value;
+        let d = g.next;
+        Number::Is(Found {
+            value: TYPE_STEP * (t + 1) + k,
+            next: d,
+        })
+    }
+
+    // A declared type, as a word.
+    pub fn declared(self, line: &[u8], types: u32) -> Number
+        ensures { λ r. ⌜ ReadsNumber (now (line .entry)) (self .at) r (mapRead declaredWord (declaredRead types (bytesFrom (now (line .entry)) (self .at)))) × Below (2 ^ 17) r ⌝ }
+    {
+        let x = self.code(line, 0x00, 3);
+        let Number::Is(f) = x else {
+            return x;
+        };
+        let form = f.value;
+        if form < 2 {
+            return x;
+        }
+        let c = f.next;
+        c.named(line, types)
+    }
+
+    // A field of a constructor, as a word.
+    pub fn field(self, line: &[u8], types: u32) -> Number
+        ensures { λ r. ⌜ ReadsNumber (now (line .entry)) (self .at) r (mapRead fieldWord (fieldRead types (bytesFrom (now (line .entry)) (self .at)))) × Below (2 ^ 17) r ⌝ }
+    {
+        let x = self.code(line, 0x00, 4);
+        let Number::Is(f) = x else {
+            return x;
+        };
+        let form = f.value;
+        if form < 3 {
+            return x;
+        }
+        let c = f.next;
+        c.named(line, types)
     }
 }

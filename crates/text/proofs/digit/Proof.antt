@@ -4,38 +4,28 @@ use Rattle.text.specs.DigitLaws.{digit-below, digit-decimal, digit-betwe
 use borrow.Author.Needs.{needs}
 use Rattle.text.proofs.digit.Statement.{statement}
 use Rattle.text.proofs.digit.Tie as tie
-use Rattle.text.proofs.digit.Reads as reads
-use Rattle.text.proofs.digit.Lts as lts
 
--- src/lib.rt:13:9
 returns : tie.Need-returns
 returns c = (sym (digit-below _ (c .if1 .taken)), omega arith)
 
--- src/lib.rt:16:16
 cast-result : tie.Need-cast-result
 cast-result c = search needs
 
--- src/lib.rt:16:9
 returns-2 : tie.Need-returns-2
 returns-2 c = (sym (digit-decimal _ (c .before .if1 .left) (c .if2 .taken)), omega arith)
 
--- src/lib.rt:19:9
 returns-3 : tie.Need-returns-3
 returns-3 c = (sym (digit-between _ (c .before .if2 .left) (c .if3 .taken)), omega arith)
 
--- src/lib.rt:22:17
 sub-result : tie.Need-sub-result
 sub-result c = search needs
 
--- src/lib.rt:22:16
 cast-result-2 : tie.Need-cast-result-2
 cast-result-2 c = search needs
 
--- src/lib.rt:22:9
 returns-4 : tie.Need-returns-4
 returns-4 c = (sym (digit-letter _ (c .before .if3 .left) (c .if4 .taken)), omega arith)
 
--- src/lib.rt:9:1
 returns-5 : tie.Need-returns-5
 returns-5 c = (sym (digit-above _ (c .if4 .left)), omega arith)
 

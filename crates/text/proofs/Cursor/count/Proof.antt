@@ -1,36 +1,25 @@
 use Rattle.text.specs.ReadLaws.{count-stops, count-few, count-many, count-in}
-use borrow.Author.Needs.{needs}
 use Rattle.text.proofs.Cursor.count.Statement.{statement}
 use Rattle.text.proofs.Cursor.count.Tie as tie
-use Rattle.text.proofs.Cursor.count.Reads as reads
-use Rattle.text.proofs.Cursor.count.Lts as lts
-use Rattle.text.proofs.Cursor.byte.Reads as byte-reads
 
--- src/lib.rt:86:13
 byte-requires : tie.Need-byte-requires
-byte-requires c κs = search needs
+byte-requires c κs = tt
 
--- src/lib.rt:87:24
 enum-known-x : tie.Need-enum-known-x
-enum-known-x c = search needs
+enum-known-x c = (c .match .keys1)
 
--- src/lib.rt:88:13
 enum-told : tie.Need-enum-told
-enum-told c = search needs
+enum-told c = (c .match .keys2)
 
--- src/lib.rt:88:13
 returns : tie.Need-returns
 returns c = count-stops _ _ _ _ (c .before .before .byte .ensures) (c .enum-told .given .1)
 
--- src/lib.rt:92:13
 returns-2 : tie.Need-returns-2
 returns-2 c = count-few _ _ _ _ (c .before .before .before .before .byte .ensures) (c .before .before .x .given .1) (c .if1 .taken)
 
--- src/lib.rt:95:13
 returns-3 : tie.Need-returns-3
 returns-3 c = count-many _ _ _ _ (c .before .before .before .before .before .byte .ensures) (c .before .before .before .x .given .1) (c .before .if1 .left) (c .if2 .taken)
 
--- src/lib.rt:83:5
 returns-4 : tie.Need-returns-4
 returns-4 c = count-in _ _ _ _ (c .before .before .before .before .before .byte .ensures) (c .before .before .before .x .given .1) (c .before .if1 .left) (c .if2 .left)
 

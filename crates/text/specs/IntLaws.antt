@@ -1,0 +1,59 @@
+-- An Int by its four bytes: each byte may be missing, else the number is theirs.
+use Prim.Native.Nat.{ℕ, _+_, _*_, _^_}
+use mathlib.Core.List.{List}
+use mathlib.Core.Path.{_≡_}
+use Rattle.language.specs.Parser.{Parser, _>>=_, return, byte}
+use Rattle.language.specs.ReadExpr.{int}
+use Rattle.text.specs.declared.Found.{Found}
+use Rattle.text.specs.declared.Number.{Number}
+use Rattle.text.specs.declared.Number.the-variants.{Is, Refused}
+use Rattle.text.specs.Bytes.{bytesFrom, ReadsNumber, Below}
+use Rattle.text.specs.ReadLaws.{read-then}
+use Rattle.text.specs.StepLaws.{number-other, read-then-read, read-stops-read}
+
+-- what is left to read behind one byte, two, three and all four
+abbrev behindFour : ℕ → ℕ → ℕ → ℕ → Parser ℕ
+behindFour a b c d = return (a * 2 ^ 24 + b * 2 ^ 16 + c * 2 ^ 8 + d)
+
+abbrev behindThree : ℕ → ℕ → ℕ → Parser ℕ
+behindThree a b c = do
+  d ← byte
+  behindFour a b c d
+
+abbrev behindTwo : ℕ → ℕ → Parser ℕ
+behindTwo a b = do
+  c ← byte
+  behindThree a b c
+
+abbrev behindOne : ℕ → Parser ℕ
+behindOne a = do
+  b ← byte
+  behindTwo a b
+
+-- a byte read at a place
+abbrev pub ByteAt : List ℕ → ℕ → Number → Type 0
+ByteAt line at x = ReadsNumber line at x (byte (bytesFrom line at)) × Below 256 x
+
+module _ (line : List ℕ) (at : ℕ) {x : Number} (v : ByteAt line at x) where
+  pub int-first-missing : {n : ℕ} → x ≡ Refused n → ReadsNumber line at x (int (bytesFrom line at))
+  unfolding int
+  int-first-missing e = read-stops-read behindOne (v .0) e
+
+  module _ {f : Found} (d : x ≡ Is f) {y : Number} (u : ByteAt line (f .next .at) y) where
+    pub int-second-missing : {n : ℕ} → y ≡ Refused n → ReadsNumber line at y (int (bytesFrom line at))
+    unfolding int
+    int-second-missing e = read-then-read behindOne (v .0) d (read-stops-read (behindTwo (f .value)) (u .0) e)
+
+    module _ {g : Found} (d′ : y ≡ Is g) {z : Number} (w : ByteAt line (g .next .at) z) where
+      pub int-third-missing : {n : ℕ} → z ≡ Refused n → ReadsNumber line at z (int (bytesFrom line at))
+      unfolding int
+      int-third-missing e = read-then-read behindOne (v .0) d (read-then-read (behindTwo (f .value)) (u .0) d′ (read-stops-read (behindThree (f .value) (g .value)) (w .0) e))
+
+      module _ {h : Found} (d″ : z ≡ Is h) {q : Number} (t : ByteAt line (h .next .at) q) where
+        pub int-last-missing : {n : ℕ} → q ≡ Refused n → ReadsNumber line at q (int (bytesFrom line at))
+        unfolding int
+        int-last-missing e = read-then-read behindOne (v .0) d (read-then-read (behindTwo (f .value)) (u .0) d′ (read-then-read (behindThree (f .value) (g .value)) (w .0) d″ (read-stops-read (behindFour (f .value) (g .value) (h .value)) (t .0) e)))
+
+        pub int-whole : {k : Found} → q ≡ Is k → ReadsNumber line at (Is (record { value = f .value * 2 ^ 24 + g .value * 2 ^ 16 + h .value * 2 ^ 8 + k .value; next = k .next })) (int (bytesFrom line at))
+        unfolding int
+        int-whole e = read-then-read behindOne (v .0) d (read-then-read (behindTwo (f .value)) (u .0) d′ (read-then-read (behindThree (f .value) (g .value)) (w .0) d″ (number-other (t .0) e (read-then (behindFour (f .value) (g .value) (h .value)) (t .0) e))))

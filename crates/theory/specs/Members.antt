@@ -1,0 +1,83 @@
+-- Membership of a number in a list, as the test `mem`, and what holds of every member.
+use Prim.Native.Nat.{ℕ, suc, _≤_, _<_}
+use mathlib.Core.List.{List, [], _∷_, _++_, map}
+use mathlib.Core.Bool.{Bool, true, false}
+use mathlib.Core.Option.{some}
+use mathlib.Core.Path.{_≡_, refl, sym, subst}
+use native.Mathlib.Omega.{arith}
+use lib.ListN.{getElem? as look}
+use lib.Dec.{eqb}
+use borrow.Author.Tests.{eqb-true, eq-eqb, ne-eqb}
+use Rattle.language.specs.Result.{oneOf}
+use Rattle.language.specs.Within.{All, all-nil, all-cons}
+use Rattle.language.specs.Slide.{mem}
+use Rattle.theory.specs.Lists.{false-is-not-true}
+use Rattle.theory.specs.Choices.{one-left, one-right, one-cases}
+
+-- ---- members
+pub mem-head : (i : ℕ) (ls : List ℕ) → mem i (i ∷ ls) ≡ true
+unfolding mem
+mem-head i ls = one-left (mem i ls) (eq-eqb i i refl)
+
+pub mem-tail : (i l : ℕ) (ls : List ℕ) → mem i ls ≡ true → mem i (l ∷ ls) ≡ true
+unfolding mem
+mem-tail i l ls e = one-right (eqb i l) e
+
+pub mem-append : (i : ℕ) (ls ms : List ℕ) → mem i (ls ++ ms) ≡ oneOf (mem i ls) (mem i ms)
+unfolding mem oneOf
+mem-append i [] ms = refl
+mem-append i (l ∷ ls) ms = cases (eqb i l) (mem-append i ls ms)
+  where
+    cases : (b : Bool) → mem i (ls ++ ms) ≡ oneOf (mem i ls) (mem i ms) → oneOf b (mem i (ls ++ ms)) ≡ oneOf (oneOf b (mem i ls)) (mem i ms)
+    cases true e = refl
+    cases false e = e
+
+-- ---- what holds of every member
+pub all-mem : {Q : ℕ → Type 0} {ls : List ℕ} → All Q ls → (i : ℕ) → mem i ls ≡ true → Q i
+unfolding mem
+all-mem all-nil i e = false-is-not-true e
+all-mem {Q} (all-cons {a = l} {l = ls} q qs) i e = one-cases (eqb i l) (mem i ls) e (λ z. subst Q (sym (eqb-true i l z)) q) (λ z. all-mem qs i z)
+
+pub mem-all : {Q : ℕ → Type 0} (ls : List ℕ) → ((i : ℕ) → mem i ls ≡ true → Q i) → All Q ls
+mem-all [] f = all-nil
+mem-all (l ∷ ls) f = all-cons (f l (mem-head l ls)) (mem-all ls (λ i e. f i (mem-tail i l ls e)))
+
+pub all-each : {A : Type 0} {Q : A → Type 0} (l : List A) → ((i : ℕ) (a : A) → look l i ≡ some a → Q a) → All Q l
+all-each [] f = all-nil
+all-each (a ∷ l) f = all-cons (f 0 a refl) (all-each l (λ i b e. f (suc i) b e))
+
+pub all-both : {A : Type 0} {Q R S : A → Type 0} {ls : List A} → ((i : A) → Q i → R i → S i) → All Q ls → All R ls → All S ls
+all-both f all-nil all-nil = all-nil
+all-both f (all-cons {a} q qs) (all-cons r rs) = all-cons (f a q r) (all-both f qs rs)
+
+pub all-to-map : {A B : Type 0} {R : B → Type 0} (f : A → B) {ls : List A} → All (λ a. R (f a)) ls → All R (map f ls)
+all-to-map f all-nil = all-nil
+all-to-map f (all-cons r rs) = all-cons r (all-to-map f rs)
+
+pub all-of-map : {A B : Type 0} {R : B → Type 0} (f : A → B) (ls : List A) → All R (map f ls) → All (λ a. R (f a)) ls
+all-of-map f [] all-nil = all-nil
+all-of-map f (l ∷ ls) (all-cons r rs) = all-cons r (all-of-map f ls rs)
+
+pub all-head : {A : Type 0} {Q : A → Type 0} {a : A} {ls : List A} → All Q (a ∷ ls) → Q a
+all-head (all-cons q qs) = q
+
+pub all-tail : {A : Type 0} {Q : A → Type 0} {a : A} {ls : List A} → All Q (a ∷ ls) → All Q ls
+all-tail (all-cons q qs) = qs
+
+pub all-front : {A : Type 0} {Q : A → Type 0} (ls ms : List A) → All Q (ls ++ ms) → All Q ls
+all-front [] ms qs = all-nil
+all-front (l ∷ ls) ms (all-cons q qs) = all-cons q (all-front ls ms qs)
+
+pub all-back : {A : Type 0} {Q : A → Type 0} (ls ms : List A) → All Q (ls ++ ms) → All Q ms
+all-back [] ms qs = qs
+all-back (l ∷ ls) ms (all-cons q qs) = all-back ls ms qs
+
+pub map-same : {A B : Type 0} {f g : A → B} (ls : List A) → All (λ a. f a ≡ g a) ls → map f ls ≡ map g ls
+map-same [] all-nil = refl
+map-same (l ∷ ls) (all-cons e es) = rw (e, map-same ls es)
+
+-- a number above all members is none of them
+pub above-not-member : {i : ℕ} {ls : List ℕ} → All (λ l. l < i) ls → (j : ℕ) → i ≤ j → mem j ls ≡ false
+unfolding mem oneOf
+above-not-member all-nil j le = refl
+above-not-member (all-cons {a = l} less low) j le = rw (ne-eqb j l (λ e. omega arith)) (above-not-member low j le)

@@ -1,0 +1,58 @@
+-- Places of a list: what stands at a place below its length, of a list with more at its end, of a mapped list.
+use Prim.Native.Nat.{ℕ, zero, suc, _+_, _-_, _≤_, _<_}
+use mathlib.Core.List.{List, [], _∷_, _++_, map}
+use mathlib.Core.Bool.{Bool, true, false}
+use mathlib.Core.Option.{some}
+use mathlib.Core.Path.{_≡_, refl, sym, ap, _∙_}
+use native.Mathlib.Omega.{arith}
+use lib.ListN.{length, getD, getElem? as look}
+use lib.Dec.{ltb}
+use borrow.Author.Tests.{ltb-true, ltb-false}
+use Rattle.theory.specs.Lists.{none-is-not-some, look-past}
+
+pub below-or-not : {X : Type 0} (i n : ℕ) → (i < n → X) → (n ≤ i → X) → X
+below-or-not {X} i n below above = cases (ltb i n) refl
+  where
+    cases : (b : Bool) → ltb i n ≡ b → X
+    cases true e = below (ltb-true i n e)
+    cases false e = above (ltb-false i n e)
+
+-- a number below suc n is below n, or n
+pub below-or-last : {X : Type 0} (i n : ℕ) → i < suc n → (i < n → X) → (i ≡ n → X) → X
+below-or-last i n less below last = below-or-not i n below (λ above. last (omega arith))
+
+module _ {A : Type 0} where
+  pub look-at : (l : List A) (i : ℕ) (d : A) → i < length l → look l i ≡ some (getD l i d)
+  look-at [] i d less = absurd (omega arith)
+  look-at (x ∷ l) zero d less = refl
+  look-at (x ∷ l) (suc i) d less = look-at l i d (omega arith)
+
+  -- the place of a longer list is one of the first list or of the second
+  look-front : (l m : List A) (i : ℕ) → i < length l → look (l ++ m) i ≡ look l i
+  look-front [] m i less = absurd (omega arith)
+  look-front (x ∷ l) m zero less = refl
+  look-front (x ∷ l) m (suc i) less = look-front l m i (omega arith)
+
+  look-back : (l m : List A) (i : ℕ) → length l ≤ i → look (l ++ m) i ≡ look m (i - length l)
+  look-back l m i le = let e : length l + (i - length l) ≡ i = omega arith in ap (look (l ++ m)) (sym e) ∙ look-past l m (i - length l)
+
+  look-append-cases : {X : Type 0} (l m : List A) (i : ℕ) {a : A} → look (l ++ m) i ≡ some a → (look l i ≡ some a → X) → (length l ≤ i → look m (i - length l) ≡ some a → X) → X
+  look-append-cases l m i e first second = below-or-not i (length l) (λ less. first (sym (look-front l m i less) ∙ e)) (λ le. second le (sym (look-back l m i le) ∙ e))
+
+  pub look-snoc-cases : {X : Type 0} (l : List A) (b : A) (i : ℕ) {a : A} → look (l ++ (b ∷ [])) i ≡ some a → (look l i ≡ some a → X) → (i ≡ length l → b ≡ a → X) → X
+  look-snoc-cases {X} l b i {a} e before last = look-append-cases l (b ∷ []) i e before (λ le z. at-end (i - length l) refl le z)
+    where
+      at-end : (j : ℕ) → i - length l ≡ j → length l ≤ i → look (b ∷ []) j ≡ some a → X
+      at-end zero q le z = last (omega arith) (cc)
+      at-end (suc j) q le z = none-is-not-some z
+
+-- what stands at a place of a mapped list is a mapped one
+pub record Mapped {A B : Type 0} (f : A → B) (l : List A) (i : ℕ) (b : B) : Type 0 where
+  pub of : A
+  pub at : look l i ≡ some of
+  pub is : b ≡ f of
+
+pub look-mapped : {A B : Type 0} (f : A → B) (l : List A) (i : ℕ) {b : B} → look (map f l) i ≡ some b → Mapped f l i b
+look-mapped f [] i e = none-is-not-some e
+look-mapped f (x ∷ l) zero e = record { of = x; at = refl; is = cc }
+look-mapped f (x ∷ l) (suc i) e = let r = look-mapped f l i e in record { of = r .of; at = r .at; is = r .is }
