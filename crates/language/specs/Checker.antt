@@ -62,31 +62,31 @@ module _ (P : File) (enter : Enter) where
     sized (enow c) p Γ Δ L = from (look (channelsAt p) c) 6 (frameAt P p) (λ τ. ok (record { type = τ; numbers = nothing; list = L }))
     sized (elast c) p Γ Δ L = from (look (channelsAt p) c) 6 (frameAt P p) (λ τ. ok (record { type = τ; numbers = nothing; list = L }))
     sized (elet a b) p Γ Δ L = bind (sized a p Γ Δ L) (λ q. bind (sized b p (Γ ++ (q .type ∷ [])) Δ (q .list)) (λ r.
-      ok (record { type = r .type; numbers = after (q .numbers) (withSlots 1 (r .numbers)); list = r .list })))
+        ok (record { type = r .type; numbers = after (q .numbers) (withSlots 1 (r .numbers)); list = r .list })))
     sized (eif a b d) p Γ Δ L = bind (sized a p Γ Δ L) (λ q. need (sameType (q .type) tbool) 9 (frameAt P p) (bind (sized b p Γ Δ (q .list)) (λ r. bind (sized d p Γ Δ (r .list)) (λ s.
-      need (sameType (s .type) (r .type)) 11 (frameAt P p) (ok (record { type = r .type; numbers = after (q .numbers) (either (r .numbers) (s .numbers)); list = s .list }))))))
+        need (sameType (s .type) (r .type)) 11 (frameAt P p) (ok (record { type = r .type; numbers = after (q .numbers) (either (r .numbers) (s .numbers)); list = s .list }))))))
     sized (eop o a b) p Γ Δ L = bind (sized a p Γ Δ L) (λ q. need (sameType (q .type) (baseType (operandType o))) 9 (frameAt P p) (bind (sized b p Γ Δ (q .list)) (λ r.
-      need (sameType (r .type) (baseType (operandType o))) 9 (frameAt P p) (ok (record { type = baseType (opType o); numbers = after (after (q .numbers) (r .numbers)) oneCell; list = r .list })))))
+        need (sameType (r .type) (baseType (operandType o))) 9 (frameAt P p) (ok (record { type = baseType (opType o); numbers = after (after (q .numbers) (r .numbers)) oneCell; list = r .list })))))
     -- "A call checks arguments, conditions, for a self-call that the summed measure falls, the result size, then enters its body"
     sized (ecall g es) p Γ Δ L = bind (sizeds es p Γ Δ L) (λ q. from (look (P .functions) g) 6 (frameAt P p) (λ F. let ks = sizesOf (q .types) in
-      need (sameTypes (parameterTypes (F .parameters) ks) (q .types)) 9 (frameAt P p) (need (conditionsHold ks (F .conditions)) 12 (frameAt P p)
+        need (sameTypes (parameterTypes (F .parameters) ks) (q .types)) 9 (frameAt P p) (need (conditionsHold ks (F .conditions)) 12 (frameAt P p)
         (need (falls p g (weight (F .measure) ks)) 13 (frameAt P p) (from (typeAt ks (F .result)) 10 (functionFrame P g) (λ τ. bind (enter (frameAt P p) g F ks τ (q .list)) (λ r.
-          ok (record { type = τ; numbers = withSlots (length (F .parameters)) (after (q .numbers) (inCall (r .numbers))); list = r .list }))))))))
+        ok (record { type = τ; numbers = withSlots (length (F .parameters)) (after (q .numbers) (inCall (r .numbers))); list = r .list }))))))))
     -- "10 precedes 11"
     sized (econ t i es) p Γ Δ L = bind (sizeds es p Γ Δ L) (λ q. from (look (constructorsOf P t) i) 6 (frameAt P p) (λ fs. let ks = ownSizes fs (q .types) in
-      need (ltb (sum ks) sizeMost) 10 (frameAt P p) (need (sameTypes (fieldTypes t fs ks) (q .types)) 11 (frameAt P p)
+        need (ltb (sum ks) sizeMost) 10 (frameAt P p) (need (sameTypes (fieldTypes t fs ks) (q .types)) 11 (frameAt P p)
         (ok (record { type = tnamed t (1 + sum ks); numbers = after (q .numbers) oneCell; list = q .list })))))
     sized (ecase t e r bs) p Γ Δ L = bind (sized e p Γ Δ L) (λ q. named (q .type) (frameAt P p) (λ u k. need (eqb u t) 9 (frameAt P p) (from (typeAt Δ r) 10 (frameAt P p) (λ τ.
-      bind (sizedBranches bs (constructorsOf P t) p Γ Δ t k τ (q .list)) (λ s. ok (record { type = τ; numbers = after (q .numbers) (s .numbers); list = s .list }))))))
+        bind (sizedBranches bs (constructorsOf P t) p Γ Δ t k τ (q .list)) (λ s. ok (record { type = τ; numbers = after (q .numbers) (s .numbers); list = s .list }))))))
     sized (eadj s e) p Γ Δ L = from (typeSize Δ s) 10 (frameAt P p) (λ k. bind (sized e p Γ Δ L) (λ q. named (q .type) (frameAt P p) (λ t j.
-      need (leb j k) 11 (frameAt P p) (ok (record { type = tnamed t k; numbers = q .numbers; list = q .list })))))
+        need (leb j k) 11 (frameAt P p) (ok (record { type = tnamed t k; numbers = q .numbers; list = q .list })))))
     sized (efit k a b d) p Γ Δ L = bind (sized a p Γ Δ L) (λ q. named (q .type) (frameAt P p) (λ t j. bind (sized b p (Γ ++ (tnamed t k ∷ [])) Δ (q .list)) (λ r. bind (sized d p Γ Δ (r .list)) (λ s.
-      need (sameType (s .type) (r .type)) 11 (frameAt P p) (ok (record { type = r .type; numbers = after (q .numbers) (either (withSlots 1 (r .numbers)) (s .numbers)); list = s .list }))))))
+        need (sameType (s .type) (r .type)) 11 (frameAt P p) (ok (record { type = r .type; numbers = after (q .numbers) (either (withSlots 1 (r .numbers)) (s .numbers)); list = s .list }))))))
 
     pub sizeds : Exprs → Place → List Ty → List ℕ → List Instance → Result Sizeds
     sizeds enil p Γ Δ L = ok (record { types = []; numbers = nothing; list = L })
     sizeds (econs e es) p Γ Δ L = bind (sized e p Γ Δ L) (λ q. bind (sizeds es p Γ Δ (q .list)) (λ r.
-      ok (record { types = q .type ∷ r .types; numbers = after (q .numbers) (r .numbers); list = r .list })))
+        ok (record { types = q .type ∷ r .types; numbers = after (q .numbers) (r .numbers); list = r .list })))
 
     -- a branch is skipped, or "checked for every split"; "Agreement with the return type closes each of these checks."
     pub sizedBranches : Exprs → List Constructor → Place → List Ty → List ℕ → ℕ → ℕ → Ty → List Instance → Result Counted
@@ -94,10 +94,10 @@ module _ (P : File) (enter : Enter) where
     sizedBranches enil (fs ∷ cs) p Γ Δ t k τ L = no 9 (frameAt P p)
     sizedBranches (econs b bs) [] p Γ Δ t k τ L = no 9 (frameAt P p)
     sizedBranches (econs b bs) (fs ∷ cs) p Γ Δ t k τ L =
-      let skip : Result Counted = sizedBranches bs cs p Γ Δ t k τ L in
-      let take : Result Counted = bind (atSplits (splits (owns fs) (k - 1)) (λ ks M. bind (sized b p (Γ ++ fieldTypes t fs ks) (Δ ++ ks) M) (λ q. need (sameType (q .type) τ) 11 (frameAt P p) (ok (record { numbers = q .numbers; list = q .list })))) L)
-             (λ q. bind (sizedBranches bs cs p Γ Δ t k τ (q .list)) (λ r. ok (record { numbers = either (withSlots (length fs) (q .numbers)) (r .numbers); list = r .list }))) in
-      choose (leb k (owns fs)) skip take
+        let skip : Result Counted = sizedBranches bs cs p Γ Δ t k τ L in
+        let take : Result Counted = bind (atSplits (splits (owns fs) (k - 1)) (λ ks M. bind (sized b p (Γ ++ fieldTypes t fs ks) (Δ ++ ks) M) (λ q. need (sameType (q .type) τ) 11 (frameAt P p) (ok (record { numbers = q .numbers; list = q .list })))) L)
+        (λ q. bind (sizedBranches bs cs p Γ Δ t k τ (q .list)) (λ r. ok (record { numbers = either (withSlots (length fs) (q .numbers)) (r .numbers); list = r .list }))) in
+        choose (leb k (owns fs)) skip take
 
 -- the numbers of an instance that was entered before
 unfoldable pub find : List Instance → ℕ → List ℕ → Option Estimate
@@ -113,15 +113,15 @@ foundOr none L r = r
 unfoldable pub enterAt : File → ℕ → ℕ → Enter
 enterAt P most zero frame g F ks τ L = foundOr (find L g ks) L (no 14 frame)
 enterAt P most (suc left) frame g F ks τ L =
-  let body : Result Counted = need (ltb (length L) most) 14 frame (bind (sized P (enterAt P most left) (F .body) (inside g (weight (F .measure) ks)) (parameterTypes (F .parameters) ks) ks (L ++ (record { function = g; sizes = ks; numbers = nothing } ∷ [])))
-      (λ q. need (sameType (q .type) τ) 11 (functionFrame P g) (ok (record { numbers = q .numbers; list = set (q .list) (length L) (record { function = g; sizes = ks; numbers = q .numbers }) })))) in
-  foundOr (find L g ks) L body
+    let body : Result Counted = need (ltb (length L) most) 14 frame (bind (sized P (enterAt P most left) (F .body) (inside g (weight (F .measure) ks)) (parameterTypes (F .parameters) ks) ks (L ++ (record { function = g; sizes = ks; numbers = nothing } ∷ [])))
+    (λ q. need (sameType (q .type) τ) 11 (functionFrame P g) (ok (record { numbers = q .numbers; list = set (q .list) (length L) (record { function = g; sizes = ks; numbers = q .numbers }) })))) in
+    foundOr (find L g ks) L body
 
 -- ---- the file: "Initial values come first in channel order, then updates in node order"
 -- an expression of channel c, which agrees exactly with the declared type
 unfoldable pub sizedChannel : File → ℕ → List Ty → Expr → Ty → List Instance → Result Counted
 sizedChannel P c C e τ L = bind (sized P (enterAt P instancesMost instancesMost) e (outside (channelFrame P c) C) [] [] L)
-  (λ q. need (sameType (q .type) τ) 11 (channelFrame P c) (ok (record { numbers = q .numbers; list = q .list })))
+    (λ q. need (sameType (q .type) τ) 11 (channelFrame P c) (ok (record { numbers = q .numbers; list = q .list })))
 
 unfoldable pub sizedInitials : File → ℕ → List Expr → List Ty → List Instance → Result (List Instance)
 sizedInitials P c [] τs L = ok L
@@ -136,7 +136,7 @@ pub record SizedFile : Type 0 where
 unfoldable pub sizedUpdates : File → ℕ → List Node → List Instance → Result SizedFile
 sizedUpdates P c [] L = ok (record { updates = []; list = L })
 sizedUpdates P c (n ∷ ns) L = bind (sizedChannel P c (declaredTypes P) (n .update) (n .declared) L) (λ q. bind (sizedUpdates P (suc c) ns (q .list)) (λ r.
-  ok (record { updates = q .numbers ∷ r .updates; list = r .list })))
+    ok (record { updates = q .numbers ∷ r .updates; list = r .list })))
 
 unfoldable pub sizedFile : File → Result SizedFile
 sizedFile P = bind (sizedInitials P 0 (initialValues P) (declaredTypes P) []) (λ L. sizedUpdates P (length (P .inputs)) (P .nodes) L)

@@ -78,7 +78,7 @@ module _ (P : File) (B : Body) (cap : ℕ) (N : Channels) where
     eval (eop o a b) E s h = bindOut (eval a E s h) (λ l g. bindOut (eval b E s g) (λ j i. alloc cap i (leaf (applyOp o (constantIn (cellAt i l)) (constantIn (cellAt i j))))))
     eval (ecall f es) E s h = needs (leb (arity P f) s) 21 (bindOuts (evals es E (s - arity P f) h) (λ ls g. B f ls (s - arity P f) g))
     eval (econ t c es) E s h = bindOuts (evals es E s h) (λ ls g. let fs = fieldsOf P t c in
-      needs (both (ltb (ownSum g fs ls) sizeMost) (fieldsWithin g fs ls)) 23 (alloc cap g (con t c (1 + ownSum g fs ls) ls)))
+        needs (both (ltb (ownSum g fs ls) sizeMost) (fieldsWithin g fs ls)) 23 (alloc cap g (con t c (1 + ownSum g fs ls) ls)))
     eval (ecase t e r bs) E s h = bindOut (eval e E s h) (λ l g. evalBranch bs (constructorIn (cellAt g l)) (fieldsIn (cellAt g l)) E s g)
     eval (eadj k e) E s h = eval e E s h
     eval (efit k a b d) E s h = bindOut (eval a E s h) (λ l g. let x : Out = needs (ltb 0 s) 21 (eval b (E ++ (l ∷ [])) (s - 1) g) in let y : Out = eval d E s g in choose (leb (sizeIn (cellAt g l)) k) x y)

@@ -97,7 +97,7 @@ typeBytes cs = length cs ∷ spellAll constructorBytes cs
 
 unfoldable pub functionBytes : Function → List ℕ
 functionBytes F = length (F .parameters) ∷ spellAll plainBytes (F .parameters) ++ (resultBytes (F .result)
-  ++ (length (F .conditions) ∷ spellAll conditionBytes (F .conditions) ++ (length (F .measure) ∷ F .measure ++ exprBytes (F .body))))
+    ++ (length (F .conditions) ∷ spellAll conditionBytes (F .conditions) ++ (length (F .measure) ∷ F .measure ++ exprBytes (F .body))))
 
 unfoldable pub inputBytes : Input → List ℕ
 inputBytes i = declaredBytes (i .declared) ++ exprBytes (i .initial)
@@ -108,7 +108,7 @@ nodeBytes n = declaredBytes (n .declared) ++ (exprBytes (n .initial) ++ exprByte
 -- "Frames stand in the order types (01), functions (02), inputs (03), nodes (04)"
 unfoldable pub fileFrames : File → List (List ℕ)
 fileFrames P = map (λ d. 0x01 ∷ typeBytes d) (P .types) ++ (map (λ F. 0x02 ∷ functionBytes F) (P .functions)
-  ++ (map (λ i. 0x03 ∷ inputBytes i) (P .inputs) ++ map (λ n. 0x04 ∷ nodeBytes n) (P .nodes)))
+    ++ (map (λ i. 0x03 ∷ inputBytes i) (P .inputs) ++ map (λ n. 0x04 ∷ nodeBytes n) (P .nodes)))
 
 -- ---- text: "Lines of upper-case hexadecimal pairs, one frame a line, each ended by LF (0A)"
 unfoldable pub pickDigit : Bool → ℕ → ℕ

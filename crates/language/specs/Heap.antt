@@ -23,6 +23,7 @@ mutual
   pub data Tree : Type 0 where
     vleaf : Constant → Tree
     vcon : ℕ → ℕ → Trees → Tree
+
   pub data Trees : Type 0 where
     vnil : Trees
     vcons : Tree → Trees → Trees

@@ -65,10 +65,10 @@ constructorOfWords t c k ls (some fs) = when (allZero (drop (length fs) ls)) (co
 -- the cell that its words are, if they are one
 unfoldable pub cellOfWords : File → ℕ → ℕ → List ℕ → Option Cell
 cellOfWords P tag v ls =
-  let isBool = when (both (leb v 1) (allZero ls)) (leaf (kbool (eqb v 1))) in
-  let isInt = when (both (ltb v intRange) (allZero ls)) (leaf (kint v)) in
-  let isCon = constructorOfWords (tag / tagStep - 1) (tag % tagStep) v ls (look (constructorsOf P (tag / tagStep - 1)) (tag % tagStep)) in
-  choose (eqb tag boolTag) isBool (choose (eqb tag intTag) isInt (choose (leb tagStep tag) isCon none))
+    let isBool = when (both (leb v 1) (allZero ls)) (leaf (kbool (eqb v 1))) in
+    let isInt = when (both (ltb v intRange) (allZero ls)) (leaf (kint v)) in
+    let isCon = constructorOfWords (tag / tagStep - 1) (tag % tagStep) v ls (look (constructorsOf P (tag / tagStep - 1)) (tag % tagStep)) in
+    choose (eqb tag boolTag) isBool (choose (eqb tag intTag) isInt (choose (leb tagStep tag) isCon none))
 
 unfoldable pub cellsOfWords : File → ℕ → List ℕ → Option (List Cell)
 cellsOfWords P zero ws = some []
@@ -78,11 +78,11 @@ cellsOfWords P (suc n) ws = chain (cellOfWords P (getD ws 0 0) (getD ws 1 0) (ta
 -- them are 0"
 unfoldable pub stateOfWords : File → ℕ → List ℕ → Option State
 stateOfWords P cells ws =
-  let used = getD ws 0 0 in
-  let channels = length (declaredTypes P) in
-  let clear = both (leb used cells) (both (allZero (drop channels (take channelsMost (drop 1 ws)))) (allZero (take (cellWords * (cells - used)) (drop (stateLength used) ws)))) in
-  let state : Option State = chain (cellsOfWords P used (drop headerWords ws)) (λ h. some (record { heap = h; roots = take channels (drop 1 ws) })) in
-  choose clear state none
+    let used = getD ws 0 0 in
+    let channels = length (declaredTypes P) in
+    let clear = both (leb used cells) (both (allZero (drop channels (take channelsMost (drop 1 ws)))) (allZero (take (cellWords * (cells - used)) (drop (stateLength used) ws)))) in
+    let state : Option State = chain (cellsOfWords P used (drop headerWords ws)) (λ h. some (record { heap = h; roots = take channels (drop 1 ws) })) in
+    choose clear state none
 
 -- ---- a state that is right for the file
 -- a cell of a type, of at most its size

@@ -77,4 +77,4 @@ oneLine (l ∷ m ∷ ls) rest = none
 
 unfoldable pub lineTrees : File → List ℕ → Option (List Tree)
 lineTrees P line = chain (oneLine (linesOf line .ended) (linesOf line .rest)) (λ l. chain (lineBytes l) (λ bs. chain (inputTrees P bs) (λ vs.
-  when (treesFit P vs (map (λ (i : Input). i .declared) (P .inputs))) vs)))
+    when (treesFit P vs (map (λ (i : Input). i .declared) (P .inputs))) vs)))

@@ -161,9 +161,9 @@ pub record Started : Type 0 where
 
 unfoldable pub start : List ℕ → Board → List Record → List ℕ → List ℕ → List ℕ → Started
 start t b list state scratch slots =
-  let r = checkFile t (both (listLent b list) (buffersLent b state scratch slots)) in
-  let v = verdictOf b r in
-  record { answer = answer v; list = finalList v r (length list); state = startWords v r (b .cells) state; scratch = zeros scratch; slots = zeros slots }
+    let r = checkFile t (both (listLent b list) (buffersLent b state scratch slots)) in
+    let v = verdictOf b r in
+    record { answer = answer v; list = finalList v r (length list); state = startWords v r (b .cells) state; scratch = zeros scratch; slots = zeros slots }
 
 -- ---- iteration
 -- a channel's value and the heap, or a refusal in the channel's frame
@@ -175,19 +175,19 @@ channelValue frame (refused n) k = no n frame
 unfoldable pub putInputs : File → ℕ → ℕ → List Tree → List Cell → List ℕ → Result State
 putInputs P cells c [] h roots = ok (record { heap = h; roots = roots })
 putInputs P cells c (v ∷ vs) h roots = let r = build P v h in
-  need (leb (length (r .heap)) cells) 20 (channelFrame P c) (putInputs P cells (suc c) vs (r .heap) (roots ++ (r .location ∷ [])))
+    need (leb (length (r .heap)) cells) 20 (channelFrame P c) (putInputs P cells (suc c) vs (r .heap) (roots ++ (r .location ∷ [])))
 
 -- the nodes from channel c on; "a node's value above its declared size is refusal 23". now: the channels before; old: those left.
 unfoldable pub updateNodes : File → Board → List ℕ → ℕ → List Node → List Cell → List ℕ → List ℕ → Result State
 updateNodes P b last c [] h now old = ok (record { heap = h; roots = now })
 updateNodes P b last c (n ∷ ns) h now old =
-  channelValue (channelFrame P c) (eval P (run P (b .cells) (b .calls)) (b .cells) (record { now = now ++ old; last = last }) (n .update) [] (b .slots) h)
+    channelValue (channelFrame P c) (eval P (run P (b .cells) (b .calls)) (b .cells) (record { now = now ++ old; last = last }) (n .update) [] (b .slots) h)
     (λ l g. need (leb (sizeIn (cellAt g l)) (sizeOfType (n .declared))) 23 (channelFrame P c) (updateNodes P b last (suc c) ns g (now ++ (l ∷ [])) (drop 1 old)))
 
 -- an iteration on a valid state with an allowed line's trees
 unfoldable pub iterateState : File → Board → State → List Tree → Result State
 iterateState P b s vs = bind (putInputs P (b .cells) 0 vs (s .heap) []) (λ q.
-  bind (updateNodes P b (s .roots) (length (P .inputs)) (P .nodes) (q .heap) (q .roots) (drop (length (P .inputs)) (s .roots))) (λ r. ok (slide r)))
+    bind (updateNodes P b (s .roots) (length (P .inputs)) (P .nodes) (q .heap) (q .roots) (drop (length (P .inputs)) (s .roots))) (λ r. ok (slide r)))
 
 -- "An iteration runs 1 to 9, 18, 19, then 20 to 23 where the rules meet them"
 unfoldable pub iterateFile : List ℕ → Board → Bool → List ℕ → List ℕ → Result State

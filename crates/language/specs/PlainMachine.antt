@@ -34,12 +34,12 @@ module _ (P : File) where
       p-if-then : {N : TreeChannels} {E : Trees} {a b d : Expr} {v : Tree} → Derives N E a (vleaf (kbool true)) → Derives N E b v → Derives N E (eif a b d) v
       p-if-else : {N : TreeChannels} {E : Trees} {a b d : Expr} {v : Tree} → Derives N E a (vleaf (kbool false)) → Derives N E d v → Derives N E (eif a b d) v
       p-op : {N : TreeChannels} {E : Trees} {o : Op} {a b : Expr} {x y z : Constant} → Derives N E a (vleaf x) → Derives N E b (vleaf y) →
-        constantType x ≡ operandType o → constantType y ≡ operandType o → z ≡ applyOp o x y → Derives N E (eop o a b) (vleaf z)
+          constantType x ≡ operandType o → constantType y ≡ operandType o → z ≡ applyOp o x y → Derives N E (eop o a b) (vleaf z)
       p-call : {N : TreeChannels} {E vs : Trees} {f : ℕ} {es : Exprs} {F : Function} {v : Tree} → look (P .functions) f ≡ some F → DerivesAll N E es vs → Derives noTrees vs (F .body) v → Derives N E (ecall f es) v
       p-ctor : {N : TreeChannels} {E vs : Trees} {t c : ℕ} {es : Exprs} {fs : Constructor} → DerivesAll N E es vs → look (constructorsOf P t) c ≡ some fs →
-        ownTreeSum P vs fs < sizeMost → treesWithin P vs fs ≡ true → Derives N E (econ t c es) (vcon t c vs)
+          ownTreeSum P vs fs < sizeMost → treesWithin P vs fs ≡ true → Derives N E (econ t c es) (vcon t c vs)
       p-case : {N : TreeChannels} {E vs : Trees} {t c : ℕ} {e b : Expr} {r : ResultType} {bs : Exprs} {v : Tree} → Derives N E e (vcon t c vs) → lookExpr bs c ≡ some b →
-        Derives N (appendTrees E vs) b v → Derives N E (ecase t e r bs) v
+          Derives N (appendTrees E vs) b v → Derives N E (ecase t e r bs) v
       p-adj : {N : TreeChannels} {E : Trees} {s : Size} {e : Expr} {v : Tree} → Derives N E e v → Derives N E (eadj s e) v
       p-fit-success : {N : TreeChannels} {E : Trees} {k : ℕ} {a b d : Expr} {w v : Tree} → Derives N E a w → treeSize P w ≤ k → Derives N (appendTrees E (vcons w vnil)) b v → Derives N E (efit k a b d) v
       p-fit-fail : {N : TreeChannels} {E : Trees} {k : ℕ} {a b d : Expr} {w v : Tree} → Derives N E a w → k < treeSize P w → Derives N E d v → Derives N E (efit k a b d) v
@@ -53,8 +53,8 @@ module _ (P : File) where
   pub data Nodes (last : List Tree) : List Node → List Tree → List Tree → List Tree → Type 0 where
     no-nodes : {done old : List Tree} → Nodes last [] done old done
     next-node : {n : Node} {ns : List Node} {done old result : List Tree} {v : Tree} →
-      Derives (record { now = done ++ old; last = last }) vnil (n .update) v → treeSize P v ≤ sizeOfType (n .declared) →
-      Nodes last ns (done ++ (v ∷ [])) (drop 1 old) result → Nodes last (n ∷ ns) done old result
+        Derives (record { now = done ++ old; last = last }) vnil (n .update) v → treeSize P v ≤ sizeOfType (n .declared) →
+        Nodes last ns (done ++ (v ∷ [])) (drop 1 old) result → Nodes last (n ∷ ns) done old result
 
   -- "An allowed line puts in its own trees for the inputs"; "Any other line changes nothing."
   pub data Step (before : List Tree) (line : List ℕ) : List Tree → Type 0 where

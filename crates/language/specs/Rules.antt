@@ -38,31 +38,31 @@ module _ (P : File) (cap : ℕ) where
       e-node : {N : Channels} {u s l c : ℕ} {E : List ℕ} {h : List Cell} → look (N .now) c ≡ some l → Runs N u s E h (enow c) l h
       e-atlast : {N : Channels} {u s l c : ℕ} {E : List ℕ} {h : List Cell} → look (N .last) c ≡ some l → Runs N u s E h (elast c) l h
       e-let : {N : Channels} {u s r k l : ℕ} {E : List ℕ} {h i g : List Cell} {a b : Expr} →
-        Runs N u s E h a k i → s ≡ 1 + r → Runs N u r (E ++ (k ∷ [])) i b l g → Runs N u s E h (elet a b) l g
+          Runs N u s E h a k i → s ≡ 1 + r → Runs N u r (E ++ (k ∷ [])) i b l g → Runs N u s E h (elet a b) l g
       e-if-then : {N : Channels} {u s k l : ℕ} {E : List ℕ} {h i g : List Cell} {a b d : Expr} →
-        Runs N u s E h a k i → look i k ≡ some (leaf (kbool true)) → Runs N u s E i b l g → Runs N u s E h (eif a b d) l g
+          Runs N u s E h a k i → look i k ≡ some (leaf (kbool true)) → Runs N u s E i b l g → Runs N u s E h (eif a b d) l g
       e-if-else : {N : Channels} {u s k l : ℕ} {E : List ℕ} {h i g : List Cell} {a b d : Expr} →
-        Runs N u s E h a k i → look i k ≡ some (leaf (kbool false)) → Runs N u s E i d l g → Runs N u s E h (eif a b d) l g
+          Runs N u s E h a k i → look i k ≡ some (leaf (kbool false)) → Runs N u s E i d l g → Runs N u s E h (eif a b d) l g
       e-op : {N : Channels} {u s j k l : ℕ} {E : List ℕ} {h i f g : List Cell} {o : Op} {a b : Expr} {x y : Constant} →
-        Runs N u s E h a j i → Runs N u s E i b k f → look f j ≡ some (leaf x) → look f k ≡ some (leaf y) →
-        constantType x ≡ operandType o → constantType y ≡ operandType o → New cap f (leaf (applyOp o x y)) l g → Runs N u s E h (eop o a b) l g
+          Runs N u s E h a j i → Runs N u s E i b k f → look f j ≡ some (leaf x) → look f k ≡ some (leaf y) →
+          constantType x ≡ operandType o → constantType y ≡ operandType o → New cap f (leaf (applyOp o x y)) l g → Runs N u s E h (eop o a b) l g
       e-call : {N : Channels} {u v s r f l : ℕ} {E ls : List ℕ} {h i g : List Cell} {es : Exprs} {F : Function} →
-        look (P .functions) f ≡ some F → s ≡ length (F .parameters) + r → RunsAll N u r E h es ls i → length ls ≡ length (F .parameters) → u ≡ 1 + v →
-        Runs noChannels v r ls i (F .body) l g → Runs N u s E h (ecall f es) l g
+          look (P .functions) f ≡ some F → s ≡ length (F .parameters) + r → RunsAll N u r E h es ls i → length ls ≡ length (F .parameters) → u ≡ 1 + v →
+          Runs noChannels v r ls i (F .body) l g → Runs N u s E h (ecall f es) l g
       e-ctor : {N : Channels} {u s t c l : ℕ} {E ls ks : List ℕ} {h i g : List Cell} {es : Exprs} {fs : Constructor} →
-        RunsAll N u s E h es ls i → look (constructorsOf P t) c ≡ some fs → FieldSizes i fs ls ks → sum ks < sizeMost →
-        New cap i (con t c (1 + sum ks) ls) l g → Runs N u s E h (econ t c es) l g
+          RunsAll N u s E h es ls i → look (constructorsOf P t) c ≡ some fs → FieldSizes i fs ls ks → sum ks < sizeMost →
+          New cap i (con t c (1 + sum ks) ls) l g → Runs N u s E h (econ t c es) l g
       e-case : {N : Channels} {u s r t c n k l : ℕ} {E ls : List ℕ} {h i g : List Cell} {e b : Expr} {y : ResultType} {bs : Exprs} {fs : Constructor} →
-        Runs N u s E h e k i → look i k ≡ some (con t c n ls) → look (constructorsOf P t) c ≡ some fs → length ls ≡ length fs → lookExpr bs c ≡ some b → s ≡ length fs + r →
-        Runs N u r (E ++ ls) i b l g → Runs N u s E h (ecase t e y bs) l g
+          Runs N u s E h e k i → look i k ≡ some (con t c n ls) → look (constructorsOf P t) c ≡ some fs → length ls ≡ length fs → lookExpr bs c ≡ some b → s ≡ length fs + r →
+          Runs N u r (E ++ ls) i b l g → Runs N u s E h (ecase t e y bs) l g
       e-adj : {N : Channels} {u s l : ℕ} {E : List ℕ} {h g : List Cell} {z : Size} {e : Expr} → Runs N u s E h e l g → Runs N u s E h (eadj z e) l g
       e-fit-success : {N : Channels} {u s r m t c n k l : ℕ} {E ls : List ℕ} {h i g : List Cell} {a b d : Expr} →
-        Runs N u s E h a k i → look i k ≡ some (con t c n ls) → n ≤ m → s ≡ 1 + r → Runs N u r (E ++ (k ∷ [])) i b l g → Runs N u s E h (efit m a b d) l g
+          Runs N u s E h a k i → look i k ≡ some (con t c n ls) → n ≤ m → s ≡ 1 + r → Runs N u r (E ++ (k ∷ [])) i b l g → Runs N u s E h (efit m a b d) l g
       e-fit-fail : {N : Channels} {u s m t c n k l : ℕ} {E ls : List ℕ} {h i g : List Cell} {a b d : Expr} →
-        Runs N u s E h a k i → look i k ≡ some (con t c n ls) → m < n → Runs N u s E i d l g → Runs N u s E h (efit m a b d) l g
+          Runs N u s E h a k i → look i k ≡ some (con t c n ls) → m < n → Runs N u s E i d l g → Runs N u s E h (efit m a b d) l g
 
     -- the premises of E-CALL and E-CTOR for their parts, left to right
     pub data RunsAll : Channels → ℕ → ℕ → List ℕ → List Cell → Exprs → List ℕ → List Cell → Type 0 where
       es-nil : {N : Channels} {u s : ℕ} {E : List ℕ} {h : List Cell} → RunsAll N u s E h enil [] h
       es-cons : {N : Channels} {u s l : ℕ} {E ls : List ℕ} {h i g : List Cell} {e : Expr} {es : Exprs} →
-        Runs N u s E h e l i → RunsAll N u s E i es ls g → RunsAll N u s E h (econs e es) (l ∷ ls) g
+          Runs N u s E h e l i → RunsAll N u s E i es ls g → RunsAll N u s E h (econs e es) (l ∷ ls) g

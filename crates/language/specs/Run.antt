@@ -80,8 +80,8 @@ called t ws c = iterate t (c .board) ws (c .scratch) (c .slots) (c .line)
 pub data Goes (t : List ℕ) (P : File) (x : Estimate) (cells : ℕ) : List ℕ → List Tree → List Call → Type 0 where
   ends : {ws : List ℕ} {vs : List Tree} → Holds P cells ws vs → Goes t P x cells ws vs []
   goes : {ws : List ℕ} {vs us : List Tree} {c : Call} {cs : List Call} → Holds P cells ws vs →
-    called t ws c .answer ≡ answer (lineVerdict (lineTrees P (c .line))) → Step P vs (c .line) us →
-    Goes t P x cells (called t ws c .state) us cs → Goes t P x cells ws vs (c ∷ cs)
+      called t ws c .answer ≡ answer (lineVerdict (lineTrees P (c .line))) → Step P vs (c .line) us →
+      Goes t P x cells (called t ws c .state) us cs → Goes t P x cells ws vs (c ∷ cs)
 
 -- the calls of a run lend enough, each on the words that the call before left
 pub data CallsAllowed (t : List ℕ) (x : Estimate) (cells : ℕ) : List ℕ → List Call → Type 0 where
@@ -105,7 +105,7 @@ pub record Claim (t : List ℕ) (P : File) (x : Estimate) (c : FirstCall) (cs : 
 pub data Alike (t : List ℕ) (P : File) (m n : ℕ) : List ℕ → List ℕ → List Call → List Call → Type 0 where
   both-end : {v w : List ℕ} {r s : State} → loadState P m v ≡ some r → loadState P n w ≡ some s → channelTrees r ≡ channelTrees s → Alike t P m n v w [] []
   both-go : {v w : List ℕ} {r s : State} {c d : Call} {cs ds : List Call} → loadState P m v ≡ some r → loadState P n w ≡ some s → channelTrees r ≡ channelTrees s →
-    called t v c .answer ≡ called t w d .answer → Alike t P m n (called t v c .state) (called t w d .state) cs ds → Alike t P m n v w (c ∷ cs) (d ∷ ds)
+      called t v c .answer ≡ called t w d .answer → Alike t P m n (called t v c .state) (called t w d .state) cs ds → Alike t P m n v w (c ∷ cs) (d ∷ ds)
 
 abbrev pub linesIn : List Call → List (List ℕ)
 linesIn cs = map (λ (c : Call). c .line) cs
@@ -114,4 +114,4 @@ linesIn cs = map (λ (c : Call). c .line) cs
 pub record Demand3 : Type 0 where
   pub every : (t : List ℕ) (P : File) (x : Estimate) → readFile t ≡ ok P → Reported t x → (c : FirstCall) (cs : List Call) → Run t x c cs → Claim t P x c cs
   pub two : (t : List ℕ) (P : File) (x : Estimate) → readFile t ≡ ok P → Reported t x → (c d : FirstCall) (cs ds : List Call) → Run t x c cs → Run t x d ds →
-    linesIn cs ≡ linesIn ds → Alike t P (c .board .cells) (d .board .cells) (begun t c .state) (begun t d .state) cs ds
+      linesIn cs ≡ linesIn ds → Alike t P (c .board .cells) (d .board .cells) (begun t c .state) (begun t d .state) cs ds

@@ -59,6 +59,7 @@ mutual
     ecase : ℕ → Expr → ResultType → Exprs → Expr
     eadj : Size → Expr → Expr
     efit : ℕ → Expr → Expr → Expr → Expr
+
   pub data Exprs : Type 0 where
     enil : Exprs
     econs : Expr → Exprs → Exprs

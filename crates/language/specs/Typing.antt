@@ -52,48 +52,48 @@ module _ (P : File) where
       t-node : {p : Place} {Γ : List Ty} {Δ : List ℕ} {c : ℕ} {τ : Ty} {x : Estimate} → look (channelsAt p) c ≡ some τ → x ≡ nothing → Typing p Γ Δ (enow c) τ x
       t-atlast : {p : Place} {Γ : List Ty} {Δ : List ℕ} {c : ℕ} {τ : Ty} {x : Estimate} → look (channelsAt p) c ≡ some τ → x ≡ nothing → Typing p Γ Δ (elast c) τ x
       t-let : {p : Place} {Γ : List Ty} {Δ : List ℕ} {a b : Expr} {σ τ : Ty} {m n x : Estimate} →
-        Typing p Γ Δ a σ m → Typing p (Γ ++ (σ ∷ [])) Δ b τ n → x ≡ after m (withSlots 1 n) → Typing p Γ Δ (elet a b) τ x
+          Typing p Γ Δ a σ m → Typing p (Γ ++ (σ ∷ [])) Δ b τ n → x ≡ after m (withSlots 1 n) → Typing p Γ Δ (elet a b) τ x
       t-if : {p : Place} {Γ : List Ty} {Δ : List ℕ} {a b d : Expr} {τ : Ty} {l m n x : Estimate} →
-        Typing p Γ Δ a tbool l → Typing p Γ Δ b τ m → Typing p Γ Δ d τ n → x ≡ after l (either m n) → Typing p Γ Δ (eif a b d) τ x
+          Typing p Γ Δ a tbool l → Typing p Γ Δ b τ m → Typing p Γ Δ d τ n → x ≡ after l (either m n) → Typing p Γ Δ (eif a b d) τ x
       t-op : {p : Place} {Γ : List Ty} {Δ : List ℕ} {o : Op} {a b : Expr} {σ τ : Ty} {m n x : Estimate} →
-        σ ≡ baseType (operandType o) → Typing p Γ Δ a σ m → Typing p Γ Δ b σ n → τ ≡ baseType (opType o) → x ≡ after (after m n) oneCell → Typing p Γ Δ (eop o a b) τ x
+          σ ≡ baseType (operandType o) → Typing p Γ Δ a σ m → Typing p Γ Δ b σ n → τ ≡ baseType (opType o) → x ≡ after (after m n) oneCell → Typing p Γ Δ (eop o a b) τ x
       t-call : {p : Place} {Γ : List Ty} {Δ : List ℕ} {g : ℕ} {es : Exprs} {τs : List Ty} {ks : List ℕ} {F : Function} {τ : Ty} {m n x : Estimate} →
-        Typings p Γ Δ es τs m → look (P .functions) g ≡ some F → sizesOf τs ≡ ks → parameterTypes (F .parameters) ks ≡ τs →
-        conditionsHold ks (F .conditions) ≡ true → falls p g (weight (F .measure) ks) ≡ true → typeAt ks (F .result) ≡ some τ →
-        Typing (inside g (weight (F .measure) ks)) (parameterTypes (F .parameters) ks) ks (F .body) τ n →
-        x ≡ withSlots (length (F .parameters)) (after m (inCall n)) → Typing p Γ Δ (ecall g es) τ x
+          Typings p Γ Δ es τs m → look (P .functions) g ≡ some F → sizesOf τs ≡ ks → parameterTypes (F .parameters) ks ≡ τs →
+          conditionsHold ks (F .conditions) ≡ true → falls p g (weight (F .measure) ks) ≡ true → typeAt ks (F .result) ≡ some τ →
+          Typing (inside g (weight (F .measure) ks)) (parameterTypes (F .parameters) ks) ks (F .body) τ n →
+          x ≡ withSlots (length (F .parameters)) (after m (inCall n)) → Typing p Γ Δ (ecall g es) τ x
       t-ctor : {p : Place} {Γ : List Ty} {Δ : List ℕ} {t i : ℕ} {es : Exprs} {τs : List Ty} {fs : Constructor} {ks : List ℕ} {k : ℕ} {m x : Estimate} →
-        Typings p Γ Δ es τs m → look (constructorsOf P t) i ≡ some fs → ownSizes fs τs ≡ ks → sum ks < sizeMost → fieldTypes t fs ks ≡ τs → k ≡ 1 + sum ks →
-        x ≡ after m oneCell → Typing p Γ Δ (econ t i es) (tnamed t k) x
+          Typings p Γ Δ es τs m → look (constructorsOf P t) i ≡ some fs → ownSizes fs τs ≡ ks → sum ks < sizeMost → fieldTypes t fs ks ≡ τs → k ≡ 1 + sum ks →
+          x ≡ after m oneCell → Typing p Γ Δ (econ t i es) (tnamed t k) x
       t-case : {p : Place} {Γ : List Ty} {Δ : List ℕ} {t k : ℕ} {e : Expr} {r : ResultType} {bs : Exprs} {τ : Ty} {m n x : Estimate} →
-        Typing p Γ Δ e (tnamed t k) m → typeAt Δ r ≡ some τ → Branches p Γ Δ t k (constructorsOf P t) bs τ n →
-        x ≡ after m n → Typing p Γ Δ (ecase t e r bs) τ x
+          Typing p Γ Δ e (tnamed t k) m → typeAt Δ r ≡ some τ → Branches p Γ Δ t k (constructorsOf P t) bs τ n →
+          x ≡ after m n → Typing p Γ Δ (ecase t e r bs) τ x
       t-adj : {p : Place} {Γ : List Ty} {Δ : List ℕ} {s : Size} {e : Expr} {t j k : ℕ} {m : Estimate} →
-        typeSize Δ s ≡ some k → Typing p Γ Δ e (tnamed t j) m → j ≤ k → Typing p Γ Δ (eadj s e) (tnamed t k) m
+          typeSize Δ s ≡ some k → Typing p Γ Δ e (tnamed t j) m → j ≤ k → Typing p Γ Δ (eadj s e) (tnamed t k) m
       t-fit : {p : Place} {Γ : List Ty} {Δ : List ℕ} {k : ℕ} {a b d : Expr} {t j : ℕ} {τ : Ty} {l m n x : Estimate} →
-        Typing p Γ Δ a (tnamed t j) l → Typing p (Γ ++ (tnamed t k ∷ [])) Δ b τ m → Typing p Γ Δ d τ n →
-        x ≡ after l (either (withSlots 1 m) n) → Typing p Γ Δ (efit k a b d) τ x
+          Typing p Γ Δ a (tnamed t j) l → Typing p (Γ ++ (tnamed t k ∷ [])) Δ b τ m → Typing p Γ Δ d τ n →
+          x ≡ after l (either (withSlots 1 m) n) → Typing p Γ Δ (efit k a b d) τ x
 
     -- arguments and fields, left to right
     pub data Typings : Place → List Ty → List ℕ → Exprs → List Ty → Estimate → Type 0 where
       ts-nil : {p : Place} {Γ : List Ty} {Δ : List ℕ} {x : Estimate} → x ≡ nothing → Typings p Γ Δ enil [] x
       ts-cons : {p : Place} {Γ : List Ty} {Δ : List ℕ} {e : Expr} {es : Exprs} {τ : Ty} {τs : List Ty} {m n x : Estimate} →
-        Typing p Γ Δ e τ m → Typings p Γ Δ es τs n → x ≡ after m n → Typings p Γ Δ (econs e es) (τ ∷ τs) x
+          Typing p Γ Δ e τ m → Typings p Γ Δ es τs n → x ≡ after m n → Typings p Γ Δ (econs e es) (τ ∷ τs) x
 
     -- T-BRANCH for each branch of a case over type t at size k: "skipped when m is at most its number of own-type fields"
     pub data Branches : Place → List Ty → List ℕ → ℕ → ℕ → List Constructor → Exprs → Ty → Estimate → Type 0 where
       t-none : {p : Place} {Γ : List Ty} {Δ : List ℕ} {t k : ℕ} {τ : Ty} {x : Estimate} → x ≡ nothing → Branches p Γ Δ t k [] enil τ x
       t-skip : {p : Place} {Γ : List Ty} {Δ : List ℕ} {t k : ℕ} {fs : Constructor} {cs : List Constructor} {b : Expr} {bs : Exprs} {τ : Ty} {n : Estimate} →
-        k ≤ owns fs → Branches p Γ Δ t k cs bs τ n → Branches p Γ Δ t k (fs ∷ cs) (econs b bs) τ n
+          k ≤ owns fs → Branches p Γ Δ t k cs bs τ n → Branches p Γ Δ t k (fs ∷ cs) (econs b bs) τ n
       t-branch : {p : Place} {Γ : List Ty} {Δ : List ℕ} {t k : ℕ} {fs : Constructor} {cs : List Constructor} {b : Expr} {bs : Exprs} {τ : Ty} {m n x : Estimate} →
-        owns fs < k → AtSplits p Γ Δ t fs (splits (owns fs) (k - 1)) b τ m → Branches p Γ Δ t k cs bs τ n →
-        x ≡ either (withSlots (length fs) m) n → Branches p Γ Δ t k (fs ∷ cs) (econs b bs) τ x
+          owns fs < k → AtSplits p Γ Δ t fs (splits (owns fs) (k - 1)) b τ m → Branches p Γ Δ t k cs bs τ n →
+          x ≡ either (withSlots (length fs) m) n → Branches p Γ Δ t k (fs ∷ cs) (econs b bs) τ x
 
     -- one branch at each of these splits
     pub data AtSplits : Place → List Ty → List ℕ → ℕ → Constructor → List (List ℕ) → Expr → Ty → Estimate → Type 0 where
       s-none : {p : Place} {Γ : List Ty} {Δ : List ℕ} {t : ℕ} {fs : Constructor} {b : Expr} {τ : Ty} {x : Estimate} → x ≡ nothing → AtSplits p Γ Δ t fs [] b τ x
       s-cons : {p : Place} {Γ : List Ty} {Δ : List ℕ} {t : ℕ} {fs : Constructor} {ks : List ℕ} {kss : List (List ℕ)} {b : Expr} {τ : Ty} {m n x : Estimate} →
-        Typing p (Γ ++ fieldTypes t fs ks) (Δ ++ ks) b τ m → AtSplits p Γ Δ t fs kss b τ n → x ≡ either m n → AtSplits p Γ Δ t fs (ks ∷ kss) b τ x
+          Typing p (Γ ++ fieldTypes t fs ks) (Δ ++ ks) b τ m → AtSplits p Γ Δ t fs kss b τ n → x ≡ either m n → AtSplits p Γ Δ t fs (ks ∷ kss) b τ x
 
   -- C-INIT: "a channel and its expressions agree exactly"; an initial value names no channel. c counts channels.
   pub data Initials : ℕ → List Expr → List Ty → Type 0 where
@@ -104,7 +104,7 @@ module _ (P : File) where
   pub data Updates : ℕ → List Node → List Estimate → Type 0 where
     c-last : {c : ℕ} → Updates c [] []
     c-node : {c : ℕ} {n : Node} {ns : List Node} {x : Estimate} {xs : List Estimate} →
-      Typing (outside (channelFrame P c) (declaredTypes P)) [] [] (n .update) (n .declared) x → Updates (suc c) ns xs → Updates c (n ∷ ns) (x ∷ xs)
+        Typing (outside (channelFrame P c) (declaredTypes P)) [] [] (n .update) (n .declared) x → Updates (suc c) ns xs → Updates c (n ∷ ns) (x ∷ xs)
 
   -- a file whose sizes are right, with the numbers of its updates
   pub record WellSized (xs : List Estimate) : Type 0 where

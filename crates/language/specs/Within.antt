@@ -61,9 +61,9 @@ mutual
     w-op : {n : ℕ} {S : Scope} {o : Op} {a b : Expr} → roomIn S ≡ true → WithinExpr n S a → WithinExpr n S b → WithinExpr (suc n) S (eop o a b)
     w-call : {n : ℕ} {S : Scope} {f : ℕ} {es : Exprs} → roomIn S ≡ true → f < length (S .arities) → WithinExprs n S (getD (S .arities) f 0) es → WithinExpr (suc n) S (ecall f es)
     w-con : {n : ℕ} {S : Scope} {t c : ℕ} {es : Exprs} → roomIn S ≡ true → t < length (S .types) → c < length (getD (S .types) t []) →
-      WithinExprs n S (length (getD (getD (S .types) t []) c [])) es → WithinExpr (suc n) S (econ t c es)
+        WithinExprs n S (length (getD (getD (S .types) t []) c [])) es → WithinExpr (suc n) S (econ t c es)
     w-case : {n : ℕ} {S : Scope} {t : ℕ} {e : Expr} {r : ResultType} {bs : Exprs} → roomIn S ≡ true → t < length (S .types) → WithinExpr n S e →
-      WithinResult (length (S .types)) (S .sizes) r → WithinBranches n S (getD (S .types) t []) bs → WithinExpr (suc n) S (ecase t e r bs)
+        WithinResult (length (S .types)) (S .sizes) r → WithinBranches n S (getD (S .types) t []) bs → WithinExpr (suc n) S (ecase t e r bs)
     w-adj : {n : ℕ} {S : Scope} {s : Size} {e : Expr} → roomIn S ≡ true → WithinSize (S .sizes) nestingMost s → WithinExpr n S e → WithinExpr (suc n) S (eadj s e)
     w-fit : {n : ℕ} {S : Scope} {k : ℕ} {a b d : Expr} → roomIn S ≡ true → Bound k → WithinExpr n S a → WithinExpr n (wider 1 0 S) b → WithinExpr n S d → WithinExpr (suc n) S (efit k a b d)
 

@@ -2,27 +2,49 @@ ghost use mathlib.Core.Path.{_≡_};
 ghost use Rattle.language.specs.Constants.{fileLimits, boardLimits};
 
 pub const TEXT_MOST: usize = 16384;
+
 pub const TYPES_MOST: usize = 8;
+
 pub const FUNCTIONS_MOST: usize = 32;
+
 pub const INPUTS_MOST: usize = 8;
+
 pub const NODES_MOST: usize = 16;
+
 pub const CHANNELS_MOST: usize = INPUTS_MOST + NODES_MOST;
+
 pub const CONSTRUCTORS_MOST: usize = 8;
+
 pub const FIELDS_MOST: usize = 4;
+
 pub const SIZE_MOST: u32 = 64;
+
 pub const PARAMETERS_MOST: usize = 8;
+
 pub const CONDITIONS_MOST: u32 = 8;
+
 pub const MEASURES_MOST: u32 = 8;
+
 pub const VARIABLES_MOST: u32 = 32;
+
 pub const SIZE_VARIABLES_MOST: u32 = 8;
+
 pub const NESTING_MOST: u32 = 32;
+
 pub const INSTANCES_MOST: usize = 1024;
+
 pub const NUMBER_MOST: u32 = 65535;
+
 pub const CELLS_MOST: u32 = 2048;
+
 pub const SLOTS_MOST: u32 = 256;
+
 pub const CALLS_MOST: u32 = 64;
+
 pub const HEADER_WORDS: usize = 1 + CHANNELS_MOST;
+
 pub const CELL_WORDS: usize = 2 + FIELDS_MOST;
+
 pub const SCRATCH_WORDS: usize = 2048;
 
 // The limits of a file, and of a board with its buffers.

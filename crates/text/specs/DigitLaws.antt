@@ -44,6 +44,6 @@ bytes-at [] i less = absurd (omega arith)
 bytes-at (a ∷ []) i less = absurd (omega arith)
 bytes-at (a ∷ b ∷ l) zero less = refl
 bytes-at (a ∷ b ∷ l) (suc i) less =
-  let even : 2 * suc i ≡ suc (suc (2 * i)) = omega arith in
-  let odd : 2 * suc i + 1 ≡ suc (suc (2 * i + 1)) = omega arith in
-  bytes-at l i (omega arith) ∙ ap (λ n. digitValue (getD (a ∷ b ∷ l) n 0) * 16 + digitValue (getD l (2 * i + 1) 0)) (sym even) ∙ ap (λ n. digitValue (getD (a ∷ b ∷ l) (2 * suc i) 0) * 16 + digitValue (getD (a ∷ b ∷ l) n 0)) (sym odd)
+    let even : 2 * suc i ≡ suc (suc (2 * i)) = omega arith in
+    let odd : 2 * suc i + 1 ≡ suc (suc (2 * i + 1)) = omega arith in
+    bytes-at l i (omega arith) ∙ ap (λ n. digitValue (getD (a ∷ b ∷ l) n 0) * 16 + digitValue (getD l (2 * i + 1) 0)) (sym even) ∙ ap (λ n. digitValue (getD (a ∷ b ∷ l) (2 * suc i) 0) * 16 + digitValue (getD (a ∷ b ∷ l) n 0)) (sym odd)

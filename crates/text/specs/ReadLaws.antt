@@ -32,7 +32,7 @@ unfolding given
 byte-end line at h = (record { is = sym (byte-none line at h); on = stopped }, no-number)
 
 pub byte-done : (line : List ℕ) (at high low : ℕ) → at < length line / 2 → (high ≡ digitValue (getD line (2 * at) 0)) × (high < 16) → (low ≡ digitValue (getD line (2 * at + 1) 0)) × (low < 16) →
-  ReadsNumber line at (Is (record { value = high * 16 + low; next = record { at = at + 1 } })) (byte (bytesFrom line at)) × Below 256 (Is (record { value = high * 16 + low; next = record { at = at + 1 } }))
+    ReadsNumber line at (Is (record { value = high * 16 + low; next = record { at = at + 1 } })) (byte (bytesFrom line at)) × Below 256 (Is (record { value = high * 16 + low; next = record { at = at + 1 } }))
 unfolding given
 byte-done line at high low h p q = (record { is = sym (byte-some line at h ∙ rw (bytes-at line at h, p .0, q .0)); on = moved {c = record { at = at + 1 }} (omega arith) (omega (arith, bytes-length line)) }, below {f = record { value = high * 16 + low; next = record { at = at + 1 } }} (omega (arith, p .1, q .1)))
 
@@ -51,12 +51,12 @@ number-stops {line} k v e = (record { is = ap (given (bytesOf line)) e ∙ sym (
 
 -- a test of the number: refused with m, or passed on
 pub number-fails : {line : List ℕ} {at m : ℕ} {x : Number} {y : Read ℕ} {f : Found} (test : ℕ → Bool) → ReadsNumber line at x y × Below 256 x → x ≡ Is f → test (f .value) ≡ false →
-  ReadsNumber line at (Refused m) (andThen y (λ n. must (test n) m (λ bs. got n bs))) × Below 256 (Refused m)
+    ReadsNumber line at (Refused m) (andThen y (λ n. must (test n) m (λ bs. got n bs))) × Below 256 (Refused m)
 unfolding given must
 number-fails {m} test v e b = (record { is = sym (read-then (λ n. must (test n) m (λ bs. got n bs)) (v .0) e ∙ rw b); on = stopped }, no-number)
 
 pub number-passes : {line : List ℕ} {at : ℕ} (m : ℕ) {x : Number} {y : Read ℕ} {f : Found} (test : ℕ → Bool) → ReadsNumber line at x y × Below 256 x → x ≡ Is f → test (f .value) ≡ true →
-  ReadsNumber line at (Is f) (andThen y (λ n. must (test n) m (λ bs. got n bs))) × Below 256 (Is f)
+    ReadsNumber line at (Is f) (andThen y (λ n. must (test n) m (λ bs. got n bs))) × Below 256 (Is f)
 unfolding given must
 number-passes m test v e b = (record { is = sym (read-then (λ n. must (test n) m (λ bs. got n bs)) (v .0) e ∙ rw b); on = rw e at (v .0 .on) }, rw e at (v .1))
 

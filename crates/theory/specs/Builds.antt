@@ -52,26 +52,27 @@ con-builds : (t c k : ℕ) {ws : Trees} {h : List Cell} {q : BuiltAll} → Build
 unfolding newCell treeCells treeOf
 con-builds t c k {q} b =
     let size = length-append (q .heap) (con t c k (q .locations) ∷ []) in
-    record
-      { grown = grown-trans (b .grown) (grown-one (q .heap) (con t c k (q .locations)))
-      ; count = omega (arith, b .count)
-      ; low = omega arith
-      ; tree = tree-new (q .heap) (con t c k (q .locations)) ∙ ap (vcon t c) (b .trees)
-      }
+    record {
+      grown = grown-trans (b .grown) (grown-one (q .heap) (con t c k (q .locations)));
+      count = omega (arith, b .count);
+      low = omega arith;
+      tree = tree-new (q .heap) (con t c k (q .locations)) ∙ ap (vcon t c) (b .trees);
+    }
 
 cons-builds : {w : Tree} {ws : Trees} {h : List Cell} {r : Built} {q : BuiltAll} → Builds w h r → BuildsFields ws (r .heap) q →
-  BuildsFields (vcons w ws) h (record { locations = r .location ∷ q .locations; heap = q .heap })
+    BuildsFields (vcons w ws) h (record { locations = r .location ∷ q .locations; heap = q .heap })
 unfolding treeCells treesAt
-cons-builds {r} b c = record
-  { grown = grown-trans (b .grown) (c .grown)
-  ; count = omega (arith, b .count, c .count)
-  ; low = all-cons {a = r .location} (omega (arith, b .low, grown-length (c .grown))) (c .low)
-  ; trees = rw (tree-grown (c .grown) (r .location) (b .low), b .tree, c .trees)
-  }
+cons-builds {r} b c = record {
+  grown = grown-trans (b .grown) (c .grown);
+  count = omega (arith, b .count, c .count);
+  low = all-cons {a = r .location} (omega (arith, b .low, grown-length (c .grown))) (c .low);
+  trees = rw (tree-grown (c .grown) (r .location) (b .low), b .tree, c .trees);
+}
 
 module _ (P : File) where
   mutual
     unfolding build treeCells treesAt
+
     pub build-builds : (v : Tree) (h : List Cell) → Builds v h (build P v h)
     build-builds (vleaf x) h = leaf-builds x h
     build-builds (vcon t c ws) h = con-builds t c (treeSize P (vcon t c ws)) (fields-build ws h)
@@ -87,14 +88,14 @@ module _ (P : File) where
       let r = build P v h in
       let b = build-builds v h in
       let more = all-build vs (r .heap) (roots ++ (r .location ∷ [])) (all-append (all-map (λ l less. omega (arith, grown-length (b .grown))) low) (all-cons (b .low) all-nil)) in
-      record
-        { grown = grown-trans (b .grown) (more .grown)
-        ; count = omega (arith, b .count, more .count)
-        ; low = more .low
-        ; trees = more .trees
+      record {
+        grown = grown-trans (b .grown) (more .grown);
+        count = omega (arith, b .count, more .count);
+        low = more .low;
+        trees = more .trees
             ∙ ap (λ x. x ++ vs) (map-append (treeAt (r .heap)) roots (r .location ∷ []) ∙ ap (λ x. x ++ (treeAt (r .heap) (r .location) ∷ [])) (map-same roots (all-map (tree-grown (b .grown)) low)))
-            ∙ append-snoc (map (treeAt h) roots) (treeAt (r .heap) (r .location)) vs ∙ ap (λ x. map (treeAt h) roots ++ (x ∷ vs)) (b .tree)
-        }
+            ∙ append-snoc (map (treeAt h) roots) (treeAt (r .heap) (r .location)) vs ∙ ap (λ x. map (treeAt h) roots ++ (x ∷ vs)) (b .tree);
+      }
 
   all-grown : (vs : List Tree) (h : List Cell) (roots : List ℕ) → Grown h (buildAll P vs h roots .heap)
   unfolding buildAll
@@ -105,6 +106,7 @@ module _ (P : File) where
 module _ (P : File) (g : List Cell) (Q : ℕ → Type 0) (fields : (l : ℕ) (c : Cell) → look g l ≡ some c → Q l → All Q (fieldsIn c)) where
   mutual
     unfolding build newCell fieldsIn
+
     build-reaches : (v : Tree) (h : List Cell) → Grown (build P v h .heap) g → Q (build P v h .location) → (i : ℕ) → length h ≤ i → i < length (build P v h .heap) → Q i
     build-reaches (vleaf x) h w here i above below = subst Q (let e : length h ≡ i = omega (arith, length-append h (leaf x ∷ [])) in e) here
     build-reaches (vcon t c ws) h w here i above below =
@@ -112,15 +114,15 @@ module _ (P : File) (g : List Cell) (Q : ℕ → Type 0) (fields : (l : ℕ) (c 
         let k = treeSize P (vcon t c ws) in
         let d = con t c k (q .locations) in
         below-or-last i (length (q .heap)) (omega (arith, length-append (q .heap) (d ∷ [])))
-          (λ less. fields-reach ws h (grown-trans (grown-one (q .heap) d) w) (fields (length (q .heap)) d (look-grown w (length (q .heap)) (look-new (q .heap) d)) here) i above less)
-          (λ last. subst Q (sym last) here)
+        (λ less. fields-reach ws h (grown-trans (grown-one (q .heap) d) w) (fields (length (q .heap)) d (look-grown w (length (q .heap)) (look-new (q .heap) d)) here) i above less)
+        (λ last. subst Q (sym last) here)
 
     fields-reach : (ws : Trees) (h : List Cell) → Grown (buildFields P ws h .heap) g → All Q (buildFields P ws h .locations) → (i : ℕ) → length h ≤ i → i < length (buildFields P ws h .heap) → Q i
     fields-reach vnil h w all i above below = absurd (omega arith)
     fields-reach (vcons v ws) h w all i above below =
         let r = build P v h in
         below-or-not i (length (r .heap)) (λ less. build-reaches v h (grown-trans (fields-build P ws (r .heap) .grown) w) (all-head all) i above less)
-          (λ le. fields-reach ws (r .heap) w (all-tail all) i le below)
+        (λ le. fields-reach ws (r .heap) w (all-tail all) i le below)
 
   roots-stay : (vs : List Tree) (h : List Cell) (roots : List ℕ) → All Q (buildAll P vs h roots .roots) → All Q roots
   unfolding buildAll
@@ -128,12 +130,12 @@ module _ (P : File) (g : List Cell) (Q : ℕ → Type 0) (fields : (l : ℕ) (c 
   roots-stay (v ∷ vs) h roots all = all-front roots (build P v h .location ∷ []) (roots-stay vs (build P v h .heap) (roots ++ (build P v h .location ∷ [])) all)
 
   pub all-reach : (vs : List Tree) (h : List Cell) (roots : List ℕ) → Grown (buildAll P vs h roots .heap) g → All Q (buildAll P vs h roots .roots) →
-    (i : ℕ) → length h ≤ i → i < length (buildAll P vs h roots .heap) → Q i
+      (i : ℕ) → length h ≤ i → i < length (buildAll P vs h roots .heap) → Q i
   unfolding buildAll
   all-reach [] h roots w all i above below = absurd (omega arith)
   all-reach (v ∷ vs) h roots w all i above below =
       let r = build P v h in
       let new = roots ++ (r .location ∷ []) in
       below-or-not i (length (r .heap))
-        (λ less. build-reaches v h (grown-trans (all-grown P vs (r .heap) new) w) (all-head (all-back roots (r .location ∷ []) (roots-stay vs (r .heap) new all))) i above less)
-        (λ le. all-reach vs (r .heap) new w all i le below)
+      (λ less. build-reaches v h (grown-trans (all-grown P vs (r .heap) new) w) (all-head (all-back roots (r .location ∷ []) (roots-stay vs (r .heap) new all))) i above less)
+      (λ le. all-reach vs (r .heap) new w all i le below)

@@ -66,6 +66,7 @@ pub record Ordered (P : File) : Type 0 where
 -- an expression within the limits calls what its scope offers
 mutual
   unfolding wider
+
   pub within-calls : {A : ℕ → Type 0} {n : ℕ} {S : Scope} {e : Expr} → WithinExpr n S e → ((f : ℕ) → f < length (S .arities) → A f) → Calls A e
   within-calls (w-bool r) h = tt
   within-calls (w-int r l) h = tt
@@ -95,7 +96,7 @@ unfolding bodyScope
 body-calls earlier w = within-calls (w .body) (λ f less. omega (arith, simp (length-append, length-map) at less))
 
 later-calls : {types : List TypeDef} {Fs : List Function} {F : Function} (earlier : List Function) → WithinFunctions types earlier Fs → (i : ℕ) → look Fs i ≡ some F →
-  Calls (λ f. f ≤ length earlier + i) (F .body)
+    Calls (λ f. f ≤ length earlier + i) (F .body)
 later-calls earlier wf-nil i e = none-is-not-some e
 later-calls {F} earlier (wf-cons {F = G} w ws) zero e =
     let z : length earlier ≡ length earlier + 0 = omega arith in

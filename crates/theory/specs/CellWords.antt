@@ -41,8 +41,17 @@ cell-read-back {P} (con-writable {t} {c} {k} {ls} {fs} known same few small) =
     let tag = tagStep * (t + 1) + c in
     let type : tag / tagStep - 1 ≡ t = omega arith in
     let constructor : tag % tagStep ≡ c = omega arith in
-    rw (ne-eqb tag 1 (λ e. omega arith), ne-eqb tag 2 (λ e. omega arith), le-leb tagStep tag (omega arith), type, constructor, known, ← same,
-      padded-rest fieldsMost ls (omega arith), padded-front fieldsMost ls (omega arith))
+    rw (
+      ne-eqb tag 1 (λ e. omega arith),
+      ne-eqb tag 2 (λ e. omega arith),
+      le-leb tagStep tag (omega arith),
+      type,
+      constructor,
+      known,
+      ← same,
+      padded-rest fieldsMost ls (omega arith),
+      padded-front fieldsMost ls (omega arith),
+    )
 
 -- ---- the words of a cell that is read
 pub record CellRead (tag v : ℕ) (ls : List ℕ) (c : Cell) : Type 0 where
@@ -66,10 +75,10 @@ module _ (tag v : ℕ) (ls : List ℕ) where
   unfolding constructorOfWords wordsOf cellTag cellValue fieldsIn
   con-read le none = w-none
   con-read le (some fs) = whenever-when (allZero (drop (length fs) ls)) _ (λ e. record
-    { words = λ size. let same : tagStep * (tag / tagStep - 1 + 1) + tag % tagStep ≡ tag = omega arith in rw (same, filled-up fieldsMost (length fs) ls size e) })
+      { words = λ size. let same : tagStep * (tag / tagStep - 1 + 1) + tag % tagStep ≡ tag = omega arith in rw (same, filled-up fieldsMost (length fs) ls size e) })
 
   pub cell-read : (P : File) → Whenever (CellRead tag v ls) (cellOfWords P tag v ls)
   unfolding cellOfWords
   cell-read P = whenever-choose (eqb tag boolTag) (λ e. whenever-when _ _ (bool-read (eqb-true tag boolTag e)))
-    (λ not-bool. whenever-choose (eqb tag intTag) (λ e. whenever-when _ _ (int-read (eqb-true tag intTag e)))
+      (λ not-bool. whenever-choose (eqb tag intTag) (λ e. whenever-when _ _ (int-read (eqb-true tag intTag e)))
       (λ not-int. whenever-choose (leb tagStep tag) (λ e. con-read (leb-true tagStep tag e) (look (constructorsOf P (tag / tagStep - 1)) (tag % tagStep))) (λ small. w-none)))

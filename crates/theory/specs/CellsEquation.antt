@@ -32,8 +32,8 @@ table-entry F cs (suc K) k pos le = cases (leb k K) refl (λ small. table-entry 
   where
     cases : (b : Bool) → leb k K ≡ b → (k ≤ K → getD (cellsTable F cs K) (k - 1) 0 ≡ cellsAt F cs k) → getD (cellsTable F cs (suc K)) (k - 1) 0 ≡ cellsAt F cs k
     cases true e rec =
-      let small = leb-true k K e in
-      List·getD-append (cellsTable F cs K) (nextCells F (cellsTable F cs K) cs (suc K) ∷ []) 0 (k - 1) (omega (arith, table-length F cs K)) ∙ rec small
+        let small = leb-true k K e in
+        List·getD-append (cellsTable F cs K) (nextCells F (cellsTable F cs K) cs (suc K) ∷ []) 0 (k - 1) (omega (arith, table-length F cs K)) ∙ rec small
     cases false e rec = let last : k ≡ suc K = omega (arith, leb-false k K e) in ap (λ n. getD (cellsTable F cs n) (k - 1) 0) (sym last)
 
 -- one value more: its size is one of 1 to m - r
@@ -68,7 +68,7 @@ cellsFrom-keeps Fs [] t less = refl
 cellsFrom-keeps Fs (cs ∷ ts) t less = cellsFrom-keeps (Fs ++ (cellsAt (cellsIn Fs) cs ∷ [])) ts t (rw length-append (omega arith)) ∙ List·getD-append Fs (cellsAt (cellsIn Fs) cs ∷ []) (λ j. 0) t less
 
 cellsFrom-at : {n : ℕ} {ts : List TypeDef} → WithinTypes n ts → (Fs : List (ℕ → ℕ)) → length Fs ≡ n → (j k : ℕ) → j < length ts →
-  cellsIn (cellsFrom Fs ts) (n + j) k ≡ cellsAt (cellsIn (cellsFrom Fs ts)) (getD ts j []) k
+    cellsIn (cellsFrom Fs ts) (n + j) k ≡ cellsAt (cellsIn (cellsFrom Fs ts)) (getD ts j []) k
 unfolding cellsFrom cellsAt
 cellsFrom-at wt-nil Fs room j k less = absurd (omega arith)
 cellsFrom-at (wt-cons {earlier = n} {d = cs} {ds = ts} w ws) Fs room zero k less =
@@ -76,7 +76,7 @@ cellsFrom-at (wt-cons {earlier = n} {d = cs} {ds = ts} w ws) Fs room zero k less
     let Gs : List (ℕ → ℕ) = Fs ++ (new ∷ []) in
     let here : getD (cellsFrom Gs ts) n (λ j. 0) ≡ new = cellsFrom-keeps Gs ts n (rw length-append (omega arith)) ∙ getD-at Fs new [] (λ j. 0) n room in
     ap (λ t. cellsIn (cellsFrom Gs ts) t k) (add-zero n) ∙ ap (λ g. g k) here
-      ∙ ap (λ table. getD table (k - 1) 0) (table-same (cellsIn Fs) (cellsIn (cellsFrom Gs ts)) (λ u j low. ap (λ g. g j) (sym (cellsFrom-keeps Fs (cs ∷ ts) u (omega arith)))) k (w .constructors))
+    ∙ ap (λ table. getD table (k - 1) 0) (table-same (cellsIn Fs) (cellsIn (cellsFrom Gs ts)) (λ u j low. ap (λ g. g j) (sym (cellsFrom-keeps Fs (cs ∷ ts) u (omega arith)))) k (w .constructors))
 cellsFrom-at (wt-cons {earlier = n} {d = cs} {ds = ts} w ws) Fs room (suc j) k less =
     let Gs : List (ℕ → ℕ) = Fs ++ (cellsAt (cellsIn Fs) cs ∷ []) in
     let place : suc n + j ≡ n + suc j = omega arith in

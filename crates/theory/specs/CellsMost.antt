@@ -30,7 +30,7 @@ maxTo-at-least f (suc n) p pos le = cases (leb p n) refl (λ small. maxTo-at-lea
     cases false e rec = let last : p ≡ suc n = omega (arith, leb-false p n e) in omega (arith, ap f last)
 
 nextCells-at-least : (F : ℕ → ℕ → ℕ) (table : List ℕ) (cs : List Constructor) (k c : ℕ) {fs : Constructor} → look cs c ≡ some fs → owns fs ≤ k →
-  1 + (otherCells F fs + ownCells table (owns fs) k) ≤ nextCells F table cs (suc k)
+    1 + (otherCells F fs + ownCells table (owns fs) k) ≤ nextCells F table cs (suc k)
 unfolding nextCells choose
 nextCells-at-least F table [] k c e few = none-is-not-some e
 nextCells-at-least F table (gs ∷ cs) k zero {fs} e few =
@@ -42,6 +42,7 @@ nextCells-at-least F table (gs ∷ cs) k (suc c) e few = omega (arith, nextCells
 module _ (P : File) (types : WithinTypes 0 (P .types)) where
   mutual
     unfolding treeCells cellsOf otherCells ownCells owns sum
+
     has-cells : {v : Tree} {τ : Ty} → TreeHas P v τ → treeCells v ≤ cellsOf P τ
     has-cells has-bool = omega arith
     has-cells (has-int less) = omega arith
@@ -51,20 +52,29 @@ module _ (P : File) (types : WithinTypes 0 (P .types)) where
     val-cells (val-con e r s) zero le = absurd (omega arith)
     val-cells (val-con {t} {c} e r s) (suc m) le =
         let named = look-inner-less (P .types) t c e in
-        omega (arith, fields-cells r named m m (le-refl m) (omega arith), cells-next P types t named m,
-          nextCells-at-least (cellsNamed P) (tableTo P t m) (constructorsOf P t) m c e (omega (arith, owns-at-most-sum r)))
+        omega (
+          arith,
+          fields-cells r named m m (le-refl m) (omega arith),
+          cells-next P types t named m,
+          nextCells-at-least (cellsNamed P) (tableTo P t m) (constructorsOf P t) m c e (omega (arith, owns-at-most-sum r)),
+        )
 
     -- fields of a constructor whose own-type sizes sum to at most m; the table reaches size M
     fields-cells : {t : ℕ} {fs : List Field} {ws : Trees} {ks : List ℕ} → FieldTrees P t fs ws ks → t < length (P .types) → (M m : ℕ) → m ≤ M → sum ks ≤ m →
-      treesCells ws ≤ otherCells (cellsNamed P) fs + ownCells (tableTo P t M) (owns fs) m
+        treesCells ws ≤ otherCells (cellsNamed P) fs + ownCells (tableTo P t M) (owns fs) m
     fields-cells fields-nil named M m low le = omega arith
     fields-cells (fields-bool w r) named M m low le = omega (arith, has-cells w, fields-cells r named M m low le)
     fields-cells (fields-int w r) named M m low le = omega (arith, has-cells w, fields-cells r named M m low le)
     fields-cells (fields-own {t} {k} {fs} w r) named M m low le =
         let table = tableTo P t M in
-        omega (arith, val-cells w k (le-refl k), fields-cells r named M (m - k) (omega arith) (omega arith),
-          cells-entry P types t named M k (val-positive w) (omega arith), ownCells-one-more table (owns fs) m,
-          maxTo-at-least (λ p. getD table (p - 1) 0 + ownCells table (owns fs) (m - p)) (m - owns fs) k (val-positive w) (omega (arith, owns-at-most-sum r)))
+        omega (
+          arith,
+          val-cells w k (le-refl k),
+          fields-cells r named M (m - k) (omega arith) (omega arith),
+          cells-entry P types t named M k (val-positive w) (omega arith),
+          ownCells-one-more table (owns fs) m,
+          maxTo-at-least (λ p. getD table (p - 1) 0 + ownCells table (owns fs) (m - p)) (m - owns fs) k (val-positive w) (omega (arith, owns-at-most-sum r)),
+        )
     fields-cells (fields-other w r) named M m low le = omega (arith, has-cells w, fields-cells r named M m low le)
 
 -- "the most cells, written as a tree, of a value": none has more

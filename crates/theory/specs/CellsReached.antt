@@ -58,10 +58,13 @@ module _ (F : ℕ → ℕ → ℕ) (table : List ℕ) where
     where
       rest : ℕ
       rest = nextCells F table cs (suc k)
+
       first : ℕ
       first = 1 + (otherCells F fs + ownCells table (owns fs) k)
+
       step : suc k - 1 ≡ k
       step = omega arith
+
       cases : (b : Bool) → ltb (owns fs) (suc k) ≡ b → (d : Bool) → leb rest first ≡ d → (1 ≤ rest → Maker F table cs k) → Maker F table (fs ∷ cs) k
       cases true q true w rec = record { number = 0; fields = fs; there = refl; few = omega (arith, ltb-true (owns fs) (suc k) q); makes = rw (q, step) (omega (arith, leb-true rest first w)) }
       cases true q false w rec = let more : first < rest = leb-false rest first w in later-maker fs (rec (omega arith)) (rw (q, step) (omega arith))
@@ -100,7 +103,7 @@ own-reached {P} {t} {n} {fs} m p x y le v r e = of-size (v .tree) (v .has) (v .c
   where
     of-size : (w : Tree) → TreeHas P w (tnamed t p) → treeCells w ≡ x → FieldsReached P t m n (own ∷ fs)
     of-size w (has-named {j} is small) cells =
-      record { trees = vcons w (r .trees); sizes = j ∷ r .sizes; are = fields-own is (r .are); small = omega (arith, r .small); cells = omega (arith, r .cells) }
+        record { trees = vcons w (r .trees); sizes = j ∷ r .sizes; are = fields-own is (r .are); small = omega (arith, r .small); cells = omega (arith, r .cells) }
 
 -- fields of a constructor of type t from values of earlier types and of its own up to size M
 module _ (P : File) (t M : ℕ) (table : List ℕ) (earlier : (u k : ℕ) → u < t → 1 ≤ k → Most P u k)
@@ -118,7 +121,7 @@ module _ (P : File) (t M : ℕ) (table : List ℕ) (earlier : (u k : ℕ) → u 
       let f : ℕ → ℕ = λ p. getD table (p - 1) 0 + ownCells table (owns gs) (m - p) in
       let a : Largest f (m - owns gs) = maxTo-reached f (m - owns gs) (omega arith) in
       own-reached m (a .place) (getD table (a .place - 1) 0) (otherCells (cellsNamed P) gs + ownCells table (owns gs) (m - a .place)) (omega (arith, a .high))
-        (below (a .place) (a .low) (omega (arith, a .high))) (fields-reached fs (m - a .place) (omega arith) (omega (arith, a .high))) (omega (arith, a .is, ownCells-one-more table (owns gs) m))
+      (below (a .place) (a .low) (omega (arith, a .high))) (fields-reached fs (m - a .place) (omega arith) (omega (arith, a .high))) (omega (arith, a .is, ownCells-one-more table (owns gs) m))
   fields-reached (all-cons (w-other {t = u} {k} less bound) fs) m low few =
       let v = earlier u k less (bound .0) in
       let r = fields-reached fs m low few in
@@ -138,21 +141,25 @@ module _ (P : File) (types : WithinTypes 0 (P .types)) where
     where
       cs : List Constructor
       cs = constructorsOf P t
+
       within : WithinType t cs
       within = type-at types t t named (omega arith)
+
       entry : (p : ℕ) → 1 ≤ p → p ≤ k → Reached P (tnamed t p) (getD (tableTo P t k) (p - 1) 0)
       entry p low high = subst (Reached P (tnamed t p)) (sym (cells-entry P types t named k p low high)) (below p (omega arith) low)
+
       made : Maker (cellsNamed P) (tableTo P t k) cs k → Most P t (suc k)
       made m =
-        let r = fields-reached P t k (tableTo P t k) earlier entry (all-at (within .constructors) (m .number) (m .there) .fields) k (le-refl k) (m .few) in
-        record {
-          tree = vcon t (m .number) (r .trees);
-          has = has-named {k = suc k} (val-con (m .there) (r .are) refl) (omega (arith, r .small));
-          cells = omega (arith, r .cells, m .makes, cells-next P types t named k) }
+          let r = fields-reached P t k (tableTo P t k) earlier entry (all-at (within .constructors) (m .number) (m .there) .fields) k (le-refl k) (m .few) in
+          record {
+            tree = vcon t (m .number) (r .trees);
+            has = has-named {k = suc k} (val-con (m .there) (r .are) refl) (omega (arith, r .small));
+            cells = omega (arith, r .cells, m .makes, cells-next P types t named k);
+          }
 
   named-reached : (t : ℕ) → t < length (P .types) → (k : ℕ) → 1 ≤ k → Most P t k
   named-reached t = WellFounded·induction (Nat·lt-wfRel .wf) {C = λ t. t < length (P .types) → (k : ℕ) → 1 ≤ k → Most P t k} t
-    (λ t earlier named k. WellFounded·induction (Nat·lt-wfRel .wf) {C = λ k. 1 ≤ k → Most P t k} k
+      (λ t earlier named k. WellFounded·induction (Nat·lt-wfRel .wf) {C = λ k. 1 ≤ k → Most P t k} k
       (size-reached t named (λ u j low. earlier u low (omega arith) j)))
 
   declared-reached : {τ : Ty} → WithinDeclared (length (P .types)) τ → Reached P τ (cellsOf P τ)

@@ -88,7 +88,7 @@ module _ {P : File} {h g : List Cell} {bound : ℕ} (front : Front h g bound) wh
   value-right (con t c k ls) value =
       let v = value t c k ls refl in
       rw (v .known)
-        (both-true (fields-right (v .are) k (omega (arith, v .size))) (eq-eqb k (1 + ownSum g (v .fields) ls) (omega (arith, v .size, fields-sum (v .are)))))
+      (both-true (fields-right (v .are) k (omega (arith, v .size))) (eq-eqb k (1 + ownSum g (v .fields) ls) (omega (arith, v .size, fields-sum (v .are)))))
 
 -- ---- the other way, where the constructors below the bound are values
 record FieldsShown (P : File) (h g : List Cell) (bound t : ℕ) (fs : List Field) (ls : List ℕ) : Type 0 where
@@ -138,11 +138,11 @@ module _ {P : File} {h g : List Cell} {bound : ℕ} (front : Front h g bound) (v
       let f = both-left (locationFits g l (tnamed t k)) _ e in
       let more = fields-shown t k fs ls (both-right _ _ e) in
       let less = right-low l (tnamed t k) f in
-      record
-        { sizes = sizeIn (cellAt h l) ∷ more .sizes
-        ; are = vs-own less (own-shown l (value l less) (here l less) (right-cell l (tnamed t k) f)) (more .are)
-        ; sum-is = omega (arith, more .sum-is, ap sizeIn (front .same l less))
-        }
+      record {
+        sizes = sizeIn (cellAt h l) ∷ more .sizes;
+        are = vs-own less (own-shown l (value l less) (here l less) (right-cell l (tnamed t k) f)) (more .are);
+        sum-is = omega (arith, more .sum-is, ap sizeIn (front .same l less));
+      }
   fields-shown t k (other u j ∷ fs) (l ∷ ls) e =
       let f = both-left (locationFits g l (tnamed u j)) _ e in
       let more = fields-shown t k fs ls (both-right _ _ e) in
@@ -175,7 +175,7 @@ module _ {P : File} {h : List Cell} (right : cellsRight P [] h ≡ true) where
   value-below (suc n) l less t c k ls e = shown (look (constructorsOf P t) c) refl (cells-right-each P [] h right l e) (λ i low. value-below n i (omega arith))
     where
       shown : (o : Option Constructor) → look (constructorsOf P t) c ≡ o → isConstructor o (λ fs. both (fieldsRight (take l h) t k fs ls) (eqb k (1 + ownSum (take l h) fs ls))) ≡ true →
-        ((i : ℕ) → i < l → (u d j : ℕ) (ms : List ℕ) → look h i ≡ some (con u d j ms) → Val P h i u j) → Val P h l t k
+          ((i : ℕ) → i < l → (u d j : ℕ) (ms : List ℕ) → look h i ≡ some (con u d j ms) → Val P h i u j) → Val P h l t k
       shown none known r value = false-is-not-true r
       shown (some fs) known r value =
           let fields = fields-shown {P = P} (front-take h l (omega (arith, look-less h l e))) value t k fs ls (both-left _ _ r) in

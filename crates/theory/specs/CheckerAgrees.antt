@@ -37,8 +37,8 @@ an-initial-each P = simp (length-append, length-map)
 accepted-outcome : (P : File) → Ordered P → Outcome (Accepted P) Whatever (sizedFile P)
 unfolding sizedFile
 accepted-outcome P ordered = bind-outcome (initials-derived P ordered 0 (initialValues P) (declaredTypes P) [] (an-initial-each P) settled-start) (λ L _ x.
-  let s = settled-grown (x .grown) settled-start in
-  outcome-map (λ q y. let t = settled-grown (y .grown) s in
+    let s = settled-grown (x .grown) settled-start in
+    outcome-map (λ q y. let t = settled-grown (y .grown) s in
     record { sizes = record { initials = x .typing; updates = y .typing }; bodies = t .all; once = t .tidy .once; few = t .tidy .few }) (updates-derived P ordered (length (P .inputs)) (P .nodes) L s))
 
 pub accepted-is-derived : {P : File} {q : SizedFile} → Within P → sizedFile P ≡ ok q → Accepted P q
@@ -60,9 +60,9 @@ derived-is-accepted {P} within w =
     let initials = instancesOfInitials (w .initials) in
     let all : All (Needed w) (instancesOfFile w) = all-in (instancesOfFile w) (λ k i. i) in
     bind-outcome (initials-agree P ordered (Needed w) (w .initials) [] (all-left initials _ all) settled-start) (λ L _ x.
-      outcome-map (λ q y. let l = listed-then x (y .listed) in
-        record { numbers = y .numbers; instances = λ k. (all-member (l .grown .tidy .wanted), all-member (l .stand)) })
-        (updates-agree P ordered (Needed w) (w .updates) L (all-right initials all) (settled-grown (x .grown) settled-start)))
+    outcome-map (λ q y. let l = listed-then x (y .listed) in
+    record { numbers = y .numbers; instances = λ k. (all-member (l .grown .tidy .wanted), all-member (l .stand)) })
+    (updates-agree P ordered (Needed w) (w .updates) L (all-right initials all) (settled-grown (x .grown) settled-start)))
 
 -- the only refusal of a file whose sizes are derived is 14, and then the derivation needs more than 1,024 different instances
 pub refused-is-too-many : {P : File} {xs : List Estimate} {n frame : ℕ} → Within P → (w : WellSized P xs) → sizedFile P ≡ no n frame → TooMany (Needed w) instancesMost n frame

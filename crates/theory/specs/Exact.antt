@@ -29,7 +29,7 @@ pub record Exact {A : Type 0} (p : Parser A) (bytes : A → List ℕ) (W : A →
 
 -- ---- how Behind goes through a parser: one part more, and the end
 pub next : {A B : Type 0} {f : A → List ℕ} {U : A → Type 0} {bytes : B → List ℕ} {W : B → Type 0} {front : List ℕ} {p : Parser A} {k : A → Parser B} →
-  Behind f U [] p → ((a : A) → U a → Behind bytes W (front ++ f a) (k a)) → Behind bytes W front (λ bs. andThen (p bs) k)
+    Behind f U [] p → ((a : A) → U a → Behind bytes W (front ++ f a) (k a)) → Behind bytes W front (λ bs. andThen (p bs) k)
 next {A} {f} {U} {bytes} {W} {front} {k} x then = record { reads = λ bs small. reads-then (x .reads bs small) λ a rest s. on bs a rest s }
   where
     on : (bs : List ℕ) (a : A) (rest : List ℕ) → Starts f U bs a rest → Reads (Starts bytes W (front ++ bs)) (k a rest)
@@ -43,7 +43,7 @@ refused p n = record { reads = λ bs small. reads-refused (p bs) n }
 
 -- the same values, their limits or their spelling said in other words
 pub behind-as : {A : Type 0} {f bytes : A → List ℕ} {U W : A → Type 0} {front : List ℕ} {p : Parser A} → ((a : A) → U a → W a × (bytes a ≡ front ++ f a)) →
-  Behind f U [] p → Behind bytes W front p
+    Behind f U [] p → Behind bytes W front p
 behind-as {A} {f} {bytes} {U} {W} {front} means x = record { reads = λ bs small. reads-map (λ a rest s. in-other-words bs a rest s) (x .reads bs small) }
   where
     in-other-words : (bs : List ℕ) (a : A) (rest : List ℕ) → Starts f U bs a rest → Starts bytes W (front ++ bs) a rest

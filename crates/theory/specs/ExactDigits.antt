@@ -82,7 +82,7 @@ join-digits a b c d u v = λ i. (u .is ∙ ap digitOf high) i ∷ (v .is ∙ ap 
     low = omega (arith, v .small)
 
 pair-forth : {a b : ℕ} {l : List ℕ} {high low : Option ℕ} {rest : Option (List ℕ)} → Whenever (IsDigit a) high → Whenever (IsDigit b) low → Whenever (ArePairs l) rest →
-  Whenever (ArePairs (a ∷ b ∷ l)) (pair high low rest)
+    Whenever (ArePairs (a ∷ b ∷ l)) (pair high low rest)
 unfolding pair spellAll
 pair-forth {a} {b} (w-some {a = c} u) (w-some {a = d} v) (w-some w) =
     let byte : Byte (c * 16 + d) = omega (arith, u .small, v .small) in w-some (record { is = ap₂ _++_ (join-digits a b c d u v) (w .is); small = all-cons byte (w .small) })

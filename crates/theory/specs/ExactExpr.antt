@@ -55,8 +55,14 @@ module _ (n : ℕ) (inner : (S : Scope) → Exact (exprAt n S) exprBytes (Within
     form-back (ecall f es) rest (w-call room w ws) = rw (room, index-exact (length (S .arities)) .back f _ w, exprs-back S _ es rest ws)
     form-back (econ t c es) rest (w-con room i j ws) = rw (room, index-exact (length (S .types)) .back t _ i, index-exact (length (getD (S .types) t [])) .back c _ j, exprs-back S _ es rest ws)
     form-back (ecase t e ρ bs) rest (w-case room i w v ws) =
-        rw (room, append-three (exprBytes e) (resultBytes ρ) (exprsBytes bs) rest, index-exact (length (S .types)) .back t _ i, inner S .back e _ w,
-            result-exact (length (S .types)) (S .sizes) .back ρ _ v, branches-back S _ bs rest ws)
+        rw (
+          room,
+          append-three (exprBytes e) (resultBytes ρ) (exprsBytes bs) rest,
+          index-exact (length (S .types)) .back t _ i,
+          inner S .back e _ w,
+          result-exact (length (S .types)) (S .sizes) .back ρ _ v,
+          branches-back S _ bs rest ws,
+        )
     form-back (eadj s e) rest (w-adj room u v) = rw (room, append-assoc (sizeBytes s) (exprBytes e) rest, size-exact (S .sizes) .back s _ u, inner S .back e rest v)
     form-back (efit k a b d) rest (w-fit room i u v w) =
         rw (room, append-three (exprBytes a) (exprBytes b) (exprBytes d) rest, bound-exact .back k _ i, inner S .back a _ u, inner (wider 1 0 S) .back b _ v, inner S .back d rest w)

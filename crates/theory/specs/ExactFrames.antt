@@ -46,8 +46,12 @@ condition-exact vars = record { back = back; forth = forth }
   where
     back : (c : Condition) (rest : List ℕ) → WithinCondition vars c → condition vars (conditionBytes c ++ rest) ≡ got c rest
     back c rest w =
-        rw (append-assoc (sizeBytes (c .left)) (sizeBytes (c .right)) rest, relation-exact .back (c .rel) _ tt,
-            size-exact vars .back (c .left) _ (w .left), size-exact vars .back (c .right) rest (w .right))
+        rw (
+          append-assoc (sizeBytes (c .left)) (sizeBytes (c .right)) rest,
+          relation-exact .back (c .rel) _ tt,
+          size-exact vars .back (c .left) _ (w .left),
+          size-exact vars .back (c .right) rest (w .right),
+        )
 
     forth : Behind conditionBytes (WithinCondition vars) [] (condition vars)
     forth = next (relation-exact .forth) λ r t. next (size-exact vars .forth) λ a u. next (size-exact vars .forth) λ b v. done (record { left = u; right = v }) refl
@@ -68,7 +72,7 @@ measure-exact vars = counted-exact (index-exact vars) 0 measuresMost
 
 -- the bytes of a function, part for part as they are read
 function-parts : (F : Function) (rest : List ℕ) → functionBytes F ++ rest ≡ length (F .parameters) ∷ spellAll plainBytes (F .parameters) ++ (resultBytes (F .result)
-  ++ (length (F .conditions) ∷ spellAll conditionBytes (F .conditions) ++ (length (F .measure) ∷ spellAll one (F .measure) ++ (exprBytes (F .body) ++ rest))))
+    ++ (length (F .conditions) ∷ spellAll conditionBytes (F .conditions) ++ (length (F .measure) ∷ spellAll one (F .measure) ++ (exprBytes (F .body) ++ rest))))
 unfolding functionBytes
 function-parts F rest = simp (append-assoc, spell-one)
 
@@ -77,12 +81,14 @@ module _ (known : File) where
   unfolding function andThen
   function-back F rest w =
       let vars = namedCount (F .parameters) in
-      rw (function-parts F rest,
-          parameters-exact (length (known .types)) .back (F .parameters) _ (record { some = zero-le; few = w .fewParameters; each = w .parameters }),
-          result-exact (length (known .types)) vars .back (F .result) _ (w .result),
-          conditions-exact vars .back (F .conditions) _ (record { some = zero-le; few = w .fewConditions; each = w .conditions }),
-          measure-exact vars .back (F .measure) _ (record { some = zero-le; few = w .fewMeasures; each = w .measure }),
-          expr-exact nestingMost (bodyScope (known .types) (known .functions) (F .parameters)) .back (F .body) rest (w .body))
+      rw (
+        function-parts F rest,
+        parameters-exact (length (known .types)) .back (F .parameters) _ (record { some = zero-le; few = w .fewParameters; each = w .parameters }),
+        result-exact (length (known .types)) vars .back (F .result) _ (w .result),
+        conditions-exact vars .back (F .conditions) _ (record { some = zero-le; few = w .fewConditions; each = w .conditions }),
+        measure-exact vars .back (F .measure) _ (record { some = zero-le; few = w .fewMeasures; each = w .measure }),
+        expr-exact nestingMost (bodyScope (known .types) (known .functions) (F .parameters)) .back (F .body) rest (w .body),
+      )
 
   function-forth : Behind functionBytes (WithinFunction (known .types) (known .functions)) [] (function known)
   unfolding function functionBytes
@@ -93,8 +99,15 @@ module _ (known : File) where
       next (measure-exact (namedCount ps) .forth) λ ms m.
       next (expr-exact nestingMost (bodyScope (known .types) (known .functions) ps) .forth) λ e b.
       done (record {
-          fewParameters = p .few; parameters = p .each; result = r; fewConditions = c .few; conditions = c .each; fewMeasures = m .few; measure = m .each; body = b
-        }) (rw (spell-one ms) (regroup (length ps ∷ spellAll plainBytes ps) (resultBytes ρ) (length cs ∷ spellAll conditionBytes cs) (length ms ∷ ms) (exprBytes e)))
+        fewParameters = p .few;
+        parameters = p .each;
+        result = r;
+        fewConditions = c .few;
+        conditions = c .each;
+        fewMeasures = m .few;
+        measure = m .each;
+        body = b;
+      }) (rw (spell-one ms) (regroup (length ps ∷ spellAll plainBytes ps) (resultBytes ρ) (length cs ∷ spellAll conditionBytes cs) (length ms ∷ ms) (exprBytes e)))
     where
       regroup : (x y z u v : List ℕ) → x ++ (y ++ (z ++ (u ++ v))) ≡ x ++ y ++ z ++ u ++ v
       regroup x y z u v = simp append-assoc
@@ -109,8 +122,11 @@ module _ (known : File) where
     where
       back : (i : Input) (rest : List ℕ) → WithinInput known i → input known (inputBytes i ++ rest) ≡ got i rest
       back i rest w =
-          rw (append-assoc (declaredBytes (i .declared)) (exprBytes (i .initial)) rest, declared-exact (length (known .types)) .back (i .declared) _ (w .declared),
-              expr-exact nestingMost (outerScope (known .types) (known .functions) 0 0) .back (i .initial) rest (w .initial))
+          rw (
+            append-assoc (declaredBytes (i .declared)) (exprBytes (i .initial)) rest,
+            declared-exact (length (known .types)) .back (i .declared) _ (w .declared),
+            expr-exact nestingMost (outerScope (known .types) (known .functions) 0 0) .back (i .initial) rest (w .initial),
+          )
 
       forth : Behind inputBytes (WithinInput known) [] (input known)
       forth =
@@ -130,9 +146,12 @@ node-exact channels known = record { back = back; forth = forth }
   where
     back : (n : Node) (rest : List ℕ) → NodeAmong channels known n → node channels known (nodeBytes n ++ rest) ≡ got n rest
     back n rest w =
-        rw (append-three (declaredBytes (n .declared)) (exprBytes (n .initial)) (exprBytes (n .update)) rest, declared-exact (length (known .types)) .back (n .declared) _ (w .declared),
-            expr-exact nestingMost (outerScope (known .types) (known .functions) 0 0) .back (n .initial) _ (w .initial),
-            expr-exact nestingMost (outerScope (known .types) (known .functions) (length (known .inputs) + length (known .nodes)) channels) .back (n .update) rest (w .update))
+        rw (
+          append-three (declaredBytes (n .declared)) (exprBytes (n .initial)) (exprBytes (n .update)) rest,
+          declared-exact (length (known .types)) .back (n .declared) _ (w .declared),
+          expr-exact nestingMost (outerScope (known .types) (known .functions) 0 0) .back (n .initial) _ (w .initial),
+          expr-exact nestingMost (outerScope (known .types) (known .functions) (length (known .inputs) + length (known .nodes)) channels) .back (n .update) rest (w .update),
+        )
 
     forth : Behind nodeBytes (NodeAmong channels known) [] (node channels known)
     forth =

@@ -61,10 +61,13 @@ split-joined a b c d A B C D = λ i. third i ∷ second i ∷ first i ∷ zeroth
   where
     third : joined a b c d / 2 ^ 24 % 2 ^ 8 ≡ a
     third = omega arith
+
     second : joined a b c d / 2 ^ 16 % 2 ^ 8 ≡ b
     second = omega arith
+
     first : joined a b c d / 2 ^ 8 % 2 ^ 8 ≡ c
     first = omega arith
+
     zeroth : joined a b c d % 2 ^ 8 ≡ d
     zeroth = omega arith
 

@@ -32,7 +32,7 @@ byte-exact = record { back = λ b rest w. refl; forth = record { reads = reads }
 -- ---- tests
 -- a byte that passes a test: the common form of an index and a count
 tested-exact : (test : ℕ → Bool) (n : ℕ) (W : ℕ → Type 0) → ((b : ℕ) → W b → test b ≡ true) → ((b : ℕ) → test b ≡ true → W b) →
-  Exact (λ bs. andThen (byte bs) (λ b. must (test b) n (return b))) one W
+    Exact (λ bs. andThen (byte bs) (λ b. must (test b) n (return b))) one W
 unfolding byte andThen must
 tested-exact test n W passes means = record { back = λ b rest w. rw (passes b w); forth = record { reads = reads } }
   where
@@ -85,7 +85,7 @@ code-reads entries bs small =
     reads-option 5 rest (entries-decode entries b) λ a q. record { number = b; is = B .spelled; holds = q; small = B .small }
 
 code-in-reads : {A : Type 0} {Q : ℕ → A → Type 0} {first : ℕ} {table : List A} (room : Bool) → Entries Q first table → (bs : List ℕ) → All Byte bs →
-  Reads (λ a rest. (room ≡ true) × Coded Q bs a rest) (codeIn room first table bs)
+    Reads (λ a rest. (room ≡ true) × Coded Q bs a rest) (codeIn room first table bs)
 unfolding codeIn
 code-in-reads room entries bs small =
     reads-then (code-reads entries bs small) λ a rest C.
@@ -94,18 +94,22 @@ code-in-reads room entries bs small =
 -- a code and what stands behind it
 module _ {A B : Type 0} {bytes : B → List ℕ} {W : B → Type 0} {first : ℕ} {table : List A} {k : A → Parser B} where
   pub coded : Entries (λ b a. Behind bytes W (one b) (k a)) first table → Behind bytes W [] (λ bs. andThen (code first table bs) k)
-  coded entries = record { reads = λ bs small.
-      reads-then (code-reads entries bs small) λ a rest C.
-      rw (C .is) (C .holds .reads rest (C .small)) }
+  coded entries = record {
+    reads = λ bs small.
+        reads-then (code-reads entries bs small) λ a rest C.
+        rw (C .is) (C .holds .reads rest (C .small));
+  }
 
   pub coded-in : (room : Bool) → Entries (λ b a. room ≡ true → Behind bytes W (one b) (k a)) first table → Behind bytes W [] (λ bs. andThen (codeIn room first table bs) k)
-  coded-in room entries = record { reads = λ bs small.
-      reads-then (code-in-reads room entries bs small) λ a rest C.
-      rw (C .1 .is) (C .1 .holds (C .0) .reads rest (C .1 .small)) }
+  coded-in room entries = record {
+    reads = λ bs small.
+        reads-then (code-in-reads room entries bs small) λ a rest C.
+        rw (C .1 .is) (C .1 .holds (C .0) .reads rest (C .1 .small));
+  }
 
 -- a code that stands for itself: every value of its type has one
 pub code-exact : {A : Type 0} (first : ℕ) (table : List A) (codeOf : A → ℕ) → ((a : A) → decode first table (codeOf a) ≡ some a) → Entries (λ b a. b ≡ codeOf a) first table →
-  Exact (code first table) (λ a. one (codeOf a)) (λ a. Unit {0})
+    Exact (code first table) (λ a. one (codeOf a)) (λ a. Unit {0})
 unfolding code byte andThen fromOption
 code-exact {A} first table codeOf stands entries = record { back = λ a rest w. rw (stands a); forth = record { reads = reads } }
   where

@@ -48,7 +48,7 @@ lines-forth [] = refl
 lines-forth (c ∷ t) = go (eqb c lineFeed) refl (linesOf t .ended) (linesOf t .rest) (lines-forth t)
   where
     go : (feed : Bool) → eqb c lineFeed ≡ feed → (ls : List (List ℕ)) (rest : List ℕ) → t ≡ spellAll ended ls ++ rest →
-      let r : Lines = choose feed (record { ended = [] ∷ ls; rest = rest }) (longer c ls rest) in c ∷ t ≡ spellAll ended (r .ended) ++ r .rest
+        let r : Lines = choose feed (record { ended = [] ∷ ls; rest = rest }) (longer c ls rest) in c ∷ t ≡ spellAll ended (r .ended) ++ r .rest
     go true e ls rest is = ap₂ {C = List ℕ} _∷_ (eqb-true c lineFeed e) is
     go false e [] rest is = ap (λ (l : List ℕ). c ∷ l) is
     go false e (l ∷ ls) rest is = ap (λ (l : List ℕ). c ∷ l) is

@@ -41,7 +41,7 @@ function-frames ts Fs F = rw (map-append frameOfFunction Fs (F ∷ [])) (regroup
     regroup t f x = simp (append-nil, append-assoc)
 
 pub input-frames : (ts : List TypeDef) (Fs : List Function) (is : List Input) (i : Input) →
-  fileFrames (file ts Fs (is ++ (i ∷ [])) []) ≡ fileFrames (file ts Fs is []) ++ (frameOfInput i ∷ [])
+    fileFrames (file ts Fs (is ++ (i ∷ [])) []) ≡ fileFrames (file ts Fs is []) ++ (frameOfInput i ∷ [])
 unfolding fileFrames
 input-frames ts Fs is i = rw (map-append frameOfInput is (i ∷ [])) (regroup (map frameOfType ts) (map frameOfFunction Fs) (map frameOfInput is) (frameOfInput i ∷ []))
   where
@@ -49,7 +49,7 @@ input-frames ts Fs is i = rw (map-append frameOfInput is (i ∷ [])) (regroup (m
     regroup t f c x = simp (append-nil, append-assoc)
 
 pub node-frames : (ts : List TypeDef) (Fs : List Function) (is : List Input) (ns : List Node) (n : Node) →
-  fileFrames (file ts Fs is (ns ++ (n ∷ []))) ≡ fileFrames (file ts Fs is ns) ++ (frameOfNode n ∷ [])
+    fileFrames (file ts Fs is (ns ++ (n ∷ []))) ≡ fileFrames (file ts Fs is ns) ++ (frameOfNode n ∷ [])
 unfolding fileFrames
 node-frames ts Fs is ns n = rw (map-append frameOfNode ns (n ∷ [])) (regroup (map frameOfType ts) (map frameOfFunction Fs) (map frameOfInput is) (map frameOfNode ns) (frameOfNode n ∷ []))
   where
@@ -58,7 +58,7 @@ node-frames ts Fs is ns n = rw (map-append frameOfNode ns (n ∷ [])) (regroup (
 
 -- ---- channels are counted over the "frames that begin with 03 or 04"
 count-kind : {A : Type 0} (frame : A → List ℕ) (n : ℕ) → ((a : A) → choose (isChannel (frame a)) 1 0 ≡ n) → (l : List A) (ls : List (List ℕ)) →
-  channelCount (map frame l ++ ls) ≡ length l * n + channelCount ls
+    channelCount (map frame l ++ ls) ≡ length l * n + channelCount ls
 unfolding channelCount
 count-kind frame n each [] ls = rw zero-mul (omega arith)
 count-kind frame n each (a ∷ l) ls = rw (each a, count-kind frame n each l ls, suc-mul) (omega arith)

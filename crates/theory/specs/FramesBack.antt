@@ -39,7 +39,7 @@ leads-read (step r x) some frame = rw (r frame) (leads-read x some (suc frame))
 -- put l is the file in which the list of that kind is l, and W says which lists may follow l: of such a list the first is read
 abbrev OneMore : {A : Type 0} → ℕ → ℕ → (A → List ℕ) → (List A → File) → (List A → List A → Type 0) → Type 0
 OneMore {A} channels most spell put W = (l : List A) (a : A) (more : List A) → W l (a ∷ more) → length l < most →
-  ((frame : ℕ) → readFrame channels frame (put l) (spell a) ≡ ok (put (l ++ (a ∷ [])))) × W (l ++ (a ∷ [])) more
+    ((frame : ℕ) → readFrame channels frame (put l) (spell a) ≡ ok (put (l ++ (a ∷ [])))) × W (l ++ (a ∷ [])) more
 
 module _ {A : Type 0} (channels most : ℕ) (spell : A → List ℕ) (put : List A → File) (W : List A → List A → Type 0) (one-more : OneMore channels most spell put W) where
   kind-leads : (l more : List A) → W l more → length l + length more ≤ most → Leads channels (put l) (map spell more) (put (l ++ more))
@@ -51,9 +51,10 @@ module _ {A : Type 0} (channels most : ℕ) (spell : A → List ℕ) (put : List
 module _ (P : File) (channels : ℕ) where
   type-more : OneMore channels typesMost frameOfType (λ l. file l [] [] []) (λ l more. WithinTypes (length l) more)
   unfolding readFrame readKind inOrder isEmpty both decode choose from need bind withType
-  type-more l d more (wt-cons w ws) lt =
-      (λ frame. rw (lt-ltb (length l) typesMost lt, whole-back (type-exact (file l [] [] [])) frame d (record { some = w .some; few = w .few; each = w .constructors }), w .free),
-       rw (length-append, add-one) ws)
+  type-more l d more (wt-cons w ws) lt = (
+    λ frame. rw (lt-ltb (length l) typesMost lt, whole-back (type-exact (file l [] [] [])) frame d (record { some = w .some; few = w .few; each = w .constructors }), w .free),
+    rw (length-append, add-one) ws,
+  )
 
   function-more : OneMore channels functionsMost frameOfFunction (λ l. file (P .types) l [] []) (WithinFunctions (P .types))
   unfolding readFrame readKind inOrder isEmpty both decode choose from need bind withFunction

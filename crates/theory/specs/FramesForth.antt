@@ -33,7 +33,7 @@ types-snoc wt-nil w = wt-cons (rw add-zero at w) wt-nil
 types-snoc (wt-cons {earlier} {ds} v ws) w = wt-cons v (types-snoc ws (rw (one-later earlier (length ds)) at w))
 
 functions-snoc : {types : List TypeDef} {earlier Fs : List Function} {F : Function} → WithinFunctions types earlier Fs →
-  WithinFunction types (earlier ++ Fs) F → WithinFunctions types earlier (Fs ++ (F ∷ []))
+    WithinFunction types (earlier ++ Fs) F → WithinFunctions types earlier (Fs ++ (F ∷ []))
 functions-snoc wf-nil w = wf-cons (rw append-nil at w) wf-nil
 functions-snoc {earlier} (wf-cons {F = G} {Fs = Gs} v ws) w = wf-cons v (functions-snoc ws (rw (← append-assoc earlier (G ∷ []) Gs) at w))
 
@@ -59,7 +59,7 @@ input-anywhere w = record { declared = w .declared; initial = w .initial }
 
 -- a node among so many channels, in a file that has them
 node-among : {channels : ℕ} {ts : List TypeDef} {Fs : List Function} {is : List Input} {ns ms : List Node} {n : Node} → length is + length ms ≡ channels →
-  NodeAmong channels (file ts Fs is ns) n → WithinNode (file ts Fs is ms) (length ns) n
+    NodeAmong channels (file ts Fs is ns) n → WithinNode (file ts Fs is ms) (length ns) n
 node-among e w = record { declared = w .declared; initial = w .initial; update = rw e (w .update) }
 
 grown : {A : Type 0} (l : List A) (a : A) (most : ℕ) → ltb (length l) most ≡ true → length (l ++ (a ∷ [])) ≤ most
@@ -74,7 +74,7 @@ module _ (channels frame : ℕ) (bs : List ℕ) (small : All Byte bs) where
   -- a frame of a kind, whose number is b, that comes in order
   abbrev NextOf : ℕ → Kind → Type 0
   NextOf b kind = (ts : List TypeDef) (Fs : List Function) (is : List Input) (ns : List Node) → SoFar channels (file ts Fs is ns) → inOrder kind (file ts Fs is ns) ≡ true →
-    Sat (Next channels (file ts Fs is ns) (b ∷ bs)) (readKind channels frame (file ts Fs is ns) bs kind)
+      Sat (Next channels (file ts Fs is ns) (b ∷ bs)) (readKind channels frame (file ts Fs is ns) bs kind)
 
   type-next : NextOf 0x01 typeKind
   unfolding inOrder both isEmpty readKind withType
@@ -83,12 +83,18 @@ module _ (channels frame : ℕ) (bs : List ℕ) (small : All Byte bs) where
       sat-need (selfFree d) 8 frame λ free.
       let w : WithinType (length ts) d = record { some = W .0 .some; few = W .0 .few; constructors = W .0 .each; free = free } in
       sat-ok (record {
-          soFar = record {
-              fewTypes = grown ts d typesMost order; fewFunctions = so .fewFunctions; fewInputs = so .fewInputs; fewNodes = so .fewNodes;
-              types = types-snoc (so .types) (rw zero-add w); functions = wf-nil; inputs = all-nil; nodes = λ ns e. wn-nil
-            };
-          frames = rw (W .1) (type-frames ts d)
-        })
+        soFar = record {
+          fewTypes = grown ts d typesMost order;
+          fewFunctions = so .fewFunctions;
+          fewInputs = so .fewInputs;
+          fewNodes = so .fewNodes;
+          types = types-snoc (so .types) (rw zero-add w);
+          functions = wf-nil;
+          inputs = all-nil;
+          nodes = λ ns e. wn-nil;
+        };
+        frames = rw (W .1) (type-frames ts d);
+      })
   type-next ts [] [] (n ∷ ns) so order = false-is-not-true order
   type-next ts [] (i ∷ is) ns so order = false-is-not-true order
   type-next ts (F ∷ Fs) is ns so order = false-is-not-true order
@@ -98,12 +104,18 @@ module _ (channels frame : ℕ) (bs : List ℕ) (small : All Byte bs) where
   function-next ts Fs [] [] so order =
       sat-bind (whole-forth (function-exact (file ts Fs [] [])) frame bs small) λ F W.
       sat-ok (record {
-          soFar = record {
-              fewTypes = so .fewTypes; fewFunctions = grown Fs F functionsMost order; fewInputs = so .fewInputs; fewNodes = so .fewNodes;
-              types = so .types; functions = functions-snoc (so .functions) (W .0); inputs = all-nil; nodes = λ ns e. wn-nil
-            };
-          frames = rw (W .1) (function-frames ts Fs F)
-        })
+        soFar = record {
+          fewTypes = so .fewTypes;
+          fewFunctions = grown Fs F functionsMost order;
+          fewInputs = so .fewInputs;
+          fewNodes = so .fewNodes;
+          types = so .types;
+          functions = functions-snoc (so .functions) (W .0);
+          inputs = all-nil;
+          nodes = λ ns e. wn-nil;
+        };
+        frames = rw (W .1) (function-frames ts Fs F);
+      })
   function-next ts Fs [] (n ∷ ns) so order = false-is-not-true order
   function-next ts Fs (i ∷ is) ns so order = false-is-not-true order
 
@@ -112,12 +124,18 @@ module _ (channels frame : ℕ) (bs : List ℕ) (small : All Byte bs) where
   input-next ts Fs is [] so order =
       sat-bind (whole-forth (input-exact (file ts Fs is [])) frame bs small) λ i W.
       sat-ok (record {
-          soFar = record {
-              fewTypes = so .fewTypes; fewFunctions = so .fewFunctions; fewInputs = grown is i inputsMost order; fewNodes = so .fewNodes; types = so .types; functions = so .functions;
-              inputs = all-snoc (all-map (λ j. input-anywhere) (so .inputs)) (input-anywhere (W .0)); nodes = λ ns e. wn-nil
-            };
-          frames = rw (W .1) (input-frames ts Fs is i)
-        })
+        soFar = record {
+          fewTypes = so .fewTypes;
+          fewFunctions = so .fewFunctions;
+          fewInputs = grown is i inputsMost order;
+          fewNodes = so .fewNodes;
+          types = so .types;
+          functions = so .functions;
+          inputs = all-snoc (all-map (λ j. input-anywhere) (so .inputs)) (input-anywhere (W .0));
+          nodes = λ ns e. wn-nil;
+        };
+        frames = rw (W .1) (input-frames ts Fs is i);
+      })
   input-next ts Fs is (n ∷ ns) so order = false-is-not-true order
 
   node-next : NextOf 0x04 nodeKind
@@ -125,12 +143,18 @@ module _ (channels frame : ℕ) (bs : List ℕ) (small : All Byte bs) where
   node-next ts Fs is ns so order =
       sat-bind (whole-forth (node-exact channels (file ts Fs is ns)) frame bs small) λ n W.
       sat-ok (record {
-          soFar = record {
-              fewTypes = so .fewTypes; fewFunctions = so .fewFunctions; fewInputs = so .fewInputs; fewNodes = grown ns n nodesMost order; types = so .types; functions = so .functions;
-              inputs = all-map (λ j. input-anywhere) (so .inputs); nodes = λ ms e. nodes-snoc (so .nodes ms e) (rw zero-add (node-among e (W .0)))
-            };
-          frames = rw (W .1) (node-frames ts Fs is ns n)
-        })
+        soFar = record {
+          fewTypes = so .fewTypes;
+          fewFunctions = so .fewFunctions;
+          fewInputs = so .fewInputs;
+          fewNodes = grown ns n nodesMost order;
+          types = so .types;
+          functions = so .functions;
+          inputs = all-map (λ j. input-anywhere) (so .inputs);
+          nodes = λ ms e. nodes-snoc (so .nodes ms e) (rw zero-add (node-among e (W .0)));
+        };
+        frames = rw (W .1) (node-frames ts Fs is ns n);
+      })
 
 -- ---- frame after frame
 frame-forth : (channels frame : ℕ) (f : File) (l : List ℕ) → Filled l → SoFar channels f → Sat (Next channels f l) (readFrame channels frame f l)
@@ -160,4 +184,4 @@ frames-forth channels frame f [] lines so = go (f .nodes) (λ some. record { soF
 frames-forth channels frame f (l ∷ ls) (all-cons w lines) so =
     sat-bind (frame-forth channels frame f l w so) λ g G.
     sat-map (λ P R. record { soFar = R .soFar; frames = R .frames ∙ rw (G .frames) (append-assoc (fileFrames f) (l ∷ []) ls); someNode = R .someNode })
-      (frames-forth channels (suc frame) g ls lines (G .soFar))
+    (frames-forth channels (suc frame) g ls lines (G .soFar))

@@ -48,13 +48,13 @@ first-six (v ∷ w ∷ ws) le = refl
 
 one-more-read : {n : ℕ} {ws : List ℕ} {c : Cell} {h : List Cell} → CellRead (getD ws 0 0) (getD ws 1 0) (take fieldsMost (drop 2 ws)) c → CellsRead n (drop cellWords ws) h → CellsRead (suc n) ws (c ∷ h)
 unfolding spellAll
-one-more-read {n} {ws} {c} {h} r q = record
-  { count = ap suc (q .count)
-  ; words = λ le.
+one-more-read {n} {ws} {c} {h} r q = record {
+  count = ap suc (q .count);
+  words = λ le.
       let more : cellWords * suc n ≡ cellWords + cellWords * n = omega arith in
       let first : take cellWords ws ≡ wordsOf c = first-six ws (omega arith) ∙ r .words (length-take-le fieldsMost (drop 2 ws) (omega (arith, length-drop 2 ws))) in
-      rw (more, take-add cellWords (cellWords * n) ws, first, q .words (omega (arith, length-drop cellWords ws)))
-  }
+      rw (more, take-add cellWords (cellWords * n) ws, first, q .words (omega (arith, length-drop cellWords ws)));
+}
 
 pub cells-read : (P : File) (n : ℕ) (ws : List ℕ) → Whenever (CellsRead n ws) (cellsOfWords P n ws)
 unfolding cellsOfWords spellAll

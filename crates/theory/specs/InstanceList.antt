@@ -54,7 +54,7 @@ over-called {P} {r} g w a e (over-same {f} {v} l same le) = go (eqb f g) refl
 
 -- so an instance in progress is not the one called
 pub called-not-in-progress : {P : File} {F : Function} {r : Instance} {g : ℕ} {ks : List ℕ} →
-  look (P .functions) g ≡ some F → r .function ≡ g → r .sizes ≡ ks → Over P r (inside g (suc (weight (F .measure) ks))) → ⊥
+    look (P .functions) g ≡ some F → r .function ≡ g → r .sizes ≡ ks → Over P r (inside g (suc (weight (F .measure) ks))) → ⊥
 called-not-in-progress l p q (over-later less) = omega arith
 called-not-in-progress {F} {r} {ks} l p q (over-same {F = G} i same le) =
     let z : G ≡ F = cc in
@@ -114,10 +114,14 @@ pub grown-not : {D : List Instance → Instance → Type 0} {K : Key → Type 0}
 grown-not {L} t = record { more = []; is = sym (append-nil L); added = all-nil; kept = λ r d. d; tidy = t }
 
 pub grown-then : {D : List Instance → Instance → Type 0} {K : Key → Type 0} {most left : ℕ} {L M N : List Instance} → Grown D K most left L M → Grown D K most left M N →
-  Grown D K most left L N
-grown-then {L} g h = record
-  { more = g .more ++ h .more; is = h .is ∙ ap (λ l. l ++ h .more) (g .is) ∙ append-assoc L (g .more) (h .more)
-  ; added = all-append (all-map (h .kept) (g .added)) (h .added); kept = λ r d. h .kept r (g .kept r d); tidy = h .tidy }
+    Grown D K most left L N
+grown-then {L} g h = record {
+  more = g .more ++ h .more;
+  is = h .is ∙ ap (λ l. l ++ h .more) (g .is) ∙ append-assoc L (g .more) (h .more);
+  added = all-append (all-map (h .kept) (g .added)) (h .added);
+  kept = λ r d. h .kept r (g .kept r d);
+  tidy = h .tidy;
+}
 
 module _ {P : File} {D : List Instance → Instance → Type 0} {K : Key → Type 0} {most left : ℕ} where
   pub ready-grown : {p : Place} {L M : List Instance} → Grown D K most left L M → Ready P D K most left p L → Ready P D K most left p M
@@ -134,7 +138,7 @@ found-stands g ks [] e = none-is-not-some e
 found-stands {n} g ks (r ∷ L) e = go (both (eqb (r .function) g) (sameSizes (r .sizes) ks)) refl e (found-stands g ks L)
   where
     go : (b : Bool) → both (eqb (r .function) g) (sameSizes (r .sizes) ks) ≡ b → elim b as (λ x. Option Estimate) [ true ↦ some (r .numbers) | false ↦ find L g ks ] ≡ some n →
-      (find L g ks ≡ some n → In (entered g ks n) L) → In (entered g ks n) (r ∷ L)
+        (find L g ks ≡ some n → In (entered g ks n) L) → In (entered g ks n) (r ∷ L)
     go true b e f =
         let same : r .numbers ≡ n = cc in
         in-head (sym (λ i. entered (eqb-true (r .function) g (both-left _ _ b) i) (same-sizes (r .sizes) ks (both-right _ _ b) i) (same i)))
@@ -153,7 +157,7 @@ not-found-is-new g ks (r ∷ L) e (in-tail i) = go (both (eqb (r .function) g) (
 
 -- An instance being checked is never looked up: what a call finds is finished.
 pub found-is-finished : {P : File} {D : Instance → Type 0} {F : Function} {n : Estimate} (g : ℕ) (ks : List ℕ) (L : List Instance) →
-  look (P .functions) g ≡ some F → All (Known P D (inside g (suc (weight (F .measure) ks)))) L → find L g ks ≡ some n → D (entered g ks n)
+    look (P .functions) g ≡ some F → All (Known P D (inside g (suc (weight (F .measure) ks)))) L → find L g ks ≡ some n → D (entered g ks n)
 found-is-finished {P} {D} {F} {n} g ks L l known e = go (all-member known (found-stands g ks L e))
   where
     go : Known P D (inside g (suc (weight (F .measure) ks))) (entered g ks n) → D (entered g ks n)
@@ -163,14 +167,16 @@ found-is-finished {P} {D} {F} {n} g ks L l known e = go (all-member known (found
 -- ---- entering a body: a record more, in progress; and leaving it: the record is filled in
 module _ {P : File} {D : List Instance → Instance → Type 0} {K : Key → Type 0} {most left : ℕ} (lasting : Lasting D) where
   pub ready-entered : {F : Function} {L : List Instance} (g : ℕ) (ks : List ℕ) → look (P .functions) g ≡ some F → find L g ks ≡ none → length L < most → K (key g ks) →
-    Ready P D K most (suc left) (inside g (suc (weight (F .measure) ks))) L → Ready P D K most left (inside g (weight (F .measure) ks)) (L ++ (entered g ks nothing ∷ []))
-  ready-entered {F} {L} g ks l new less wanted rd = record
-    { known = all-append (all-map (λ r. known-map (lasting .lasts L M (λ k. keys-left L (this ∷ [])) r) down) (rd .known)) (all-cons (inProgress (over-same l refl (omega arith))) all-nil)
-    ; tidy = record
-        { once = rw (keys-append L (this ∷ [])) (distinct-append (rd .tidy .once) (not-found-is-new g ks L new))
-        ; few = omega (arith, length-append L (this ∷ []))
-        ; fuel = omega (arith, length-append L (this ∷ []), rd .tidy .fuel)
-        ; wanted = rw (keys-append L (this ∷ [])) (all-append (rd .tidy .wanted) (all-cons wanted all-nil)) } }
+      Ready P D K most (suc left) (inside g (suc (weight (F .measure) ks))) L → Ready P D K most left (inside g (weight (F .measure) ks)) (L ++ (entered g ks nothing ∷ []))
+  ready-entered {F} {L} g ks l new less wanted rd = record {
+    known = all-append (all-map (λ r. known-map (lasting .lasts L M (λ k. keys-left L (this ∷ [])) r) down) (rd .known)) (all-cons (inProgress (over-same l refl (omega arith))) all-nil);
+    tidy = record {
+      once = rw (keys-append L (this ∷ [])) (distinct-append (rd .tidy .once) (not-found-is-new g ks L new));
+      few = omega (arith, length-append L (this ∷ []));
+      fuel = omega (arith, length-append L (this ∷ []), rd .tidy .fuel);
+      wanted = rw (keys-append L (this ∷ [])) (all-append (rd .tidy .wanted) (all-cons wanted all-nil));
+    };
+  }
     where
       this : Instance
       this = entered g ks nothing
@@ -188,9 +194,10 @@ record Filled (L M more : List Instance) (s : Instance) : Type 0 where
   keys : keysOf (set M (length L) s) ≡ keysOf M
 
 filled : {M more : List Instance} (L : List Instance) (r s : Instance) → keyOf s ≡ keyOf r → M ≡ (L ++ (r ∷ [])) ++ more → Filled L M more s
-filled {M} {more} L r s same e = record
-  { is = set-is
-  ; keys = ap keysOf set-is ∙ keys-append L (s ∷ more) ∙ ap (λ k. keysOf L ++ (k ∷ keysOf more)) same ∙ sym (keys-append L (r ∷ more)) ∙ ap keysOf (sym was) }
+filled {M} {more} L r s same e = record {
+  is = set-is;
+  keys = ap keysOf set-is ∙ keys-append L (s ∷ more) ∙ ap (λ k. keysOf L ++ (k ∷ keysOf more)) same ∙ sym (keys-append L (r ∷ more)) ∙ ap keysOf (sym was);
+}
   where
     was : M ≡ L ++ (r ∷ more)
     was = e ∙ append-assoc L (r ∷ []) more
@@ -209,15 +216,18 @@ module _ {D : List Instance → Instance → Type 0} {K : Key → Type 0} {most 
   left-stands = grown-keys g (keyOf r) (rw (keys-append L (r ∷ [])) (in-right (keysOf L) (in-head refl)))
 
   pub grown-left : Lasting D → D (set M (length L) s) s → Grown D K most (suc left) L (set M (length L) s)
-  grown-left lasting d = record
-    { more = s ∷ g .more; is = new .is
-    ; added = all-cons d (all-map (lasting .lasts M N (λ k. subst (In k) (sym (new .keys)))) (g .added))
-    ; kept = lasting .lasts L N (λ k i. subst (λ l. In k (keysOf l)) (sym (new .is)) (keys-left L (s ∷ g .more) i))
-    ; tidy = record
-        { once = rw (new .keys) (g .tidy .once)
-        ; few = omega (arith, length-set M (length L) s, g .tidy .few)
-        ; fuel = omega (arith, length-set M (length L) s, g .tidy .fuel)
-        ; wanted = rw (new .keys) (g .tidy .wanted) } }
+  grown-left lasting d = record {
+    more = s ∷ g .more;
+    is = new .is;
+    added = all-cons d (all-map (lasting .lasts M N (λ k. subst (In k) (sym (new .keys)))) (g .added));
+    kept = lasting .lasts L N (λ k i. subst (λ l. In k (keysOf l)) (sym (new .is)) (keys-left L (s ∷ g .more) i));
+    tidy = record {
+      once = rw (new .keys) (g .tidy .once);
+      few = omega (arith, length-set M (length L) s, g .tidy .few);
+      fuel = omega (arith, length-set M (length L) s, g .tidy .fuel);
+      wanted = rw (new .keys) (g .tidy .wanted);
+    };
+  }
     where
       N : List Instance
       N = set M (length L) s

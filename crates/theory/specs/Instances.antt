@@ -58,7 +58,7 @@ module _ {P : File} where
     instancesOfBranches (t-branch less b bs x) = instancesAtSplits b ++ instancesOfBranches bs
 
     pub instancesAtSplits : {p : Place} {Γ : List Ty} {Δ : List ℕ} {t : ℕ} {fs : Constructor} {kss : List (List ℕ)} {b : Expr} {τ : Ty} {n : Estimate} → AtSplits P p Γ Δ t fs kss b τ n →
-      List Key
+        List Key
     instancesAtSplits (s-none x) = []
     instancesAtSplits (s-cons b bs x) = instancesOf b ++ instancesAtSplits bs
 

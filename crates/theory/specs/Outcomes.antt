@@ -45,7 +45,7 @@ reads-map f (reads-got {a} {rest} q) = reads-got (f a rest q)
 reads-map f reads-bad = reads-bad
 
 pub reads-then : {A B : Type 0} {Q : A → List ℕ → Type 0} {R : B → List ℕ → Type 0} {r : Read A} {k : A → Parser B} →
-  Reads Q r → ((a : A) (rest : List ℕ) → Q a rest → Reads R (k a rest)) → Reads R (andThen r k)
+    Reads Q r → ((a : A) (rest : List ℕ) → Q a rest → Reads R (k a rest)) → Reads R (andThen r k)
 unfolding andThen
 reads-then (reads-got {a} {rest} q) f = f a rest q
 reads-then reads-bad f = reads-bad

@@ -85,7 +85,7 @@ module _ {B : Type 0} {R : B → Type 0} {N : ℕ → ℕ → Type 0} where
 -- ---- steps of the size checker
 -- an instance that was found, or its body
 pub foundOr-outcome : {Q : Counted → Type 0} {N : ℕ → ℕ → Type 0} (o : Option Estimate) (L : List Instance) {r : Result Counted} →
-  ((n : Estimate) → o ≡ some n → Q (record { numbers = n; list = L })) → (o ≡ none → Outcome Q N r) → Outcome Q N (foundOr o L r)
+    ((n : Estimate) → o ≡ some n → Q (record { numbers = n; list = L })) → (o ≡ none → Outcome Q N r) → Outcome Q N (foundOr o L r)
 unfolding foundOr
 foundOr-outcome (some n) L f g = accepted (f n refl)
 foundOr-outcome none L f g = g refl

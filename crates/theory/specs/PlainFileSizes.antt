@@ -27,7 +27,7 @@ initials-append initials-nil y = y
 initials-append (initials-cons i x) y = initials-cons i (initials-append x y)
 
 input-initials : {P : File} (l : List Input) → ((i : ℕ) (I : Input) → look l i ≡ some I → PlainInitial P (I .declared) (I .initial)) →
-  PlainInitials P (map (λ (i : Input). i .initial) l) (map (λ (i : Input). i .declared) l)
+    PlainInitials P (map (λ (i : Input). i .initial) l) (map (λ (i : Input). i .declared) l)
 input-initials [] f = initials-nil
 input-initials (I ∷ l) f = initials-cons (f 0 I refl) (input-initials l (λ i J e. f (suc i) J e))
 
@@ -37,10 +37,10 @@ node-initials (M ∷ l) f = initials-cons (f 0 M refl .initial) (node-initials l
 
 module _ (P : File) (W : WellPlain P) where
   channel-plainly : (c : ℕ) (C : List Ty) (e : Expr) (τ : Ty) (L : List Instance) → PlainTyping P (plainsOfTypes C) [] e (plainDeclared τ) →
-    Outcome Anything SizeRefusal (sizedChannel P c C e τ L)
+      Outcome Anything SizeRefusal (sizedChannel P c C e τ L)
   unfolding sizedChannel channelsAt
   channel-plainly c C e τ L t = bind-outcome (plainly (enters-plainly instancesMost W instancesMost) t (outside (channelFrame P c) C) [] [] refl refl .runs L)
-    (λ q _ x. need-outcome _ _ _ (λ _. record { least = omega arith; most = omega arith }) (λ _. accepted tt))
+      (λ q _ x. need-outcome _ _ _ (λ _. record { least = omega arith; most = omega arith }) (λ _. accepted tt))
 
   initials-plainly : (c : ℕ) {es : List Expr} {τs : List Ty} (L : List Instance) → PlainInitials P es τs → Outcome Anything SizeRefusal (sizedInitials P c es τs L)
   unfolding sizedInitials
@@ -51,7 +51,7 @@ module _ (P : File) (W : WellPlain P) where
   unfolding sizedUpdates
   updates-plainly c [] L f = accepted tt
   updates-plainly c (M ∷ ns) L f = bind-outcome (channel-plainly c (declaredTypes P) (M .update) (M .declared) L (f 0 M refl .update)) (λ q _ _.
-    bind-outcome (updates-plainly (suc c) ns (q .list) (λ n N e. f (suc n) N e)) (λ r _ _. accepted tt))
+      bind-outcome (updates-plainly (suc c) ns (q .list) (λ n N e. f (suc n) N e)) (λ r _ _. accepted tt))
 
   file-plainly : Outcome Anything SizeRefusal (sizedFile P)
   unfolding sizedFile

@@ -134,9 +134,9 @@ sizes-at t [] vs-nil w = record { sizes = []; are = z-none; total = refl }
 sizes-at t (fbool ∷ fs) (vs-cons v vs) w = let r = sizes-at t fs vs w in record { sizes = r .sizes; are = z-bool (r .are); total = r .total }
 sizes-at t (fint ∷ fs) (vs-cons v vs) w = let r = sizes-at t fs vs w in record { sizes = r .sizes; are = z-int (r .are); total = r .total }
 sizes-at {h} t (own ∷ fs) (vs-cons {l} v vs) w = let r = sizes-at t fs vs w in
-  record { sizes = sizeIn (cellAt h l) ∷ r .sizes; are = z-own (con-cell v .is) (r .are); total = rw (r .total) }
+    record { sizes = sizeIn (cellAt h l) ∷ r .sizes; are = z-own (con-cell v .is) (r .are); total = rw (r .total) }
 sizes-at {h} t (other u j ∷ fs) (vs-cons {l} v vs) w = let r = sizes-at t fs vs (both-right _ _ w) in
-  record { sizes = r .sizes; are = z-other (con-cell v .is) (leb-true _ _ (both-left _ _ w)) (r .are); total = r .total }
+    record { sizes = r .sizes; are = z-other (con-cell v .is) (leb-true _ _ (both-left _ _ w)) (r .are); total = r .total }
 
 -- ---- new cells
 pub new-leaf : {P : File} (h : List Cell) (x : Constant) → PlainValue P (h ++ (leaf x ∷ [])) (length h) (constantType x)

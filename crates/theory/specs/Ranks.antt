@@ -78,6 +78,7 @@ member-ranked R (suc n) i {l} e = cases (mem n R) refl (λ z. member-ranked R n 
   where
     higher : Ranked R n i l → Ranked R (suc n) i l
     higher r = record { low = omega (arith, r .low); member = r .member; rank = r .rank }
+
     cases : (b : Bool) → mem n R ≡ b → (look (membersBelow R n) i ≡ some l → Ranked R n i l) → Ranked R (suc n) i l
     cases true m before = look-snoc-cases (membersBelow R n) n i (ap (λ x. look x i) (sym (member-next R n m)) ∙ e) (λ z. higher (before z))
         (λ end same. record { low = omega (arith, same); member = ap (λ x. mem x R) (sym same) ∙ m; rank = ap (rank R) (sym same) ∙ sym end })

@@ -72,7 +72,7 @@ root-reached R number (c ∷ cs) i e = kept-on (reachedFrom R (suc number) cs) (
 
 -- ---- the cells that a reached cell names
 named-reached : (R : List ℕ) (number : ℕ) (cs : List Cell) → LowerFrom number cs → (l : ℕ) (c : Cell) → look cs l ≡ some c →
-  mem (number + l) (reachedFrom R number cs) ≡ true → All (λ i. mem i (reachedFrom R number cs) ≡ true) (fieldsIn c)
+    mem (number + l) (reachedFrom R number cs) ≡ true → All (λ i. mem i (reachedFrom R number cs) ≡ true) (fieldsIn c)
 unfolding reachedFrom
 named-reached R number [] w l c e m = none-is-not-some e
 named-reached R number (d ∷ cs) w zero c e m =
@@ -87,14 +87,14 @@ named-reached R number (d ∷ cs) w (suc l) c e m =
 
 pub reached-closed : (s : State) → NamesLower (s .heap) → Closed s (Reached s)
 unfolding reached
-reached-closed s w = record
-  { roots = mem-all (s .roots) (λ i e. root-reached (s .roots) 0 (s .heap) i e)
-  ; fields = λ l c e m. named-reached (s .roots) 0 (s .heap) (record { low = λ i d at. rw zero-add (w .low i d at) }) l c e (rw zero-add m)
-  }
+reached-closed s w = record {
+  roots = mem-all (s .roots) (λ i e. root-reached (s .roots) 0 (s .heap) i e);
+  fields = λ l c e m. named-reached (s .roots) 0 (s .heap) (record { low = λ i d at. rw zero-add (w .low i d at) }) l c e (rw zero-add m);
+}
 
 -- ---- nothing else
 only-reached : (Q : ℕ → Type 0) (R : List ℕ) (number : ℕ) (cs : List Cell) → All Q R → ((l : ℕ) (c : Cell) → look cs l ≡ some c → Q (number + l) → All Q (fieldsIn c)) →
-  (i : ℕ) → mem i (reachedFrom R number cs) ≡ true → Q i
+    (i : ℕ) → mem i (reachedFrom R number cs) ≡ true → Q i
 unfolding reachedFrom
 only-reached Q R number [] roots fields i m = all-mem roots i m
 only-reached Q R number (c ∷ cs) roots fields i m =
@@ -108,7 +108,7 @@ reached-least {s} {Q} closed l m = only-reached Q (s .roots) 0 (s .heap) (closed
 
 -- so the cells reached are cells of the heap
 pub reached-below : {s : State} → Linked s → (l : ℕ) → Reached s l → l < length (s .heap)
-reached-below {s} linked = reached-least {s = s} {Q = λ i. i < length (s .heap)} (record
-  { roots = linked .roots
-  ; fields = λ l c e less. all-map (λ i low. omega (arith, look-less (s .heap) l e)) (linked .lower .low l c e)
-  })
+reached-below {s} linked = reached-least {s = s} {Q = λ i. i < length (s .heap)} (record {
+  roots = linked .roots;
+  fields = λ l c e less. all-map (λ i low. omega (arith, look-less (s .heap) l e)) (linked .lower .low l c e);
+})

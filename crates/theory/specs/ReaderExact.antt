@@ -37,8 +37,16 @@ all-read t fs P fits e d = (is, within)
     within =
         let so = d .soFar in
         record {
-          text = rw (← is) fits; fewTypes = so .fewTypes; fewFunctions = so .fewFunctions; fewInputs = so .fewInputs; fewNodes = so .fewNodes; someNode = d .someNode;
-          types = so .types; functions = so .functions; inputs = so .inputs; nodes = so .nodes (P .nodes) (sym (channels-of-file P) ∙ ap channelCount (d .frames))
+          text = rw (← is) fits;
+          fewTypes = so .fewTypes;
+          fewFunctions = so .fewFunctions;
+          fewInputs = so .fewInputs;
+          fewNodes = so .fewNodes;
+          someNode = d .someNode;
+          types = so .types;
+          functions = so .functions;
+          inputs = so .inputs;
+          nodes = so .nodes (P .nodes) (sym (channels-of-file P) ∙ ap channelCount (d .frames));
         }
 
 read-sat : (t : List ℕ) → Sat (λ P. (t ≡ fileText P) × Within P) (readFile t)

@@ -44,12 +44,12 @@ module _ (P : File) (enter : Enter) where
 
 -- a variable or channel whose plain type is known
 look-plainly : {B : Type 0} {R : B → Type 0} {τ : Plain} {G : List Plain} (Γ : List Ty) (v : ℕ) (frame : ℕ) (k : Ty → Result B) → plainsOfTypes Γ ≡ G → look G v ≡ some τ →
-  ((σ : Ty) → plainDeclared σ ≡ τ → Outcome R SizeRefusal (k σ)) → Outcome R SizeRefusal (from (look Γ v) 6 frame k)
+    ((σ : Ty) → plainDeclared σ ≡ τ → Outcome R SizeRefusal (k σ)) → Outcome R SizeRefusal (from (look Γ v) 6 frame k)
 look-plainly {τ} Γ v frame k same e f = from-outcome (look Γ v) 6 frame (λ n. none-is-not-some (sym (look-none-plain Γ v n) ∙ ap (λ l. look l v) same ∙ e))
-  (λ σ s. f σ (let z : some (plainDeclared σ) ≡ some τ = sym (look-map plainDeclared Γ v s) ∙ ap (λ l. look l v) same ∙ e in cc))
+    (λ σ s. f σ (let z : some (plainDeclared σ) ≡ some τ = sym (look-map plainDeclared Γ v s) ∙ ap (λ l. look l v) same ∙ e in cc))
 
 splits-plainly : (f : List ℕ → List Instance → Result Counted) → ((ks : List ℕ) (L : List Instance) → Outcome Anything SizeRefusal (f ks L)) → (kss : List (List ℕ)) (L : List Instance) →
-  Outcome Anything SizeRefusal (atSplits kss f L)
+    Outcome Anything SizeRefusal (atSplits kss f L)
 unfolding atSplits
 splits-plainly f h [] L = accepted tt
 splits-plainly f h (ks ∷ kss) L = bind-outcome (h ks L) (λ q _ _. bind-outcome (splits-plainly f h kss (q .list)) (λ r _ _. accepted tt))
@@ -85,44 +85,58 @@ module _ {P : File} {enter : Enter} {p : Place} {Γ : List Ty} {Δ : List ℕ} w
 
   if-plainly : {a b d : Expr} {τ : Plain} → Plainly P enter p Γ Δ a pbool → Plainly P enter p Γ Δ b τ → Plainly P enter p Γ Δ d τ → Plainly P enter p Γ Δ (eif a b d) τ
   unfolding sized
-  if-plainly f g h = record { runs = λ L. bind-outcome (f .runs L) (λ q _ x. need-holds _ _ (type-same (bool-plain (q .type) x)) (bind-outcome (g .runs (q .list)) (λ r _ y. bind-outcome (h .runs (r .list)) (λ s _ z.
-    need-outcome _ _ _ (λ _. sizes-only (omega arith) (omega arith)) (λ _. accepted y))))) }
+  if-plainly f g h = record {
+    runs = λ L. bind-outcome (f .runs L) (λ q _ x. need-holds _ _ (type-same (bool-plain (q .type) x)) (bind-outcome (g .runs (q .list)) (λ r _ y. bind-outcome (h .runs (r .list)) (λ s _ z.
+        need-outcome _ _ _ (λ _. sizes-only (omega arith) (omega arith)) (λ _. accepted y)))));
+  }
 
   op-plainly : {o : Op} {a b : Expr} → Plainly P enter p Γ Δ a (operandType o) → Plainly P enter p Γ Δ b (operandType o) → Plainly P enter p Γ Δ (eop o a b) (opType o)
   unfolding sized
-  op-plainly {o} f g = record { runs = λ L. bind-outcome (f .runs L) (λ q _ x. need-holds _ _ (type-same (operand-plain o (q .type) x)) (bind-outcome (g .runs (q .list)) (λ r _ y.
-    need-holds _ _ (type-same (operand-plain o (r .type) y)) (accepted (base-plain (opType o)))))) }
+  op-plainly {o} f g = record {
+    runs = λ L. bind-outcome (f .runs L) (λ q _ x. need-holds _ _ (type-same (operand-plain o (q .type) x)) (bind-outcome (g .runs (q .list)) (λ r _ y.
+        need-holds _ _ (type-same (operand-plain o (r .type) y)) (accepted (base-plain (opType o))))));
+  }
 
   call-plainly : {g : ℕ} {es : Exprs} {F : Function} → EntersPlainly P enter → look (P .functions) g ≡ some F → PlainlyAll P enter p Γ Δ es (F .parameters) →
-    Plainly P enter p Γ Δ (ecall g es) (plainResult (F .result))
+      Plainly P enter p Γ Δ (ecall g es) (plainResult (F .result))
   unfolding sized
-  call-plainly {g} {F} en l f = record { runs = λ L. bind-outcome (f .runs L) (λ q _ x. from-holds _ _ _ l (let ks = sizesOf (q .types) in
-    need-holds _ _ (types-same (ap (λ ps. parameterTypes ps ks) (sym x) ∙ own-parameters (q .types))) (need-outcome _ _ _ (λ _. sizes-only (omega arith) (omega arith)) (λ _.
-      need-outcome _ _ _ (λ _. sizes-only (omega arith) (omega arith)) (λ _. from-outcome _ _ _ (λ _. sizes-only (omega arith) (omega arith)) (λ τ fits.
-        bind-outcome (en .enters _ g F ks τ (q .list) l) (λ r _ _. accepted (result-plain ks (F .result) fits)))))))) }
+  call-plainly {g} {F} en l f = record {
+    runs = λ L. bind-outcome (f .runs L) (λ q _ x. from-holds _ _ _ l (let ks = sizesOf (q .types) in
+        need-holds _ _ (types-same (ap (λ ps. parameterTypes ps ks) (sym x) ∙ own-parameters (q .types))) (need-outcome _ _ _ (λ _. sizes-only (omega arith) (omega arith)) (λ _.
+        need-outcome _ _ _ (λ _. sizes-only (omega arith) (omega arith)) (λ _. from-outcome _ _ _ (λ _. sizes-only (omega arith) (omega arith)) (λ τ fits.
+        bind-outcome (en .enters _ g F ks τ (q .list) l) (λ r _ _. accepted (result-plain ks (F .result) fits))))))));
+  }
 
   ctor-plainly : {t i : ℕ} {es : Exprs} {fs : Constructor} {τs : List Plain} → look (constructorsOf P t) i ≡ some fs → PlainlyAll P enter p Γ Δ es τs →
-    Plainly P enter p Γ Δ (econ t i es) (pnamed t)
+      Plainly P enter p Γ Δ (econ t i es) (pnamed t)
   unfolding sized plainDeclared
-  ctor-plainly l f = record { runs = λ L. bind-outcome (f .runs L) (λ q _ x. from-holds _ _ _ l (need-outcome _ _ _ (λ _. sizes-only (omega arith) (omega arith)) (λ _.
-    need-outcome _ _ _ (λ _. sizes-only (omega arith) (omega arith)) (λ _. accepted refl)))) }
+  ctor-plainly l f = record {
+    runs = λ L. bind-outcome (f .runs L) (λ q _ x. from-holds _ _ _ l (need-outcome _ _ _ (λ _. sizes-only (omega arith) (omega arith)) (λ _.
+        need-outcome _ _ _ (λ _. sizes-only (omega arith) (omega arith)) (λ _. accepted refl))));
+  }
 
   case-plainly : {t : ℕ} {e : Expr} {r : ResultType} {bs : Exprs} → Plainly P enter p Γ Δ e (pnamed t) →
-    ((k : ℕ) (τ : Ty) → plainDeclared τ ≡ plainResult r → PlainlyBranches P enter p Γ Δ t k (constructorsOf P t) bs τ) → Plainly P enter p Γ Δ (ecase t e r bs) (plainResult r)
+      ((k : ℕ) (τ : Ty) → plainDeclared τ ≡ plainResult r → PlainlyBranches P enter p Γ Δ t k (constructorsOf P t) bs τ) → Plainly P enter p Γ Δ (ecase t e r bs) (plainResult r)
   unfolding sized
-  case-plainly {t} {r} f g = record { runs = λ L. bind-outcome (f .runs L) (λ q _ x. named-holds _ _ (named-plain (q .type) x) (need-holds _ _ (eq-eqb t t refl)
-    (from-outcome _ _ _ (λ _. sizes-only (omega arith) (omega arith)) (λ τ fits. bind-outcome (g (sizeOfType (q .type)) τ (result-plain Δ r fits) .runs (q .list)) (λ s _ _. accepted (result-plain Δ r fits)))))) }
+  case-plainly {t} {r} f g = record {
+    runs = λ L. bind-outcome (f .runs L) (λ q _ x. named-holds _ _ (named-plain (q .type) x) (need-holds _ _ (eq-eqb t t refl)
+        (from-outcome _ _ _ (λ _. sizes-only (omega arith) (omega arith)) (λ τ fits. bind-outcome (g (sizeOfType (q .type)) τ (result-plain Δ r fits) .runs (q .list)) (λ s _ _. accepted (result-plain Δ r fits))))));
+  }
 
   adj-plainly : {s : Size} {e : Expr} {t : ℕ} → Plainly P enter p Γ Δ e (pnamed t) → Plainly P enter p Γ Δ (eadj s e) (pnamed t)
   unfolding sized plainDeclared
-  adj-plainly f = record { runs = λ L. from-outcome _ _ _ (λ _. sizes-only (omega arith) (omega arith)) (λ k _. bind-outcome (f .runs L) (λ q _ x. named-holds _ _ (named-plain (q .type) x)
-    (need-outcome _ _ _ (λ _. sizes-only (omega arith) (omega arith)) (λ _. accepted refl)))) }
+  adj-plainly f = record {
+    runs = λ L. from-outcome _ _ _ (λ _. sizes-only (omega arith) (omega arith)) (λ k _. bind-outcome (f .runs L) (λ q _ x. named-holds _ _ (named-plain (q .type) x)
+        (need-outcome _ _ _ (λ _. sizes-only (omega arith) (omega arith)) (λ _. accepted refl))));
+  }
 
   fit-plainly : {k t : ℕ} {a b d : Expr} {τ : Plain} → Plainly P enter p Γ Δ a (pnamed t) → Plainly P enter p (Γ ++ (tnamed t k ∷ [])) Δ b τ → Plainly P enter p Γ Δ d τ →
-    Plainly P enter p Γ Δ (efit k a b d) τ
+      Plainly P enter p Γ Δ (efit k a b d) τ
   unfolding sized
-  fit-plainly f g h = record { runs = λ L. bind-outcome (f .runs L) (λ q _ x. named-holds _ _ (named-plain (q .type) x) (bind-outcome (g .runs (q .list)) (λ r _ y. bind-outcome (h .runs (r .list)) (λ s _ z.
-    need-outcome _ _ _ (λ _. sizes-only (omega arith) (omega arith)) (λ _. accepted y))))) }
+  fit-plainly f g h = record {
+    runs = λ L. bind-outcome (f .runs L) (λ q _ x. named-holds _ _ (named-plain (q .type) x) (bind-outcome (g .runs (q .list)) (λ r _ y. bind-outcome (h .runs (r .list)) (λ s _ z.
+        need-outcome _ _ _ (λ _. sizes-only (omega arith) (omega arith)) (λ _. accepted y)))));
+  }
 
   none-plainly : PlainlyAll P enter p Γ Δ enil []
   unfolding sizeds
@@ -137,18 +151,20 @@ module _ {P : File} {enter : Enter} {p : Place} {Γ : List Ty} {Δ : List ℕ} w
   no-branch-plainly = record { runs = λ L. accepted tt }
 
   branch-plainly : {t k : ℕ} {fs : Constructor} {cs : List Constructor} {b : Expr} {bs : Exprs} {π : Plain} {τ : Ty} →
-    ((ks : List ℕ) → Plainly P enter p (Γ ++ fieldTypes t fs ks) (Δ ++ ks) b π) →
-    PlainlyBranches P enter p Γ Δ t k cs bs τ → PlainlyBranches P enter p Γ Δ t k (fs ∷ cs) (econs b bs) τ
+      ((ks : List ℕ) → Plainly P enter p (Γ ++ fieldTypes t fs ks) (Δ ++ ks) b π) →
+      PlainlyBranches P enter p Γ Δ t k cs bs τ → PlainlyBranches P enter p Γ Δ t k (fs ∷ cs) (econs b bs) τ
   unfolding sizedBranches
-  branch-plainly {t} {k} {fs} {b} {τ} f g = record { runs = λ L. choose-outcome _ (λ _. g .runs L)
-    (λ _. bind-outcome (splits-plainly (atSplit P enter p Γ Δ t fs b τ) (λ ks M. bind-outcome (f ks .runs M) (λ q _ _. need-outcome _ _ _ (λ _. sizes-only (omega arith) (omega arith)) (λ _. accepted tt))) (splits (owns fs) (k - 1)) L)
-      (λ q _ _. bind-outcome (g .runs (q .list)) (λ r _ _. accepted tt))) }
+  branch-plainly {t} {k} {fs} {b} {τ} f g = record {
+    runs = λ L. choose-outcome _ (λ _. g .runs L)
+        (λ _. bind-outcome (splits-plainly (atSplit P enter p Γ Δ t fs b τ) (λ ks M. bind-outcome (f ks .runs M) (λ q _ _. need-outcome _ _ _ (λ _. sizes-only (omega arith) (omega arith)) (λ _. accepted tt))) (splits (owns fs) (k - 1)) L)
+        (λ q _ _. bind-outcome (g .runs (q .list)) (λ r _ _. accepted tt)));
+  }
 
 -- ---- every plain typing
 module _ {P : File} {enter : Enter} (en : EntersPlainly P enter) {C : List Plain} where
   mutual
     pub plainly : {G : List Plain} {e : Expr} {π : Plain} → PlainTyping P C G e π → (p : Place) (Γ : List Ty) (Δ : List ℕ) → plainsOfTypes (channelsAt p) ≡ C → plainsOfTypes Γ ≡ G →
-      Plainly P enter p Γ Δ e π
+        Plainly P enter p Γ Δ e π
     plainly p-bool p Γ Δ c g = bool-plainly
     plainly p-int p Γ Δ c g = int-plainly
     plainly (p-var l) p Γ Δ c g = var-plainly g l
@@ -164,12 +180,12 @@ module _ {P : File} {enter : Enter} (en : EntersPlainly P enter) {C : List Plain
     plainly (p-fit {k} {t} a b d) p Γ Δ c g = fit-plainly (plainly a p Γ Δ c g) (plainly b p (Γ ++ (tnamed t k ∷ [])) Δ c (plains-joined Γ (tnamed t k ∷ []) g (ap (λ π. π ∷ []) (plain-named t k)))) (plainly d p Γ Δ c g)
 
     plainly-all : {G : List Plain} {es : Exprs} {πs : List Plain} → PlainTypings P C G es πs → (p : Place) (Γ : List Ty) (Δ : List ℕ) → plainsOfTypes (channelsAt p) ≡ C →
-      plainsOfTypes Γ ≡ G → PlainlyAll P enter p Γ Δ es πs
+        plainsOfTypes Γ ≡ G → PlainlyAll P enter p Γ Δ es πs
     plainly-all ps-nil p Γ Δ c g = none-plainly
     plainly-all (ps-cons e es) p Γ Δ c g = more-plainly (plainly e p Γ Δ c g) (plainly-all es p Γ Δ c g)
 
     plainly-branches : {G : List Plain} {t : ℕ} {cs : List Constructor} {bs : Exprs} {π : Plain} → PlainBranches P C G t cs bs π → (p : Place) (Γ : List Ty) (Δ : List ℕ) (k : ℕ) (τ : Ty) →
-      plainsOfTypes (channelsAt p) ≡ C → plainsOfTypes Γ ≡ G → PlainlyBranches P enter p Γ Δ t k cs bs τ
+        plainsOfTypes (channelsAt p) ≡ C → plainsOfTypes Γ ≡ G → PlainlyBranches P enter p Γ Δ t k cs bs τ
     plainly-branches p-none p Γ Δ k τ c g = no-branch-plainly
     plainly-branches (p-branch {t} {fs} b bs) p Γ Δ k τ c g =
         branch-plainly (λ ks. plainly b p (Γ ++ fieldTypes t fs ks) (Δ ++ ks) c (plains-joined Γ (fieldTypes t fs ks) g (fields-plain t fs ks))) (plainly-branches bs p Γ Δ k τ c g)
@@ -179,7 +195,9 @@ module _ {P : File} (most : ℕ) (W : WellPlain P) where
   pub enters-plainly : (left : ℕ) → EntersPlainly P (enterAt P most left)
   unfolding enterAt channelsAt
   enters-plainly zero = record { enters = λ frame g F ks τ L l. foundOr-outcome (find L g ks) L (λ n e. tt) (λ new. refused (sizes-only (omega arith) (omega arith))) }
-  enters-plainly (suc left) = record { enters = λ frame g F ks τ L l. foundOr-outcome (find L g ks) L (λ n e. tt)
-    (λ new. need-outcome _ _ _ (λ _. sizes-only (omega arith) (omega arith)) (λ _.
-      bind-outcome (plainly (enters-plainly left) (W .bodies g F l) (inside g (weight (F .measure) ks)) (parameterTypes (F .parameters) ks) ks refl (parameters-plain (F .parameters) ks) .runs _)
-      (λ q _ x. need-outcome _ _ _ (λ _. sizes-only (omega arith) (omega arith)) (λ _. accepted tt)))) }
+  enters-plainly (suc left) = record {
+    enters = λ frame g F ks τ L l. foundOr-outcome (find L g ks) L (λ n e. tt)
+        (λ new. need-outcome _ _ _ (λ _. sizes-only (omega arith) (omega arith)) (λ _.
+        bind-outcome (plainly (enters-plainly left) (W .bodies g F l) (inside g (weight (F .measure) ks)) (parameterTypes (F .parameters) ks) ks refl (parameters-plain (F .parameters) ks) .runs _)
+        (λ q _ x. need-outcome _ _ _ (λ _. sizes-only (omega arith) (omega arith)) (λ _. accepted tt))));
+  }

@@ -32,12 +32,12 @@ module _ (s : State) (lower : NamesLower (s .heap)) where
   -- what reaches a cell, renumbered, reaches its new place
   reached-after : (l : ℕ) → Reached s l → Reached (slide s) (newNumber s l)
   unfolding slide
-  reached-after l m = reached-least {s = s} {Q = λ i. (Reached s i) × (Reached (slide s) (newNumber s i))} (record
-    { roots = all-both (λ i p q. (p, q)) (reached-closed s lower .roots) (all-of-map (newNumber s) (s .roots) (reached-closed (slide s) (slide-names-lower s lower) .roots))
-    ; fields = λ i c e q. all-both (λ j p r. (p .1, r)) (reached-fields s lower i e (q .0))
+  reached-after l m = reached-least {s = s} {Q = λ i. (Reached s i) × (Reached (slide s) (newNumber s i))} (record {
+    roots = all-both (λ i p q. (p, q)) (reached-closed s lower .roots) (all-of-map (newNumber s) (s .roots) (reached-closed (slide s) (slide-names-lower s lower) .roots));
+    fields = λ i c e q. all-both (λ j p r. (p .1, r)) (reached-fields s lower i e (q .0))
         (all-of-map (newNumber s) (fieldsIn c) (rw (renumbered-fields (newNumbers s) c) at
-          (reached-closed (slide s) (slide-names-lower s lower) .fields (newNumber s i) (moved s c) (slid-cell s i e (q .0)) (q .1))))
-    }) l m .1
+        (reached-closed (slide s) (slide-names-lower s lower) .fields (newNumber s i) (moved s c) (slid-cell s i e (q .0)) (q .1))));
+  }) l m .1
 
   pub slid-all-reached : (i : ℕ) → i < length (slide s .heap) → Reached (slide s) i
   slid-all-reached i less = let r = slid-from s i (look-at (slide s .heap) i (leaf (kbool false)) less) in ap (λ x. mem x (reached (slide s))) (sym (r .number)) ∙ reached-after (r .from) (r .member)
@@ -97,8 +97,8 @@ module _ (h : List Cell) where
 
   -- ---- from the highest cell down: each cell kept is paid for by a location that names it
   kept-are-paid : NamesLower h → (F ns R : List ℕ) (number : ℕ) (cs : List Cell) → ((l : ℕ) (c : Cell) → look cs l ≡ some c → look h (number + l) ≡ some c) →
-    ((j : ℕ) → number ≤ j → mem j F ≡ mem j (reachedFrom R number cs)) →
-    length (keepFrom F ns number cs) + cellsBelow h number (reachedFrom R number cs) ≤ cellsBelow h (number + length cs) R
+      ((j : ℕ) → number ≤ j → mem j F ≡ mem j (reachedFrom R number cs)) →
+      length (keepFrom F ns number cs) + cellsBelow h number (reachedFrom R number cs) ≤ cellsBelow h (number + length cs) R
   unfolding keepFrom reachedFrom choose
   kept-are-paid lower F ns R number [] are same = rw add-zero (omega arith)
   kept-are-paid lower F ns R number (c ∷ cs) are same = cases (mem number S) refl
@@ -106,14 +106,18 @@ module _ (h : List Cell) where
     where
       S : List ℕ
       S = reachedFrom R (suc number) cs
+
       here : look h number ≡ some c
       here = rw add-zero at (are 0 c refl)
+
       low : All (λ i. i < number) (fieldsIn c)
       low = lower .low number c here
+
       K : List Cell
       K = keepFrom F ns (suc number) cs
+
       cases : (b : Bool) → mem number S ≡ b → length K + cellsBelow h (suc number) S ≤ cellsBelow h (suc number + length cs) R →
-        length (choose (mem number F) (renumberCell ns c ∷ K) K) + cellsBelow h number (choose (mem number S) (fieldsIn c ++ S) S) ≤ cellsBelow h (number + suc (length cs)) R
+          length (choose (mem number F) (renumberCell ns c ∷ K) K) + cellsBelow h number (choose (mem number S) (fieldsIn c ++ S) S) ≤ cellsBelow h (number + suc (length cs)) R
       cases true m above =
           let kept : mem number F ≡ true = same number (omega arith) ∙ settled S (mem number S) low number (omega arith) ∙ m in
           rw (m, kept, add-suc, ← suc-add) (omega (arith, cells-append number (fieldsIn c) S, cell-pays lower number here, pays-once number S m))
@@ -124,8 +128,11 @@ module _ (h : List Cell) where
 -- "the cells kept": no more than the trees' cells, summed over the channels
 pub slide-cells-at-most : (s : State) → NamesLower (s .heap) → length (slide s .heap) ≤ sum (map treeCells (map (treeAt (s .heap)) (s .roots)))
 unfolding slide reached
-slide-cells-at-most s lower = omega (arith, cells-at-most (s .heap) (0 + length (s .heap)) (s .roots),
-  kept-are-paid (s .heap) lower (reached s) (newNumbers s) (s .roots) 0 (s .heap) (λ l c e. rw zero-add e) (λ j le. refl))
+slide-cells-at-most s lower = omega (
+  arith,
+  cells-at-most (s .heap) (0 + length (s .heap)) (s .roots),
+  kept-are-paid (s .heap) lower (reached s) (newNumbers s) (s .roots) 0 (s .heap) (λ l c e. rw zero-add e) (λ j le. refl),
+)
 
 -- ---- sliding again changes nothing
 map-stays : {f : ℕ → ℕ} (ls : List ℕ) → All (λ l. f l ≡ l) ls → map f ls ≡ ls
@@ -143,10 +150,10 @@ unfolding slide
 all-reached-stays {s} linked all =
     let same-number : (l : ℕ) → l < length (s .heap) → newNumber s l ≡ l = λ l less. new-number s l less ∙ full-rank (reached s) l (λ i below. all i (omega arith)) in
     let same-heap : slide s .heap ≡ s .heap = ext-getD (leaf (kbool false)) (slide s .heap) (s .heap) (slide-length s ∙ full-rank (reached s) (length (s .heap)) all) (λ i less.
-          let here : i < length (s .heap) = omega (arith, slide-length s, full-rank (reached s) (length (s .heap)) all) in
-          let e = look-at (s .heap) i (leaf (kbool false)) here in
-          ap (cellAt (slide s .heap)) (sym (same-number i here)) ∙ cell-at (slide s .heap) (newNumber s i) (slid-cell s i e (all i here))
-            ∙ same-cell (newNumbers s) (cellAt (s .heap) i) (all-map (λ j below. same-number j (omega arith)) (linked .lower .low i (cellAt (s .heap) i) e))) in
+    let here : i < length (s .heap) = omega (arith, slide-length s, full-rank (reached s) (length (s .heap)) all) in
+    let e = look-at (s .heap) i (leaf (kbool false)) here in
+    ap (cellAt (slide s .heap)) (sym (same-number i here)) ∙ cell-at (slide s .heap) (newNumber s i) (slid-cell s i e (all i here))
+    ∙ same-cell (newNumbers s) (cellAt (s .heap) i) (all-map (λ j below. same-number j (omega arith)) (linked .lower .low i (cellAt (s .heap) i) e))) in
     λ i. record { heap = same-heap i; roots = map-stays (s .roots) (all-map same-number (linked .roots)) i }
 
 pub slide-twice : (s : State) → Linked s → slide (slide s) ≡ slide s

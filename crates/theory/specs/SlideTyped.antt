@@ -21,6 +21,7 @@ use Rattle.theory.specs.TypedStates.{Holds, StateTyped, values-lower}
 module _ {P : File} (s : State) (lower : NamesLower (s .heap)) where
   mutual
     unfolding renumberCell fieldsIn
+
     pub has-slid : {l : ℕ} {τ : Ty} → Has P (s .heap) l τ → Reached s l → Has P (slide s .heap) (newNumber s l) τ
     has-slid (h-bool {l} e) m = h-bool (slid-cell s l e m)
     has-slid (h-int {l} e less) m = h-int (slid-cell s l e m) less
@@ -53,7 +54,7 @@ values-slid {P} s all = record { value = λ l t c k ls e. let r = slid-from s l 
 
 pub slide-typed : {P : File} (s : State) → Holds P (declaredTypes P) s → StateTyped P (slide s)
 unfolding slide
-slide-typed s x = let lower = values-lower (x .values) in record
-  { holds = record { values = values-slid s (x .values); channels = env-slid s lower (x .channels) (reached-closed s lower .roots) }
-  ; all-reached = slid-all-reached s lower
-  }
+slide-typed s x = let lower = values-lower (x .values) in record {
+  holds = record { values = values-slid s (x .values); channels = env-slid s lower (x .channels) (reached-closed s lower .roots) };
+  all-reached = slid-all-reached s lower;
+}

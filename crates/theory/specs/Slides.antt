@@ -37,7 +37,7 @@ module _ (R ns : List ℕ) where
   keep-one-more number (d ∷ cs) c = cases (mem number R) (keep-one-more (suc number) cs c)
     where
       cases : (b : Bool) → keepFrom R ns (suc number) (cs ++ (c ∷ [])) ≡ keepFrom R ns (suc number) cs ++ choose (mem (suc number + length cs) R) (renumberCell ns c ∷ []) [] →
-        choose b (renumberCell ns d ∷ keepFrom R ns (suc number) (cs ++ (c ∷ []))) (keepFrom R ns (suc number) (cs ++ (c ∷ [])))
+          choose b (renumberCell ns d ∷ keepFrom R ns (suc number) (cs ++ (c ∷ []))) (keepFrom R ns (suc number) (cs ++ (c ∷ [])))
           ≡ choose b (renumberCell ns d ∷ keepFrom R ns (suc number) cs) (keepFrom R ns (suc number) cs) ++ choose (mem (number + suc (length cs)) R) (renumberCell ns c ∷ []) []
       cases true e = rw (e, add-suc, suc-add)
       cases false e = rw (e, add-suc, suc-add)
@@ -78,8 +78,8 @@ module _ (s : State) where
   slid-cell l {c} e m =
       let less = look-less (s .heap) l e in
       rw (slide-keeps-reached s, new-number l less)
-        (look-map (λ i. moved s (cellAt (s .heap) i)) (membersBelow (reached s) (length (s .heap))) (rank (reached s) l) (member-at-rank (reached s) (length (s .heap)) l less m)
-          ∙ ap (λ x. some (moved s x)) (cell-at (s .heap) l e))
+      (look-map (λ i. moved s (cellAt (s .heap) i)) (membersBelow (reached s) (length (s .heap))) (rank (reached s) l) (member-at-rank (reached s) (length (s .heap)) l less m)
+      ∙ ap (λ x. some (moved s x)) (cell-at (s .heap) l e))
 
   pub new-number-less : (l n : ℕ) → l < n → n < length (s .heap) → Reached s l → newNumber s l < newNumber s n
   new-number-less l n less below m = omega (arith, rank-less (reached s) l n less m, new-number l (omega arith), new-number n below)
@@ -136,7 +136,7 @@ module _ (s : State) (lower : NamesLower (s .heap)) where
     where
       fields-lower : (i : ℕ) (d : Cell) → Slid s i d → All (λ j. j < i) (fieldsIn d)
       fields-lower i d r = rw (r .is, renumbered-fields (newNumbers s) (r .cell), ← (r .number))
-        (all-to-map (newNumber s) (all-map (λ j q. new-number-less s j (r .from) (q .0) (look-less (s .heap) (r .from) (r .at)) (q .1)) (reached-fields (r .from) (r .at) (r .member))))
+          (all-to-map (newNumber s) (all-map (λ j q. new-number-less s j (r .from) (q .0) (look-less (s .heap) (r .from) (r .at)) (q .1)) (reached-fields (r .from) (r .at) (r .member))))
 
   slid-tree-below : (n l : ℕ) → l < n → l < length (s .heap) → Reached s l → treeAt (slide s .heap) (newNumber s l) ≡ treeAt (s .heap) l
   slid-tree-below zero l small less m = absurd (omega arith)
@@ -144,8 +144,8 @@ module _ (s : State) (lower : NamesLower (s .heap)) where
       let e = look-at (s .heap) l (leaf (kbool false)) less in
       let f = slid-cell s l e m in
       tree-of-cell (slide s .heap) slide-names-lower (newNumber s l) f
-        ∙ tree-renumbered (slide s .heap) (s .heap) (newNumbers s) (cellAt (s .heap) l) (all-map (λ i q. slid-tree-below n i (omega (arith, q .0)) (omega (arith, q .0)) (q .1)) (reached-fields l e m))
-        ∙ sym (tree-of-cell (s .heap) lower l e)
+      ∙ tree-renumbered (slide s .heap) (s .heap) (newNumbers s) (cellAt (s .heap) l) (all-map (λ i q. slid-tree-below n i (omega (arith, q .0)) (omega (arith, q .0)) (q .1)) (reached-fields l e m))
+      ∙ sym (tree-of-cell (s .heap) lower l e)
 
   -- a reached cell keeps its tree
   pub slid-tree : (l : ℕ) → l < length (s .heap) → Reached s l → treeAt (slide s .heap) (newNumber s l) ≡ treeAt (s .heap) l
@@ -153,10 +153,10 @@ module _ (s : State) (lower : NamesLower (s .heap)) where
 
 pub slide-linked : {s : State} → Linked s → Linked (slide s)
 unfolding slide
-slide-linked {s} linked = record
-  { lower = slide-names-lower s (linked .lower)
-  ; roots = all-to-map (newNumber s) (all-both (new-number-below s) (linked .roots) (reached-closed s (linked .lower) .roots))
-  }
+slide-linked {s} linked = record {
+  lower = slide-names-lower s (linked .lower);
+  roots = all-to-map (newNumber s) (all-both (new-number-below s) (linked .roots) (reached-closed s (linked .lower) .roots));
+}
 
 -- each channel's value
 pub slide-keeps-trees : (s : State) → Linked s → map (treeAt (slide s .heap)) (slide s .roots) ≡ map (treeAt (s .heap)) (s .roots)

@@ -63,8 +63,11 @@ body-small : (ts : List TypeDef) (earlier : List Function) (ps : List Plain) →
 unfolding bodyScope
 body-small ts earlier ps few fits =
     record {
-      now = omega arith; last = omega arith; types = omega (arith, few .types); constructors = λ t. omega (arith, few .constructors t);
-      functions = rw (length-append, length-map) (omega arith)
+      now = omega arith;
+      last = omega arith;
+      types = omega (arith, few .types);
+      constructors = λ t. omega (arith, few .constructors t);
+      functions = rw (length-append, length-map) (omega arith);
     }
 
 function-small : (ts : List TypeDef) (earlier : List Function) (F : Function) → FewTypes ts → length earlier < functionsMost → WithinFunction ts earlier F → All Byte (functionBytes F)
@@ -80,7 +83,7 @@ function-small ts earlier F few fits w =
     expr-small (w .body) (body-small ts earlier ps few fits))))))))
 
 functions-lines : {ts : List TypeDef} {earlier Fs : List Function} → FewTypes ts → WithinFunctions ts earlier Fs → length earlier + length Fs ≤ functionsMost →
-  All Filled (map frameOfFunction Fs)
+    All Filled (map frameOfFunction Fs)
 functions-lines few wf-nil fits = all-nil
 functions-lines {ts} few (wf-cons {earlier} {F} w ws) fits =
     all-cons (filled {b = 0x02} (omega arith) (function-small ts earlier F few (omega arith) w)) (functions-lines few ws (rw length-append (omega arith)))
@@ -90,8 +93,11 @@ outer-small : (P : File) (now last : ℕ) → Within P → now ≤ 2 ^ 8 → las
 unfolding outerScope
 outer-small P now last w few few′ =
     record {
-      now = few; last = few′; types = omega (arith, w .fewTypes); constructors = λ t. omega (arith, few-constructors (w .types) t);
-      functions = rw length-map (omega (arith, w .fewFunctions))
+      now = few;
+      last = few′;
+      types = omega (arith, w .fewTypes);
+      constructors = λ t. omega (arith, few-constructors (w .types) t);
+      functions = rw length-map (omega (arith, w .fewFunctions));
     }
 
 module _ (P : File) (w : Within P) where

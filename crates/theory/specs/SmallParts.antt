@@ -99,6 +99,7 @@ int-small n = small-cons (omega arith) (small-cons (omega arith) (small-cons (om
 
 mutual
   unfolding exprBytes exprsBytes
+
   pub expr-small : {n : ℕ} {S : Scope} {e : Expr} → WithinExpr n S e → SmallScope S → All Byte (exprBytes e)
   expr-small (w-bool {b} room) few = small-cons (omega arith) (small-cons (bit-small b) all-nil)
   expr-small (w-int {i} room w) few = small-cons (omega arith) (int-small i)

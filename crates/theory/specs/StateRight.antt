@@ -29,10 +29,10 @@ right-holds P τs s cells roots = let all = right-cells-values cells in record {
 
 pub right-typed : (P : File) (s : State) → stateRight P s ≡ true → StateTyped P s
 unfolding stateRight
-right-typed P s e = let rest = both-right (cellsRight P [] (s .heap)) _ e in record
-  { holds = right-holds P (declaredTypes P) s (both-left _ _ e) (both-left _ _ rest)
-  ; all-reached = reached-each (reached s) (length (s .heap)) (both-right _ _ rest)
-  }
+right-typed P s e = let rest = both-right (cellsRight P [] (s .heap)) _ e in record {
+  holds = right-holds P (declaredTypes P) s (both-left _ _ e) (both-left _ _ rest);
+  all-reached = reached-each (reached s) (length (s .heap)) (both-right _ _ rest);
+}
 
 -- what an iteration leaves
 pub slide-right : (P : File) (s : State) → cellsRight P [] (s .heap) ≡ true → rootsRight (s .heap) (s .roots) (declaredTypes P) ≡ true → stateRight P (slide s) ≡ true

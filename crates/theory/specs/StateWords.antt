@@ -53,9 +53,14 @@ unfolding stateOfWords
 read-laid-out P cells ws = whenever-choose _ (λ clear. whenever-chain (whenever (cellsOfWords P (getD ws 0 0) (drop headerWords ws))) (λ h e.
     let count : length h ≡ getD ws 0 0 = whenever-is (cells-read P (getD ws 0 0) (drop headerWords ws)) e .count in
     let zero = both-right (leb (getD ws 0 0) cells) _ clear in
-    w-some (record
-      { used = sym count; room = omega (arith, leb-true (getD ws 0 0) cells (both-left _ _ clear)); roots = refl; unused = both-left _ _ zero
-      ; heap = rw count e; rest = rw count (both-right _ _ zero) }))) (λ dirty. w-none)
+    w-some (record {
+      used = sym count;
+      room = omega (arith, leb-true (getD ws 0 0) cells (both-left _ _ clear));
+      roots = refl;
+      unused = both-left _ _ zero;
+      heap = rw count e;
+      rest = rw count (both-right _ _ zero);
+    }))) (λ dirty. w-none)
 
 -- ---- from the state's words
 written-laid-out : {P : File} {s : State} → Within P → StateTyped P s → (cells : ℕ) → length (s .heap) ≤ cells → (rest : List ℕ) → LaidOut P cells (stateWords cells s ++ rest) s
@@ -73,16 +78,16 @@ written-laid-out {P} {s} within t cells room rest =
     let size : length roots ≡ channelsMost = padded-length channelsMost (s .roots) in
     let beyond : drop channelsMost (roots ++ after) ≡ after = drop-at roots after channelsMost size in
     let further : drop (stateLength count) (count ∷ (roots ++ after)) ≡ zeros ++ rest =
-          sym (drop-drop (cellWords * count) headerWords (count ∷ (roots ++ after))) ∙ ap (drop (cellWords * count)) beyond ∙ drop-at heap (zeros ++ rest) (cellWords * count) (heap-words-length (s .heap)) in
+    sym (drop-drop (cellWords * count) headerWords (count ∷ (roots ++ after))) ∙ ap (drop (cellWords * count)) beyond ∙ drop-at heap (zeros ++ rest) (cellWords * count) (heap-words-length (s .heap)) in
     let clear : take (cellWords * (cells - count)) (zeros ++ rest) ≡ zeros = take-at zeros rest (cellWords * (cells - count)) (length-replicate (cellWords * (cells - count)) 0) in
-    record
-      { used = refl
-      ; room = room
-      ; roots = rw (words, ← channels, take-append-le (length (s .roots)) roots after (omega arith)) (padded-front channelsMost (s .roots) few)
-      ; unused = rw (words, ← channels, take-at roots after channelsMost size) (padded-rest channelsMost (s .roots) few)
-      ; heap = rw (words, beyond) (cells-read-back (state-writable within t) (zeros ++ rest))
-      ; rest = rw (words, further, clear) (zeros-zero (cellWords * (cells - count)))
-      }
+    record {
+      used = refl;
+      room = room;
+      roots = rw (words, ← channels, take-append-le (length (s .roots)) roots after (omega arith)) (padded-front channelsMost (s .roots) few);
+      unused = rw (words, ← channels, take-at roots after channelsMost size) (padded-rest channelsMost (s .roots) few);
+      heap = rw (words, beyond) (cells-read-back (state-writable within t) (zeros ++ rest));
+      rest = rw (words, further, clear) (zeros-zero (cellWords * (cells - count)));
+    }
 
 pub state-read-back : {P : File} {s : State} → Within P → StateTyped P s → (cells : ℕ) → length (s .heap) ≤ cells → (rest : List ℕ) → stateOfWords P cells (stateWords cells s ++ rest) ≡ some s
 state-read-back within t cells room rest = laid-out-read (written-laid-out within t cells room rest)
@@ -104,8 +109,8 @@ laid-out-words {P} {cells} (w ∷ ws) {s} within o long =
     let split : stateLength cells ≡ suc (channelsMost + (cellWords * count + free)) = omega (arith, o .room) in
     let enough : length after ≡ length ws - channelsMost = length-drop channelsMost ws in
     let roots : take channelsMost ws ≡ padded channelsMost (s .roots) =
-          sym (filled-up channelsMost channels (take channelsMost ws) (length-take-le channelsMost ws (omega arith)) (o .unused))
-            ∙ ap (padded channelsMost) (take-take channels channelsMost ws (channels-few within) ∙ o .roots) in
+    sym (filled-up channelsMost channels (take channelsMost ws) (length-take-le channelsMost ws (omega arith)) (o .unused))
+    ∙ ap (padded channelsMost) (take-take channels channelsMost ws (channels-few within) ∙ o .roots) in
     let heap : take (cellWords * count) after ≡ spellAll wordsOf (s .heap) = whenever-is (cells-read P count after) (o .heap) .words (omega arith) in
     let place : drop (stateLength count) (w ∷ ws) ≡ beyond = sym (drop-drop (cellWords * count) headerWords (w ∷ ws)) in
     let clear : allZero (take free beyond) ≡ true = ap (λ x. allZero (take free x)) (sym place) ∙ o .rest in
@@ -142,16 +147,26 @@ load-on-more P ws {m} {n} {s} le clear e =
     let rest = drop (stateLength count) ws in
     let more : cellWords * (n - count) ≡ cellWords * (m - count) + cellWords * (n - m) = omega (arith, o .room) in
     let place : stateLength count + cellWords * (m - count) ≡ stateLength m = omega (arith, o .room) in
-    laid-out-loaded (record
-      { used = o .used; room = omega (arith, o .room); roots = o .roots; unused = o .unused; heap = o .heap
-      ; rest = rw (more, take-add (cellWords * (m - count)) (cellWords * (n - m)) rest, drop-drop (cellWords * (m - count)) (stateLength count) ws, place)
-          (zero-joined (take (cellWords * (m - count)) rest) (take (cellWords * (n - m)) (drop (stateLength m) ws)) (o .rest) clear) }) (r .1)
+    laid-out-loaded (record {
+      used = o .used;
+      room = omega (arith, o .room);
+      roots = o .roots;
+      unused = o .unused;
+      heap = o .heap;
+      rest = rw (more, take-add (cellWords * (m - count)) (cellWords * (n - m)) rest, drop-drop (cellWords * (m - count)) (stateLength count) ws, place)
+          (zero-joined (take (cellWords * (m - count)) rest) (take (cellWords * (n - m)) (drop (stateLength m) ws)) (o .rest) clear);
+    }) (r .1)
 
 pub load-on-fewer : (P : File) (ws : List ℕ) {m n : ℕ} {s : State} → m ≤ n → length (s .heap) ≤ m → loadState P n ws ≡ some s → loadState P m ws ≡ some s
 load-on-fewer P ws {m} {n} {s} le room e =
     let r = whenever-is (loaded-laid-out P n ws) e in
     let o = r .0 in
     let count = length (s .heap) in
-    laid-out-loaded (record
-      { used = o .used; room = room; roots = o .roots; unused = o .unused; heap = o .heap
-      ; rest = zero-fewer (cellWords * (m - count)) (cellWords * (n - count)) (drop (stateLength count) ws) (omega arith) (o .rest) }) (r .1)
+    laid-out-loaded (record {
+      used = o .used;
+      room = room;
+      roots = o .roots;
+      unused = o .unused;
+      heap = o .heap;
+      rest = zero-fewer (cellWords * (m - count)) (cellWords * (n - count)) (drop (stateLength count) ws) (omega arith) (o .rest);
+    }) (r .1)

@@ -59,7 +59,7 @@ fields-types all l (con t c k ls) e = vals-types (con-value all l t c k ls e .ar
 
 all-types : {P : File} {s : State} → StateTyped P s → (l : ℕ) → l < length (s .heap) → HasSomeType P (s .heap) l
 all-types {P} {s} t l less = reached-least {s = s} {Q = HasSomeType P (s .heap)}
-  (record { roots = env-types (t .holds .channels); fields = λ i c e q. fields-types (t .holds .values) i c e }) l (t .all-reached l less)
+    (record { roots = env-types (t .holds .channels); fields = λ i c e q. fields-types (t .holds .values) i c e }) l (t .all-reached l less)
 
 -- ---- so each can be written
 int-in-range : {P : File} {h : List Cell} {l n : ℕ} {τ : Ty} → Has P h l τ → look h l ≡ some (leaf (kint n)) → n < intRange

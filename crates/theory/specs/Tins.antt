@@ -64,10 +64,10 @@ secondValue ws = getD ws (stateLength (getD ws 2 0) + 1) 0 ∷ []
 
 afterLine : String → String → List ℕ
 afterLine t line =
-  let b : Board = record { cells = 30; slots = 1; calls = 0 } in
-  let scratch : List ℕ = replicate scratchWords 0 in
-  let s = start (codes t) b (replicate instancesMost emptyRecord) (replicate (stateLength 30) 0) scratch (0 ∷ []) in
-  secondValue (iterate (codes t) b (s .state) scratch (0 ∷ []) (codes line) .state)
+    let b : Board = record { cells = 30; slots = 1; calls = 0 } in
+    let scratch : List ℕ = replicate scratchWords 0 in
+    let s = start (codes t) b (replicate instancesMost emptyRecord) (replicate (stateLength 30) 0) scratch (0 ∷ []) in
+    secondValue (iterate (codes t) b (s .state) scratch (0 ∷ []) (codes line) .state)
 
 -- ---- texts
 -- listing 3 whole, with `search(v, ..)` for its misprinted x: insert, search and tail are functions 0, 1 and 2
@@ -91,26 +91,26 @@ tins : List Tin
 tins =
     -- `insert` at sizes 1, 2, 4; `tail` and `search` at 5
     record { got = fromFile listing3 (instance 0 (1 ∷ [])); want = 2 ∷ 0 ∷ 2 ∷ 0 ∷ [] }
-  ∷ record { got = fromFile listing3 (instance 0 (2 ∷ [])); want = 3 ∷ 4 ∷ 3 ∷ 1 ∷ [] }
-  ∷ record { got = fromFile listing3 (instance 0 (4 ∷ [])); want = 5 ∷ 12 ∷ 5 ∷ 3 ∷ [] }
-  ∷ record { got = fromFile listing3 (instance 2 (5 ∷ [])); want = 4 ∷ 2 ∷ 1 ∷ 0 ∷ [] }
-  ∷ record { got = fromFile listing3 (instance 1 (5 ∷ [])); want = 0 ∷ 16 ∷ 5 ∷ 4 ∷ [] }
+    ∷ record { got = fromFile listing3 (instance 0 (2 ∷ [])); want = 3 ∷ 4 ∷ 3 ∷ 1 ∷ [] }
+    ∷ record { got = fromFile listing3 (instance 0 (4 ∷ [])); want = 5 ∷ 12 ∷ 5 ∷ 3 ∷ [] }
+    ∷ record { got = fromFile listing3 (instance 2 (5 ∷ [])); want = 4 ∷ 2 ∷ 1 ∷ 0 ∷ [] }
+    ∷ record { got = fromFile listing3 (instance 1 (5 ∷ [])); want = 0 ∷ 16 ∷ 5 ∷ 4 ∷ [] }
     -- listing 3: heap 25, environment 18, stack 5, ten instances
-  ∷ record { got = checked listing3 25 18 5; want = 0 ∷ 0 ∷ 25 ∷ 18 ∷ 5 ∷ [] }
-  ∷ record { got = instancesOf (checkFile (codes listing3) true); want = 10 ∷ [] }
-  ∷ record { got = checked listing3 24 18 5; want = 15 ∷ 0 ∷ 25 ∷ 18 ∷ 5 ∷ [] }
-  ∷ record { got = checked listing3 25 17 5; want = 16 ∷ 0 ∷ 25 ∷ 18 ∷ 5 ∷ [] }
-  ∷ record { got = checked listing3 25 18 4; want = 17 ∷ 0 ∷ 25 ∷ 18 ∷ 5 ∷ [] }
+    ∷ record { got = checked listing3 25 18 5; want = 0 ∷ 0 ∷ 25 ∷ 18 ∷ 5 ∷ [] }
+    ∷ record { got = instancesOf (checkFile (codes listing3) true); want = 10 ∷ [] }
+    ∷ record { got = checked listing3 24 18 5; want = 15 ∷ 0 ∷ 25 ∷ 18 ∷ 5 ∷ [] }
+    ∷ record { got = checked listing3 25 17 5; want = 16 ∷ 0 ∷ 25 ∷ 18 ∷ 5 ∷ [] }
+    ∷ record { got = checked listing3 25 18 4; want = 17 ∷ 0 ∷ 25 ∷ 18 ∷ 5 ∷ [] }
     -- cells of that list at 1 and 5
-  ∷ record { got = fromFile listing3 (λ P. cellsNamed P 0 1 ∷ cellsNamed P 0 5 ∷ []); want = 1 ∷ 9 ∷ [] }
+    ∷ record { got = fromFile listing3 (λ P. cellsNamed P 0 1 ∷ cellsNamed P 0 5 ∷ []); want = 1 ∷ 9 ∷ [] }
     -- 2147483647 + 1 = −2147483648, in two's complement; 65536 × 65536 = 0
-  ∷ record { got = evaluated (eop oadd (eint 2147483647) (eint 1)); want = 2147483648 ∷ [] }
-  ∷ record { got = evaluated (eop omul (eint 65536) (eint 65536)); want = 0 ∷ [] }
+    ∷ record { got = evaluated (eop oadd (eint 2147483647) (eint 1)); want = 2147483648 ∷ [] }
+    ∷ record { got = evaluated (eop omul (eint 65536) (eint 65536)); want = 0 ∷ [] }
     -- adj from 5 to 4; fit to 4: size 4 passes, size 5 takes the other arm
-  ∷ record { got = checked lowered 25 18 5; want = 11 ∷ 2 ∷ 0 ∷ 0 ∷ 0 ∷ [] }
-  ∷ record { got = afterLine fitting "05190001110000000119000111000000021900011100000003190000\n"; want = 1 ∷ [] }
-  ∷ record { got = afterLine fitting "051900011100000001190001110000000219000111000000031900011100000004190000\n"; want = 2 ∷ [] }
-  ∷ []
+    ∷ record { got = checked lowered 25 18 5; want = 11 ∷ 2 ∷ 0 ∷ 0 ∷ 0 ∷ [] }
+    ∷ record { got = afterLine fitting "05190001110000000119000111000000021900011100000003190000\n"; want = 1 ∷ [] }
+    ∷ record { got = afterLine fitting "051900011100000001190001110000000219000111000000031900011100000004190000\n"; want = 2 ∷ [] }
+    ∷ []
 
 all-tins : map (λ (t : Tin). t .got) tins ≡ map (λ (t : Tin). t .want) tins
 unfolding reading sizing running codes shown checked instancesOf fromFile numbersOf instance intOf evaluated secondValue afterLine listing3 lowered fitting tins

@@ -46,7 +46,7 @@ module _ {P : File} where
   leaf-makes x h has = record { grew = grew-one h (leaf x) has; has = has }
 
   con-makes : {t : ℕ} {fs : Constructor} {ws : Trees} {ks : List ℕ} {h : List Cell} {q : BuiltAll} (c k : ℕ) →
-    look (constructorsOf P t) c ≡ some fs → k ≡ suc (sum ks) → MakesFields P ws t fs ks h q → MakesValue P (vcon t c ws) t k h (newCell (q .heap) (con t c k (q .locations)))
+      look (constructorsOf P t) c ≡ some fs → k ≡ suc (sum ks) → MakesFields P ws t fs ks h q → MakesValue P (vcon t c ws) t k h (newCell (q .heap) (con t c k (q .locations)))
   unfolding newCell treeCells
   con-makes {t} {q} c k known size m =
       let new = con t c k (q .locations) in
@@ -54,14 +54,15 @@ module _ {P : File} where
       record { grew = grew-more (omega arith) (grew-trans (m .grew) (grew-one (q .heap) new (h-named value (le-refl k)))); value = value }
 
   cons-makes : {w : Tree} {ws : Trees} {t : ℕ} {f : Field} {fs : List Field} {ks js : List ℕ} {h : List Cell} {r : Built} {q : BuiltAll} →
-    Grew P h (r .heap) (treeCells w) → MakesFields P ws t fs ks (r .heap) q →
-    (Grown (r .heap) (q .heap) → Vals P (q .heap) (length (q .heap)) t (f ∷ fs) (r .location ∷ q .locations) js) →
-    MakesFields P (vcons w ws) t (f ∷ fs) js h (record { locations = r .location ∷ q .locations; heap = q .heap })
+      Grew P h (r .heap) (treeCells w) → MakesFields P ws t fs ks (r .heap) q →
+      (Grown (r .heap) (q .heap) → Vals P (q .heap) (length (q .heap)) t (f ∷ fs) (r .location ∷ q .locations) js) →
+      MakesFields P (vcons w ws) t (f ∷ fs) js h (record { locations = r .location ∷ q .locations; heap = q .heap })
   unfolding treeCells
   cons-makes grew m values = record { grew = grew-trans grew (m .grew); values = values (m .grew .grown) }
 
   mutual
     unfolding build treeCells treeSize
+
     has-makes : {v : Tree} {τ : Ty} → TreeHas P v τ → (h : List Cell) → Makes P v τ h (build P v h)
     has-makes (has-bool {b}) h = leaf-makes (kbool b) h (h-bool (look-new h (leaf (kbool b))))
     has-makes (has-int {n} less) h = leaf-makes (kint n) h (h-int (look-new h (leaf (kint n))) less)
@@ -97,7 +98,7 @@ build-makes P v τ e h = has-makes (fits-has v τ e) h
 
 -- the same by the tests: the new cells are right over those below
 pub build-right : (P : File) (v : Tree) (τ : Ty) → fits P v τ ≡ true → (h : List Cell) → AllValues P h →
-  (cellsRight P h (build-builds P v h .grown .more) ≡ true) × (locationFits (build P v h .heap) (build P v h .location) τ ≡ true)
+    (cellsRight P h (build-builds P v h .grown .more) ≡ true) × (locationFits (build P v h .heap) (build P v h .location) τ ≡ true)
 build-right P v τ e h all =
     let m = build-makes P v τ e h in
     let w = build-builds P v h .grown in
@@ -106,7 +107,7 @@ build-right P v τ e h all =
 -- ---- the trees of all channels
 -- one channel more
 pub build-holds : (P : File) (v : Tree) (τ : Ty) → fits P v τ ≡ true → {σs : List Ty} {s : State} → Holds P σs s →
-  Holds P (σs ++ (τ ∷ [])) (record { heap = build P v (s .heap) .heap; roots = s .roots ++ (build P v (s .heap) .location ∷ []) })
+    Holds P (σs ++ (τ ∷ [])) (record { heap = build P v (s .heap) .heap; roots = s .roots ++ (build P v (s .heap) .location ∷ []) })
 build-holds P v τ e {s} x =
     let m = build-makes P v τ e (s .heap) in
     record { values = m .grew .values (x .values); channels = env-append (env-grown (m .grew .grown) (x .channels)) (env-cons (m .has) env-nil) }

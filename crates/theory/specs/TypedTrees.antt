@@ -27,7 +27,7 @@ module _ (P : File) where
     -- a value of type t whose true size is j
     pub data TreeVal : Tree → ℕ → ℕ → Type 0 where
       val-con : {t c j : ℕ} {fs : Constructor} {ws : Trees} {ks : List ℕ} →
-        look (constructorsOf P t) c ≡ some fs → FieldTrees t fs ws ks → j ≡ suc (sum ks) → TreeVal (vcon t c ws) t j
+          look (constructorsOf P t) c ≡ some fs → FieldTrees t fs ws ks → j ≡ suc (sum ks) → TreeVal (vcon t c ws) t j
 
     -- the fields of a constructor of type t; ks: the true sizes at those of the type itself
     pub data FieldTrees : ℕ → List Field → Trees → List ℕ → Type 0 where
@@ -58,6 +58,7 @@ module _ {P : File} where
   -- ---- the size that the tree says
   mutual
     unfolding treeSize sum
+
     pub val-size : {v : Tree} {t j : ℕ} → TreeVal P v t j → treeSize P v ≡ j
     val-size (val-con {t} {c} {ws} e r s) = rw (look-getD (constructorsOf P t) c [] e) (omega (arith, fields-sum r))
 
@@ -71,6 +72,7 @@ module _ {P : File} where
   -- ---- the relation gives the test
   mutual
     unfolding fits constantFits namedAs isConstructor sum
+
     pub has-fits : {v : Tree} {τ : Ty} → TreeHas P v τ → fits P v τ ≡ true
     has-fits has-bool = refl
     has-fits (has-int {n} less) = lt-ltb n intRange less
@@ -99,7 +101,7 @@ module _ {P : File} where
   constant-has (kint n) (tnamed t k) e = false-is-not-true e
 
   constructor-has : (t c k : ℕ) (ws : Trees) (o : Option Constructor) → look (constructorsOf P t) c ≡ o → treeSize P (vcon t c ws) ≤ k →
-    isConstructor o (λ fs. fieldsFit P ws fs t k) ≡ true → ((fs : List Field) → fieldsFit P ws fs t k ≡ true → Fields P t fs ws) → TreeHas P (vcon t c ws) (tnamed t k)
+      isConstructor o (λ fs. fieldsFit P ws fs t k) ≡ true → ((fs : List Field) → fieldsFit P ws fs t k ≡ true → Fields P t fs ws) → TreeHas P (vcon t c ws) (tnamed t k)
   unfolding isConstructor
   constructor-has t c k ws none e le is fields = false-is-not-true is
   constructor-has t c k ws (some fs) e le is fields =
@@ -107,7 +109,7 @@ module _ {P : File} where
       has-named {k = k} v (omega (arith, val-size v))
 
   same-sizes : {t : ℕ} {f : Field} {w : Tree} {fs : List Field} {ws : Trees} →
-    ((ks : List ℕ) → FieldTrees P t fs ws ks → FieldTrees P t (f ∷ fs) (vcons w ws) ks) → Fields P t fs ws → Fields P t (f ∷ fs) (vcons w ws)
+      ((ks : List ℕ) → FieldTrees P t fs ws ks → FieldTrees P t (f ∷ fs) (vcons w ws) ks) → Fields P t fs ws → Fields P t (f ∷ fs) (vcons w ws)
   same-sizes more r = record { sizes = r .sizes; are = more (r .sizes) (r .are) }
 
   one-more-size : {t k : ℕ} {w : Tree} {fs : List Field} {ws : Trees} → TreeHas P w (tnamed t k) → Fields P t fs ws → Fields P t (own ∷ fs) (vcons w ws)
@@ -115,6 +117,7 @@ module _ {P : File} where
 
   mutual
     unfolding fits namedAs
+
     pub fits-has : (v : Tree) (τ : Ty) → fits P v τ ≡ true → TreeHas P v τ
     fits-has (vleaf x) τ e = constant-has x τ e
     fits-has (vcon t c ws) tbool e = false-is-not-true e
@@ -122,7 +125,7 @@ module _ {P : File} where
     fits-has (vcon t c ws) (tnamed u k) e =
         let rest = both-right (eqb t u) _ e in
         subst (λ x. TreeHas P (vcon t c ws) (tnamed x k)) (eqb-true t u (both-left _ _ e))
-          (constructor-has t c k ws (look (constructorsOf P t) c) refl (leb-true (treeSize P (vcon t c ws)) k (both-left _ _ rest)) (both-right _ _ rest) (λ fs r. fields-are ws fs t k r))
+        (constructor-has t c k ws (look (constructorsOf P t) c) refl (leb-true (treeSize P (vcon t c ws)) k (both-left _ _ rest)) (both-right _ _ rest) (λ fs r. fields-are ws fs t k r))
 
     fields-are : (ws : Trees) (fs : List Field) (t k : ℕ) → fieldsFit P ws fs t k ≡ true → Fields P t fs ws
     fields-are vnil [] t k e = record { sizes = []; are = fields-nil }

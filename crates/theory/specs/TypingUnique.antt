@@ -24,7 +24,7 @@ pub record SameTyping (σ τ : Ty) (m n : Estimate) : Type 0 where
 
 -- with as many instances as one derivation needs, the checker accepts; the other derivation agrees with its answer
 pub typing-unique : {P : File} {p : Place} {Γ : List Ty} {Δ : List ℕ} {e : Expr} {σ τ : Ty} {m n : Estimate} → Ordered P → Calls (Allowed p) e → Typing P p Γ Δ e σ m →
-  Typing P p Γ Δ e τ n → SameTyping σ τ m n
+    Typing P p Γ Δ e τ n → SameTyping σ τ m n
 typing-unique {P} {p} {Γ} {Δ} {e} {σ} {τ} {m} {n} ordered w c d = go _ refl (agrees en (λ k. In k (instancesOf c)) c w (all-in _ (λ k i. i)) .runs [] (ready-settled settled-start))
   where
     most : ℕ
@@ -34,7 +34,7 @@ typing-unique {P} {p} {Γ} {Δ} {e} {σ} {τ} {m} {n} ordered w c d = go _ refl 
     en = enters-agree P most ordered most
 
     go : (r : Result Sized) → sized P (enterAt P most most) e p Γ Δ [] ≡ r →
-      Outcome (Same P (λ k. In k (instancesOf c)) most most σ m (instancesOf c) []) (TooMany (λ k. In k (instancesOf c)) most) r → SameTyping σ τ m n
+        Outcome (Same P (λ k. In k (instancesOf c)) most most σ m (instancesOf c) []) (TooMany (λ k. In k (instancesOf c)) most) r → SameTyping σ τ m n
     go (ok q) is (accepted x) =
         let y : Same P AnyKey most most τ n (instancesOf d) [] q = when-accepted (agrees en AnyKey d w (all-in _ (λ k i. tt)) .runs [] (ready-settled settled-start)) is in
         record { type = sym (x .type) ∙ y .type; numbers = sym (x .numbers) ∙ y .numbers }
