@@ -15,7 +15,8 @@ use Rattle.language.specs.Typing.{Place, inside, Typing, Typings, Branches, AtS
 use Rattle.language.specs.Typing.{t-bool, t-int, t-var, t-node, t-atlast, t-let, t-if, t-op, t-call, t-ctor, t-case, t-adj, t-fit, ts-nil, ts-cons, t-none, t-skip, t-branch, s-none, s-cons}
 use Rattle.language.specs.Checker.{Instance, Sized, Sizeds, Counted, atSplits, Enter, sized, sizeds, sizedBranches, find, enterAt}
 use Rattle.theory.specs.Lists.{none-is-not-some}
-use Rattle.theory.specs.Passes.{Outcome, accepted, refused, Whatever, outcome-map, bind-outcome, need-outcome, from-outcome, named-outcome, choose-outcome, foundOr-outcome, atSplit, bodyRun}
+use Rattle.theory.specs.Outcomes.{Outcome, accepted, refused, Whatever, outcome-map, bind-outcome, need-outcome, from-outcome, choose-outcome}
+use Rattle.theory.specs.CheckerSteps.{named-outcome, foundOr-outcome, atSplit, bodyRun}
 use Rattle.theory.specs.SameTests.{same-type, same-types}
 use Rattle.theory.specs.Calls.{Calls, CallsAll, Allowed, Ordered}
 use Rattle.theory.specs.Instances.{entered, BodyTyping}

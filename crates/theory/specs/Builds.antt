@@ -17,9 +17,9 @@ use Rattle.theory.specs.Lists.{look-new}
 use Rattle.theory.specs.HeapTrees.{tree-new}
 use Rattle.theory.specs.Heaps.{Grown, grown-refl, grown-one, grown-trans, look-grown}
 use Rattle.theory.specs.ScopeTrees.{tree-grown}
-use Rattle.theory.specs.Alls.{all-map, all-append}
+use Rattle.theory.specs.Alls.{all-map, all-append, all-first, all-left, all-rest, all-right}
 use Rattle.theory.specs.Places.{below-or-not, below-or-last}
-use Rattle.theory.specs.Members.{all-head, all-tail, all-front, all-back, map-same}
+use Rattle.theory.specs.Members.{map-same}
 
 -- ---- what is built
 pub record Builds (v : Tree) (h : List Cell) (r : Built) : Type 0 where
@@ -121,13 +121,13 @@ module _ (P : File) (g : List Cell) (Q : ℕ → Type 0) (fields : (l : ℕ) (c 
     fields-reach vnil h w all i above below = absurd (omega arith)
     fields-reach (vcons v ws) h w all i above below =
         let r = build P v h in
-        below-or-not i (length (r .heap)) (λ less. build-reaches v h (grown-trans (fields-build P ws (r .heap) .grown) w) (all-head all) i above less)
-        (λ le. fields-reach ws (r .heap) w (all-tail all) i le below)
+        below-or-not i (length (r .heap)) (λ less. build-reaches v h (grown-trans (fields-build P ws (r .heap) .grown) w) (all-first all) i above less)
+        (λ le. fields-reach ws (r .heap) w (all-rest all) i le below)
 
   roots-stay : (vs : List Tree) (h : List Cell) (roots : List ℕ) → All Q (buildAll P vs h roots .roots) → All Q roots
   unfolding buildAll
   roots-stay [] h roots all = all
-  roots-stay (v ∷ vs) h roots all = all-front roots (build P v h .location ∷ []) (roots-stay vs (build P v h .heap) (roots ++ (build P v h .location ∷ [])) all)
+  roots-stay (v ∷ vs) h roots all = all-left roots (build P v h .location ∷ []) (roots-stay vs (build P v h .heap) (roots ++ (build P v h .location ∷ [])) all)
 
   pub all-reach : (vs : List Tree) (h : List Cell) (roots : List ℕ) → Grown (buildAll P vs h roots .heap) g → All Q (buildAll P vs h roots .roots) →
       (i : ℕ) → length h ≤ i → i < length (buildAll P vs h roots .heap) → Q i
@@ -137,5 +137,5 @@ module _ (P : File) (g : List Cell) (Q : ℕ → Type 0) (fields : (l : ℕ) (c 
       let r = build P v h in
       let new = roots ++ (r .location ∷ []) in
       below-or-not i (length (r .heap))
-      (λ less. build-reaches v h (grown-trans (all-grown P vs (r .heap) new) w) (all-head (all-back roots (r .location ∷ []) (roots-stay vs (r .heap) new all))) i above less)
+      (λ less. build-reaches v h (grown-trans (all-grown P vs (r .heap) new) w) (all-first (all-right roots (r .location ∷ []) (roots-stay vs (r .heap) new all))) i above less)
       (λ le. all-reach vs (r .heap) new w all i le below)

@@ -18,7 +18,8 @@ use Rattle.language.specs.Sizes.{sum}
 use Rattle.language.specs.Heap.{kbool, kint, Tree, vleaf, vcon, Trees, vnil, vcons}
 use Rattle.language.specs.Values.{treeCells, treesCells, fits}
 use Rattle.language.specs.Cells.{maxTo, otherCells, ownCells, nextCells, cellsNamed, cellsOf}
-use Rattle.theory.specs.Lists.{false-is-not-true, all-at}
+use Rattle.theory.specs.Alls.{all-at}
+use Rattle.theory.specs.Lists.{false-is-not-true}
 use Rattle.theory.specs.TypedTrees.{TreeHas, has-bool, has-int, has-named, val-con, FieldTrees, fields-nil, fields-bool, fields-int, fields-own, fields-other, has-fits}
 use Rattle.theory.specs.CellsEquation.{ownCells-one-more, tableTo, cells-next, cells-entry}
 

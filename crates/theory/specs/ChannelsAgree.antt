@@ -11,9 +11,9 @@ use Rattle.language.specs.Estimate.{Estimate}
 use Rattle.language.specs.Typing.{outside, Typing, Initials, c-none, c-init, Updates, c-last, c-node}
 use Rattle.language.specs.Checker.{Instance, SizedFile, enterAt, sizedChannel, sizedInitials, sizedUpdates}
 use Rattle.language.specs.Within.{All}
-use Rattle.theory.specs.Passes.{Outcome, accepted, Whatever, outcome-map, bind-outcome, need-outcome, need-holds}
+use Rattle.theory.specs.Alls.{all-left, all-right}
+use Rattle.theory.specs.Outcomes.{Outcome, accepted, Whatever, outcome-map, bind-outcome, need-outcome, need-holds}
 use Rattle.theory.specs.SameTests.{same-type, type-same}
-use Rattle.theory.specs.Different.{all-left, all-right}
 use Rattle.theory.specs.Calls.{Ordered, calls-anything}
 use Rattle.theory.specs.Instances.{Key, instancesOf, instancesOfInitials, instancesOfUpdates}
 use Rattle.theory.specs.InstanceList.{Grown, grown-not, grown-then, Settled, ready-settled, settled-grown, AnyKey}
@@ -83,11 +83,11 @@ module _ (P : File) (ordered : Ordered P) (K : Key → Type 0) where
   unfolding sizedInitials instancesOfInitials
   initials-agree c-none L u s = accepted (listed-not (s .tidy))
   initials-agree (c-init {c} e es) L u s = bind-outcome (channel-agrees c e L (all-left (instancesOf e) _ u) s) (λ q _ x.
-      outcome-map (λ M y. listed-then (x .listed) y) (initials-agree es (q .list) (all-right (instancesOf e) u) (settled-grown (x .listed .grown) s)))
+      outcome-map (λ M y. listed-then (x .listed) y) (initials-agree es (q .list) (all-right (instancesOf e) _ u) (settled-grown (x .listed .grown) s)))
 
   pub updates-agree : {c : ℕ} {ns : List Node} {xs : List Estimate} (d : Updates P c ns xs) (L : List Instance) → All K (instancesOfUpdates d) → SettledSole P K L →
       Outcome (UpdatesSame P K xs (instancesOfUpdates d) L) (TooMany K instancesMost) (sizedUpdates P c ns L)
   unfolding sizedUpdates instancesOfUpdates
   updates-agree c-last L u s = accepted (record { numbers = refl; listed = listed-not (s .tidy) })
-  updates-agree (c-node {c} n ns) L u s = bind-outcome (channel-agrees c n L (all-left (instancesOf n) _ u) s) (λ q _ x. bind-outcome (updates-agree ns (q .list) (all-right (instancesOf n) u) (settled-grown (x .listed .grown) s)) (λ r _ y.
+  updates-agree (c-node {c} n ns) L u s = bind-outcome (channel-agrees c n L (all-left (instancesOf n) _ u) s) (λ q _ x. bind-outcome (updates-agree ns (q .list) (all-right (instancesOf n) _ u) (settled-grown (x .listed .grown) s)) (λ r _ y.
       accepted (record { numbers = rw (x .numbers, y .numbers); listed = listed-then (x .listed) (y .listed) })))

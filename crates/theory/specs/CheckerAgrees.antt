@@ -14,8 +14,9 @@ use Rattle.language.specs.Estimate.{Estimate}
 use Rattle.language.specs.Typing.{WellSized}
 use Rattle.language.specs.Checker.{Instance, SizedFile, sizedFile}
 use Rattle.language.specs.Within.{All, Within}
-use Rattle.theory.specs.Passes.{Outcome, accepted, refused, Whatever, when-accepted, when-refused, outcome-map, bind-outcome}
-use Rattle.theory.specs.Different.{Distinct, MoreThan, AtMost, not-more-and-at-most, all-in, all-left, all-right, all-member}
+use Rattle.theory.specs.Alls.{all-in, all-left, all-member, all-right}
+use Rattle.theory.specs.Outcomes.{Outcome, accepted, refused, Whatever, when-accepted, when-refused, outcome-map, bind-outcome}
+use Rattle.theory.specs.Different.{Distinct, MoreThan, AtMost, not-more-and-at-most}
 use Rattle.theory.specs.Calls.{Ordered, within-ordered}
 use Rattle.theory.specs.Instances.{Key, keyOf, keysOf, instancesOfInitials, instancesOfFile}
 use Rattle.theory.specs.InstanceList.{settled-start, settled-grown}
@@ -62,7 +63,7 @@ derived-is-accepted {P} within w =
     bind-outcome (initials-agree P ordered (Needed w) (w .initials) [] (all-left initials _ all) settled-start) (λ L _ x.
     outcome-map (λ q y. let l = listed-then x (y .listed) in
     record { numbers = y .numbers; instances = λ k. (all-member (l .grown .tidy .wanted), all-member (l .stand)) })
-    (updates-agree P ordered (Needed w) (w .updates) L (all-right initials all) (settled-grown (x .grown) settled-start)))
+    (updates-agree P ordered (Needed w) (w .updates) L (all-right initials _ all) (settled-grown (x .grown) settled-start)))
 
 -- the only refusal of a file whose sizes are derived is 14, and then the derivation needs more than 1,024 different instances
 pub refused-is-too-many : {P : File} {xs : List Estimate} {n frame : ℕ} → Within P → (w : WellSized P xs) → sizedFile P ≡ no n frame → TooMany (Needed w) instancesMost n frame

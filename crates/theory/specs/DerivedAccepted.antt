@@ -18,10 +18,11 @@ use Rattle.language.specs.Typing.{Place, inside, channelsAt, falls, baseType, T
 use Rattle.language.specs.Typing.{t-bool, t-int, t-var, t-node, t-atlast, t-let, t-if, t-op, t-call, t-ctor, t-case, t-adj, t-fit, ts-nil, ts-cons, t-none, t-skip, t-branch, s-none, s-cons}
 use Rattle.language.specs.Checker.{Instance, Sized, Sizeds, Counted, atSplits, Enter, sized, sizeds, sizedBranches}
 use Rattle.language.specs.Within.{All, all-nil}
-use Rattle.theory.specs.Passes.{Outcome, accepted, bind-outcome, need-holds, from-holds, named-holds, choose-first, choose-second, atSplit}
+use Rattle.theory.specs.Outcomes.{Outcome, accepted, bind-outcome, need-holds, from-holds, choose-first, choose-second}
+use Rattle.theory.specs.CheckerSteps.{named-holds, atSplit}
 use Rattle.theory.specs.SameTests.{type-same, types-same}
-use Rattle.theory.specs.Alls.{all-append, all-map}
-use Rattle.theory.specs.Different.{MoreThan, all-left, all-right, all-first, all-rest}
+use Rattle.theory.specs.Alls.{all-append, all-map, all-first, all-left, all-rest, all-right}
+use Rattle.theory.specs.Different.{MoreThan}
 use Rattle.theory.specs.Calls.{Calls, CallsAll, Allowed}
 use Rattle.theory.specs.Instances.{Key, key, keysOf, instancesOf, instancesOfAll, instancesOfBranches, instancesAtSplits, BodyTyping}
 use Rattle.theory.specs.InstanceList.{Tidy, Ready, Grown, Lasting, grown-not, ready-grown, grown-then, grown-keys, ready-called}
@@ -254,30 +255,30 @@ module _ {P : File} {enter : Enter} {most left : ℕ} (en : EntersAgree P enter 
     agrees (t-var l x) w u = rw x (var-agrees l)
     agrees (t-node l x) w u = rw x (now-agrees l)
     agrees (t-atlast l x) w u = rw x (last-agrees l)
-    agrees (t-let a b x) w u = rw x (let-agrees (agrees a (w .0) (all-left (instancesOf a) _ u)) (agrees b (w .1) (all-right (instancesOf a) u)))
-    agrees (t-if a b d x) w u = rw x (if-agrees (agrees a (w .0) (all-left (instancesOf a) _ u)) (agrees b (w .1) (all-left (instancesOf b) _ (all-right (instancesOf a) u))) (agrees d (w .2) (all-right (instancesOf b) (all-right (instancesOf a) u))))
-    agrees (t-op s a b r x) w u = rw x (op-agrees s (agrees a (w .0) (all-left (instancesOf a) _ u)) (agrees b (w .1) (all-right (instancesOf a) u)) r)
+    agrees (t-let a b x) w u = rw x (let-agrees (agrees a (w .0) (all-left (instancesOf a) _ u)) (agrees b (w .1) (all-right (instancesOf a) _ u)))
+    agrees (t-if a b d x) w u = rw x (if-agrees (agrees a (w .0) (all-left (instancesOf a) _ u)) (agrees b (w .1) (all-left (instancesOf b) _ (all-right (instancesOf a) _ u))) (agrees d (w .2) (all-right (instancesOf b) _ (all-right (instancesOf a) _ u))))
+    agrees (t-op s a b r x) w u = rw x (op-agrees s (agrees a (w .0) (all-left (instancesOf a) _ u)) (agrees b (w .1) (all-right (instancesOf a) _ u)) r)
     agrees (t-call {g} {ks} {F} {τ} {n} es l s i c less fits d x) w u = rw x (call-agrees (agrees-all es (w .1) (all-left (instancesOfAll es) _ u)) (w .0) l s i c less fits
-        (λ frame. let v = all-right (instancesOfAll es) u in en .enters K frame g F ks τ n l fits d (all-first v) (all-rest v)))
+        (λ frame. let v = all-right (instancesOfAll es) _ u in en .enters K frame g F ks τ n l fits d (all-first v) (all-rest v)))
     agrees (t-ctor es l s less i k x) w u = rw (x, k) (ctor-agrees (agrees-all es w u) l s less i)
-    agrees (t-case e fits bs x) w u = rw x (case-agrees (agrees e (w .0) (all-left (instancesOf e) _ u)) fits (agrees-branches bs (w .1) (all-right (instancesOf e) u)))
+    agrees (t-case e fits bs x) w u = rw x (case-agrees (agrees e (w .0) (all-left (instancesOf e) _ u)) fits (agrees-branches bs (w .1) (all-right (instancesOf e) _ u)))
     agrees (t-adj fits e le) w u = adj-agrees fits (agrees e w u) le
-    agrees (t-fit a b d x) w u = rw x (fit-agrees (agrees a (w .0) (all-left (instancesOf a) _ u)) (agrees b (w .1) (all-left (instancesOf b) _ (all-right (instancesOf a) u))) (agrees d (w .2) (all-right (instancesOf b) (all-right (instancesOf a) u))))
+    agrees (t-fit a b d x) w u = rw x (fit-agrees (agrees a (w .0) (all-left (instancesOf a) _ u)) (agrees b (w .1) (all-left (instancesOf b) _ (all-right (instancesOf a) _ u))) (agrees d (w .2) (all-right (instancesOf b) _ (all-right (instancesOf a) _ u))))
 
     agrees-all : {p : Place} {Γ : List Ty} {Δ : List ℕ} {es : Exprs} {τs : List Ty} {n : Estimate} (d : Typings P p Γ Δ es τs n) → CallsAll (Allowed p) es → All K (instancesOfAll d) →
         AgreesAll P enter K most left p Γ Δ es τs n (instancesOfAll d)
     agrees-all (ts-nil x) w u = rw x none-agrees
-    agrees-all (ts-cons e es x) w u = rw x (more-agrees (agrees e (w .0) (all-left (instancesOf e) _ u)) (agrees-all es (w .1) (all-right (instancesOf e) u)))
+    agrees-all (ts-cons e es x) w u = rw x (more-agrees (agrees e (w .0) (all-left (instancesOf e) _ u)) (agrees-all es (w .1) (all-right (instancesOf e) _ u)))
 
     agrees-branches : {p : Place} {Γ : List Ty} {Δ : List ℕ} {t k : ℕ} {cs : List Constructor} {bs : Exprs} {τ : Ty} {n : Estimate} (d : Branches P p Γ Δ t k cs bs τ n) →
         CallsAll (Allowed p) bs → All K (instancesOfBranches d) →
         AgreesBranches P enter K most left p Γ Δ t k cs bs τ n (instancesOfBranches d)
     agrees-branches (t-none x) w u = rw x no-branch-agrees
     agrees-branches (t-skip le bs) w u = skip-agrees le (agrees-branches bs (w .1) u)
-    agrees-branches (t-branch less b bs x) w u = rw x (branch-agrees less (agrees-splits b (w .0) (all-left (instancesAtSplits b) _ u)) (agrees-branches bs (w .1) (all-right (instancesAtSplits b) u)))
+    agrees-branches (t-branch less b bs x) w u = rw x (branch-agrees less (agrees-splits b (w .0) (all-left (instancesAtSplits b) _ u)) (agrees-branches bs (w .1) (all-right (instancesAtSplits b) _ u)))
 
     agrees-splits : {p : Place} {Γ : List Ty} {Δ : List ℕ} {t : ℕ} {fs : Constructor} {kss : List (List ℕ)} {b : Expr} {τ : Ty} {n : Estimate} (d : AtSplits P p Γ Δ t fs kss b τ n) →
         Calls (Allowed p) b → All K (instancesAtSplits d) →
         AgreesSplits P enter K most left p Γ Δ t fs kss b τ n (instancesAtSplits d)
     agrees-splits (s-none x) w u = rw x no-split-agrees
-    agrees-splits (s-cons b bs x) w u = rw x (split-agrees (agrees b w (all-left (instancesOf b) _ u)) (agrees-splits bs w (all-right (instancesOf b) u)))
+    agrees-splits (s-cons b bs x) w u = rw x (split-agrees (agrees b w (all-left (instancesOf b) _ u)) (agrees-splits bs w (all-right (instancesOf b) _ u)))

@@ -5,25 +5,7 @@ use mathlib.Core.Path.{_≡_, refl, sym, _∙_}
 use native.Mathlib.Omega.{arith}
 use lib.ListN.{length}
 use Rattle.language.specs.Within.{All, all-nil, all-cons}
-
--- ---- all of a list
-pub all-left : {A : Type 0} {Q : A → Type 0} (l m : List A) → All Q (l ++ m) → All Q l
-all-left [] m p = all-nil
-all-left (a ∷ l) m (all-cons x p) = all-cons x (all-left l m p)
-
-pub all-right : {A : Type 0} {Q : A → Type 0} (l : List A) {m : List A} → All Q (l ++ m) → All Q m
-all-right [] p = p
-all-right (a ∷ l) (all-cons x p) = all-right l p
-
-pub all-first : {A : Type 0} {Q : A → Type 0} {a : A} {l : List A} → All Q (a ∷ l) → Q a
-all-first (all-cons x p) = x
-
-pub all-rest : {A : Type 0} {Q : A → Type 0} {a : A} {l : List A} → All Q (a ∷ l) → All Q l
-all-rest (all-cons x p) = p
-
-pub all-in : {A : Type 0} {Q : A → Type 0} (l : List A) → ((a : A) → In a l → Q a) → All Q l
-all-in [] f = all-nil
-all-in (a ∷ l) f = all-cons (f a (in-head refl)) (all-in l (λ b i. f b (in-tail i)))
+use Rattle.theory.specs.Alls.{all-member}
 
 -- ---- no repeats
 pub data Distinct {A : Type 0} : List A → Type 0 where
@@ -81,10 +63,6 @@ pigeonhole distinct-nil m f = omega arith
 pigeonhole (distinct-cons {a} {l} g d) m f =
     let w = take-out (f a (in-head refl)) in
     omega (arith, w .shorter, pigeonhole d (w .rest) (λ b i. w .keeps b (f b (in-tail i)) (λ e. g (rw e at i))))
-
-pub all-member : {A : Type 0} {Q : A → Type 0} {l : List A} {a : A} → All Q l → In a l → Q a
-all-member {Q} (all-cons x p) (in-head e) = rw e x
-all-member (all-cons x p) (in-tail i) = all-member p i
 
 pub not-more-and-at-most : {A : Type 0} {n : ℕ} {K : A → Type 0} → MoreThan n K → AtMost n K → ⊥
 not-more-and-at-most m f = omega (arith, pigeonhole (m .distinct) (f .these) (λ a i. f .all a (all-member (m .all) i)), m .many, f .few)

@@ -13,10 +13,11 @@ use Rattle.language.specs.Estimate.{Estimate, nothing}
 use Rattle.language.specs.Typing.{Place, inside}
 use Rattle.language.specs.Checker.{Instance, Sized, Enter, find, enterAt}
 use Rattle.language.specs.Within.{All, all-cons}
-use Rattle.theory.specs.Passes.{Outcome, accepted, refused, when-accepted, bind-outcome, need-outcome, need-holds, foundOr-outcome, bodyRun}
+use Rattle.theory.specs.Outcomes.{Outcome, accepted, refused, when-accepted, bind-outcome, need-outcome, need-holds}
+use Rattle.theory.specs.CheckerSteps.{foundOr-outcome, bodyRun}
 use Rattle.theory.specs.SameTests.{type-same}
-use Rattle.theory.specs.Alls.{all-map}
-use Rattle.theory.specs.Different.{distinct-cons, all-in}
+use Rattle.theory.specs.Alls.{all-map, all-in}
+use Rattle.theory.specs.Different.{distinct-cons}
 use Rattle.theory.specs.Calls.{Ordered}
 use Rattle.theory.specs.Instances.{Key, key, entered, keyOf, keysOf, instancesOf, BodyTyping}
 use Rattle.theory.specs.InstanceList.{Ready, none-left-is-full, grown-not, found-is-finished, key-stands, found-stands, not-found-is-new, ready-entered, grown-left, left-keys, left-stands, AnyKey}

@@ -12,7 +12,7 @@ use Rattle.language.specs.Format.{spellAll, pickDigit, digitOf, pairOf, lineFee
 use Rattle.language.specs.Within.{All, all-nil, all-cons}
 use Rattle.language.specs.Reader.{Lines, longer, linesOf, lineBytes, isEmpty, framesOf}
 use Rattle.theory.specs.Tests.{Whenever, w-none, whenever-map}
-use Rattle.theory.specs.Outcomes.{Sat, sat-ok, sat-no, sat-map, sat-bind, sat-from}
+use Rattle.theory.specs.Outcomes.{Sat, sat-ok, sat-no, outcome-map, sat-bind, sat-from}
 use Rattle.theory.specs.Exact.{Byte}
 use Rattle.theory.specs.ExactDigits.{pairs-back, pairs-forth}
 
@@ -86,4 +86,4 @@ pub text-back : (fs : List (List ℕ)) → All Filled fs → framesOf 1 (linesOf
 text-back fs ws = rw (lines-back fs) (frames-of-back 1 fs ws)
 
 pub text-forth : (t : List ℕ) → Sat (λ fs. (t ≡ spellAll lineText fs) × All Filled fs) (framesOf 1 (linesOf t .ended) (linesOf t .rest))
-text-forth t = sat-map (λ fs F. (lines-forth t ∙ F .0, F .1)) (frames-of-forth 1 (linesOf t .ended) (linesOf t .rest))
+text-forth t = outcome-map (λ fs F. (lines-forth t ∙ F .0, F .1)) (frames-of-forth 1 (linesOf t .ended) (linesOf t .rest))

@@ -17,7 +17,7 @@ use Rattle.language.specs.Within.{wf-cons, WithinInput, WithinNode, WithinNodes
 use Rattle.language.specs.Reader.{Kind, typeKind, functionKind, inputKind, nodeKind, kinds, isEmpty, inOrder, withType, withFunction, withInput, withNode, readKind, readFrame, readFrames}
 use Rattle.theory.specs.Lists.{false-is-not-true}
 use Rattle.theory.specs.Alls.{all-map, all-snoc}
-use Rattle.theory.specs.Outcomes.{Sat, sat-ok, sat-no, sat-map, sat-bind, sat-need, sat-from}
+use Rattle.theory.specs.Outcomes.{Sat, sat-ok, sat-no, outcome-map, sat-bind, sat-need, sat-from}
 use Rattle.theory.specs.Exact.{Byte, whole-forth}
 use Rattle.theory.specs.ExactParts.{Entries, entry, no-entry, entries-decode}
 use Rattle.theory.specs.ExactFrames.{type-exact, function-exact, input-exact, NodeAmong, node-exact}
@@ -183,5 +183,5 @@ frames-forth channels frame f [] lines so = go (f .nodes) (λ some. record { soF
     go (n ∷ ns) read = sat-ok (read (omega arith))
 frames-forth channels frame f (l ∷ ls) (all-cons w lines) so =
     sat-bind (frame-forth channels frame f l w so) λ g G.
-    sat-map (λ P R. record { soFar = R .soFar; frames = R .frames ∙ rw (G .frames) (append-assoc (fileFrames f) (l ∷ []) ls); someNode = R .someNode })
+    outcome-map (λ P R. record { soFar = R .soFar; frames = R .frames ∙ rw (G .frames) (append-assoc (fileFrames f) (l ∷ []) ls); someNode = R .someNode })
     (frames-forth channels (suc frame) g ls lines (G .soFar))

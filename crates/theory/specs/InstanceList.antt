@@ -19,8 +19,8 @@ use Rattle.language.specs.Checker.{Instance, find}
 use Rattle.language.specs.Within.{All, all-nil, all-cons}
 use Rattle.theory.specs.Lists.{none-is-not-some, both-left, both-right, both-true}
 use Rattle.theory.specs.SameTests.{same-sizes, sizes-same}
-use Rattle.theory.specs.Alls.{all-append, all-map}
-use Rattle.theory.specs.Different.{Distinct, distinct-nil, distinct-append, all-member}
+use Rattle.theory.specs.Alls.{all-append, all-map, all-member}
+use Rattle.theory.specs.Different.{Distinct, distinct-nil, distinct-append}
 use Rattle.theory.specs.Calls.{Allowed}
 use Rattle.theory.specs.Instances.{Key, key, entered, keyOf, keysOf}
 

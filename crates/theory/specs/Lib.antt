@@ -1,8 +1,8 @@
 pub mod Opened
 pub mod Tins
 pub mod Lists
-pub mod Tests
 pub mod Alls
+pub mod Tests
 pub mod Outcomes
 pub mod Stopped
 pub mod Exact
@@ -47,7 +47,7 @@ pub mod SameTests
 pub mod Different
 pub mod Calls
 pub mod Instances
-pub mod Passes
+pub mod CheckerSteps
 pub mod InstanceList
 pub mod AcceptedDerived
 pub mod DerivedAccepted

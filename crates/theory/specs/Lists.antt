@@ -8,7 +8,6 @@ use native.Mathlib.Omega.{arith}
 use native.Mathlib.Nat.{zero-add, suc-add}
 use lib.ListN.{length, getD, getElem? as look}
 use Rattle.language.specs.Result.{both}
-use Rattle.language.specs.Within.{All, all-nil, all-cons}
 
 pub none-is-not-some : {A B : Type 0} {a : A} → none ≡ some a → B
 none-is-not-some e = absurd (let z : _≡_ {A = ℕ} 0 1 = cc in omega arith)
@@ -32,11 +31,6 @@ pub look-inner-less : {A : Type 0} (l : List (List A)) (i j : ℕ) {a : A} → l
 look-inner-less [] i j e = none-is-not-some e
 look-inner-less (x ∷ l) zero j e = omega arith
 look-inner-less (x ∷ l) (suc i) j e = omega (arith, look-inner-less l i j e)
-
-pub all-at : {A : Type 0} {Q : A → Type 0} {l : List A} → All Q l → (i : ℕ) {a : A} → look l i ≡ some a → Q a
-all-at all-nil i e = none-is-not-some e
-all-at {Q} (all-cons q qs) zero e = subst Q (cc) q
-all-at (all-cons q qs) (suc i) e = all-at qs i e
 
 pub look-new : {A : Type 0} (l : List A) (a : A) → look (l ++ (a ∷ [])) (length l) ≡ some a
 look-new [] a = refl

@@ -42,36 +42,6 @@ pub mem-all : {Q : ℕ → Type 0} (ls : List ℕ) → ((i : ℕ) → mem i ls �
 mem-all [] f = all-nil
 mem-all (l ∷ ls) f = all-cons (f l (mem-head l ls)) (mem-all ls (λ i e. f i (mem-tail i l ls e)))
 
-pub all-each : {A : Type 0} {Q : A → Type 0} (l : List A) → ((i : ℕ) (a : A) → look l i ≡ some a → Q a) → All Q l
-all-each [] f = all-nil
-all-each (a ∷ l) f = all-cons (f 0 a refl) (all-each l (λ i b e. f (suc i) b e))
-
-pub all-both : {A : Type 0} {Q R S : A → Type 0} {ls : List A} → ((i : A) → Q i → R i → S i) → All Q ls → All R ls → All S ls
-all-both f all-nil all-nil = all-nil
-all-both f (all-cons {a} q qs) (all-cons r rs) = all-cons (f a q r) (all-both f qs rs)
-
-pub all-to-map : {A B : Type 0} {R : B → Type 0} (f : A → B) {ls : List A} → All (λ a. R (f a)) ls → All R (map f ls)
-all-to-map f all-nil = all-nil
-all-to-map f (all-cons r rs) = all-cons r (all-to-map f rs)
-
-pub all-of-map : {A B : Type 0} {R : B → Type 0} (f : A → B) (ls : List A) → All R (map f ls) → All (λ a. R (f a)) ls
-all-of-map f [] all-nil = all-nil
-all-of-map f (l ∷ ls) (all-cons r rs) = all-cons r (all-of-map f ls rs)
-
-pub all-head : {A : Type 0} {Q : A → Type 0} {a : A} {ls : List A} → All Q (a ∷ ls) → Q a
-all-head (all-cons q qs) = q
-
-pub all-tail : {A : Type 0} {Q : A → Type 0} {a : A} {ls : List A} → All Q (a ∷ ls) → All Q ls
-all-tail (all-cons q qs) = qs
-
-pub all-front : {A : Type 0} {Q : A → Type 0} (ls ms : List A) → All Q (ls ++ ms) → All Q ls
-all-front [] ms qs = all-nil
-all-front (l ∷ ls) ms (all-cons q qs) = all-cons q (all-front ls ms qs)
-
-pub all-back : {A : Type 0} {Q : A → Type 0} (ls ms : List A) → All Q (ls ++ ms) → All Q ms
-all-back [] ms qs = qs
-all-back (l ∷ ls) ms (all-cons q qs) = all-back ls ms qs
-
 pub map-same : {A B : Type 0} {f g : A → B} (ls : List A) → All (λ a. f a ≡ g a) ls → map f ls ≡ map g ls
 map-same [] all-nil = refl
 map-same (l ∷ ls) (all-cons e es) = rw (e, map-same ls es)

@@ -12,8 +12,9 @@ use Rattle.language.specs.Result.{Result, ok, when, chain}
 use Rattle.language.specs.Syntax.{Constructor, Plain, pbool, pint, pnamed, Ty, Size, Expr, ebool, eint, evar, enow, elast, elet, eif, eop, ecall, econ, ecase, eadj, efit, Exprs, enil, econs}
 use Rattle.language.specs.Syntax.{Node, File, constructorsOf}
 use Rattle.language.specs.PlainTypes.{samePlain, samePlains, isPlain, arePlain, isNamed, plainOf, plainsOf, plainBranches, plainFunction, plainInitial, plainInput, plainNode, plainTypes}
+use Rattle.theory.specs.Alls.{all-append, all-left, all-right, all-to-map, all-of-map, all-at, all-each}
 use Rattle.theory.specs.Lists.{both-true, both-left, both-right}
-use Rattle.theory.specs.Tests.{Whenever, w-some, whenever, whenever-map, whenever-chain, whenever-when, whenever-is, AllTrue, all-append, all-left, all-right, all-map, all-look, each-test, each-rest, each-passes}
+use Rattle.theory.specs.Tests.{Whenever, w-some, whenever, whenever-map, whenever-chain, whenever-when, whenever-is, AllTrue, each-test, each-rest, each-passes}
 use Rattle.theory.specs.PlainTyping.{PlainTyping, p-bool, p-int, p-var, p-node, p-atlast, p-let, p-if, p-op, p-call, p-ctor, p-case, p-adj, p-fit, PlainTypings, ps-nil, ps-cons, PlainBranches, p-none, p-branch, PlainInitial, PlainNode, WellPlain, channelTypes}
 
 -- ---- the tests on plain types
@@ -181,18 +182,18 @@ nodeTests P = map (plainNode P) (P .nodes)
 tests-typed : (P : File) → AllTrue (functionTests P ++ (inputTests P ++ nodeTests P)) → WellPlain P
 unfolding plainFunction plainInput
 tests-typed P ts = let cs = all-right (functionTests P) _ ts in record {
-  bodies = λ f F at. plain-typing P [] (F .body) (F .parameters) (is-plain _ _ (all-look (plainFunction P) (P .functions) (all-left (functionTests P) _ ts) f at));
-  inputs = λ i I at. plain-initial P (I .declared) (I .initial) (all-look (plainInput P) (P .inputs) (all-left (inputTests P) _ cs) i at);
-  nodes = λ n M at. plain-node P M (all-look (plainNode P) (P .nodes) (all-right (inputTests P) _ cs) n at);
+  bodies = λ f F at. plain-typing P [] (F .body) (F .parameters) (is-plain _ _ (all-at (all-of-map (plainFunction P) (P .functions) (all-left (functionTests P) _ ts)) f at));
+  inputs = λ i I at. plain-initial P (I .declared) (I .initial) (all-at (all-of-map (plainInput P) (P .inputs) (all-left (inputTests P) _ cs)) i at);
+  nodes = λ n M at. plain-node P M (all-at (all-of-map (plainNode P) (P .nodes) (all-right (inputTests P) _ cs)) n at);
 }
 
 typed-tests : (P : File) → WellPlain P → AllTrue (functionTests P ++ (inputTests P ++ nodeTests P))
 unfolding plainFunction plainInput
 typed-tests P W = all-append
-    (all-map (plainFunction P) (P .functions) (λ f F at. some-is-plain (typing-plain P [] (W .bodies f F at))))
+    (all-to-map (plainFunction P) (all-each (P .functions) (λ f F at. some-is-plain (typing-plain P [] (W .bodies f F at)))))
     (all-append
-    (all-map (plainInput P) (P .inputs) (λ i I at. initial-plain P (I .declared) (I .initial) (W .inputs i I at)))
-    (all-map (plainNode P) (P .nodes) (λ n M at. node-plain P M (W .nodes n M at))))
+    (all-to-map (plainInput P) (all-each (P .inputs) (λ i I at. initial-plain P (I .declared) (I .initial) (W .inputs i I at))))
+    (all-to-map (plainNode P) (all-each (P .nodes) (λ n M at. node-plain P M (W .nodes n M at)))))
 
 pub well-plain : {A : Type 0} {a : A} (P : File) (r : Result A) → plainTypes P r ≡ ok a → WellPlain P
 unfolding plainTypes

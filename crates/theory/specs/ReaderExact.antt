@@ -13,7 +13,7 @@ use Rattle.language.specs.Syntax.{File}
 use Rattle.language.specs.Format.{spellAll, lineText, fileFrames, fileText}
 use Rattle.language.specs.Within.{all-nil, wt-nil, wf-nil, wn-nil, Within}
 use Rattle.language.specs.Reader.{channelCount, emptyFile, readFile}
-use Rattle.theory.specs.Outcomes.{Sat, sat-value, sat-map, sat-bind, sat-need}
+use Rattle.theory.specs.Outcomes.{Sat, sat-value, outcome-map, sat-bind, sat-need}
 use Rattle.theory.specs.ExactText.{text-back, text-forth}
 use Rattle.theory.specs.FileFrames.{channels-of-file}
 use Rattle.theory.specs.FramesForth.{SoFar, AllRead, frames-forth}
@@ -54,7 +54,7 @@ unfolding readFile fileFrames
 read-sat t =
     sat-need (leb (length t) textMost) 1 0 λ fits.
     sat-bind (text-forth t) λ fs F.
-    sat-map (λ P. all-read t fs P (leb-true (length t) textMost fits) (F .0)) (frames-forth (channelCount fs) 1 emptyFile fs (F .1) (nothing-yet (channelCount fs)))
+    outcome-map (λ P. all-read t fs P (leb-true (length t) textMost fits) (F .0)) (frames-forth (channelCount fs) 1 emptyFile fs (F .1) (nothing-yet (channelCount fs)))
 
 pub reader-forth : (t : List ℕ) (P : File) → readFile t ≡ ok P → (t ≡ fileText P) × Within P
 reader-forth t P e = sat-value (rw e at (read-sat t))

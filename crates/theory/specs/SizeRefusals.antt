@@ -15,7 +15,8 @@ use Rattle.language.specs.Splits.{splits}
 use Rattle.language.specs.Typing.{Place, inside, channelsAt}
 use Rattle.language.specs.Checker.{Instance, Sized, Sizeds, Counted, atSplits, Enter, sized, sizeds, sizedBranches, find, enterAt}
 use Rattle.theory.specs.Lists.{none-is-not-some, look-map}
-use Rattle.theory.specs.Passes.{Outcome, accepted, refused, bind-outcome, need-outcome, from-outcome, choose-outcome, need-holds, from-holds, named-holds, atSplit, foundOr-outcome}
+use Rattle.theory.specs.Outcomes.{Outcome, accepted, refused, bind-outcome, need-outcome, from-outcome, choose-outcome, need-holds, from-holds}
+use Rattle.theory.specs.CheckerSteps.{named-holds, atSplit, foundOr-outcome}
 use Rattle.theory.specs.SameTests.{type-same, types-same}
 use Rattle.theory.specs.PlainTyping.{PlainTyping, p-bool, p-int, p-var, p-node, p-atlast, p-let, p-if, p-op, p-call, p-ctor, p-case, p-adj, p-fit, PlainTypings, ps-nil, ps-cons, PlainBranches, p-none, p-branch, WellPlain}
 use Rattle.theory.specs.PlainSizes.{bool-plain, named-plain, operand-plain, base-plain, result-plain, plainsOfTypes, plains-joined, plain-named, parameters-plain, fields-plain, own-parameters, look-none-plain}

@@ -20,8 +20,7 @@ use Rattle.language.specs.Layout.{allReached}
 use Rattle.theory.specs.Lists.{both-true}
 use Rattle.theory.specs.Places.{below-or-not, look-at}
 use Rattle.theory.specs.Choices.{one-cases}
-use Rattle.theory.specs.Alls.{all-map}
-use Rattle.theory.specs.Members.{all-both, all-of-map}
+use Rattle.theory.specs.Alls.{all-map, all-both, all-of-map}
 use Rattle.theory.specs.Heaps.{cell-at}
 use Rattle.theory.specs.Ranks.{full-rank}
 use Rattle.theory.specs.Reaches.{Reached, NamesLower, Linked, settled, reached-closed, reached-least}

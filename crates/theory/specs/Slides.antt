@@ -17,8 +17,8 @@ use Rattle.theory.specs.HeapTrees.{tree-cell, tree-con}
 use Rattle.theory.specs.Heaps.{cell-at}
 use Rattle.theory.specs.Places.{look-at, look-mapped}
 use Rattle.theory.specs.Choices.{map-chosen}
-use Rattle.theory.specs.Alls.{all-map}
-use Rattle.theory.specs.Members.{all-both, all-to-map, map-same}
+use Rattle.theory.specs.Alls.{all-map, all-both, all-to-map}
+use Rattle.theory.specs.Members.{map-same}
 use Rattle.theory.specs.Ranks.{membersBelow, rank, rank-next, rank-less, member-at-rank, member-ranked}
 use Rattle.theory.specs.Reaches.{Reached, NamesLower, Linked, reached-closed}
 

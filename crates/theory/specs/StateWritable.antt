@@ -11,8 +11,8 @@ use Rattle.language.specs.Syntax.{Field, TypeDef, Constructor, Ty, tbool, tint,
 use Rattle.language.specs.Within.{All, all-nil, all-cons, WithinTypes, wt-nil, wt-cons, Within}
 use Rattle.language.specs.Heap.{kbool, kint, Cell, leaf, con, fieldsIn}
 use Rattle.language.specs.Slide.{State}
-use Rattle.theory.specs.Lists.{none-is-not-some, look-less, all-at}
-use Rattle.theory.specs.Members.{all-each}
+use Rattle.theory.specs.Alls.{all-at, all-each}
+use Rattle.theory.specs.Lists.{none-is-not-some, look-less}
 use Rattle.theory.specs.Reaches.{reached-least}
 use Rattle.theory.specs.HeapValues.{Has, h-bool, h-int, h-named, v-con, Vals, vs-nil, vs-bool, vs-int, vs-own, vs-other, Env, env-nil, env-cons}
 use Rattle.theory.specs.Growth.{AllValues}

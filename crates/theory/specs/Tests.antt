@@ -1,12 +1,12 @@
 -- What a test that passed, or a partial answer that exists, says of its parts: laws of chain and when, of needEach.
-use Prim.Native.Nat.{ℕ, zero, suc}
-use mathlib.Core.List.{List, [], _∷_, _++_, map}
+use Prim.Native.Nat.{ℕ, suc}
+use mathlib.Core.List.{List, [], _∷_}
 use mathlib.Core.Bool.{Bool, true, false}
 use mathlib.Core.Option.{Option, none, some}
 use mathlib.Core.Path.{_≡_, refl}
 use native.Mathlib.Omega.{arith}
-use lib.ListN.{getElem? as look}
 use Rattle.language.specs.Result.{Result, ok, no, need, when, chain, needEach}
+use Rattle.language.specs.Within.{All, all-nil, all-cons}
 use Rattle.theory.specs.Lists.{none-is-not-some}
 
 pub no-ok : {A : Type 0} {n frame : ℕ} {a : A} → no n frame ≡ ok a → ⊥
@@ -39,31 +39,9 @@ pub whenever-is : {A : Type 0} {Q : A → Type 0} {o : Option A} {a : A} → Whe
 whenever-is {Q} {a} (w-some {a = c} q) e = let z : c ≡ a = cc in rw z at q
 whenever-is w-none e = none-is-not-some e
 
--- ---- tests one after the other
-pub data AllTrue : List Bool → Type 0 where
-  all-nil : AllTrue []
-  all-cons : {b : Bool} {bs : List Bool} → b ≡ true → AllTrue bs → AllTrue (b ∷ bs)
-
-pub all-append : {bs cs : List Bool} → AllTrue bs → AllTrue cs → AllTrue (bs ++ cs)
-all-append all-nil q = q
-all-append (all-cons e p) q = all-cons e (all-append p q)
-
-pub all-left : (bs cs : List Bool) → AllTrue (bs ++ cs) → AllTrue bs
-all-left [] cs p = all-nil
-all-left (b ∷ bs) cs (all-cons e p) = all-cons e (all-left bs cs p)
-
-pub all-right : (bs cs : List Bool) → AllTrue (bs ++ cs) → AllTrue cs
-all-right [] cs p = p
-all-right (b ∷ bs) cs (all-cons e p) = all-right bs cs p
-
-pub all-map : {A : Type 0} (f : A → Bool) (l : List A) → ((i : ℕ) (a : A) → look l i ≡ some a → f a ≡ true) → AllTrue (map f l)
-all-map f [] g = all-nil
-all-map f (a ∷ l) g = all-cons (g 0 a refl) (all-map f l (λ i c e. g (suc i) c e))
-
-pub all-look : {A : Type 0} (f : A → Bool) (l : List A) → AllTrue (map f l) → (i : ℕ) {a : A} → look l i ≡ some a → f a ≡ true
-all-look f [] p i at = none-is-not-some at
-all-look f (c ∷ l) (all-cons e p) zero {a} at = let z : c ≡ a = cc in rw z at e
-all-look f (c ∷ l) (all-cons e p) (suc i) at = all-look f l p i at
+-- ---- tests one after the other: every one holds
+abbrev pub AllTrue : List Bool → Type 0
+AllTrue bs = All (λ b. b ≡ true) bs
 
 pub need-test : {A : Type 0} (b : Bool) (n frame : ℕ) (r : Result A) {a : A} → need b n frame r ≡ ok a → b ≡ true
 unfolding need

@@ -10,8 +10,9 @@ use Rattle.language.specs.Estimate.{Estimate}
 use Rattle.language.specs.Typing.{Place, Typing, Updates, c-last, c-node, WellSized}
 use Rattle.language.specs.Checker.{Sized, sized, enterAt}
 use Rattle.language.specs.Within.{Within}
-use Rattle.theory.specs.Passes.{Outcome, accepted, refused, when-accepted}
-use Rattle.theory.specs.Different.{all-in, not-more-and-at-most}
+use Rattle.theory.specs.Alls.{all-in}
+use Rattle.theory.specs.Outcomes.{Outcome, accepted, refused, when-accepted}
+use Rattle.theory.specs.Different.{not-more-and-at-most}
 use Rattle.theory.specs.Calls.{Calls, Allowed, Ordered, calls-anything, within-ordered}
 use Rattle.theory.specs.Instances.{instancesOf}
 use Rattle.theory.specs.InstanceList.{ready-settled, settled-start, AnyKey}
