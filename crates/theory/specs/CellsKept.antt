@@ -18,7 +18,7 @@ use Rattle.theory.specs.CellsMost.{no-more-cells}
 use Rattle.theory.specs.SlideKept.{slide-cells-at-most, all-reached-stays}
 use Rattle.theory.specs.TypedStates.{Holds, StateTyped, values-lower, holds-linked, channels-fit}
 
-trees-cells-at-most : {P : File} → Within P → (vs : List Tree) (τs : List Ty) → treesFit P vs τs ≡ true → sum (map treeCells vs) ≤ sum (map (cellsOf P) τs)
+pub trees-cells-at-most : {P : File} → Within P → (vs : List Tree) (τs : List Ty) → treesFit P vs τs ≡ true → sum (map treeCells vs) ≤ sum (map (cellsOf P) τs)
 unfolding treesFit sum
 trees-cells-at-most within [] [] e = omega arith
 trees-cells-at-most within [] (τ ∷ τs) e = false-is-not-true e

@@ -125,7 +125,7 @@ pub record Loaded (P : File) (cells : ℕ) (ws : List ℕ) (s : State) : Type 0 
   pub room : length (s .heap) ≤ cells
   pub words : stateLength cells ≤ length ws → take (stateLength cells) ws ≡ stateWords cells s
 
-loaded-laid-out : (P : File) (cells : ℕ) (ws : List ℕ) → Whenever (λ s. LaidOut P cells ws s × (stateRight P s ≡ true)) (loadState P cells ws)
+pub loaded-laid-out : (P : File) (cells : ℕ) (ws : List ℕ) → Whenever (λ s. LaidOut P cells ws s × (stateRight P s ≡ true)) (loadState P cells ws)
 unfolding loadState
 loaded-laid-out P cells ws = whenever-chain (read-laid-out P cells ws) (λ s o. whenever-when (stateRight P s) s (λ e. (o, e)))
 

@@ -22,7 +22,7 @@ use Rattle.language.specs.Machine.{Board, Answer, Accepted, checkFile, check, e
 use Rattle.theory.specs.Opened.{reading, sizing, running}
 
 -- ---- what a case shows, as numbers
-codes : String → List ℕ
+unfoldable pub codes : String → List ℕ
 codes empty = []
 codes (_then_ c s) = code c ∷ codes s
 

@@ -1,0 +1,29 @@
+-- Passes over a file, in the style of outcomes: the tests of the frames one after the other, the plain types, and any pass by its answer.
+use Prim.Native.Nat.{ℕ, suc}
+use mathlib.Core.List.{List, [], _∷_}
+use mathlib.Core.Bool.{Bool, true}
+use mathlib.Core.Path.{_≡_, refl}
+use Rattle.language.specs.Result.{Result, ok, no, needEach}
+use Rattle.language.specs.Syntax.{File}
+use Rattle.language.specs.Within.{all-nil, all-cons}
+use Rattle.language.specs.PlainTypes.{plainTypes}
+use Rattle.theory.specs.Tests.{AllTrue, each-passes}
+use Rattle.theory.specs.Outcomes.{Outcome, accepted, refused, need-outcome}
+use Rattle.theory.specs.PlainTyping.{WellPlain}
+use Rattle.theory.specs.PlainTypesAgree.{well-plain}
+use Rattle.theory.specs.SizeRefusals.{Anything}
+
+module _ {B : Type 0} {R : B → Type 0} {N : ℕ → ℕ → Type 0} where
+  each-outcome : (n frame : ℕ) (bs : List Bool) {r : Result B} → ((f : ℕ) → N n f) → (AllTrue bs → Outcome R N r) → Outcome R N (needEach n frame bs r)
+  unfolding needEach
+  each-outcome n frame [] no-pass pass = pass all-nil
+  each-outcome n frame (b ∷ bs) no-pass pass = need-outcome b n frame (λ e. no-pass frame) (λ e. each-outcome n (suc frame) bs no-pass (λ es. pass (all-cons e es)))
+
+  -- refusal 9, or the plain types hold
+  pub plain-outcome : (P : File) {r : Result B} → ((f : ℕ) → N 9 f) → (WellPlain P → Outcome R N r) → Outcome R N (plainTypes P r)
+  unfolding plainTypes
+  plain-outcome P no-pass pass = each-outcome 9 _ _ no-pass (λ es. pass (well-plain P (ok true) (each-passes 9 _ (ok true) es)))
+
+pub outcome-of : {A : Type 0} {N : ℕ → ℕ → Type 0} (r : Result A) → ((n frame : ℕ) → r ≡ no n frame → N n frame) → Outcome Anything N r
+outcome-of (ok a) f = accepted tt
+outcome-of (no n frame) f = refused (f n frame refl)

@@ -1,0 +1,85 @@
+-- Initial values: whatever the plain machine derives for one is its initial tree, and in an accepted file that tree fits the
+-- channel's declared type.
+use Prim.Native.Nat.{ℕ}
+use mathlib.Core.List.{List, [], map}
+use mathlib.Core.Bool.{true}
+use mathlib.Core.Path.{_≡_, refl, ap, subst}
+use native.Mathlib.Omega.{arith}
+use Rattle.language.specs.Limits.{nestingMost}
+use Rattle.language.specs.Syntax.{Ty, Expr, Exprs, Input, Node, File, declaredTypes, initialValues}
+use Rattle.language.specs.Scope.{Scope, outerScope}
+use Rattle.language.specs.Within.{All, all-nil, all-cons, WithinExpr, WithinNodes, wn-nil, wn-cons, Within}
+use Rattle.language.specs.PlainTypes.{isInitial, areInitial}
+use Rattle.language.specs.Estimate.{Estimate}
+use Rattle.language.specs.Typing.{outside, channelsAt, Typing, Initials, c-none, c-init}
+use Rattle.language.specs.Heap.{Tree, vcon, Trees}
+use Rattle.language.specs.Values.{fits}
+use Rattle.language.specs.Line.{treesFit}
+use Rattle.language.specs.PlainMachine.{TreeChannels, Derives, p-bool, p-int, p-var, p-node, p-atlast, p-let, p-if-then, p-if-else, p-op, p-call, p-ctor, p-case, p-adj, p-fit-success, p-fit-fail, DerivesAll, ps-nil, ps-cons, initialTree, initialFields, initialTrees}
+use Rattle.theory.specs.Lists.{false-is-not-true, both-left, both-right, both-true}
+use Rattle.theory.specs.Alls.{all-append, all-map, all-to-map, all-each}
+use Rattle.theory.specs.PlainTyping.{WellPlain}
+use Rattle.theory.specs.HeapValues.{env-nil, scoped-body}
+use Rattle.theory.specs.Simulated.{Enough}
+use Rattle.theory.specs.Simulates.{estimate-sound, value-fits-type}
+use Rattle.theory.specs.AcceptedFiles.{AcceptedFile}
+
+-- ---- what is derived for an initial value
+module _ {P : File} where
+  mutual
+    unfolding isInitial initialTree
+
+    pub initial-tree : {N : TreeChannels} {E : Trees} {e : Expr} {v : Tree} → Derives P N E e v → isInitial e ≡ true → v ≡ initialTree e
+    initial-tree p-bool i = refl
+    initial-tree p-int i = refl
+    initial-tree (p-var e) i = false-is-not-true i
+    initial-tree (p-node e) i = false-is-not-true i
+    initial-tree (p-atlast e) i = false-is-not-true i
+    initial-tree (p-let p q) i = false-is-not-true i
+    initial-tree (p-if-then p q) i = false-is-not-true i
+    initial-tree (p-if-else p q) i = false-is-not-true i
+    initial-tree (p-op p q a b e) i = false-is-not-true i
+    initial-tree (p-call e p q) i = false-is-not-true i
+    initial-tree (p-ctor {t} {c} p e less within) i = ap (vcon t c) (initial-fields p i)
+    initial-tree (p-case p e q) i = false-is-not-true i
+    initial-tree (p-adj p) i = initial-tree p i
+    initial-tree (p-fit-success p le q) i = false-is-not-true i
+    initial-tree (p-fit-fail p less q) i = false-is-not-true i
+
+    initial-fields : {N : TreeChannels} {E : Trees} {es : Exprs} {vs : Trees} → DerivesAll P N E es vs → areInitial es ≡ true → vs ≡ initialFields es
+    initial-fields ps-nil i = refl
+    initial-fields (ps-cons p ps) i = rw (initial-tree p (both-left _ _ i), initial-fields ps (both-right _ _ i))
+
+-- ---- it fits: evaluated with just enough of everything, it has a value of its type
+module _ {P : File} (within : Within P) where
+  initial-fits : {n frame : ℕ} {S : Scope} {e : Expr} {τ : Ty} {x : Estimate} → Typing P (outside frame []) [] [] e τ x → WithinExpr n S e → isInitial e ≡ true → fits P (initialTree e) τ ≡ true
+  unfolding channelsAt
+  initial-fits {τ} {x} typed limited form =
+      let scoped = scoped-body {P = P} {h = []} env-nil in
+      let enough : Enough x (x .stack) (x .env) (x .heap) [] = omega arith in
+      subst (λ v. fits P v τ ≡ true) (initial-tree (estimate-sound within (x .heap) typed limited {u = x .stack} {s = x .env} scoped enough .is .derives) form)
+      (value-fits-type within (x .heap) typed limited {u = x .stack} {s = x .env} scoped enough)
+
+  initials-fit : {c : ℕ} {S : Scope} {es : List Expr} {τs : List Ty} → Initials P c es τs → All (WithinExpr nestingMost S) es → All (λ e. isInitial e ≡ true) es → treesFit P (map initialTree es) τs ≡ true
+  unfolding treesFit
+  initials-fit c-none all-nil all-nil = refl
+  initials-fit (c-init typed rest) (all-cons w ws) (all-cons i is) = both-true (initial-fits typed w i) (initials-fit rest ws is)
+
+-- ---- the initial values of a file
+abbrev initialScope : File → Scope
+initialScope P = outerScope (P .types) (P .functions) 0 0
+
+nodes-within : {P : File} {earlier : ℕ} {ns : List Node} → WithinNodes P earlier ns → All (WithinExpr nestingMost (initialScope P)) (map (λ (n : Node). n .initial) ns)
+nodes-within wn-nil = all-nil
+nodes-within (wn-cons w ws) = all-cons (w .initial) (nodes-within ws)
+
+initials-within : {P : File} → Within P → All (WithinExpr nestingMost (initialScope P)) (initialValues P)
+initials-within within = all-append (all-to-map (λ (i : Input). i .initial) (all-map (λ i w. w .initial) (within .inputs))) (nodes-within (within .nodes))
+
+initials-formed : {P : File} → WellPlain P → All (λ e. isInitial e ≡ true) (initialValues P)
+initials-formed {P} plain = all-append
+    (all-to-map (λ (i : Input). i .initial) (all-each (P .inputs) (λ i I at. plain .inputs i I at .form)))
+    (all-to-map (λ (n : Node). n .initial) (all-each (P .nodes) (λ n M at. plain .nodes n M at .initial .form)))
+
+pub initial-trees-fit : {t : List ℕ} {P : File} {x : Estimate} → AcceptedFile t P x → treesFit P (initialTrees P) (declaredTypes P) ≡ true
+initial-trees-fit a = initials-fit (a .within) (a .derived .initials) (initials-within (a .within)) (initials-formed (a .plain))
