@@ -1,0 +1,15 @@
+pub mod Tables
+pub mod Padded
+pub mod Entries
+pub mod Enters
+pub mod ParserLaws
+pub mod EnterLaws
+pub mod ClearLaws
+pub mod CountLaws
+pub mod FreeLaws
+pub mod TypeEntry
+pub mod FunctionEntry
+pub mod PassLaws
+pub mod TypeTable
+pub mod FunctionTable
+pub mod FrameTable

@@ -1,0 +1,4 @@
+pub mod Follows
+pub mod ExprLaws
+pub mod FormLaws
+pub mod CaseLaws
