@@ -1,6 +1,6 @@
 -- The table of functions: parameters and places read are one entry more, and what the table says of each function's parameters.
 use Prim.Native.Nat.{ℕ, zero, suc, _+_, _*_, _≤_, _<_}
-use mathlib.Core.List.{List, [], _∷_, _++_, map, append-assoc}
+use mathlib.Core.List.{List, [], _∷_, _++_, map, append-assoc, append-nil}
 use mathlib.Core.Path.{_≡_, refl, sym, ap, _∙_}
 use native.Mathlib.Nat.{add-zero}
 use native.Mathlib.Omega.{arith}
@@ -13,8 +13,11 @@ use Rattle.language.specs.Layout.{padded}
 use Rattle.language.specs.Parser.{got, counted}
 use Rattle.language.specs.ReadExpr.{plain}
 use Rattle.language.specs.Within.{WithinFunctions, wf-nil, wf-cons}
+use Rattle.text.specs.declared.Cursor.{Cursor}
 use Rattle.text.specs.declared.Step.{Step}
+use Rattle.text.specs.declared.Step.the-variants.{Next}
 use Rattle.text.specs.Bytes.{bytesFrom, plainWord}
+use Rattle.text.specs.StepLaws.{pass-got}
 use Rattle.index.specs.Tables.{functionWords, functionEntry, functionTable, resultPlace, conditionsPlace, measurePlace, bodyPlace}
 use Rattle.index.specs.Padded.{padded-length, padded-none, padded-at}
 use Rattle.index.specs.Entries.{spell-length, spell-more, table-so-far}
@@ -116,3 +119,24 @@ tells-parameters {functions} n Fs more f none tb room h few = record {
 
     word : (j : ℕ) → j < functionWords → getD functions (functionWords * f + j) 0 ≡ getD (parametersEntry (F .parameters) ++ placesOf F) j 0
     word j k = ap (λ l. getD l (functionWords * f + j) 0) tb ∙ table-so-far functionWords functionEntry function-wide n Fs more f j none room h k ∙ ap (λ l. getD l j 0) (function-parts F)
+
+-- ---- the parameters of the next function: read, written, and told by the table
+pub record ParametersRead (types : ℕ) (Fs : List Function) (f : ℕ) (bs rest functions : List ℕ) : Type 0 where
+  pub list : List Plain
+  pub read : counted 0 parametersMost (plain types) bs ≡ got list rest
+  pub table : functions ≡ padded (functionsMost * functionWords) (spellAll functionEntry Fs ++ parametersEntry list)
+  pub tells : TellsParameters functions f list
+
+pub parameters-read : {line functions functions′ : List ℕ} {at f : ℕ} {r : Step} {c : Cursor} (types : ℕ) (Fs : List Function) → Enters parametersEntry line at (functionWords * f) functions r functions′ (counted 0 parametersMost (plain types) (bytesFrom line at)) →
+    length Fs ≡ f → f < functionsMost → functions ≡ functionTable Fs → r ≡ Next c → ParametersRead types Fs f (bytesFrom line at) (bytesFrom line (c .at)) functions′
+parameters-read {f} types Fs v len few tb e =
+    let n = functionsMost * functionWords in
+    let g = pass-got (v .passes) e in
+    let table = parameters-added types Fs v len few tb (g .is) in
+    let begun = table ∙ ap (λ l. padded n (spellAll functionEntry Fs ++ l)) (sym (append-nil (parametersEntry (g .value)))) in
+    record {
+      list = g .value;
+      read = g .is;
+      table = table;
+      tells = tells-begun n (spellAll functionEntry Fs) (g .value) [] begun (omega (arith, spell-length functionWords functionEntry function-wide Fs)) (omega arith) (read-few-parameters types _ (g .is));
+    }

@@ -11,12 +11,15 @@ use Rattle.language.specs.Limits.{typesMost, constructorsMost, fieldsMost}
 use Rattle.language.specs.Syntax.{TypeDef, owns, selfFree, File}
 use Rattle.language.specs.Format.{spellAll}
 use Rattle.language.specs.Layout.{padded}
-use Rattle.language.specs.Parser.{got, count, counted}
+use Rattle.language.specs.Parser.{got, bad, count, counted}
 use Rattle.language.specs.ReadExpr.{field}
 use Rattle.language.specs.Reader.{typeDef}
 use Rattle.language.specs.Within.{All, all-nil, all-cons, WithinConstructor, WithinType, WithinTypes, wt-nil, wt-cons}
+use Rattle.text.specs.declared.Cursor.{Cursor}
 use Rattle.text.specs.declared.Step.{Step}
+use Rattle.text.specs.declared.Step.the-variants.{Next, Stop}
 use Rattle.text.specs.Bytes.{bytesFrom}
+use Rattle.text.specs.StepLaws.{pass-got, pass-bad}
 use Rattle.index.specs.Tables.{constructorWords, typeWords, constructorEntry, typeEntry, typeTable}
 use Rattle.index.specs.Padded.{padded-length, padded-none}
 use Rattle.index.specs.Entries.{spell-length, spell-more, table-at}
@@ -106,3 +109,22 @@ tells-last {types} ds d {t} tb len few s =
 -- whether it is free of itself
 pub self-free-told : {types : List ℕ} (ds : List TypeDef) (d : TypeDef) {t : ℕ} {r : Bool} → SelfFree types t r → types ≡ typeTable (ds ++ (d ∷ [])) → length ds ≡ t → t < typesMost → FewParts d → r ≡ selfFree d
 self-free-told ds d v tb len few s = v .says d (tells-last ds d tb len few s)
+
+-- ---- a type frame behind its kind, with the types of the file so far: the type read, and the table with it
+pub record TypeRead (P : File) (bs rest types : List ℕ) : Type 0 where
+  pub def : TypeDef
+  pub read : typeDef P bs ≡ got def rest
+  pub few : FewParts def
+  pub table : types ≡ typeTable (P .types ++ (def ∷ []))
+
+module _ {line types types′ : List ℕ} {at t : ℕ} {r : Step} (P : File) (size : length (P .types) ≡ t) (v : Enters typeEntry line at (typeWords * t) types r types′ (typeBehind t (bytesFrom line at))) where
+  type-def-is : typeDef P (bytesFrom line at) ≡ typeBehind t (bytesFrom line at)
+  type-def-is = type-def-behind P (bytesFrom line at) ∙ ap (λ n. typeBehind n (bytesFrom line at)) size
+
+  pub type-read : {c : Cursor} → t < typesMost → types ≡ typeTable (P .types) → r ≡ Next c → TypeRead P (bytesFrom line at) (bytesFrom line (c .at)) types′
+  type-read few tb e =
+      let g = pass-got (v .passes) e in
+      record { def = g .value; read = type-def-is ∙ g .is; few = read-few t _ (g .is); table = type-added (P .types) v size few tb (g .is) }
+
+  pub type-refused : {n : ℕ} → r ≡ Stop n → typeDef P (bytesFrom line at) ≡ bad n
+  type-refused e = type-def-is ∙ pass-bad (v .passes) e
