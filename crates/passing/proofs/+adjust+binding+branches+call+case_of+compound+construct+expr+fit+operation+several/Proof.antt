@@ -1,3 +1,5 @@
+-- The cycle of functions that pass over an expression meets its contracts: each need is answered by a law of ExprLaws, FormLaws or
+-- CaseLaws; the measure is levels left, then the place in the cycle.
 use Prim.Native.Nat.{ℕ, _<_, _+_, _*_, _-_}
 use mathlib.Core.Path.{sym, _∙_}
 use native.Mathlib.Omega.{arith}
@@ -165,7 +167,6 @@ several-at t = and 3 several-kinds.ps (is 3 several-kinds.ps μ-several t) sever
 abbrev several-below : ℕ → In 3 several-kinds.ps
 several-below t = and 3 several-kinds.ps (falls 3 several-kinds.ps _<_ μ-several t) several.Pre
 
--- src/lib.rt:248:9
 adjust-size-requires : (t : ℕ) → adjust-lts.Need-size-requires (
   size-reads.Asked,
   size-reads.Learnt,
@@ -174,7 +175,6 @@ adjust-size-requires : (t : ℕ) → adjust-lts.Need-size-requires (
 ) (adjust-at t) adjust.Post
 adjust-size-requires t c κs = tt
 
--- src/lib.rt:249:20
 adjust-enum-known-x : (t : ℕ) → adjust-lts.Need-enum-known-x (
   size-reads.Asked,
   size-reads.Learnt,
@@ -183,7 +183,6 @@ adjust-enum-known-x : (t : ℕ) → adjust-lts.Need-enum-known-x (
 ) (adjust-at t) adjust.Post
 adjust-enum-known-x t c = (c .match .keys1)
 
--- src/lib.rt:250:9
 adjust-enum-told : (t : ℕ) → adjust-lts.Need-enum-told (
   size-reads.Asked,
   size-reads.Learnt,
@@ -192,7 +191,6 @@ adjust-enum-told : (t : ℕ) → adjust-lts.Need-enum-told (
 ) (adjust-at t) adjust.Post
 adjust-enum-told t c = (c .match .keys2)
 
--- src/lib.rt:250:9
 adjust-returns : (t : ℕ) → adjust-lts.Need-returns (
   size-reads.Asked,
   size-reads.Learnt,
@@ -201,7 +199,6 @@ adjust-returns : (t : ℕ) → adjust-lts.Need-returns (
 ) (adjust-at t) adjust.Post
 adjust-returns t c = adjust-stops _ _ _ _ _ _ (c .before .before .size .ensures) (c .enum-told .given .1)
 
--- src/lib.rt:252:5
 adjust-expr-requires : (t : ℕ) → adjust-lts.Need-expr-requires (
   size-reads.Asked,
   size-reads.Learnt,
@@ -210,7 +207,6 @@ adjust-expr-requires : (t : ℕ) → adjust-lts.Need-expr-requires (
 ) (adjust-at t) adjust.Post
 adjust-expr-requires t c κs = (omega (arith, (c .before .before .before .before .before .before .before .pre .0)), tt)
 
--- src/lib.rt:244:1
 adjust-returns-2 : (t : ℕ) → adjust-lts.Need-returns-2 (
   size-reads.Asked,
   size-reads.Learnt,
@@ -219,7 +215,6 @@ adjust-returns-2 : (t : ℕ) → adjust-lts.Need-returns-2 (
 ) (adjust-at t) adjust.Post
 adjust-returns-2 t c = adjust-done _ _ _ _ _ _ (c .before .before .before .before .size .ensures) (c .before .before .x .given .1) (c .expr .ensures)
 
--- src/lib.rt:144:9
 binding-expr-requires : (t : ℕ) → binding-lts.Need-expr-requires (
   expr-below t,
   expr.Post,
@@ -228,7 +223,6 @@ binding-expr-requires : (t : ℕ) → binding-lts.Need-expr-requires (
 ) (binding-at t) binding.Post
 binding-expr-requires t c κs = (omega (arith, (c .before .before .before .pre .0)), tt)
 
--- src/lib.rt:145:20
 binding-enum-known-x : (t : ℕ) → binding-lts.Need-enum-known-x (
   expr-below t,
   expr.Post,
@@ -237,7 +231,6 @@ binding-enum-known-x : (t : ℕ) → binding-lts.Need-enum-known-x (
 ) (binding-at t) binding.Post
 binding-enum-known-x t c = (c .match .keys1)
 
--- src/lib.rt:146:9
 binding-enum-told : (t : ℕ) → binding-lts.Need-enum-told (
   expr-below t,
   expr.Post,
@@ -246,7 +239,6 @@ binding-enum-told : (t : ℕ) → binding-lts.Need-enum-told (
 ) (binding-at t) binding.Post
 binding-enum-told t c = (c .match .keys2)
 
--- src/lib.rt:146:9
 binding-returns : (t : ℕ) → binding-lts.Need-returns (
   expr-below t,
   expr.Post,
@@ -255,7 +247,6 @@ binding-returns : (t : ℕ) → binding-lts.Need-returns (
 ) (binding-at t) binding.Post
 binding-returns t c = binding-stops _ _ _ _ _ _ (c .before .before .expr .ensures) (c .enum-told .given .1)
 
--- src/lib.rt:148:9
 binding-wider-requires : (t : ℕ) → binding-lts.Need-wider-requires (
   expr-below t,
   expr.Post,
@@ -264,7 +255,6 @@ binding-wider-requires : (t : ℕ) → binding-lts.Need-wider-requires (
 ) (binding-at t) binding.Post
 binding-wider-requires t c κs = ((c .before .before .before .before .before .before .before .pre .1), (omega arith, omega arith))
 
--- src/lib.rt:149:5
 binding-expr-requires-2 : (t : ℕ) → binding-lts.Need-expr-requires-2 (
   expr-below t,
   expr.Post,
@@ -273,7 +263,6 @@ binding-expr-requires-2 : (t : ℕ) → binding-lts.Need-expr-requires-2 (
 ) (binding-at t) binding.Post
 binding-expr-requires-2 t c κs = (omega (arith, (c .before .before .before .before .before .before .before .before .pre .0)), tt)
 
--- src/lib.rt:140:1
 binding-returns-2 : (t : ℕ) → binding-lts.Need-returns-2 (
   expr-below t,
   expr.Post,
@@ -282,7 +271,6 @@ binding-returns-2 : (t : ℕ) → binding-lts.Need-returns-2 (
 ) (binding-at t) binding.Post
 binding-returns-2 t c = binding-done _ _ _ _ _ _ (c .before .before .before .before .before .expr .ensures) (c .before .before .before .x .given .1) (c .before .wider .ensures) (c .expr2 .ensures)
 
--- src/lib.rt:229:9
 branches-constructors-requires : (t : ℕ) → branches-lts.Need-constructors-requires (
   constructors-reads.Asked,
   constructors-reads.Learnt,
@@ -299,7 +287,6 @@ branches-constructors-requires : (t : ℕ) → branches-lts.Need-constructors-re
 ) (branches-at t) branches.Post
 branches-constructors-requires t c κs = tt
 
--- src/lib.rt:231:9
 branches-returns : (t : ℕ) → branches-lts.Need-returns (
   constructors-reads.Asked,
   constructors-reads.Learnt,
@@ -316,7 +303,6 @@ branches-returns : (t : ℕ) → branches-lts.Need-returns (
 ) (branches-at t) branches.Post
 branches-returns t c = branches-none _ _ _ _ _ _ _ _ (c .before .constructors .ensures) (c .before .before .before .before .before .pre .1 .1 .0) (c .if1 .taken)
 
--- src/lib.rt:233:9
 branches-fields-requires : (t : ℕ) → branches-lts.Need-fields-requires (
   constructors-reads.Asked,
   constructors-reads.Learnt,
@@ -333,7 +319,6 @@ branches-fields-requires : (t : ℕ) → branches-lts.Need-fields-requires (
 ) (branches-at t) branches.Post
 branches-fields-requires t c κs = tt
 
--- src/lib.rt:234:9
 branches-own-fields-requires : (t : ℕ) → branches-lts.Need-own-fields-requires (
   constructors-reads.Asked,
   constructors-reads.Learnt,
@@ -350,7 +335,6 @@ branches-own-fields-requires : (t : ℕ) → branches-lts.Need-own-fields-requir
 ) (branches-at t) branches.Post
 branches-own-fields-requires t c κs = tt
 
--- src/lib.rt:235:9
 branches-wider-requires : (t : ℕ) → branches-lts.Need-wider-requires (
   constructors-reads.Asked,
   constructors-reads.Learnt,
@@ -367,7 +351,6 @@ branches-wider-requires : (t : ℕ) → branches-lts.Need-wider-requires (
 ) (branches-at t) branches.Post
 branches-wider-requires t c κs = ((c .before .before .before .before .before .before .before .pre .1 .0), ((c .before .fields .ensures .1), (c .own-fields .ensures .1)))
 
--- src/lib.rt:236:9
 branches-expr-requires : (t : ℕ) → branches-lts.Need-expr-requires (
   constructors-reads.Asked,
   constructors-reads.Learnt,
@@ -384,7 +367,6 @@ branches-expr-requires : (t : ℕ) → branches-lts.Need-expr-requires (
 ) (branches-at t) branches.Post
 branches-expr-requires t c κs = (omega (arith, (c .before .before .before .before .before .before .before .before .pre .0)), tt)
 
--- src/lib.rt:237:20
 branches-enum-known-x : (t : ℕ) → branches-lts.Need-enum-known-x (
   constructors-reads.Asked,
   constructors-reads.Learnt,
@@ -401,7 +383,6 @@ branches-enum-known-x : (t : ℕ) → branches-lts.Need-enum-known-x (
 ) (branches-at t) branches.Post
 branches-enum-known-x t c = (c .match .keys1)
 
--- src/lib.rt:238:9
 branches-enum-told : (t : ℕ) → branches-lts.Need-enum-told (
   constructors-reads.Asked,
   constructors-reads.Learnt,
@@ -418,7 +399,6 @@ branches-enum-told : (t : ℕ) → branches-lts.Need-enum-told (
 ) (branches-at t) branches.Post
 branches-enum-told t c = (c .match .keys2)
 
--- src/lib.rt:238:9
 branches-returns-2 : (t : ℕ) → branches-lts.Need-returns-2 (
   constructors-reads.Asked,
   constructors-reads.Learnt,
@@ -435,7 +415,6 @@ branches-returns-2 : (t : ℕ) → branches-lts.Need-returns-2 (
 ) (branches-at t) branches.Post
 branches-returns-2 t c = branches-stop _ _ _ _ _ _ _ _ (c .before .before .before .before .before .before .before .constructors .ensures) (c .before .before .before .before .before .before .before .before .before .before .before .pre .1 .1 .0) (c .before .before .before .before .before .before .if1 .left) (c .before .before .before .before .before .fields .ensures) (c .before .before .before .before .own-fields .ensures) (c .before .before .before .wider .ensures) (c .before .before .expr .ensures) (c .enum-told .given .1)
 
--- src/lib.rt:240:58
 branches-add-branches : (t : ℕ) → branches-lts.Need-add-branches (
   constructors-reads.Asked,
   constructors-reads.Learnt,
@@ -452,7 +431,6 @@ branches-add-branches : (t : ℕ) → branches-lts.Need-add-branches (
 ) (branches-at t) branches.Post
 branches-add-branches t c = omega (arith, (c .before .before .before .before .before .before .before .before .constructors .ensures .1), (c .before .before .before .before .before .before .before .if1 .left))
 
--- src/lib.rt:240:5
 branches-branches-requires : (t : ℕ) → branches-lts.Need-branches-requires (
   constructors-reads.Asked,
   constructors-reads.Learnt,
@@ -469,7 +447,6 @@ branches-branches-requires : (t : ℕ) → branches-lts.Need-branches-requires (
 ) (branches-at t) branches.Post
 branches-branches-requires t c κs = (omega (arith, (c .before .before .before .before .before .before .before .before .before .before .before .before .pre .0), (c .before .before .before .before .before .before .before .before .constructors .ensures .1), (c .before .before .before .before .before .before .before .if1 .left)), ((c .before .before .before .before .before .before .before .before .before .before .before .before .pre .1 .0), ((c .before .before .before .before .before .before .before .before .before .before .before .before .pre .1 .1 .0), omega (arith, (c .before .before .before .before .before .before .before .before .constructors .ensures .1), (c .before .before .before .before .before .before .before .if1 .left)))))
 
--- src/lib.rt:224:1
 branches-returns-3 : (t : ℕ) → branches-lts.Need-returns-3 (
   constructors-reads.Asked,
   constructors-reads.Learnt,
@@ -486,7 +463,6 @@ branches-returns-3 : (t : ℕ) → branches-lts.Need-returns-3 (
 ) (branches-at t) branches.Post
 branches-returns-3 t c = branches-done _ _ _ _ _ _ _ _ (c .before .before .before .before .before .before .before .before .before .constructors .ensures) (c .before .before .before .before .before .before .before .before .before .before .before .before .before .pre .1 .1 .0) (c .before .before .before .before .before .before .before .before .if1 .left) (c .before .before .before .before .before .before .before .fields .ensures) (c .before .before .before .before .before .before .own-fields .ensures) (c .before .before .before .before .before .wider .ensures) (c .before .before .before .before .expr .ensures) (c .before .before .x .given .1) (c .branches .ensures)
 
--- src/lib.rt:169:9
 call-index-requires : (t : ℕ) → call-lts.Need-index-requires (
   index-reads.Asked,
   index-reads.Learnt,
@@ -499,7 +475,6 @@ call-index-requires : (t : ℕ) → call-lts.Need-index-requires (
 ) (call-at t) call.Post
 call-index-requires t c κs = tt
 
--- src/lib.rt:170:20
 call-enum-known-x : (t : ℕ) → call-lts.Need-enum-known-x (
   index-reads.Asked,
   index-reads.Learnt,
@@ -512,7 +487,6 @@ call-enum-known-x : (t : ℕ) → call-lts.Need-enum-known-x (
 ) (call-at t) call.Post
 call-enum-known-x t c = (c .match .keys1)
 
--- src/lib.rt:171:9
 call-enum-told : (t : ℕ) → call-lts.Need-enum-told (
   index-reads.Asked,
   index-reads.Learnt,
@@ -525,7 +499,6 @@ call-enum-told : (t : ℕ) → call-lts.Need-enum-told (
 ) (call-at t) call.Post
 call-enum-told t c = (c .match .keys2)
 
--- src/lib.rt:171:9
 call-step-of-requires : (t : ℕ) → call-lts.Need-step-of-requires (
   index-reads.Asked,
   index-reads.Learnt,
@@ -538,7 +511,6 @@ call-step-of-requires : (t : ℕ) → call-lts.Need-step-of-requires (
 ) (call-at t) call.Post
 call-step-of-requires t c κs = tt
 
--- src/lib.rt:171:9
 call-returns : (t : ℕ) → call-lts.Need-returns (
   index-reads.Asked,
   index-reads.Learnt,
@@ -551,7 +523,6 @@ call-returns : (t : ℕ) → call-lts.Need-returns (
 ) (call-at t) call.Post
 call-returns t c = call-stops _ _ _ _ _ _ (c .before .before .before .index .ensures) (c .before .enum-told .given .1) (c .step-of .ensures)
 
--- src/lib.rt:173:9
 call-arity-requires : (t : ℕ) → call-lts.Need-arity-requires (
   index-reads.Asked,
   index-reads.Learnt,
@@ -564,7 +535,6 @@ call-arity-requires : (t : ℕ) → call-lts.Need-arity-requires (
 ) (call-at t) call.Post
 call-arity-requires t c κs = tt
 
--- src/lib.rt:175:5
 call-several-requires : (t : ℕ) → call-lts.Need-several-requires (
   index-reads.Asked,
   index-reads.Learnt,
@@ -577,7 +547,6 @@ call-several-requires : (t : ℕ) → call-lts.Need-several-requires (
 ) (call-at t) call.Post
 call-several-requires t c κs = (omega (arith, (c .before .before .before .before .before .before .before .before .before .pre .0), (c .before .arity .ensures .1)), tt)
 
--- src/lib.rt:165:1
 call-returns-2 : (t : ℕ) → call-lts.Need-returns-2 (
   index-reads.Asked,
   index-reads.Learnt,
@@ -590,7 +559,6 @@ call-returns-2 : (t : ℕ) → call-lts.Need-returns-2 (
 ) (call-at t) call.Post
 call-returns-2 t c = call-done _ _ _ _ _ _ (c .before .before .before .before .before .before .index .ensures) (c .before .before .before .before .x .given .1) (c .before .before .arity .ensures) (c .several .ensures)
 
--- src/lib.rt:206:9
 case-of-index-requires : (t : ℕ) → case-of-lts.Need-index-requires (
   index-reads.Asked,
   index-reads.Learnt,
@@ -605,7 +573,6 @@ case-of-index-requires : (t : ℕ) → case-of-lts.Need-index-requires (
 ) (case-of-at t) case-of.Post
 case-of-index-requires t c κs = tt
 
--- src/lib.rt:207:20
 case-of-enum-known-x : (t : ℕ) → case-of-lts.Need-enum-known-x (
   index-reads.Asked,
   index-reads.Learnt,
@@ -620,7 +587,6 @@ case-of-enum-known-x : (t : ℕ) → case-of-lts.Need-enum-known-x (
 ) (case-of-at t) case-of.Post
 case-of-enum-known-x t c = (c .match .keys1)
 
--- src/lib.rt:208:9
 case-of-enum-told : (t : ℕ) → case-of-lts.Need-enum-told (
   index-reads.Asked,
   index-reads.Learnt,
@@ -635,7 +601,6 @@ case-of-enum-told : (t : ℕ) → case-of-lts.Need-enum-told (
 ) (case-of-at t) case-of.Post
 case-of-enum-told t c = (c .match .keys2)
 
--- src/lib.rt:208:9
 case-of-step-of-requires : (t : ℕ) → case-of-lts.Need-step-of-requires (
   index-reads.Asked,
   index-reads.Learnt,
@@ -650,7 +615,6 @@ case-of-step-of-requires : (t : ℕ) → case-of-lts.Need-step-of-requires (
 ) (case-of-at t) case-of.Post
 case-of-step-of-requires t c κs = tt
 
--- src/lib.rt:208:9
 case-of-returns : (t : ℕ) → case-of-lts.Need-returns (
   index-reads.Asked,
   index-reads.Learnt,
@@ -665,7 +629,6 @@ case-of-returns : (t : ℕ) → case-of-lts.Need-returns (
 ) (case-of-at t) case-of.Post
 case-of-returns t c = case-stops _ _ _ _ _ _ (c .before .before .before .index .ensures) (c .before .enum-told .given .1) (c .step-of .ensures)
 
--- src/lib.rt:212:9
 case-of-expr-requires : (t : ℕ) → case-of-lts.Need-expr-requires (
   index-reads.Asked,
   index-reads.Learnt,
@@ -680,7 +643,6 @@ case-of-expr-requires : (t : ℕ) → case-of-lts.Need-expr-requires (
 ) (case-of-at t) case-of.Post
 case-of-expr-requires t c κs = (omega (arith, (c .before .before .before .before .before .before .before .before .pre .0)), tt)
 
--- src/lib.rt:213:20
 case-of-enum-known-y : (t : ℕ) → case-of-lts.Need-enum-known-y (
   index-reads.Asked,
   index-reads.Learnt,
@@ -695,7 +657,6 @@ case-of-enum-known-y : (t : ℕ) → case-of-lts.Need-enum-known-y (
 ) (case-of-at t) case-of.Post
 case-of-enum-known-y t c = (c .match2 .keys1)
 
--- src/lib.rt:214:9
 case-of-enum-told-2 : (t : ℕ) → case-of-lts.Need-enum-told-2 (
   index-reads.Asked,
   index-reads.Learnt,
@@ -710,7 +671,6 @@ case-of-enum-told-2 : (t : ℕ) → case-of-lts.Need-enum-told-2 (
 ) (case-of-at t) case-of.Post
 case-of-enum-told-2 t c = (c .match2 .keys2)
 
--- src/lib.rt:214:9
 case-of-returns-2 : (t : ℕ) → case-of-lts.Need-returns-2 (
   index-reads.Asked,
   index-reads.Learnt,
@@ -725,7 +685,6 @@ case-of-returns-2 : (t : ℕ) → case-of-lts.Need-returns-2 (
 ) (case-of-at t) case-of.Post
 case-of-returns-2 t c = case-subject _ _ _ _ _ _ (c .before .before .before .before .before .before .before .index .ensures) (c .before .before .before .before .before .x .given .1) (c .before .before .expr .ensures) (c .enum-told2 .given .1)
 
--- src/lib.rt:216:9
 case-of-result-requires : (t : ℕ) → case-of-lts.Need-result-requires (
   index-reads.Asked,
   index-reads.Learnt,
@@ -740,7 +699,6 @@ case-of-result-requires : (t : ℕ) → case-of-lts.Need-result-requires (
 ) (case-of-at t) case-of.Post
 case-of-result-requires t c κs = tt
 
--- src/lib.rt:217:20
 case-of-enum-known-z : (t : ℕ) → case-of-lts.Need-enum-known-z (
   index-reads.Asked,
   index-reads.Learnt,
@@ -755,7 +713,6 @@ case-of-enum-known-z : (t : ℕ) → case-of-lts.Need-enum-known-z (
 ) (case-of-at t) case-of.Post
 case-of-enum-known-z t c = (c .match3 .keys1)
 
--- src/lib.rt:218:9
 case-of-enum-told-3 : (t : ℕ) → case-of-lts.Need-enum-told-3 (
   index-reads.Asked,
   index-reads.Learnt,
@@ -770,7 +727,6 @@ case-of-enum-told-3 : (t : ℕ) → case-of-lts.Need-enum-told-3 (
 ) (case-of-at t) case-of.Post
 case-of-enum-told-3 t c = (c .match3 .keys2)
 
--- src/lib.rt:218:9
 case-of-returns-3 : (t : ℕ) → case-of-lts.Need-returns-3 (
   index-reads.Asked,
   index-reads.Learnt,
@@ -785,7 +741,6 @@ case-of-returns-3 : (t : ℕ) → case-of-lts.Need-returns-3 (
 ) (case-of-at t) case-of.Post
 case-of-returns-3 t c = case-type _ _ _ _ _ _ (c .before .before .before .before .before .before .before .before .before .before .before .index .ensures) (c .before .before .before .before .before .before .before .before .before .x .given .1) (c .before .before .before .before .before .before .expr .ensures) (c .before .before .before .before .y .given .1) (c .before .before .result .ensures) (c .enum-told3 .given .1)
 
--- src/lib.rt:220:5
 case-of-branches-requires : (t : ℕ) → case-of-lts.Need-branches-requires (
   index-reads.Asked,
   index-reads.Learnt,
@@ -800,7 +755,6 @@ case-of-branches-requires : (t : ℕ) → case-of-lts.Need-branches-requires (
 ) (case-of-at t) case-of.Post
 case-of-branches-requires t c κs = (omega (arith, (c .before .before .before .before .before .before .before .before .before .before .before .before .before .before .before .before .pre .0)), ((c .before .before .before .before .before .before .before .before .before .before .before .before .before .before .before .before .pre .1), (index-less ((c .before .before .before .before .before .before .before .before .before .before .before .before .index .ensures) .0) (c .before .before .before .before .before .before .before .before .before .before .x .given .1), omega arith)))
 
--- src/lib.rt:200:1
 case-of-returns-4 : (t : ℕ) → case-of-lts.Need-returns-4 (
   index-reads.Asked,
   index-reads.Learnt,
@@ -815,7 +769,6 @@ case-of-returns-4 : (t : ℕ) → case-of-lts.Need-returns-4 (
 ) (case-of-at t) case-of.Post
 case-of-returns-4 t c = case-done _ _ _ _ _ _ (c .before .before .before .before .before .before .before .before .before .before .before .before .before .index .ensures) (c .before .before .before .before .before .before .before .before .before .before .before .x .given .1) (c .before .before .before .before .before .before .before .before .expr .ensures) (c .before .before .before .before .before .before .y .given .1) (c .before .before .before .before .result .ensures) (c .before .before .z .given .1) (c .branches .ensures)
 
--- src/lib.rt:102:9
 compound-binding-requires : (t : ℕ) → compound-lts.Need-binding-requires (
   binding-below t,
   binding.Post,
@@ -836,7 +789,6 @@ compound-binding-requires : (t : ℕ) → compound-lts.Need-binding-requires (
 ) (compound-at t) compound.Post
 compound-binding-requires t c κs = (omega (arith, (c .before .before .before .before .pre .0)), (c .before .before .before .before .pre .1 .0))
 
--- src/lib.rt:102:9
 compound-returns : (t : ℕ) → compound-lts.Need-returns (
   binding-below t,
   binding.Post,
@@ -857,7 +809,6 @@ compound-returns : (t : ℕ) → compound-lts.Need-returns (
 ) (compound-at t) compound.Post
 compound-returns t c = is-form _ _ _ _ _ _ _ 5 (c .before .if1 .taken) (c .binding .ensures)
 
--- src/lib.rt:105:9
 compound-several-requires : (t : ℕ) → compound-lts.Need-several-requires (
   binding-below t,
   binding.Post,
@@ -878,7 +829,6 @@ compound-several-requires : (t : ℕ) → compound-lts.Need-several-requires (
 ) (compound-at t) compound.Post
 compound-several-requires t c κs = (omega (arith, (c .before .before .before .before .before .pre .0)), tt)
 
--- src/lib.rt:105:9
 compound-returns-2 : (t : ℕ) → compound-lts.Need-returns-2 (
   binding-below t,
   binding.Post,
@@ -899,7 +849,6 @@ compound-returns-2 : (t : ℕ) → compound-lts.Need-returns-2 (
 ) (compound-at t) compound.Post
 compound-returns-2 t c = is-if _ _ _ _ _ _ _ (c .before .if2 .taken) (c .several .ensures)
 
--- src/lib.rt:108:9
 compound-operation-requires : (t : ℕ) → compound-lts.Need-operation-requires (
   binding-below t,
   binding.Post,
@@ -920,7 +869,6 @@ compound-operation-requires : (t : ℕ) → compound-lts.Need-operation-requires
 ) (compound-at t) compound.Post
 compound-operation-requires t c κs = (omega (arith, (c .before .before .before .before .before .before .pre .0)), tt)
 
--- src/lib.rt:108:9
 compound-returns-3 : (t : ℕ) → compound-lts.Need-returns-3 (
   binding-below t,
   binding.Post,
@@ -941,7 +889,6 @@ compound-returns-3 : (t : ℕ) → compound-lts.Need-returns-3 (
 ) (compound-at t) compound.Post
 compound-returns-3 t c = is-form _ _ _ _ _ _ _ 7 (c .before .if3 .taken) (c .operation .ensures)
 
--- src/lib.rt:111:9
 compound-call-requires : (t : ℕ) → compound-lts.Need-call-requires (
   binding-below t,
   binding.Post,
@@ -962,7 +909,6 @@ compound-call-requires : (t : ℕ) → compound-lts.Need-call-requires (
 ) (compound-at t) compound.Post
 compound-call-requires t c κs = (omega (arith, (c .before .before .before .before .before .before .before .pre .0)), tt)
 
--- src/lib.rt:111:9
 compound-returns-4 : (t : ℕ) → compound-lts.Need-returns-4 (
   binding-below t,
   binding.Post,
@@ -983,7 +929,6 @@ compound-returns-4 : (t : ℕ) → compound-lts.Need-returns-4 (
 ) (compound-at t) compound.Post
 compound-returns-4 t c = is-form _ _ _ _ _ _ _ 8 (c .before .if4 .taken) (c .call .ensures)
 
--- src/lib.rt:114:9
 compound-construct-requires : (t : ℕ) → compound-lts.Need-construct-requires (
   binding-below t,
   binding.Post,
@@ -1004,7 +949,6 @@ compound-construct-requires : (t : ℕ) → compound-lts.Need-construct-requires
 ) (compound-at t) compound.Post
 compound-construct-requires t c κs = (omega (arith, (c .before .before .before .before .before .before .before .before .pre .0)), tt)
 
--- src/lib.rt:114:9
 compound-returns-5 : (t : ℕ) → compound-lts.Need-returns-5 (
   binding-below t,
   binding.Post,
@@ -1025,7 +969,6 @@ compound-returns-5 : (t : ℕ) → compound-lts.Need-returns-5 (
 ) (compound-at t) compound.Post
 compound-returns-5 t c = is-form _ _ _ _ _ _ _ 9 (c .before .if5 .taken) (c .construct .ensures)
 
--- src/lib.rt:117:9
 compound-case-of-requires : (t : ℕ) → compound-lts.Need-case-of-requires (
   binding-below t,
   binding.Post,
@@ -1046,7 +989,6 @@ compound-case-of-requires : (t : ℕ) → compound-lts.Need-case-of-requires (
 ) (compound-at t) compound.Post
 compound-case-of-requires t c κs = (omega (arith, (c .before .before .before .before .before .before .before .before .before .pre .0)), (c .before .before .before .before .before .before .before .before .before .pre .1 .0))
 
--- src/lib.rt:117:9
 compound-returns-6 : (t : ℕ) → compound-lts.Need-returns-6 (
   binding-below t,
   binding.Post,
@@ -1067,7 +1009,6 @@ compound-returns-6 : (t : ℕ) → compound-lts.Need-returns-6 (
 ) (compound-at t) compound.Post
 compound-returns-6 t c = is-form _ _ _ _ _ _ _ 10 (c .before .if6 .taken) (c .case-of .ensures)
 
--- src/lib.rt:120:9
 compound-adjust-requires : (t : ℕ) → compound-lts.Need-adjust-requires (
   binding-below t,
   binding.Post,
@@ -1088,7 +1029,6 @@ compound-adjust-requires : (t : ℕ) → compound-lts.Need-adjust-requires (
 ) (compound-at t) compound.Post
 compound-adjust-requires t c κs = (omega (arith, (c .before .before .before .before .before .before .before .before .before .before .pre .0)), tt)
 
--- src/lib.rt:120:9
 compound-returns-7 : (t : ℕ) → compound-lts.Need-returns-7 (
   binding-below t,
   binding.Post,
@@ -1109,7 +1049,6 @@ compound-returns-7 : (t : ℕ) → compound-lts.Need-returns-7 (
 ) (compound-at t) compound.Post
 compound-returns-7 t c = is-form _ _ _ _ _ _ _ 11 (c .before .if7 .taken) (c .adjust .ensures)
 
--- src/lib.rt:122:5
 compound-fit-requires : (t : ℕ) → compound-lts.Need-fit-requires (
   binding-below t,
   binding.Post,
@@ -1130,7 +1069,6 @@ compound-fit-requires : (t : ℕ) → compound-lts.Need-fit-requires (
 ) (compound-at t) compound.Post
 compound-fit-requires t c κs = (omega (arith, (c .before .before .before .before .before .before .before .before .before .before .pre .0)), (c .before .before .before .before .before .before .before .before .before .before .pre .1 .0))
 
--- src/lib.rt:96:1
 compound-returns-8 : (t : ℕ) → compound-lts.Need-returns-8 (
   binding-below t,
   binding.Post,
@@ -1151,7 +1089,6 @@ compound-returns-8 : (t : ℕ) → compound-lts.Need-returns-8 (
 ) (compound-at t) compound.Post
 compound-returns-8 t c = is-form _ _ _ _ _ _ _ 12 (last-form _ (c .before .before .before .before .before .before .before .before .before .before .before .pre .1 .1 .0) (c .before .before .before .before .before .before .before .before .before .before .before .pre .1 .1 .1) (c .before .before .before .before .before .before .before .if1 .left) (c .before .before .before .before .before .before .if2 .left) (c .before .before .before .before .before .if3 .left) (c .before .before .before .before .if4 .left) (c .before .before .before .if5 .left) (c .before .before .if6 .left) (c .before .if7 .left)) (c .fit .ensures)
 
--- src/lib.rt:183:9
 construct-index-requires : (t : ℕ) → construct-lts.Need-index-requires (
   index-reads.Asked,
   index-reads.Learnt,
@@ -1166,7 +1103,6 @@ construct-index-requires : (t : ℕ) → construct-lts.Need-index-requires (
 ) (construct-at t) construct.Post
 construct-index-requires t c κs = tt
 
--- src/lib.rt:184:20
 construct-enum-known-x : (t : ℕ) → construct-lts.Need-enum-known-x (
   index-reads.Asked,
   index-reads.Learnt,
@@ -1181,7 +1117,6 @@ construct-enum-known-x : (t : ℕ) → construct-lts.Need-enum-known-x (
 ) (construct-at t) construct.Post
 construct-enum-known-x t c = (c .match .keys1)
 
--- src/lib.rt:185:9
 construct-enum-told : (t : ℕ) → construct-lts.Need-enum-told (
   index-reads.Asked,
   index-reads.Learnt,
@@ -1196,7 +1131,6 @@ construct-enum-told : (t : ℕ) → construct-lts.Need-enum-told (
 ) (construct-at t) construct.Post
 construct-enum-told t c = (c .match .keys2)
 
--- src/lib.rt:185:9
 construct-step-of-requires : (t : ℕ) → construct-lts.Need-step-of-requires (
   index-reads.Asked,
   index-reads.Learnt,
@@ -1211,7 +1145,6 @@ construct-step-of-requires : (t : ℕ) → construct-lts.Need-step-of-requires (
 ) (construct-at t) construct.Post
 construct-step-of-requires t c κs = tt
 
--- src/lib.rt:185:9
 construct-returns : (t : ℕ) → construct-lts.Need-returns (
   index-reads.Asked,
   index-reads.Learnt,
@@ -1226,7 +1159,6 @@ construct-returns : (t : ℕ) → construct-lts.Need-returns (
 ) (construct-at t) construct.Post
 construct-returns t c = construct-stops _ _ _ _ _ _ (c .before .before .before .index .ensures) (c .before .enum-told .given .1) (c .step-of .ensures)
 
--- src/lib.rt:189:9
 construct-constructors-requires : (t : ℕ) → construct-lts.Need-constructors-requires (
   index-reads.Asked,
   index-reads.Learnt,
@@ -1241,7 +1173,6 @@ construct-constructors-requires : (t : ℕ) → construct-lts.Need-constructors-
 ) (construct-at t) construct.Post
 construct-constructors-requires t c κs = tt
 
--- src/lib.rt:190:9
 construct-index-requires-2 : (t : ℕ) → construct-lts.Need-index-requires-2 (
   index-reads.Asked,
   index-reads.Learnt,
@@ -1256,7 +1187,6 @@ construct-index-requires-2 : (t : ℕ) → construct-lts.Need-index-requires-2 (
 ) (construct-at t) construct.Post
 construct-index-requires-2 t c κs = tt
 
--- src/lib.rt:191:20
 construct-enum-known-y : (t : ℕ) → construct-lts.Need-enum-known-y (
   index-reads.Asked,
   index-reads.Learnt,
@@ -1271,7 +1201,6 @@ construct-enum-known-y : (t : ℕ) → construct-lts.Need-enum-known-y (
 ) (construct-at t) construct.Post
 construct-enum-known-y t c = (c .match2 .keys1)
 
--- src/lib.rt:192:9
 construct-enum-told-2 : (t : ℕ) → construct-lts.Need-enum-told-2 (
   index-reads.Asked,
   index-reads.Learnt,
@@ -1286,7 +1215,6 @@ construct-enum-told-2 : (t : ℕ) → construct-lts.Need-enum-told-2 (
 ) (construct-at t) construct.Post
 construct-enum-told-2 t c = (c .match2 .keys2)
 
--- src/lib.rt:192:9
 construct-step-of-requires-2 : (t : ℕ) → construct-lts.Need-step-of-requires-2 (
   index-reads.Asked,
   index-reads.Learnt,
@@ -1301,7 +1229,6 @@ construct-step-of-requires-2 : (t : ℕ) → construct-lts.Need-step-of-requires
 ) (construct-at t) construct.Post
 construct-step-of-requires-2 t c κs = tt
 
--- src/lib.rt:192:9
 construct-returns-2 : (t : ℕ) → construct-lts.Need-returns-2 (
   index-reads.Asked,
   index-reads.Learnt,
@@ -1316,7 +1243,6 @@ construct-returns-2 : (t : ℕ) → construct-lts.Need-returns-2 (
 ) (construct-at t) construct.Post
 construct-returns-2 t c = construct-none _ _ _ _ _ _ (c .before .before .before .before .before .before .before .before .before .index .ensures) (c .before .before .before .before .before .before .before .x .given .1) (c .before .before .before .before .constructors .ensures) (c .before .before .before .index2 .ensures) (c .before .enum-told2 .given .1) (c .step-of2 .ensures)
 
--- src/lib.rt:194:9
 construct-fields-requires : (t : ℕ) → construct-lts.Need-fields-requires (
   index-reads.Asked,
   index-reads.Learnt,
@@ -1331,7 +1257,6 @@ construct-fields-requires : (t : ℕ) → construct-lts.Need-fields-requires (
 ) (construct-at t) construct.Post
 construct-fields-requires t c κs = tt
 
--- src/lib.rt:196:5
 construct-several-requires : (t : ℕ) → construct-lts.Need-several-requires (
   index-reads.Asked,
   index-reads.Learnt,
@@ -1346,7 +1271,6 @@ construct-several-requires : (t : ℕ) → construct-lts.Need-several-requires (
 ) (construct-at t) construct.Post
 construct-several-requires t c κs = (omega (arith, (c .before .before .before .before .before .before .before .before .before .before .before .before .before .before .before .pre .0), (c .before .fields .ensures .1)), tt)
 
--- src/lib.rt:179:1
 construct-returns-3 : (t : ℕ) → construct-lts.Need-returns-3 (
   index-reads.Asked,
   index-reads.Learnt,
@@ -1361,7 +1285,6 @@ construct-returns-3 : (t : ℕ) → construct-lts.Need-returns-3 (
 ) (construct-at t) construct.Post
 construct-returns-3 t c = construct-done _ _ _ _ _ _ (c .before .before .before .before .before .before .before .before .before .before .before .before .index .ensures) (c .before .before .before .before .before .before .before .before .before .before .x .given .1) (c .before .before .before .before .before .before .before .constructors .ensures) (c .before .before .before .before .before .before .index2 .ensures) (c .before .before .before .before .y .given .1) (c .before .before .fields .ensures) (c .several .ensures)
 
--- src/lib.rt:80:9
 expr-roomy-requires : (t : ℕ) → expr-lts.Need-roomy-requires (
   roomy-reads.Asked,
   roomy-reads.Learnt,
@@ -1376,7 +1299,6 @@ expr-roomy-requires : (t : ℕ) → expr-lts.Need-roomy-requires (
 ) (expr-at t) expr.Post
 expr-roomy-requires t c κs = tt
 
--- src/lib.rt:81:24
 expr-code-in-requires : (t : ℕ) → expr-lts.Need-code-in-requires (
   roomy-reads.Asked,
   roomy-reads.Learnt,
@@ -1391,7 +1313,6 @@ expr-code-in-requires : (t : ℕ) → expr-lts.Need-code-in-requires (
 ) (expr-at t) expr.Post
 expr-code-in-requires t c κs = tt
 
--- src/lib.rt:81:9
 expr-step-of-requires : (t : ℕ) → expr-lts.Need-step-of-requires (
   roomy-reads.Asked,
   roomy-reads.Learnt,
@@ -1406,7 +1327,6 @@ expr-step-of-requires : (t : ℕ) → expr-lts.Need-step-of-requires (
 ) (expr-at t) expr.Post
 expr-step-of-requires t c κs = tt
 
--- src/lib.rt:81:9
 expr-returns : (t : ℕ) → expr-lts.Need-returns (
   roomy-reads.Asked,
   roomy-reads.Learnt,
@@ -1421,7 +1341,6 @@ expr-returns : (t : ℕ) → expr-lts.Need-returns (
 ) (expr-at t) expr.Post
 expr-returns t c = expr-narrow _ _ _ _ _ _ (sym (c .before .before .before .roomy .ensures) ∙ negated _ (c .before .before .if1 .taken)) (c .before .code-in .ensures) (c .step-of .ensures)
 
--- src/lib.rt:83:9
 expr-code-in-requires-2 : (t : ℕ) → expr-lts.Need-code-in-requires-2 (
   roomy-reads.Asked,
   roomy-reads.Learnt,
@@ -1436,7 +1355,6 @@ expr-code-in-requires-2 : (t : ℕ) → expr-lts.Need-code-in-requires-2 (
 ) (expr-at t) expr.Post
 expr-code-in-requires-2 t c κs = tt
 
--- src/lib.rt:84:20
 expr-enum-known-x : (t : ℕ) → expr-lts.Need-enum-known-x (
   roomy-reads.Asked,
   roomy-reads.Learnt,
@@ -1451,7 +1369,6 @@ expr-enum-known-x : (t : ℕ) → expr-lts.Need-enum-known-x (
 ) (expr-at t) expr.Post
 expr-enum-known-x t c = (c .match .keys1)
 
--- src/lib.rt:85:9
 expr-enum-told : (t : ℕ) → expr-lts.Need-enum-told (
   roomy-reads.Asked,
   roomy-reads.Learnt,
@@ -1466,7 +1383,6 @@ expr-enum-told : (t : ℕ) → expr-lts.Need-enum-told (
 ) (expr-at t) expr.Post
 expr-enum-told t c = (c .match .keys2)
 
--- src/lib.rt:85:9
 expr-step-of-requires-2 : (t : ℕ) → expr-lts.Need-step-of-requires-2 (
   roomy-reads.Asked,
   roomy-reads.Learnt,
@@ -1481,7 +1397,6 @@ expr-step-of-requires-2 : (t : ℕ) → expr-lts.Need-step-of-requires-2 (
 ) (expr-at t) expr.Post
 expr-step-of-requires-2 t c κs = tt
 
--- src/lib.rt:85:9
 expr-returns-2 : (t : ℕ) → expr-lts.Need-returns-2 (
   roomy-reads.Asked,
   roomy-reads.Learnt,
@@ -1496,7 +1411,6 @@ expr-returns-2 : (t : ℕ) → expr-lts.Need-returns-2 (
 ) (expr-at t) expr.Post
 expr-returns-2 t c = expr-stops _ _ _ _ _ _ (sym (c .before .before .before .before .before .roomy .ensures) ∙ affirmed _ (c .before .before .before .before .if1 .left)) (c .before .before .before .code-in2 .ensures) (c .before .enum-told .given .1) (c .step-of2 .ensures)
 
--- src/lib.rt:90:9
 expr-leaf-requires : (t : ℕ) → expr-lts.Need-leaf-requires (
   roomy-reads.Asked,
   roomy-reads.Learnt,
@@ -1511,7 +1425,6 @@ expr-leaf-requires : (t : ℕ) → expr-lts.Need-leaf-requires (
 ) (expr-at t) expr.Post
 expr-leaf-requires t c κs = (c .if2 .taken)
 
--- src/lib.rt:90:9
 expr-returns-3 : (t : ℕ) → expr-lts.Need-returns-3 (
   roomy-reads.Asked,
   roomy-reads.Learnt,
@@ -1526,7 +1439,6 @@ expr-returns-3 : (t : ℕ) → expr-lts.Need-returns-3 (
 ) (expr-at t) expr.Post
 expr-returns-3 t c = expr-leaf _ _ _ _ _ _ (sym (c .before .before .before .before .before .before .before .before .roomy .ensures) ∙ affirmed _ (c .before .before .before .before .before .before .before .if1 .left)) (c .before .before .before .before .before .before .code-in2 .ensures) (c .before .before .before .before .x .given .1) (c .before .if2 .taken) (c .leaf .ensures)
 
--- src/lib.rt:92:47
 expr-sub-compound : (t : ℕ) → expr-lts.Need-sub-compound (
   roomy-reads.Asked,
   roomy-reads.Learnt,
@@ -1541,7 +1453,6 @@ expr-sub-compound : (t : ℕ) → expr-lts.Need-sub-compound (
 ) (expr-at t) expr.Post
 expr-sub-compound t c = roomy-levels (c .before .before .before .before .before .before .before .before .before .before .before .args .s) (c .before .before .before .before .before .before .before .before .before .before .before .args .levels) (sym (c .before .before .before .before .before .before .before .roomy .ensures) ∙ affirmed _ (c .before .before .before .before .before .before .if1 .left))
 
--- src/lib.rt:92:5
 expr-compound-requires : (t : ℕ) → expr-lts.Need-compound-requires (
   roomy-reads.Asked,
   roomy-reads.Learnt,
@@ -1556,7 +1467,6 @@ expr-compound-requires : (t : ℕ) → expr-lts.Need-compound-requires (
 ) (expr-at t) expr.Post
 expr-compound-requires t c κs = (fewer-levels (c .before .before .before .before .before .before .before .before .before .before .before .pre .0) (roomy-levels (c .before .before .before .before .before .before .before .before .before .before .before .args .s) (c .before .before .before .before .before .before .before .before .before .before .before .args .levels) (sym (c .before .before .before .before .before .before .before .roomy .ensures) ∙ affirmed _ (c .before .before .before .before .before .before .if1 .left))), (roomy-names (c .before .before .before .before .before .before .before .before .before .before .before .args .s) (c .before .before .before .before .before .before .before .before .before .before .before .args .levels) (sym (c .before .before .before .before .before .before .before .roomy .ensures) ∙ affirmed _ (c .before .before .before .before .before .before .if1 .left)), ((c .if2 .left), form-less (c .before .before .before .before .before .code-in2 .ensures) (c .before .before .before .x .given .1))))
 
--- src/lib.rt:77:1
 expr-returns-4 : (t : ℕ) → expr-lts.Need-returns-4 (
   roomy-reads.Asked,
   roomy-reads.Learnt,
@@ -1571,7 +1481,6 @@ expr-returns-4 : (t : ℕ) → expr-lts.Need-returns-4 (
 ) (expr-at t) expr.Post
 expr-returns-4 t c = expr-compound _ _ _ _ _ _ (sym (c .before .before .before .before .before .before .before .before .roomy .ensures) ∙ affirmed _ (c .before .before .before .before .before .before .before .if1 .left)) (c .before .before .before .before .before .before .code-in2 .ensures) (c .before .before .before .before .x .given .1) (c .compound .ensures)
 
--- src/lib.rt:260:9
 fit-count-requires : (t : ℕ) → fit-lts.Need-count-requires (
   count-reads.Asked,
   count-reads.Learnt,
@@ -1584,7 +1493,6 @@ fit-count-requires : (t : ℕ) → fit-lts.Need-count-requires (
 ) (fit-at t) fit.Post
 fit-count-requires t c κs = tt
 
--- src/lib.rt:261:20
 fit-enum-known-x : (t : ℕ) → fit-lts.Need-enum-known-x (
   count-reads.Asked,
   count-reads.Learnt,
@@ -1597,7 +1505,6 @@ fit-enum-known-x : (t : ℕ) → fit-lts.Need-enum-known-x (
 ) (fit-at t) fit.Post
 fit-enum-known-x t c = (c .match .keys1)
 
--- src/lib.rt:262:9
 fit-enum-told : (t : ℕ) → fit-lts.Need-enum-told (
   count-reads.Asked,
   count-reads.Learnt,
@@ -1610,7 +1517,6 @@ fit-enum-told : (t : ℕ) → fit-lts.Need-enum-told (
 ) (fit-at t) fit.Post
 fit-enum-told t c = (c .match .keys2)
 
--- src/lib.rt:262:9
 fit-step-of-requires : (t : ℕ) → fit-lts.Need-step-of-requires (
   count-reads.Asked,
   count-reads.Learnt,
@@ -1623,7 +1529,6 @@ fit-step-of-requires : (t : ℕ) → fit-lts.Need-step-of-requires (
 ) (fit-at t) fit.Post
 fit-step-of-requires t c κs = tt
 
--- src/lib.rt:262:9
 fit-returns : (t : ℕ) → fit-lts.Need-returns (
   count-reads.Asked,
   count-reads.Learnt,
@@ -1636,7 +1541,6 @@ fit-returns : (t : ℕ) → fit-lts.Need-returns (
 ) (fit-at t) fit.Post
 fit-returns t c = fit-stops _ _ _ _ _ _ (c .before .before .before .count .ensures) (c .before .enum-told .given .1) (c .step-of .ensures)
 
--- src/lib.rt:265:9
 fit-expr-requires : (t : ℕ) → fit-lts.Need-expr-requires (
   count-reads.Asked,
   count-reads.Learnt,
@@ -1649,7 +1553,6 @@ fit-expr-requires : (t : ℕ) → fit-lts.Need-expr-requires (
 ) (fit-at t) fit.Post
 fit-expr-requires t c κs = (omega (arith, (c .before .before .before .before .before .before .before .before .pre .0)), tt)
 
--- src/lib.rt:266:20
 fit-enum-known-y : (t : ℕ) → fit-lts.Need-enum-known-y (
   count-reads.Asked,
   count-reads.Learnt,
@@ -1662,7 +1565,6 @@ fit-enum-known-y : (t : ℕ) → fit-lts.Need-enum-known-y (
 ) (fit-at t) fit.Post
 fit-enum-known-y t c = (c .match2 .keys1)
 
--- src/lib.rt:267:9
 fit-enum-told-2 : (t : ℕ) → fit-lts.Need-enum-told-2 (
   count-reads.Asked,
   count-reads.Learnt,
@@ -1675,7 +1577,6 @@ fit-enum-told-2 : (t : ℕ) → fit-lts.Need-enum-told-2 (
 ) (fit-at t) fit.Post
 fit-enum-told-2 t c = (c .match2 .keys2)
 
--- src/lib.rt:267:9
 fit-returns-2 : (t : ℕ) → fit-lts.Need-returns-2 (
   count-reads.Asked,
   count-reads.Learnt,
@@ -1688,7 +1589,6 @@ fit-returns-2 : (t : ℕ) → fit-lts.Need-returns-2 (
 ) (fit-at t) fit.Post
 fit-returns-2 t c = fit-subject _ _ _ _ _ _ (c .before .before .before .before .before .before .before .count .ensures) (c .before .before .before .before .before .x .given .1) (c .before .before .expr .ensures) (c .enum-told2 .given .1)
 
--- src/lib.rt:269:9
 fit-wider-requires : (t : ℕ) → fit-lts.Need-wider-requires (
   count-reads.Asked,
   count-reads.Learnt,
@@ -1701,7 +1601,6 @@ fit-wider-requires : (t : ℕ) → fit-lts.Need-wider-requires (
 ) (fit-at t) fit.Post
 fit-wider-requires t c κs = ((c .before .before .before .before .before .before .before .before .before .before .before .before .pre .1), (omega arith, omega arith))
 
--- src/lib.rt:270:9
 fit-expr-requires-2 : (t : ℕ) → fit-lts.Need-expr-requires-2 (
   count-reads.Asked,
   count-reads.Learnt,
@@ -1714,7 +1613,6 @@ fit-expr-requires-2 : (t : ℕ) → fit-lts.Need-expr-requires-2 (
 ) (fit-at t) fit.Post
 fit-expr-requires-2 t c κs = (omega (arith, (c .before .before .before .before .before .before .before .before .before .before .before .before .before .pre .0)), tt)
 
--- src/lib.rt:271:20
 fit-enum-known-z : (t : ℕ) → fit-lts.Need-enum-known-z (
   count-reads.Asked,
   count-reads.Learnt,
@@ -1727,7 +1625,6 @@ fit-enum-known-z : (t : ℕ) → fit-lts.Need-enum-known-z (
 ) (fit-at t) fit.Post
 fit-enum-known-z t c = (c .match3 .keys1)
 
--- src/lib.rt:272:9
 fit-enum-told-3 : (t : ℕ) → fit-lts.Need-enum-told-3 (
   count-reads.Asked,
   count-reads.Learnt,
@@ -1740,7 +1637,6 @@ fit-enum-told-3 : (t : ℕ) → fit-lts.Need-enum-told-3 (
 ) (fit-at t) fit.Post
 fit-enum-told-3 t c = (c .match3 .keys2)
 
--- src/lib.rt:272:9
 fit-returns-3 : (t : ℕ) → fit-lts.Need-returns-3 (
   count-reads.Asked,
   count-reads.Learnt,
@@ -1753,7 +1649,6 @@ fit-returns-3 : (t : ℕ) → fit-lts.Need-returns-3 (
 ) (fit-at t) fit.Post
 fit-returns-3 t c = fit-arm _ _ _ _ _ _ (c .before .before .before .before .before .before .before .before .before .before .before .before .count .ensures) (c .before .before .before .before .before .before .before .before .before .before .x .given .1) (c .before .before .before .before .before .before .before .expr .ensures) (c .before .before .before .before .before .y .given .1) (c .before .before .before .wider .ensures) (c .before .before .expr2 .ensures) (c .enum-told3 .given .1)
 
--- src/lib.rt:274:5
 fit-expr-requires-3 : (t : ℕ) → fit-lts.Need-expr-requires-3 (
   count-reads.Asked,
   count-reads.Learnt,
@@ -1766,7 +1661,6 @@ fit-expr-requires-3 : (t : ℕ) → fit-lts.Need-expr-requires-3 (
 ) (fit-at t) fit.Post
 fit-expr-requires-3 t c κs = (omega (arith, (c .before .before .before .before .before .before .before .before .before .before .before .before .before .before .before .before .before .pre .0)), tt)
 
--- src/lib.rt:256:1
 fit-returns-4 : (t : ℕ) → fit-lts.Need-returns-4 (
   count-reads.Asked,
   count-reads.Learnt,
@@ -1779,7 +1673,6 @@ fit-returns-4 : (t : ℕ) → fit-lts.Need-returns-4 (
 ) (fit-at t) fit.Post
 fit-returns-4 t c = fit-done _ _ _ _ _ _ (c .before .before .before .before .before .before .before .before .before .before .before .before .before .before .count .ensures) (c .before .before .before .before .before .before .before .before .before .before .before .before .x .given .1) (c .before .before .before .before .before .before .before .before .before .expr .ensures) (c .before .before .before .before .before .before .before .y .given .1) (c .before .before .before .before .before .wider .ensures) (c .before .before .before .before .expr2 .ensures) (c .before .before .z .given .1) (c .expr3 .ensures)
 
--- src/lib.rt:156:9
 operation-code-requires : (t : ℕ) → operation-lts.Need-code-requires (
   code-reads.Asked,
   code-reads.Learnt,
@@ -1790,7 +1683,6 @@ operation-code-requires : (t : ℕ) → operation-lts.Need-code-requires (
 ) (operation-at t) operation.Post
 operation-code-requires t c κs = tt
 
--- src/lib.rt:157:20
 operation-enum-known-x : (t : ℕ) → operation-lts.Need-enum-known-x (
   code-reads.Asked,
   code-reads.Learnt,
@@ -1801,7 +1693,6 @@ operation-enum-known-x : (t : ℕ) → operation-lts.Need-enum-known-x (
 ) (operation-at t) operation.Post
 operation-enum-known-x t c = (c .match .keys1)
 
--- src/lib.rt:158:9
 operation-enum-told : (t : ℕ) → operation-lts.Need-enum-told (
   code-reads.Asked,
   code-reads.Learnt,
@@ -1812,7 +1703,6 @@ operation-enum-told : (t : ℕ) → operation-lts.Need-enum-told (
 ) (operation-at t) operation.Post
 operation-enum-told t c = (c .match .keys2)
 
--- src/lib.rt:158:9
 operation-step-of-requires : (t : ℕ) → operation-lts.Need-step-of-requires (
   code-reads.Asked,
   code-reads.Learnt,
@@ -1823,7 +1713,6 @@ operation-step-of-requires : (t : ℕ) → operation-lts.Need-step-of-requires (
 ) (operation-at t) operation.Post
 operation-step-of-requires t c κs = tt
 
--- src/lib.rt:158:9
 operation-returns : (t : ℕ) → operation-lts.Need-returns (
   code-reads.Asked,
   code-reads.Learnt,
@@ -1834,7 +1723,6 @@ operation-returns : (t : ℕ) → operation-lts.Need-returns (
 ) (operation-at t) operation.Post
 operation-returns t c = operation-stops _ _ _ _ _ _ (c .before .before .before .code .ensures) (c .before .enum-told .given .1) (c .step-of .ensures)
 
--- src/lib.rt:161:5
 operation-several-requires : (t : ℕ) → operation-lts.Need-several-requires (
   code-reads.Asked,
   code-reads.Learnt,
@@ -1845,7 +1733,6 @@ operation-several-requires : (t : ℕ) → operation-lts.Need-several-requires (
 ) (operation-at t) operation.Post
 operation-several-requires t c κs = (omega (arith, (c .before .before .before .before .before .before .before .before .pre .0)), tt)
 
--- src/lib.rt:153:1
 operation-returns-2 : (t : ℕ) → operation-lts.Need-returns-2 (
   code-reads.Asked,
   code-reads.Learnt,
@@ -1856,7 +1743,6 @@ operation-returns-2 : (t : ℕ) → operation-lts.Need-returns-2 (
 ) (operation-at t) operation.Post
 operation-returns-2 t c = operation-done _ _ _ _ _ _ (c .before .before .before .before .before .code .ensures) (c .before .before .before .x .given .1) (c .several .ensures)
 
--- src/lib.rt:130:9
 several-returns : (t : ℕ) → several-lts.Need-returns (
   expr-below t,
   expr.Post,
@@ -1865,7 +1751,6 @@ several-returns : (t : ℕ) → several-lts.Need-returns (
 ) (several-at t) several.Post
 several-returns t c = several-none _ _ _ _ _ _ _ (c .if1 .taken)
 
--- src/lib.rt:132:9
 several-expr-requires : (t : ℕ) → several-lts.Need-expr-requires (
   expr-below t,
   expr.Post,
@@ -1874,7 +1759,6 @@ several-expr-requires : (t : ℕ) → several-lts.Need-expr-requires (
 ) (several-at t) several.Post
 several-expr-requires t c κs = (omega (arith, (c .before .before .before .before .pre .0)), tt)
 
--- src/lib.rt:133:20
 several-enum-known-x : (t : ℕ) → several-lts.Need-enum-known-x (
   expr-below t,
   expr.Post,
@@ -1883,7 +1767,6 @@ several-enum-known-x : (t : ℕ) → several-lts.Need-enum-known-x (
 ) (several-at t) several.Post
 several-enum-known-x t c = (c .match .keys1)
 
--- src/lib.rt:134:9
 several-enum-told : (t : ℕ) → several-lts.Need-enum-told (
   expr-below t,
   expr.Post,
@@ -1892,7 +1775,6 @@ several-enum-told : (t : ℕ) → several-lts.Need-enum-told (
 ) (several-at t) several.Post
 several-enum-told t c = (c .match .keys2)
 
--- src/lib.rt:134:9
 several-returns-2 : (t : ℕ) → several-lts.Need-returns-2 (
   expr-below t,
   expr.Post,
@@ -1901,7 +1783,6 @@ several-returns-2 : (t : ℕ) → several-lts.Need-returns-2 (
 ) (several-at t) several.Post
 several-returns-2 t c = several-stops _ _ _ _ _ _ (c .before .before .expr .ensures) _ (c .before .before .before .if1 .left) (c .enum-told .given .1)
 
--- src/lib.rt:136:54
 several-sub-several : (t : ℕ) → several-lts.Need-sub-several (
   expr-below t,
   expr.Post,
@@ -1910,7 +1791,6 @@ several-sub-several : (t : ℕ) → several-lts.Need-sub-several (
 ) (several-at t) several.Post
 several-sub-several t c = pos-of-ne-zero (c .before .before .before .before .if1 .left)
 
--- src/lib.rt:136:5
 several-several-requires : (t : ℕ) → several-lts.Need-several-requires (
   expr-below t,
   expr.Post,
@@ -1919,7 +1799,6 @@ several-several-requires : (t : ℕ) → several-lts.Need-several-requires (
 ) (several-at t) several.Post
 several-several-requires t c κs = (omega (arith, (c .before .before .before .before .before .before .before .before .pre .0), (c .before .before .before .before .if1 .left)), tt)
 
--- src/lib.rt:126:1
 several-returns-3 : (t : ℕ) → several-lts.Need-returns-3 (
   expr-below t,
   expr.Post,

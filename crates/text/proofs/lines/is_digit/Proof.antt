@@ -2,22 +2,16 @@
 use Rattle.text.specs.LinesSpell.{no-digit-below, decimal-is-digit, no-digit-between, letter-if-to-f}
 use Rattle.text.proofs.lines.is_digit.Statement.{statement}
 use Rattle.text.proofs.lines.is_digit.Tie as tie
-use Rattle.text.proofs.lines.is_digit.Reads as reads
-use Rattle.text.proofs.lines.is_digit.Lts as lts
 
--- src/lines.rt:45:9
 returns : tie.Need-returns
 returns c = no-digit-below _ (c .if1 .taken)
 
--- src/lines.rt:48:9
 returns-2 : tie.Need-returns-2
 returns-2 c = decimal-is-digit _ (c .before .if1 .left) (c .if2 .taken)
 
--- src/lines.rt:51:9
 returns-3 : tie.Need-returns-3
 returns-3 c = no-digit-between _ (c .before .if2 .left) (c .if3 .taken)
 
--- src/lines.rt:41:1
 returns-4 : tie.Need-returns-4
 returns-4 c = letter-if-to-f _ (c .if3 .left)
 

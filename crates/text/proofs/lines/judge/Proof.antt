@@ -8,8 +8,6 @@ use Rattle.text.specs.LinesEnd.{line-within}
 use Rattle.text.specs.LinesJudge.{Counted, one-at-most, counted-start, counted-on, judged-too-long, judged-unended, judged-unspelled, judged-end}
 use Rattle.text.proofs.lines.judge.Statement.{statement}
 use Rattle.text.proofs.lines.judge.Tie as tie
-use Rattle.text.proofs.lines.judge.Reads as reads
-use Rattle.text.proofs.lines.judge.Lts as lts
 use Rattle.text.proofs.lines.channel.Reads as channel-reads
 use Rattle.text.proofs.lines.line_at.Reads as line-at-reads
 use Rattle.text.proofs.lines.spells.Reads as spells-reads
@@ -20,67 +18,51 @@ Inv-loop text at₀ lines₀ channels₀ at lines channels = Counted text at lin
 abbrev μ-loop : tie.MeasureT-loop
 μ-loop text at₀ lines₀ channels₀ at lines channels = length text - at
 
--- src/lines.rt:99:9
 returns : tie.Need-returns Inv-loop μ-loop
 returns c = judged-too-long _ (c .if1 .taken)
 
--- src/lines.rt:104:5
 loop-holds : tie.Need-loop-holds Inv-loop μ-loop
 loop-holds c = counted-start _
 
--- src/lines.rt:105:13
 line-at-requires : tie.Need-line-at-requires Inv-loop μ-loop
 line-at-requires c κs = tt
 
--- src/lines.rt:106:19
 add-end : tie.Need-add-end Inv-loop μ-loop
 add-end c = omega (arith, line-within (c .before .before .before .before .before .args .text .now) (c .before .before .loop .at) (c .line-at .ensures))
 
--- src/lines.rt:108:39
 add-t11 : tie.Need-add-t11 Inv-loop μ-loop
 add-t11 c = omega (arith, (c .before .before .before .loop .inv .fewer), (c .before .before .before .loop .inv .within))
 
--- src/lines.rt:108:13
 returns-2 : tie.Need-returns-2 Inv-loop μ-loop
 returns-2 c = judged-unended (c .before .before .before .loop .inv) (c .before .before .before .before .if1 .left) (c .before .before .loop-test .taken) (c .before .line-at .ensures) (c .if2 .taken)
 
--- src/lines.rt:110:13
 spells-requires : tie.Need-spells-requires Inv-loop μ-loop
 spells-requires c κs = tt
 
--- src/lines.rt:111:39
 add-t13 : tie.Need-add-t13 Inv-loop μ-loop
 add-t13 c = omega (arith, (c .before .before .before .before .before .loop .inv .fewer), (c .before .before .before .before .before .loop .inv .within))
 
--- src/lines.rt:111:13
 returns-3 : tie.Need-returns-3 Inv-loop μ-loop
 returns-3 c = judged-unspelled (c .before .before .before .before .before .loop .inv) (c .before .before .before .before .before .before .if1 .left) (c .before .before .before .line-at .ensures) (c .before .before .if2 .left) (sym (c .before .spells .ensures) ∙ not-true _ (c .if3 .taken))
 
--- src/lines.rt:113:21
 channel-requires : tie.Need-channel-requires Inv-loop μ-loop
 channel-requires c κs = tt
 
--- src/lines.rt:113:9
 add-channels : tie.Need-add-channels Inv-loop μ-loop
 add-channels c = omega (arith, (c .before .before .before .before .before .before .loop .inv .among), (c .before .before .before .before .before .before .loop .inv .fewer), (c .before .before .before .before .before .before .loop .inv .within), one-at-most _ (c .channel .ensures))
 
--- src/lines.rt:114:9
 add-lines : tie.Need-add-lines Inv-loop μ-loop
 add-lines c = omega (arith, (c .before .before .before .before .before .before .loop .inv .fewer), (c .before .before .before .before .before .before .loop .inv .within))
 
--- src/lines.rt:115:14
 add-at : tie.Need-add-at Inv-loop μ-loop
 add-at c = omega arith
 
--- src/lines.rt:104:5
 loop-less : tie.Need-loop-less Inv-loop μ-loop
 loop-less c = omega arith
 
--- src/lines.rt:104:5
 loop-again : tie.Need-loop-again Inv-loop μ-loop
 loop-again c = counted-on (c .before .before .before .before .before .before .loop .inv) (c .before .before .before .before .line-at .ensures) (c .before .before .before .if2 .left) (sym (c .before .before .spells .ensures) ∙ not-false _ (c .before .if3 .left)) (c .channel .ensures)
 
--- src/lines.rt:95:1
 returns-4 : tie.Need-returns-4 Inv-loop μ-loop
 returns-4 c = judged-end (c .before .loop .inv) (c .before .before .if1 .left) (c .loop-test .left)
 

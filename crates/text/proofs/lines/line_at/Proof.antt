@@ -5,8 +5,6 @@ use lib.ListN.{length}
 use Rattle.text.specs.LinesEnd.{Reaches, reaches-start, reaches-on, line-stops, line-ends, line-missing}
 use Rattle.text.proofs.lines.line_at.Statement.{statement}
 use Rattle.text.proofs.lines.line_at.Tie as tie
-use Rattle.text.proofs.lines.line_at.Reads as reads
-use Rattle.text.proofs.lines.line_at.Lts as lts
 
 abbrev Inv-loop : tie.InvT-loop
 Inv-loop text at end₀ end = Reaches text at end
@@ -14,71 +12,54 @@ Inv-loop text at end₀ end = Reaches text at end
 abbrev μ-loop : tie.MeasureT-loop
 μ-loop text at end₀ end = length text - end
 
--- src/lines.rt:28:16
 sub-result : tie.Need-sub-result Inv-loop μ-loop
 sub-result c = omega arith
 
--- src/lines.rt:28:16
 part-result-start : tie.Need-part-result-start Inv-loop μ-loop
 part-result-start c = omega arith
 
--- src/lines.rt:28:16
 part-result-end : tie.Need-part-result-end Inv-loop μ-loop
 part-result-end c = omega arith
 
--- src/lines.rt:28:9
 returns : tie.Need-returns Inv-loop μ-loop
 returns c = line-missing _ _ (c .before .if1 .taken)
 
--- src/lines.rt:31:5
 loop-holds : tie.Need-loop-holds Inv-loop μ-loop
 loop-holds c = reaches-start (c .if1 .left)
 
--- src/lines.rt:32:12
 shared-slice-read-if2 : tie.Need-shared-slice-read-if2 Inv-loop μ-loop
 shared-slice-read-if2 c = omega arith
 
--- src/lines.rt:33:20
 sub-result-2 : tie.Need-sub-result-2 Inv-loop μ-loop
 sub-result-2 c = omega (arith, (c .before .before .before .loop .inv .from))
 
--- src/lines.rt:33:20
 part-result-start-2 : tie.Need-part-result-start-2 Inv-loop μ-loop
 part-result-start-2 c = (c .before .before .before .loop .inv .from)
 
--- src/lines.rt:33:20
 part-result-end-2 : tie.Need-part-result-end-2 Inv-loop μ-loop
 part-result-end-2 c = (c .before .before .before .loop .inv .within)
 
--- src/lines.rt:33:13
 returns-2 : tie.Need-returns-2 Inv-loop μ-loop
 returns-2 c = line-stops (c .before .before .before .loop-test .taken) (c .before .if2 .taken) (c .before .before .before .before .loop .inv)
 
--- src/lines.rt:35:9
 add-end : tie.Need-add-end Inv-loop μ-loop
 add-end c = omega arith
 
--- src/lines.rt:31:5
 loop-less : tie.Need-loop-less Inv-loop μ-loop
 loop-less c = omega arith
 
--- src/lines.rt:31:5
 loop-again : tie.Need-loop-again Inv-loop μ-loop
 loop-again c = reaches-on (c .before .before .loop-test .taken) (c .if2 .left) (c .before .before .before .loop .inv)
 
--- src/lines.rt:37:5
 sub-result-3 : tie.Need-sub-result-3 Inv-loop μ-loop
 sub-result-3 c = omega (arith, (c .before .loop .inv .from))
 
--- src/lines.rt:37:5
 part-result-start-3 : tie.Need-part-result-start-3 Inv-loop μ-loop
 part-result-start-3 c = (c .before .loop .inv .from)
 
--- src/lines.rt:37:5
 part-result-end-3 : tie.Need-part-result-end-3 Inv-loop μ-loop
 part-result-end-3 c = (c .before .loop .inv .within)
 
--- src/lines.rt:24:1
 returns-3 : tie.Need-returns-3 Inv-loop μ-loop
 returns-3 c = line-ends (c .before .loop-test .left) (c .before .before .loop .inv)
 

@@ -7,8 +7,6 @@ use borrow.Author.Tests.{not-true, not-false}
 use Rattle.text.specs.LinesSpell.{DigitsTo, empty-spells-nothing, odd-spells-nothing, digits-start, digits-on, digits-stop, digits-end}
 use Rattle.text.proofs.lines.spells.Statement.{statement}
 use Rattle.text.proofs.lines.spells.Tie as tie
-use Rattle.text.proofs.lines.spells.Reads as reads
-use Rattle.text.proofs.lines.spells.Lts as lts
 use Rattle.text.proofs.lines.is_digit.Reads as is-digit-reads
 
 abbrev Inv-loop : tie.InvT-loop
@@ -17,43 +15,33 @@ Inv-loop line i₀ i = DigitsTo line i
 abbrev μ-loop : tie.MeasureT-loop
 μ-loop line i₀ i = length line - i
 
--- src/lines.rt:61:9
 returns : tie.Need-returns Inv-loop μ-loop
 returns c = empty-spells-nothing _ (c .if1 .taken)
 
--- src/lines.rt:64:9
 returns-2 : tie.Need-returns-2 Inv-loop μ-loop
 returns-2 c = odd-spells-nothing _ (c .before .if1 .left) (c .if2 .taken)
 
--- src/lines.rt:67:5
 loop-holds : tie.Need-loop-holds Inv-loop μ-loop
 loop-holds c = digits-start _ (c .before .if1 .left) (c .if2 .left)
 
--- src/lines.rt:68:22
 shared-slice-read-is-digit : tie.Need-shared-slice-read-is-digit Inv-loop μ-loop
 shared-slice-read-is-digit c = omega arith
 
--- src/lines.rt:68:13
 is-digit-requires : tie.Need-is-digit-requires Inv-loop μ-loop
 is-digit-requires c κs = tt
 
--- src/lines.rt:69:13
 returns-3 : tie.Need-returns-3 Inv-loop μ-loop
 returns-3 c = digits-stop (c .before .before .before .loop-test .taken) (sym (c .before .is-digit .ensures) ∙ not-true _ (c .if3 .taken)) (c .before .before .before .before .loop .inv)
 
--- src/lines.rt:71:9
 add-i : tie.Need-add-i Inv-loop μ-loop
 add-i c = omega arith
 
--- src/lines.rt:67:5
 loop-less : tie.Need-loop-less Inv-loop μ-loop
 loop-less c = omega arith
 
--- src/lines.rt:67:5
 loop-again : tie.Need-loop-again Inv-loop μ-loop
 loop-again c = digits-on (c .before .before .before .loop-test .taken) (sym (c .before .is-digit .ensures) ∙ not-false _ (c .if3 .left)) (c .before .before .before .before .loop .inv)
 
--- src/lines.rt:57:1
 returns-4 : tie.Need-returns-4 Inv-loop μ-loop
 returns-4 c = digits-end (c .loop-test .left) (c .before .loop .inv)
 
