@@ -18,7 +18,8 @@ use Rattle.text.specs.declared.Step.the-variants.{Next, Stop}
 use Rattle.text.specs.Bytes.{bytesOf, bytesFrom, forget, mapRead, stepOf, moved, ReadsNumber, Passes, Below}
 use Rattle.text.specs.ReadLaws.{read-then, read-stops}
 use Rattle.text.specs.StepLaws.{ends-within, number-got, number-bad, number-moved, pass-got, pass-bad, pass-moved, pass-none, pass-here, pass-then-pass, pass-stops-pass, read-then-pass, read-stops-pass, forget-then}
-use Rattle.index.specs.Padded.{padded-length, padded-next, padded-within}
+use Rattle.theory.specs.Padding.{padded-length}
+use Rattle.index.specs.Padded.{padded-next, padded-within}
 use Rattle.index.specs.Entries.{spell-length}
 use Rattle.index.specs.Enters.{Enters}
 use Rattle.index.specs.ParserLaws.{bad-is-not-got, got-value, many-begins, many-bad, many-length, count-most}

@@ -19,7 +19,8 @@ use Rattle.text.specs.declared.Step.the-variants.{Next}
 use Rattle.text.specs.Bytes.{bytesFrom, plainWord}
 use Rattle.text.specs.StepLaws.{pass-got}
 use Rattle.index.specs.Tables.{functionWords, functionEntry, functionTable, resultPlace, conditionsPlace, measurePlace, bodyPlace}
-use Rattle.index.specs.Padded.{padded-length, padded-none, padded-at}
+use Rattle.theory.specs.Padding.{padded-length}
+use Rattle.index.specs.Padded.{padded-none, padded-at}
 use Rattle.index.specs.Entries.{spell-length, spell-more, table-so-far}
 use Rattle.index.specs.Enters.{Enters, parametersEntry, TellsParameters}
 use Rattle.index.specs.ParserLaws.{counted-most}

@@ -7,12 +7,6 @@ use lib.ListN.{length, getD, set, replicate, length-append}
 use lib.Seq.{sets, append-snoc}
 use Rattle.language.specs.Layout.{padded}
 
-pub padded-length : (n : ℕ) (ls : List ℕ) → length (padded n ls) ≡ n
-unfolding padded
-padded-length zero ls = refl
-padded-length (suc n) [] = ap suc (padded-length n [])
-padded-length (suc n) (l ∷ ls) = ap suc (padded-length n ls)
-
 -- nothing filled up is zeros
 pub padded-none : (n : ℕ) → padded n [] ≡ replicate n 0
 unfolding padded

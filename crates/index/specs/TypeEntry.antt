@@ -17,7 +17,8 @@ use Rattle.text.specs.declared.Number.the-variants.{Is}
 use Rattle.text.specs.declared.Step.{Step}
 use Rattle.text.specs.Bytes.{bytesFrom, fieldWord, ReadsNumber, Below}
 use Rattle.index.specs.Tables.{constructorWords, constructorEntry, typeEntry}
-use Rattle.index.specs.Padded.{padded-length, padded-at, padded-set, padded-within}
+use Rattle.theory.specs.Padding.{padded-length}
+use Rattle.index.specs.Padded.{padded-at, padded-set, padded-within}
 use Rattle.index.specs.Entries.{spell-words}
 use Rattle.index.specs.Enters.{Enters, fieldWords, isOwn, howMany, constructorBehind, typeBehind}
 use Rattle.index.specs.ParserLaws.{many-length}

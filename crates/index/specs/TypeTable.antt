@@ -21,7 +21,8 @@ use Rattle.text.specs.declared.Step.the-variants.{Next, Stop}
 use Rattle.text.specs.Bytes.{bytesFrom}
 use Rattle.text.specs.StepLaws.{pass-got, pass-bad}
 use Rattle.index.specs.Tables.{constructorWords, typeWords, constructorEntry, typeEntry, typeTable}
-use Rattle.index.specs.Padded.{padded-length, padded-none}
+use Rattle.theory.specs.Padding.{padded-length}
+use Rattle.index.specs.Padded.{padded-none}
 use Rattle.index.specs.Entries.{spell-length, spell-more, table-at}
 use Rattle.index.specs.Enters.{Enters, constructorBehind, typeBehind, TellsType, SelfFree}
 use Rattle.index.specs.ParserLaws.{counted-most, counted-each}

@@ -28,18 +28,8 @@ use Rattle.text.specs.CodeLaws.{code-places, code-in-places, place-then, place-
 use Rattle.text.specs.StepLaws.{ends-within, Gives, pass-got, pass-bad, pass-moved, pass-none, pass-here, number-moved, passes-behind, read-then-pass, read-stops-pass, pass-then-pass, pass-stops-pass, forget-then, read-passes, read-ends-pass}
 use Rattle.passing.specs.declared.Names.{Names}
 use Rattle.index.specs.Tables.{typeWords, constructorWords, functionWords}
+use Rattle.theory.specs.Lists.{both-left, both-right}
 use Rattle.passing.specs.Follows.{Tells, Follows, Roomy, isRoomy, widerNames, formAt, behind, leafBehind}
-
--- ---- tests
-both-first : (a b : Bool) → both a b ≡ true → a ≡ true
-unfolding both
-both-first true b e = refl
-both-first false b e = e
-
-both-second : (a b : Bool) → both a b ≡ true → b ≡ true
-unfolding both
-both-second true b e = e
-both-second false b e = absurd (let y : _≡_ {A = ℕ} 0 1 = cc in omega arith)
 
 -- ---- scopes
 pub tells-wider : {types functions : List ℕ} {s : Names} {S : Scope} (v z : ℕ) → Tells types functions s S → Tells types functions (widerNames v z s) (wider v z S)
@@ -158,8 +148,8 @@ roomy-levels s zero e = absurd (let y : _≡_ {A = ℕ} 0 1 = cc in omega arith)
 roomy-levels s (suc n) e = omega arith
 
 pub roomy-names : (s : Names) (levels : ℕ) → isRoomy s levels ≡ true → Roomy s
-roomy-names s levels e = let inner = both-second (ltb 0 levels) (both (leb (s .variables) variablesMost) (leb (s .sizes) sizeVariablesMost)) e in
-    record { variables = leb-true _ _ (both-first _ _ inner); sizes = leb-true _ _ (both-second _ _ inner) }
+roomy-names s levels e = let inner = both-right (ltb 0 levels) (both (leb (s .variables) variablesMost) (leb (s .sizes) sizeVariablesMost)) e in
+    record { variables = leb-true _ _ (both-left _ _ inner); sizes = leb-true _ _ (both-right _ _ inner) }
 
 -- the test, from what its branches found
 pub not-roomy-levels : (s : Names) (levels : ℕ) → levels ≡ 0 → false ≡ isRoomy s levels

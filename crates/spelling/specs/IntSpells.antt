@@ -8,24 +8,9 @@ use Rattle.language.specs.Syntax.{Expr, eint}
 use Rattle.language.specs.Format.{intBytes}
 use Rattle.language.specs.Scope.{Scope}
 use Rattle.language.specs.Within.{WithinExpr, w-int}
+use Rattle.theory.specs.ExactLeaves.{four-bytes}
 use Rattle.spelling.specs.Spells.{Spells, spells-byte, spells-first}
 use Rattle.spelling.specs.Forms.{fourAt, IsInt}
-
--- the low 16, 24 and 32 bits of a number by its bytes
-low-16 : (n : ℕ) → n % 2 ^ 16 ≡ n / 2 ^ 8 % 2 ^ 8 * 2 ^ 8 + n % 2 ^ 8
-low-16 n = omega arith
-
-low-24 : (n : ℕ) → n % 2 ^ 24 ≡ n / 2 ^ 16 % 2 ^ 8 * 2 ^ 16 + n % 2 ^ 16
-low-24 n = omega arith
-
-low-32 : (n : ℕ) → n % 2 ^ 32 ≡ n / 2 ^ 24 % 2 ^ 8 * 2 ^ 24 + n % 2 ^ 24
-low-32 n = omega arith
-
-four-bytes : (n : ℕ) → n / 2 ^ 24 % 2 ^ 8 * 2 ^ 24 + n / 2 ^ 16 % 2 ^ 8 * 2 ^ 16 + n / 2 ^ 8 % 2 ^ 8 * 2 ^ 8 + n % 2 ^ 8 ≡ n % intRange
-four-bytes n = regroup (n / 2 ^ 24 % 2 ^ 8 * 2 ^ 24) (n / 2 ^ 16 % 2 ^ 8 * 2 ^ 16) (n / 2 ^ 8 % 2 ^ 8 * 2 ^ 8) (n % 2 ^ 8) ∙ rw (← low-16 n, ← low-24 n) (sym (low-32 n))
-  where
-    regroup : (a b c d : ℕ) → a + b + c + d ≡ a + (b + (c + d))
-    regroup a b c d = omega arith
 
 pub int-four : {line : List ℕ} {at n : ℕ} → Spells intBytes line at n → fourAt line at ≡ n % intRange
 unfolding intBytes

@@ -3,7 +3,7 @@ use Prim.Native.Nat.{ℕ, _+_, _*_, _/_, _%_, _<_, _^_}
 use mathlib.Core.List.{[], _∷_}
 use mathlib.Core.Bool.{Bool, true, false}
 use mathlib.Core.Option.{some}
-use mathlib.Core.Path.{_≡_, refl, ap, _∙_}
+use mathlib.Core.Path.{_≡_, refl, sym, ap, _∙_}
 use native.Mathlib.Omega.{arith}
 use Rattle.language.specs.Limits.{intRange}
 use Rattle.language.specs.Result.{choose}
@@ -46,11 +46,14 @@ low-24 n = omega arith
 low-32 : (n : ℕ) → n % 2 ^ 32 ≡ n / 2 ^ 24 % 2 ^ 8 * 2 ^ 24 + n % 2 ^ 24
 low-32 n = omega arith
 
-join-bytes : (n : ℕ) → n < intRange → n / 2 ^ 24 % 2 ^ 8 * 2 ^ 24 + n / 2 ^ 16 % 2 ^ 8 * 2 ^ 16 + n / 2 ^ 8 % 2 ^ 8 * 2 ^ 8 + n % 2 ^ 8 ≡ n
-join-bytes n w = regroup (n / 2 ^ 24 % 2 ^ 8 * 2 ^ 24) (n / 2 ^ 16 % 2 ^ 8 * 2 ^ 16) (n / 2 ^ 8 % 2 ^ 8 * 2 ^ 8) (n % 2 ^ 8) ∙ rw (← low-16 n, ← low-24 n, ← low-32 n) (omega arith)
+pub four-bytes : (n : ℕ) → n / 2 ^ 24 % 2 ^ 8 * 2 ^ 24 + n / 2 ^ 16 % 2 ^ 8 * 2 ^ 16 + n / 2 ^ 8 % 2 ^ 8 * 2 ^ 8 + n % 2 ^ 8 ≡ n % intRange
+four-bytes n = regroup (n / 2 ^ 24 % 2 ^ 8 * 2 ^ 24) (n / 2 ^ 16 % 2 ^ 8 * 2 ^ 16) (n / 2 ^ 8 % 2 ^ 8 * 2 ^ 8) (n % 2 ^ 8) ∙ rw (← low-16 n, ← low-24 n) (sym (low-32 n))
   where
     regroup : (a b c d : ℕ) → a + b + c + d ≡ a + (b + (c + d))
     regroup a b c d = omega arith
+
+join-bytes : (n : ℕ) → n < intRange → n / 2 ^ 24 % 2 ^ 8 * 2 ^ 24 + n / 2 ^ 16 % 2 ^ 8 * 2 ^ 16 + n / 2 ^ 8 % 2 ^ 8 * 2 ^ 8 + n % 2 ^ 8 ≡ n
+join-bytes n w = four-bytes n ∙ omega arith
 
 abbrev joined : ℕ → ℕ → ℕ → ℕ → ℕ
 joined a b c d = a * 2 ^ 24 + b * 2 ^ 16 + c * 2 ^ 8 + d
