@@ -1,6 +1,6 @@
 -- The index that the reader leaves for later passes: four tables of words, as functions of the file. An entry has a fixed number of
 -- words; what is not there is 0.
-use Prim.Native.Nat.{ℕ, zero, suc, _+_, _*_}
+use Prim.Native.Nat.{ℕ, _+_, _*_}
 use mathlib.Core.List.{List, [], _∷_, _++_, map}
 use lib.ListN.{length}
 use Rattle.language.specs.Limits.{typesMost, functionsMost, inputsMost, nodesMost, channelsMost, constructorsMost, fieldsMost, parametersMost}

@@ -3,13 +3,13 @@
 -- list of splits is made. And the numbers that a file needs: document 01, "Estimation and memory".
 use Prim.Native.Nat.{ℕ, zero, suc, _+_, _-_, max}
 use mathlib.Core.List.{List, [], _∷_, _++_, map}
-use mathlib.Core.Bool.{Bool, true, false}
-use lib.ListN.{length, getD}
+use mathlib.Core.Bool.{Bool}
+use lib.ListN.{getD}
 use lib.Dec.{ltb}
 use Rattle.language.specs.Result.{choose}
 use Rattle.language.specs.Syntax.{Field, fbool, fint, own, other, Constructor, TypeDef, Ty, tbool, tint, tnamed, Input, File, owns, declaredTypes}
 use Rattle.language.specs.Sizes.{sum}
-use Rattle.language.specs.Estimate.{Estimate, nothing, after, either}
+use Rattle.language.specs.Estimate.{Estimate, nothing, after}
 
 -- the largest of f 1 .. f n
 unfoldable pub maxTo : (ℕ → ℕ) → ℕ → ℕ

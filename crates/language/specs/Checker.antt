@@ -1,8 +1,8 @@
 -- The size checker: figures 5 to 7 as a function, with refusals 10 to 14 and the list of instances in order of entry.
 -- Document 01, "Checking". Open recursion: `enter` is what a called body gives; instances left are the structural argument.
-use Prim.Native.Nat.{ℕ, zero, suc, _+_, _-_, max}
+use Prim.Native.Nat.{ℕ, zero, suc, _+_, _-_}
 use mathlib.Core.List.{List, [], _∷_, _++_}
-use mathlib.Core.Bool.{Bool, true, false}
+use mathlib.Core.Bool.{true, false}
 use mathlib.Core.Option.{Option, none, some}
 use lib.ListN.{length, set, getElem? as look}
 use lib.Dec.{ltb, leb, eqb}

@@ -10,7 +10,7 @@ use lib.Dec.{ltb, leb}
 use Rattle.language.specs.Limits.{sizeMost}
 use Rattle.language.specs.Result.{both, choose}
 use Rattle.language.specs.Syntax.{Expr, ebool, eint, evar, enow, elast, elet, eif, eop, ecall, econ, ecase, eadj, efit, Exprs, enil, econs, Function, File, fieldsOf}
-use Rattle.language.specs.Heap.{Constant, kbool, kint, Cell, leaf, con, truth, applyOp, cellAt, constantIn, constructorIn, sizeIn, fieldsIn, ownSum, fieldsWithin}
+use Rattle.language.specs.Heap.{kbool, kint, Cell, leaf, con, truth, applyOp, cellAt, constantIn, constructorIn, sizeIn, fieldsIn, ownSum, fieldsWithin}
 
 -- a location and a longer heap, or a refusal
 pub data Out : Type 0 where

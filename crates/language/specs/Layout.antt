@@ -9,7 +9,7 @@ use Rattle.language.specs.Limits.{fieldsMost, channelsMost, headerWords,
 use Rattle.language.specs.Result.{both, when, chain, choose}
 use Rattle.language.specs.Syntax.{Field, fbool, fint, own, other, Ty, tbool, tint, tnamed, File, constructorsOf, declaredTypes}
 use Rattle.language.specs.Format.{bit, spellAll}
-use Rattle.language.specs.Heap.{Constant, kbool, kint, Cell, leaf, con, cellAt, fieldsIn, ownSum}
+use Rattle.language.specs.Heap.{kbool, kint, Cell, leaf, con, cellAt, fieldsIn, ownSum}
 use Rattle.language.specs.Values.{constantFits, isConstructor, namedAs}
 use Rattle.language.specs.Slide.{State, mem, reached}
 

@@ -1,5 +1,5 @@
 -- Every limit of document 01 by name, once. Nothing else in the definitions writes one of these numbers.
-use Prim.Native.Nat.{ℕ, _+_, _*_, _^_}
+use Prim.Native.Nat.{ℕ, _+_, _^_}
 
 -- "At most 16,384 characters."
 abbrev pub textMost : ℕ

@@ -1,9 +1,9 @@
 -- The plain machine is document 01's term ("The third demand's run"): it "is fed the lines alone and sees no memory. It holds a
 -- tree for each channel". Its expressions are figure 4 on trees, "with memory without limit"; refusal 23's premises stay.
-use Prim.Native.Nat.{ℕ, zero, suc, _+_, _≤_, _<_}
+use Prim.Native.Nat.{ℕ, _+_, _≤_, _<_}
 use mathlib.Core.List.{List, [], _∷_, _++_, map}
 use mathlib.Core.Bool.{Bool, true, false}
-use mathlib.Core.Option.{Option, none, some}
+use mathlib.Core.Option.{none, some}
 use mathlib.Core.Path.{_≡_}
 use lib.ListN.{length, drop, getElem? as look}
 use Rattle.language.specs.Limits.{sizeMost}

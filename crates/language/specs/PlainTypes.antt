@@ -1,10 +1,10 @@
 -- Plain types: "Plain types, sizes ignored, are checked in every frame; the subject of a fit or adj is of a named type."
 -- Figure 5 without its constraints. Refusal 9, at the first frame in file order with any disagreement.
-use Prim.Native.Nat.{ℕ, zero, suc, _+_}
+use Prim.Native.Nat.{ℕ, _+_}
 use mathlib.Core.List.{List, [], _∷_, _++_, map}
 use mathlib.Core.Bool.{Bool, true, false}
 use mathlib.Core.Option.{Option, none, some}
-use lib.ListN.{length, getElem? as look}
+use lib.ListN.{getElem? as look}
 use lib.Dec.{eqb}
 use Rattle.language.specs.Result.{Result, needEach, both, when, chain}
 use Rattle.language.specs.Syntax.{Field, fbool, fint, own, other, Constructor, Plain, pbool, pint, pnamed, Ty, tbool, tint, tnamed, ResultType, rbool, rint, rnamed}

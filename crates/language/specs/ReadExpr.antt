@@ -5,7 +5,7 @@ use mathlib.Core.List.{List, [], _∷_}
 use mathlib.Core.Bool.{Bool, true, false}
 use lib.ListN.{length, getD}
 use Rattle.language.specs.Limits.{sizeMost, nestingMost}
-use Rattle.language.specs.Syntax.{Field, fbool, fint, own, other, Constructor, TypeDef, Plain, pbool, pint, pnamed, Ty, tbool, tint, tnamed, Size, lit, svar, plus, minus, ResultType, rbool, rint, rnamed, owns}
+use Rattle.language.specs.Syntax.{Field, fbool, fint, own, other, Constructor, Plain, pbool, pint, pnamed, Ty, tbool, tint, tnamed, Size, lit, svar, plus, minus, ResultType, rbool, rint, rnamed, owns}
 use Rattle.language.specs.Syntax.{Op, oadd, osub, omul, oeq, olt, ole, oand, oor, Expr, ebool, eint, evar, enow, elast, elet, eif, eop, ecall, econ, ecase, eadj, efit, Exprs, enil, econs}
 use Rattle.language.specs.Scope.{Scope, wider, roomIn}
 use Rattle.language.specs.Parser.{Parser, _>>=_, return, refuse, byte, index, count, code, codeIn}

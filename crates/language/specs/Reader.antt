@@ -1,10 +1,10 @@
 -- The reader: from the text to the file, or refusal 1 to 8 with its frame (document 01, "The rule file" and "By place").
 -- "Text is judged as a whole, then frames in file order, bytes left to right; 8 comes at the frame's end."
-use Prim.Native.Nat.{ℕ, zero, suc, _+_, _-_, _*_}
-use mathlib.Core.List.{List, [], _∷_, _++_, map}
+use Prim.Native.Nat.{ℕ, suc, _+_, _-_, _*_}
+use mathlib.Core.List.{List, [], _∷_, _++_}
 use mathlib.Core.Bool.{Bool, true, false}
 use mathlib.Core.Option.{Option, none, some}
-use lib.ListN.{length, getD, getElem? as look}
+use lib.ListN.{length, getElem? as look}
 use lib.Dec.{ltb, leb, eqb}
 use Rattle.language.specs.Limits.{textMost, typesMost, functionsMost, inputsMost, nodesMost, constructorsMost, fieldsMost, parametersMost, conditionsMost, measuresMost}
 use Rattle.language.specs.Syntax.{TypeDef, Relation, req, rlt, rle, Condition, Function, Input, Node, File, selfFree}

@@ -2,10 +2,10 @@
 -- free"; and its new premise: "a constructor over size 64, a field above its k".
 -- Runs N u s E h e l g: with the channels N, u calls left, s free slots, environment E and heap h, of cap cells, the expression e
 -- gives the location l and the heap g. Free cells are cap less the heap's length. A rule bears the paper's name.
-use Prim.Native.Nat.{ℕ, zero, suc, _+_, _≤_, _<_}
+use Prim.Native.Nat.{ℕ, _+_, _≤_, _<_}
 use mathlib.Core.List.{List, [], _∷_, _++_}
 use mathlib.Core.Bool.{Bool, true, false}
-use mathlib.Core.Option.{Option, none, some}
+use mathlib.Core.Option.{some}
 use mathlib.Core.Path.{_≡_}
 use lib.ListN.{length, getElem? as look}
 use Rattle.language.specs.Limits.{sizeMost}

@@ -1,7 +1,7 @@
 -- Demand 3 as a type: "a single claim about the whole list of lines, the empty list too". Document 01, "The third demand's run".
 use Prim.Native.Nat.{ℕ, _≤_}
 use mathlib.Core.List.{List, [], _∷_, map}
-use mathlib.Core.Bool.{Bool, true}
+use mathlib.Core.Bool.{true}
 use mathlib.Core.Option.{Option, none, some}
 use mathlib.Core.Path.{_≡_}
 use lib.ListN.{length}
@@ -14,7 +14,7 @@ use Rattle.language.specs.Heap.{Tree, treeAt}
 use Rattle.language.specs.Slide.{State}
 use Rattle.language.specs.Layout.{loadState}
 use Rattle.language.specs.Line.{lineTrees, treesFit}
-use Rattle.language.specs.Machine.{Board, Record, Verdict, accepted, done, refusal, Answer, answer, check, listLent, buffersLent, start, Started, iterate, Iterated}
+use Rattle.language.specs.Machine.{Board, Record, Verdict, accepted, done, refusal, answer, check, listLent, buffersLent, start, Started, iterate, Iterated}
 use Rattle.language.specs.PlainMachine.{Step, initialTrees}
 
 -- "A channel's value is the tree written out from its cell"

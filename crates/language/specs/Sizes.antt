@@ -1,12 +1,12 @@
 -- Sizes worked out, and types with sizes: figure 3 of the paper, document 01 under "Checking".
-use Prim.Native.Nat.{ℕ, zero, suc, _+_, _-_}
-use mathlib.Core.List.{List, [], _∷_, _++_}
+use Prim.Native.Nat.{ℕ, _+_, _-_}
+use mathlib.Core.List.{List, [], _∷_}
 use mathlib.Core.Bool.{Bool, true, false}
 use mathlib.Core.Option.{Option, none, some}
 use lib.ListN.{getD}
 use lib.Dec.{ltb, leb, eqb}
 use Rattle.language.specs.Limits.{sizeMost}
-use Rattle.language.specs.Result.{both, when, chain, choose}
+use Rattle.language.specs.Result.{both, when, chain}
 use Rattle.language.specs.Syntax.{Field, fbool, fint, own, other, Plain, pbool, pint, pnamed, Ty, tbool, tint, tnamed, Size, lit, svar, plus, minus, ResultType, rbool, rint, rnamed, Relation, req, rlt, rle, Condition}
 
 -- A size is "an integer that may be negative": what is added, and what is taken away, at sizes Δ of its variables.

@@ -1,7 +1,7 @@
 -- Which cells are reached from the channels, and sliding: "After an iteration the reached cells slide down in order of creation."
 use Prim.Native.Nat.{ℕ, suc}
 use mathlib.Core.List.{List, [], _∷_, _++_, map}
-use mathlib.Core.Bool.{Bool, true, false}
+use mathlib.Core.Bool.{Bool, false}
 use lib.ListN.{getD}
 use lib.Dec.{eqb}
 use Rattle.language.specs.Result.{oneOf, choose}

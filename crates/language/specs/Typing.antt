@@ -1,16 +1,16 @@
 -- Figures 5, 6 and 7 together, read at instances: "the paper's 'for all sizes' is read at each instance, a function with the
 -- sizes of its named arguments". An expression in a typed scope has a type with a size and the three numbers of figure 7.
 -- A rule bears the paper's name. Computed numbers stand as a variable and an equation.
-use Prim.Native.Nat.{ℕ, zero, suc, _+_, _-_, _≤_, _<_}
+use Prim.Native.Nat.{ℕ, suc, _+_, _-_, _≤_, _<_}
 use mathlib.Core.List.{List, [], _∷_, _++_}
-use mathlib.Core.Bool.{Bool, true, false}
-use mathlib.Core.Option.{Option, none, some}
+use mathlib.Core.Bool.{Bool, true}
+use mathlib.Core.Option.{some}
 use mathlib.Core.Path.{_≡_}
 use lib.ListN.{length, getElem? as look}
 use lib.Dec.{ltb, eqb}
 use Rattle.language.specs.Limits.{sizeMost}
 use Rattle.language.specs.Result.{choose}
-use Rattle.language.specs.Syntax.{Field, Constructor, Plain, pbool, pint, pnamed, Ty, tbool, tint, tnamed, Size, ResultType, Op, owns, Expr, ebool, eint, evar, enow, elast, elet, eif, eop, ecall, econ, ecase, eadj, efit, Exprs, enil, econs}
+use Rattle.language.specs.Syntax.{Constructor, Plain, pbool, pint, pnamed, Ty, tbool, tint, tnamed, Size, ResultType, Op, owns, Expr, ebool, eint, evar, enow, elast, elet, eif, eop, ecall, econ, ecase, eadj, efit, Exprs, enil, econs}
 use Rattle.language.specs.Syntax.{Function, Node, File, constructorsOf, functionFrame, channelFrame, declaredTypes, initialValues}
 use Rattle.language.specs.PlainTypes.{operandType, opType}
 use Rattle.language.specs.Sizes.{typeSize, typeAt, conditionsHold, sum, weight, sizesOf, parameterTypes, fieldTypes, ownSizes}

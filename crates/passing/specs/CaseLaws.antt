@@ -1,35 +1,29 @@
 -- A case and its branches, an adjustment, a fit: what stands behind their codes, return by return.
-use Prim.Native.Nat.{ℕ, zero, suc, _+_, _-_, _*_, _%_, _≤_, _<_}
+use Prim.Native.Nat.{ℕ, _+_, _-_, _*_, _%_, _≤_, _<_}
 use mathlib.Core.List.{List, [], _∷_}
-use mathlib.Core.Bool.{Bool, true, false}
-use mathlib.Core.Path.{_≡_, refl, sym, ap, _∙_, subst}
+use mathlib.Core.Path.{_≡_, refl, sym, _∙_, subst}
 use native.Mathlib.Omega.{arith}
 use native.Mathlib.Nat.{le-refl}
 use native.Mathlib.Numerals.{add-one}
 use lib.ListN.{length, getD, drop, drop-of-length-le}
 use lib.Seq.{drop-cons}
-use lib.Dec.{ltb}
-use borrow.Author.Tests.{ltb-true}
-use Rattle.language.specs.Limits.{nestingMost, sizeMost, parametersMost, fieldsMost, constructorsMost}
-use Rattle.language.specs.Syntax.{Constructor, fbool, fint, own, other, owns, Expr, ebool, eint, evar, enow, elast, elet, eif, eop, ecall, econ, ecase, eadj, efit, Exprs, enil, econs}
+use Rattle.language.specs.Limits.{nestingMost, sizeMost}
+use Rattle.language.specs.Syntax.{Constructor, fbool, fint, own, other, owns, ecase, eadj, efit, econs}
 use Rattle.language.specs.Scope.{Scope, wider}
-use Rattle.language.specs.Parser.{Read, got, bad, Parser, andThen, must, byte, index, count, code}
-use Rattle.language.specs.ReadExpr.{bound, size, result, int, Form, letForm, opForm, callForm, conForm, caseForm, adjForm, fitForm, ops, bools, exprs, branches, exprBehind, exprAt, sizeAt}
+use Rattle.language.specs.Parser.{index, count}
+use Rattle.language.specs.ReadExpr.{bound, result, caseForm, adjForm, fitForm, branches, exprBehind, exprAt, sizeAt}
 use Rattle.text.specs.declared.Cursor.{Cursor}
 use Rattle.text.specs.declared.Found.{Found}
 use Rattle.text.specs.declared.Number.{Number}
 use Rattle.text.specs.declared.Number.the-variants.{Is, Refused}
 use Rattle.text.specs.declared.Step.{Step}
 use Rattle.text.specs.declared.Step.the-variants.{Next, Stop}
-use Rattle.text.specs.Bytes.{bytesOf, bytesFrom, forget, stepOf, Moved, moved, ReadsNumber, Passes, Below}
-use Rattle.text.specs.Codes.{codePlace}
-use Rattle.text.specs.CodeLaws.{code-then, code-stops, code-below}
-use Rattle.text.specs.StepLaws.{number-got, ends-within, pass-moved, pass-none, pass-here, number-moved, passes-behind, read-then-pass, read-stops-pass, pass-then-pass, pass-stops-pass, forget-then, read-ends-pass}
+use Rattle.text.specs.Bytes.{bytesFrom, forget, stepOf, moved, ReadsNumber, Passes, Below}
+use Rattle.text.specs.StepLaws.{ends-within, pass-moved, pass-here, number-moved, read-then-pass, read-stops-pass, pass-then-pass, pass-stops-pass, forget-then}
 use Rattle.passing.specs.declared.Names.{Names}
-use Rattle.index.specs.Tables.{typeWords, constructorWords, functionWords}
-use Rattle.passing.specs.Follows.{Tells, Follows, Roomy, widerNames, behind, leafBehind}
-use Rattle.passing.specs.ExprLaws.{tells-wider, small, some-at, code-ends-pass, forget-cong, exprs-more, exprs-two, exprs-three}
-use Rattle.passing.specs.FormLaws.{index-less}
+use Rattle.index.specs.Tables.{typeWords, constructorWords}
+use Rattle.passing.specs.Follows.{Tells, Follows, widerNames, behind}
+use Rattle.passing.specs.ExprLaws.{tells-wider, small}
 
 -- no constructor has more own-type fields than fields
 owns-few : (fs : Constructor) → owns fs ≤ length fs

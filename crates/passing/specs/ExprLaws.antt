@@ -5,29 +5,25 @@ use mathlib.Core.Bool.{Bool, true, false, not}
 use mathlib.Core.Option.{some}
 use mathlib.Core.Path.{_≡_, refl, sym, ap, _∙_, subst}
 use native.Mathlib.Omega.{arith}
-use native.Mathlib.Nat.{zero-add}
-use lib.ListN.{length, getD, drop, getElem? as look, drop-of-length-le}
-use lib.Seq.{drop-cons}
+use lib.ListN.{length, getD, getElem? as look}
 use lib.Dec.{ltb, leb}
 use borrow.Author.Tests.{lt-ltb, le-leb, lt-leb, leb-true}
-use Rattle.language.specs.Limits.{sizeMost, nestingMost, variablesMost, sizeVariablesMost, fieldsMost, constructorsMost, parametersMost}
+use Rattle.language.specs.Limits.{variablesMost, sizeVariablesMost}
 use Rattle.language.specs.Result.{both}
-use Rattle.language.specs.Syntax.{Constructor, TypeDef, owns, Expr, ebool, eint, evar, enow, elast, elet, eif, eop, ecall, econ, ecase, eadj, efit, Exprs, enil, econs}
+use Rattle.language.specs.Syntax.{Expr, enil, econs}
 use Rattle.language.specs.Scope.{Scope, wider, roomIn}
-use Rattle.language.specs.Parser.{Read, got, bad, Parser, andThen, refuse, byte, index, count, code, codeIn}
-use Rattle.language.specs.ReadExpr.{bound, size, result, int, Form, boolForm, intForm, varForm, nowForm, lastForm, letForm, ifForm, opForm, callForm, conForm, caseForm, adjForm, fitForm, forms, ops, bools, exprs, branches, exprBehind, exprAt, sizeAt}
+use Rattle.language.specs.Parser.{Read, got, bad, Parser, andThen, refuse, code, codeIn}
+use Rattle.language.specs.ReadExpr.{Form, boolForm, forms, exprs, branches, exprBehind, exprAt}
 use Rattle.text.specs.declared.Cursor.{Cursor}
 use Rattle.text.specs.declared.Found.{Found}
 use Rattle.text.specs.declared.Number.{Number}
 use Rattle.text.specs.declared.Number.the-variants.{Is, Refused}
 use Rattle.text.specs.declared.Step.{Step}
-use Rattle.text.specs.declared.Step.the-variants.{Next, Stop}
-use Rattle.text.specs.Bytes.{bytesOf, bytesFrom, forget, stepOf, Moved, moved, ReadsNumber, Passes, Below}
+use Rattle.text.specs.Bytes.{bytesFrom, forget, stepOf, ReadsNumber, Passes, Below}
 use Rattle.text.specs.Codes.{codePlace, placeIn}
-use Rattle.text.specs.CodeLaws.{code-places, code-in-places, place-then, place-stops, no-room, code-then, code-stops, code-below, code-in-then, code-in-stops, code-in-below}
-use Rattle.text.specs.StepLaws.{ends-within, Gives, pass-got, pass-bad, pass-moved, pass-none, pass-here, number-moved, passes-behind, read-then-pass, read-stops-pass, pass-then-pass, pass-stops-pass, forget-then, read-passes, read-ends-pass}
+use Rattle.text.specs.CodeLaws.{no-room, code-then, code-stops, code-below, code-in-then, code-in-stops, code-in-below}
+use Rattle.text.specs.StepLaws.{ends-within, pass-none, pass-here, number-moved, passes-behind, forget-then}
 use Rattle.passing.specs.declared.Names.{Names}
-use Rattle.index.specs.Tables.{typeWords, constructorWords, functionWords}
 use Rattle.theory.specs.Lists.{both-left, both-right}
 use Rattle.passing.specs.Follows.{Tells, Follows, Roomy, isRoomy, widerNames, formAt, behind, leafBehind}
 

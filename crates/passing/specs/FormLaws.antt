@@ -1,34 +1,31 @@
 -- What stands behind the code of a form, return by return.
-use Prim.Native.Nat.{ℕ, zero, suc, _+_, _-_, _*_, _%_, _≤_, _<_}
-use mathlib.Core.List.{List, [], _∷_}
+use Prim.Native.Nat.{ℕ, suc, _+_, _-_, _*_, _%_, _<_}
+use mathlib.Core.List.{List, []}
 use mathlib.Core.Bool.{Bool, true, false}
 use mathlib.Core.Path.{_≡_, refl, sym, ap, _∙_, subst}
 use native.Mathlib.Omega.{arith}
 use native.Mathlib.Nat.{le-refl}
-use native.Mathlib.Numerals.{add-one}
-use lib.ListN.{length, getD, drop, drop-of-length-le}
-use lib.Seq.{drop-cons}
+use lib.ListN.{length, getD}
 use lib.Dec.{ltb}
 use borrow.Author.Tests.{ltb-true}
-use Rattle.language.specs.Limits.{nestingMost, sizeMost, parametersMost, fieldsMost, constructorsMost}
-use Rattle.language.specs.Syntax.{owns, Expr, ebool, eint, evar, enow, elast, elet, eif, eop, ecall, econ, ecase, eadj, efit, Exprs, enil, econs}
+use Rattle.language.specs.Syntax.{ebool, eint, evar, enow, elast, elet, eif, eop, ecall, econ}
 use Rattle.language.specs.Scope.{Scope, wider}
-use Rattle.language.specs.Parser.{Read, got, bad, Parser, andThen, must, byte, index, count, code}
-use Rattle.language.specs.ReadExpr.{bound, size, result, int, Form, letForm, opForm, callForm, conForm, caseForm, adjForm, fitForm, ops, bools, exprs, branches, exprBehind, exprAt, sizeAt}
+use Rattle.language.specs.Parser.{Read, got, bad, andThen, must, byte, index, code}
+use Rattle.language.specs.ReadExpr.{bound, int, letForm, opForm, callForm, conForm, ops, bools, exprs, exprBehind, exprAt}
 use Rattle.text.specs.declared.Cursor.{Cursor}
 use Rattle.text.specs.declared.Found.{Found}
 use Rattle.text.specs.declared.Number.{Number}
 use Rattle.text.specs.declared.Number.the-variants.{Is, Refused}
 use Rattle.text.specs.declared.Step.{Step}
 use Rattle.text.specs.declared.Step.the-variants.{Next, Stop}
-use Rattle.text.specs.Bytes.{bytesOf, bytesFrom, forget, stepOf, Moved, moved, ReadsNumber, Passes, Below}
+use Rattle.text.specs.Bytes.{bytesFrom, forget, stepOf, moved, ReadsNumber, Passes, Below}
 use Rattle.text.specs.Codes.{codePlace}
 use Rattle.text.specs.CodeLaws.{code-then, code-stops, code-below}
 use Rattle.text.specs.StepLaws.{number-got, ends-within, pass-moved, pass-none, pass-here, number-moved, passes-behind, read-then-pass, read-stops-pass, pass-then-pass, pass-stops-pass, forget-then, read-ends-pass}
 use Rattle.passing.specs.declared.Names.{Names}
 use Rattle.index.specs.Tables.{typeWords, constructorWords, functionWords}
-use Rattle.passing.specs.Follows.{Tells, Follows, Roomy, widerNames, behind, leafBehind}
-use Rattle.passing.specs.ExprLaws.{tells-wider, small, some-at, code-ends-pass, forget-cong, exprs-more, exprs-two, exprs-three}
+use Rattle.passing.specs.Follows.{Tells, Follows, widerNames, behind, leafBehind}
+use Rattle.passing.specs.ExprLaws.{tells-wider, small, some-at, code-ends-pass, exprs-more, exprs-two, exprs-three}
 
 -- an index that was read is below its bound
 tested-less : {bound i : ℕ} {cs : List ℕ} (y : Read ℕ) → andThen y (λ n. must (ltb n bound) 6 (λ ds. got n ds)) ≡ got i cs → i < bound

@@ -1,7 +1,7 @@
 -- The four bytes of an Int give its value: the low 32 bits of the number, which within the limits are the number.
-use Prim.Native.Nat.{ℕ, _+_, _*_, _/_, _%_, _^_, _<_}
+use Prim.Native.Nat.{ℕ, _+_, _%_, _<_}
 use mathlib.Core.List.{List}
-use mathlib.Core.Path.{_≡_, sym, _∙_}
+use mathlib.Core.Path.{_≡_}
 use native.Mathlib.Omega.{arith}
 use Rattle.language.specs.Limits.{intRange}
 use Rattle.language.specs.Syntax.{Expr, eint}

@@ -1,21 +1,20 @@
 -- Reads in turn: what the cursor's answer says of the parser's, and of what comes behind it.
-use Prim.Native.Nat.{ℕ, zero, suc, _+_, _*_, _/_, _≤_, _<_}
-use mathlib.Core.List.{List, [], _∷_}
+use Prim.Native.Nat.{ℕ, _+_, _*_, _/_, _≤_, _<_}
+use mathlib.Core.List.{List, []}
 use mathlib.Core.Bool.{Bool, true, false}
-use mathlib.Core.Path.{_≡_, refl, sym, ap, _∙_, subst}
+use mathlib.Core.Path.{_≡_, sym, ap, _∙_}
 use native.Mathlib.Omega.{arith}
 use native.Mathlib.Numerals.{add-one}
-use lib.ListN.{length, getD, drop, drop-of-length-le}
+use lib.ListN.{length, getD, drop-of-length-le}
 use lib.Seq.{drop-cons}
 use lib.Dec.{ltb, leb}
 use borrow.Author.Tests.{lt-ltb, le-ltb, le-leb, lt-leb}
 use Rattle.language.specs.Result.{both}
 use Rattle.language.specs.Parser.{Read, got, bad, Parser, andThen, must, byte, index, count}
-use Rattle.text.specs.declared.Cursor.{Cursor}
 use Rattle.text.specs.declared.Found.{Found}
 use Rattle.text.specs.declared.Number.{Number}
 use Rattle.text.specs.declared.Number.the-variants.{Is, Refused}
-use Rattle.text.specs.Bytes.{digitValue, bytesOf, bytesFrom, given, Moved, moved, stopped, stepOf, ReadsNumber, Below, below, no-number}
+use Rattle.text.specs.Bytes.{digitValue, bytesOf, bytesFrom, given, moved, stopped, ReadsNumber, Below, below, no-number}
 use Rattle.text.specs.DigitLaws.{bytes-length, bytes-at}
 
 -- ---- the next byte

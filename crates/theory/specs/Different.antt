@@ -4,7 +4,7 @@ use mathlib.Core.List.{List, [], _∷_, _++_, List·Memᴰ as In, List·Memᴰ·
 use mathlib.Core.Path.{_≡_, refl, sym, _∙_}
 use native.Mathlib.Omega.{arith}
 use lib.ListN.{length}
-use Rattle.language.specs.Within.{All, all-nil, all-cons}
+use Rattle.language.specs.Within.{All}
 use Rattle.theory.specs.Alls.{all-member}
 
 -- ---- no repeats

@@ -1,18 +1,17 @@
 -- Document 01's starred cases ("Tins to try"), as one table and one computed fact, through the definitions.
-use Prim.Native.Nat.{ℕ, zero, suc, _+_, _*_}
+use Prim.Native.Nat.{ℕ, _+_}
 use Prim.Native.Char.{code}
 use Prim.Native.String.{String, [] as empty, _∷_ as _then_}
-use mathlib.Core.List.{List, [], _∷_, _++_, map}
+use mathlib.Core.List.{List, [], _∷_, map}
 use mathlib.Core.Bool.{true}
 use mathlib.Core.Option.{none, some}
 use mathlib.Core.Path.{_≡_, refl}
 use lib.ListN.{length, getD, replicate, getElem? as look}
 use Rattle.language.specs.Limits.{instancesMost, scratchWords}
-use Rattle.language.specs.Result.{Result, ok, no, bind, from}
+use Rattle.language.specs.Result.{Result, ok, no, from}
 use Rattle.language.specs.Syntax.{File, Ty, Expr, eint, eop, oadd, omul}
 use Rattle.language.specs.Reader.{readFile, emptyFile}
 use Rattle.language.specs.Sizes.{typeAt, sizeOfType}
-use Rattle.language.specs.Estimate.{Estimate}
 use Rattle.language.specs.Checker.{Counted, enterAt}
 use Rattle.language.specs.Cells.{cellsNamed}
 use Rattle.language.specs.Heap.{number, constantIn, cellAt}

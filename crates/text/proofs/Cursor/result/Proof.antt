@@ -1,5 +1,4 @@
 use Rattle.text.specs.TypeLaws.{result-no-code, result-constant, result-no-type, result-sized}
-use borrow.Author.Needs.{needs}
 use Rattle.text.proofs.Cursor.result.Statement.{statement}
 use Rattle.text.proofs.Cursor.result.Tie as tie
 

@@ -8,9 +8,6 @@ use Rattle.text.specs.LinesEnd.{line-within}
 use Rattle.text.specs.LinesJudge.{Counted, one-at-most, counted-start, counted-on, judged-too-long, judged-unended, judged-unspelled, judged-end}
 use Rattle.text.proofs.lines.judge.Statement.{statement}
 use Rattle.text.proofs.lines.judge.Tie as tie
-use Rattle.text.proofs.lines.channel.Reads as channel-reads
-use Rattle.text.proofs.lines.line_at.Reads as line-at-reads
-use Rattle.text.proofs.lines.spells.Reads as spells-reads
 
 abbrev Inv-loop : tie.InvT-loop
 Inv-loop text at₀ lines₀ channels₀ at lines channels = Counted text at lines channels

@@ -7,7 +7,6 @@ use borrow.Author.Tests.{not-true, not-false}
 use Rattle.text.specs.LinesSpell.{DigitsTo, empty-spells-nothing, odd-spells-nothing, digits-start, digits-on, digits-stop, digits-end}
 use Rattle.text.proofs.lines.spells.Statement.{statement}
 use Rattle.text.proofs.lines.spells.Tie as tie
-use Rattle.text.proofs.lines.is_digit.Reads as is-digit-reads
 
 abbrev Inv-loop : tie.InvT-loop
 Inv-loop line i₀ i = DigitsTo line i
