@@ -2,5 +2,6 @@
 
 pub mod engine;
 pub mod format;
+pub mod reading;
 pub mod report;
 pub mod run;

@@ -2,24 +2,27 @@
 //!
 //! ```text
 //! replay --rust < cases > answers
+//! replay --read < cases > answers
 //! replay --generate <count> <seed> > cases
 //! ```
 
 use evaluator::stack::with_deep_stack;
+use generator::case::Case;
 use generator::mixture::Mixture;
-use replay::engine::{Engine, Reference};
-use replay::format;
+use replay::engine::Reference;
 use replay::run::run;
+use replay::{format, reading};
 
 use std::io::{self, BufRead, BufWriter, Write};
 use std::process::ExitCode;
 
-const USAGE: &str = "usage: replay --rust < cases, or replay --generate <count> <seed>";
+const USAGE: &str = "usage: replay --rust | --read < cases, or replay --generate <count> <seed>";
 
 /// What the arguments ask for.
 enum Task {
     AnswerByReference,
     AnswerByLibrary,
+    ReadByLibrary,
     Generate { count: usize, seed: u64 },
 }
 
@@ -44,6 +47,7 @@ fn task(arguments: &[String]) -> Option<Task> {
     match arguments[..] {
         [] => Some(Task::AnswerByLibrary),
         ["--rust"] => Some(Task::AnswerByReference),
+        ["--read"] => Some(Task::ReadByLibrary),
         ["--generate", count, seed] => Some(Task::Generate {
             count: count.parse().ok()?,
             seed: seed.parse().ok()?,
@@ -54,7 +58,13 @@ fn task(arguments: &[String]) -> Option<Task> {
 
 fn perform(task: Task) -> io::Result<()> {
     match task {
-        Task::AnswerByReference => answer(&mut Reference::new()),
+        Task::AnswerByReference => {
+            let mut engine = Reference::new();
+            answer(|case| run(&mut engine, case))
+        }
+        Task::ReadByLibrary => {
+            answer(|case| reading::report(reading::by_library(reading::text(case))))
+        }
         Task::Generate { count, seed } => generate(count, seed),
         Task::AnswerByLibrary => Ok(()),
     }
@@ -66,11 +76,11 @@ fn library_is_absent() -> ExitCode {
     ExitCode::from(2)
 }
 
-fn answer(engine: &mut dyn Engine) -> io::Result<()> {
+fn answer(mut by: impl FnMut(&Case) -> String) -> io::Result<()> {
     let mut out = BufWriter::new(io::stdout().lock());
     for (before, line) in io::stdin().lock().lines().enumerate() {
         let case = format::parse(&line?).ok_or_else(|| not_a_case(before + 1))?;
-        writeln!(out, "{}", run(engine, &case))?;
+        writeln!(out, "{}", by(&case))?;
     }
     out.flush()
 }

@@ -1,26 +1,14 @@
 //! Agreement with cases whose answers are on file.
 
+mod support;
+
 use evaluator::stack::with_deep_stack;
 use replay::engine::Reference;
 use replay::format;
 use replay::run::run;
 use std::fs;
-use std::io::{self, Write};
-use std::path::{Path, PathBuf};
-
-/// Names the folder of the shared cases where it is not beside the repository.
-const FOLDER_VARIABLE: &str = "PAUGMELN_CASES";
-
-fn shared_folder() -> PathBuf {
-    match std::env::var_os(FOLDER_VARIABLE) {
-        Some(folder) => PathBuf::from(folder),
-        None => Path::new(env!("CARGO_MANIFEST_DIR")).join("../../../shared/cases"),
-    }
-}
-
-fn own_folder() -> PathBuf {
-    Path::new(env!("CARGO_MANIFEST_DIR")).join("../cases")
-}
+use std::path::Path;
+use support::{own_folder, say, shared_folder};
 
 /// Answers every case of a file and compares; gives the number of cases.
 fn agree(folder: &Path, name: &str) -> usize {
@@ -42,11 +30,6 @@ fn agree(folder: &Path, name: &str) -> usize {
     .expect("every case agrees")
 }
 
-/// Writes past the capture of passing tests, so that it is always seen.
-fn say(message: &str) {
-    writeln!(io::stderr(), "{message}").expect("standard error is open");
-}
-
 #[test]
 fn the_sample_of_this_repository_agrees() {
     let count = agree(&own_folder(), "sample");
@@ -56,15 +39,9 @@ fn the_sample_of_this_repository_agrees() {
 
 #[test]
 fn the_shared_cases_agree_where_they_are_present() {
-    let folder = shared_folder();
-    if !folder.is_dir() {
-        let shown = folder.display();
-        say(&format!(
-            "SHARED CASES ABSENT: no folder {shown} (set {FOLDER_VARIABLE} to name it); \
-             only the sample of this repository is compared."
-        ));
+    let Some(folder) = shared_folder() else {
         return;
-    }
+    };
     for name in ["edges", "run"] {
         let count = agree(&folder, name);
         say(&format!("{count} shared cases of {name} agree"));

@@ -1,0 +1,90 @@
+-- A node: its declared type, its initial value and its update, and the three words of its entry.
+use Rattle.reader.specs.Channels.{follows-as, node-no-type, node-no-initial, node-read}
+use borrow.Author.Needs.{needs}
+use Rattle.reader.proofs.frames.node_frame.Statement.{statement}
+use Rattle.reader.proofs.frames.node_frame.Tie as tie
+
+declared-requires : tie.Need-declared-requires
+declared-requires c κs = search needs
+
+enum-known-x : tie.Need-enum-known-x
+enum-known-x c = search needs
+
+enum-told : tie.Need-enum-told
+enum-told c = search needs
+
+step-of-requires : tie.Need-step-of-requires
+step-of-requires c κs = search needs
+
+returns : tie.Need-returns
+returns c = node-no-type _ _ _ _ _ _ (c .before .before .before .declared .ensures .0) _ (c .before .enum-told .given .1) (c .step-of .ensures)
+
+outside-requires : tie.Need-outside-requires
+outside-requires c κs = search needs
+
+expr-requires : tie.Need-expr-requires
+expr-requires c κs = search needs
+
+enum-known-y : tie.Need-enum-known-y
+enum-known-y c = search needs
+
+enum-told-2 : tie.Need-enum-told-2
+enum-told-2 c = search needs
+
+returns-2 : tie.Need-returns-2
+returns-2 c = node-no-initial _ _ _ _ _ _ (c .before .before .before .before .before .before .before .before .declared .ensures .0) _ (c .before .before .before .before .before .before .x .given .1) (follows-as (c .before .before .before .outside .ensures) (c .before .before .expr .ensures)) (c .enum-told2 .given .1)
+
+add-before : tie.Need-add-before
+add-before c = search needs
+
+outside-requires-2 : tie.Need-outside-requires-2
+outside-requires-2 c κs = search needs
+
+expr-requires-2 : tie.Need-expr-requires-2
+expr-requires-2 c κs = search needs
+
+cast-to : tie.Need-cast-to
+cast-to c = search needs
+
+mul-to : tie.Need-mul-to
+mul-to c = search needs
+
+place-requires : tie.Need-place-requires
+place-requires c κs = search needs
+
+place-requires-2 : tie.Need-place-requires-2
+place-requires-2 c κs = search needs
+
+channel-into-requires : tie.Need-channel-into-requires
+channel-into-requires c κs = search needs
+
+same-length : tie.Need-same-length
+same-length c = search needs
+
+returns-3 : tie.Need-returns-3
+returns-3 c = node-read _ _ _ _ _ _ (c .before .before .before .before .before .before .before .before .before .before .before .before .before .before .before .before .before .before .declared .ensures .0) _ (c .before .before .before .before .before .before .before .before .before .before .before .before .before .before .before .before .x .given .1) (follows-as (c .before .before .before .before .before .before .before .before .before .before .before .before .before .outside .ensures) (c .before .before .before .before .before .before .before .before .before .before .before .before .expr .ensures)) (c .before .before .before .before .before .before .before .before .before .before .y .given .1) (c .before .before .before .before .before .before .before .before .before .before .before .before .before .before .before .before .before .before .before .before .before .before .before .pre) (c .before .before .before .before .before .place .ensures) (c .before .before .before .before .place2 .ensures) (follows-as (c .before .before .before .before .before .before .before .outside2 .ensures) (c .before .before .before .before .before .before .expr2 .ensures)) (c .before .before .channel-into .ensures)
+
+pub node-frame-spec : {M : Type 1} → statement M
+node-frame-spec =
+    tie.close
+    (tie.spec
+    declared-requires
+    enum-known-x
+    enum-told
+    step-of-requires
+    returns
+    outside-requires
+    expr-requires
+    enum-known-y
+    enum-told-2
+    returns-2
+    add-before
+    outside-requires-2
+    expr-requires-2
+    cast-to
+    mul-to
+    place-requires
+    place-requires-2
+    channel-into-requires
+    same-length
+    returns-3)

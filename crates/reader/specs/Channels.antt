@@ -1,0 +1,222 @@
+-- Channel frames: what the reads of a declared type and of expressions promise, an input's frame and a node's promise.
+use Prim.Native.Nat.{ℕ, zero, suc, _+_, _*_, _≤_, _<_}
+use mathlib.Core.List.{List, [], _∷_, _++_, append-nil, append-assoc}
+use mathlib.Core.Path.{_≡_, refl, sym, ap, _∙_, subst}
+use mathlib.Core.Bool.{true}
+use native.Mathlib.Omega.{arith}
+use lib.ListN.{length, getD, set, length-map, length-append, List·getD-map}
+use Rattle.language.specs.Limits.{functionsMost, channelsMost, parametersMost, nestingMost}
+use Rattle.language.specs.Syntax.{Expr, ebool, rbool, Function, File}
+use Rattle.language.specs.Format.{spellAll, declaredBytes, exprBytes}
+use Rattle.language.specs.Layout.{padded}
+use Rattle.language.specs.Scope.{Scope, aritiesOf, outerScope}
+use Rattle.language.specs.Within.{All, all-nil, all-cons}
+use Rattle.language.specs.Parser.{Read, got, bad, Parser, andThen}
+use Rattle.language.specs.ReadExpr.{declared, exprAt}
+use Rattle.language.specs.Reader.{input, node}
+use Rattle.theory.specs.ExactTypes.{declared-exact}
+use Rattle.theory.specs.ExactExpr.{expr-exact}
+use Rattle.text.specs.declared.Cursor.{Cursor}
+use Rattle.text.specs.declared.Found.{Found}
+use Rattle.text.specs.declared.Number.{Number}
+use Rattle.text.specs.declared.Number.the-variants.{Is, Refused}
+use Rattle.text.specs.declared.Step.{Step}
+use Rattle.text.specs.declared.Step.the-variants.{Next, Stop}
+use Rattle.text.specs.Bytes.{bytesOf, bytesFrom, mapRead, forget, stepOf, ReadsNumber, Passes, declaredWord}
+use Rattle.text.specs.DigitLaws.{bytes-length}
+use Rattle.text.specs.StepLaws.{ends-within, number-got, number-bad, number-moved, pass-got, pass-bad, pass-moved, pass-none, passes-behind, pass-stops-pass, forget-then}
+use Rattle.index.specs.Tables.{functionWords, functionEntry, functionTable, channelWords, inputEntry, nodeEntry, channelTable}
+use Rattle.index.specs.Enters.{TellsType}
+use Rattle.index.specs.TypeTable.{tells-type}
+use Rattle.index.specs.FunctionTable.{tells-parameters}
+use Rattle.index.specs.FrameTable.{channels-so-far, input-more, node-more}
+use Rattle.index.specs.EnterLaws.{next-word}
+use Rattle.index.specs.ParserLaws.{bad-is-not-got}
+use Rattle.passing.specs.declared.Names.{Names}
+use Rattle.passing.specs.Follows.{Tells, Follows}
+use Rattle.reader.specs.declared.Counts.{Counts}
+use Rattle.reader.specs.Held.{Held, Fits, PlaceWord, ReadsInput, ReadsNode}
+use Rattle.reader.specs.Places.{place-behind}
+
+abbrev pub outsideNames : Counts → ℕ → ℕ → Names
+outsideNames n now last = record { variables = 0; sizes = 0; now = now; last = last; types = n .types; functions = n .functions }
+
+-- ---- the tables tell the scope outside all functions
+pub all-getD : {A : Type 0} {Q : A → Type 0} {l : List A} → All Q l → (i : ℕ) (d : A) → i < length l → Q (getD l i d)
+all-getD all-nil i d h = absurd (omega arith)
+all-getD (all-cons q qs) zero d h = q
+all-getD (all-cons q qs) (suc i) d h = all-getD qs i d (omega arith)
+
+abbrev pub noFunction : Function
+noFunction = record { parameters = []; result = rbool; conditions = []; measure = []; body = ebool true }
+
+pub arity-at : (Fs : List Function) (f : ℕ) → getD (aritiesOf Fs) f 0 ≡ length (getD Fs f noFunction .parameters)
+arity-at Fs f = List·getD-map (λ (F : Function). length (F .parameters)) Fs f noFunction
+
+module _ {types functions channels : List ℕ} {n : Counts} {P : File} (held : Held types functions channels n P) where
+  pub tells-types : (t : ℕ) → t < n .types → TellsType types t (getD (P .types) t [])
+  tells-types t h = let less : t < length (P .types) = omega (arith, held .typeCount) in tells-type (P .types) t (held .typesAre) (held .fewTypes) less (all-getD (held .parts) t [] less)
+
+  pub few-arities : (f : ℕ) → f < length (P .functions) → getD (aritiesOf (P .functions)) f 0 ≤ parametersMost
+  few-arities f less = omega (arith, arity-at (P .functions) f, all-getD (held .parameters) f noFunction less)
+
+  tells-outside : (now last : ℕ) → Tells types functions (outsideNames n now last) (outerScope (P .types) (P .functions) now last)
+  unfolding outerScope functionTable
+  tells-outside now last = record {
+    variables = refl;
+    sizes = refl;
+    now = refl;
+    last = refl;
+    typeCount = held .typeCount;
+    functionCount = length-map (P .functions) _ ∙ held .functionCount;
+    each = tells-types;
+    arities = λ f h. let less : f < length (P .functions) = omega (arith, held .functionCount) in
+        tells-parameters (functionsMost * functionWords) (P .functions) [] f noFunction (held .functionsAre ∙ sym (ap (padded (functionsMost * functionWords)) (append-nil (spellAll functionEntry (P .functions))))) (omega (arith, held .fewFunctions)) less (all-getD (held .parameters) f noFunction less) .count
+        ∙ sym (arity-at (P .functions) f);
+    few = λ f h. few-arities f (omega (arith, held .functionCount));
+  }
+
+-- ---- a declared type: the word and the place behind it
+forget-map : {A B : Type 0} (g : A → B) (y : Read A) → forget (mapRead g y) ≡ forget y
+unfolding forget mapRead
+forget-map g (got a bs) = refl
+forget-map g (bad n) = refl
+
+map-bad : {A B : Type 0} (g : A → B) (y : Read A) {n : ℕ} → mapRead g y ≡ bad n → y ≡ bad n
+unfolding mapRead
+map-bad g (got a bs) e = bad-is-not-got (sym e)
+map-bad g (bad m) {n} e = let same : m ≡ n = cc in ap bad same
+
+record Mapped {A B : Type 0} (g : A → B) (y : Read A) (b : B) (rest : List ℕ) : Type 0 where
+  value : A
+  is : y ≡ got value rest
+  word : g value ≡ b
+
+map-got : {A B : Type 0} (g : A → B) (y : Read A) {b : B} {rest : List ℕ} → mapRead g y ≡ got b rest → Mapped g y b rest
+unfolding mapRead
+map-got g (got a bs) {b} {rest} e = let same : g a ≡ b = cc in let left : bs ≡ rest = cc in record { value = a; is = ap (got a) left; word = same }
+map-got g (bad m) e = bad-is-not-got e
+
+pub then-got : {A B : Type 0} {y : Read A} {a : A} {rest : List ℕ} (k : A → Parser B) → y ≡ got a rest → andThen y k ≡ k a rest
+unfolding andThen
+then-got k e = rw e
+
+then-bad : {A B : Type 0} {y : Read A} {n : ℕ} (k : A → Parser B) → y ≡ bad n → andThen y k ≡ bad n
+unfolding andThen
+then-bad k e = rw e
+
+-- the value of the last part, in what was made of it
+pub record Made {A B : Type 0} (g : A → B) (y : Read A) (b : B) (rest : List ℕ) : Type 0 where
+  pub value : A
+  pub is : y ≡ got value rest
+  pub made : b ≡ g value
+
+pub last-got : {A B : Type 0} (g : A → B) (y : Read A) {b : B} {rest : List ℕ} → andThen y (λ a bs. got (g a) bs) ≡ got b rest → Made g y b rest
+unfolding andThen
+last-got g (got a bs) {b} {rest} e = let same : b ≡ g a = cc in let left : bs ≡ rest = cc in record { value = a; is = ap (got a) left; made = same }
+last-got g (bad m) e = bad-is-not-got e
+
+three-words : {a b d a′ b′ d′ : ℕ} → a ≡ a′ → b ≡ b′ → d ≡ d′ → a ∷ b ∷ d ∷ [] ≡ a′ ∷ b′ ∷ d′ ∷ []
+three-words p q r = λ i. p i ∷ q i ∷ r i ∷ []
+
+-- a place in a line of a text is its word
+pub place-is : {line : List ℕ} {n : Counts} {at word : ℕ} → Fits line n → PlaceWord at word → at ≤ length (bytesOf line) → word ≡ at
+place-is {line} fits w h = w .says (omega (arith, bytes-length line, fits .short))
+
+-- the same names, by another word
+pub follows-as : {line types functions : List ℕ} {c : Cursor} {s t : Names} {r : Step} {p : Scope → Parser Expr} → s ≡ t → Follows line types functions c s r p → Follows line types functions c t r p
+follows-as {line} {types} {functions} {c} {r} {p} e u = subst (λ m. Follows line types functions c m r p) e u
+
+-- three words behind a channel table so far
+pub channel-added : {channels channels′ : List ℕ} {to : ℕ} (a b d : ℕ) (before : List ℕ) → channels′ ≡ set (set (set channels to a) (to + 1) b) (to + 2) d → channels ≡ padded (channelsMost * channelWords) before → length before ≡ to → to + 3 ≤ channelsMost * channelWords →
+    channels′ ≡ padded (channelsMost * channelWords) (before ++ (a ∷ b ∷ d ∷ []))
+channel-added {channels} {to} a b d before w tb len room =
+    let n = channelsMost * channelWords in
+    let one = next-word {table = channels} {to = to} a n before refl tb len (omega arith) in
+    let two = next-word {table = set channels to a} {to = to + 1} b n (before ++ (a ∷ [])) refl one (omega (arith, length-append before (a ∷ []))) (omega arith) in
+    let three = next-word d n (before ++ (a ∷ []) ++ (b ∷ [])) w two (omega (arith, length-append before (a ∷ []), length-append (before ++ (a ∷ [])) (b ∷ []))) (omega arith) in
+    three ∙ ap (padded n) (ap (λ l. l ++ (d ∷ [])) (append-assoc before (a ∷ []) (b ∷ [])) ∙ append-assoc before (a ∷ b ∷ []) (d ∷ []))
+
+module _ (line types functions channels channels′ : List ℕ) (n : Counts) {x : Number} (v : ReadsNumber line 1 x (mapRead declaredWord (declared (n .types) (bytesFrom line 1)))) where
+  -- ---- an input
+  -- where the frame is refused, nothing is said of the table
+  input-stops : {r : Step} {k : ℕ} → r ≡ Stop k → ((P : File) → Held types functions channels n P → Passes line 1 r (forget (input P (bytesFrom line 1)))) → ReadsInput line types functions channels n r channels′
+  input-stops e says = record {
+    says = λ P held none few long. says P held;
+    enters = λ P held none few long i rest h. bad-is-not-got (sym (pass-bad (says P held) e) ∙ h);
+  }
+
+  pub input-no-type : {k : ℕ} {r : Step} → x ≡ Refused k → r ≡ stepOf x → ReadsInput line types functions channels n r channels′
+  unfolding input forget
+  input-no-type {k} e d = input-stops (d ∙ ap stepOf e) λ P held.
+      let none : declared (length (P .types)) (bytesFrom line 1) ≡ bad k = ap (λ t. declared t (bytesFrom line 1)) (held .typeCount) ∙ map-bad declaredWord _ (number-bad v e) in
+      pass-none e d (ap forget (then-bad _ none))
+
+  module _ {f : Found} (e : x ≡ Is f) where
+    within : f .next .at ≤ length (bytesOf line)
+    within = ends-within (number-moved v e)
+
+    type-read : {P : File} → Held types functions channels n P → Mapped declaredWord (declared (length (P .types)) (bytesFrom line 1)) (f .value) (bytesFrom line (f .next .at))
+    type-read {P} held = map-got declaredWord _ (ap (λ t. mapRead declaredWord (declared t (bytesFrom line 1))) (held .typeCount) ∙ number-got v e)
+
+    type-place : {P : File} (held : Held types functions channels n P) → 1 ≤ length (bytesOf line) → f .next .at ≡ 1 + length (declaredBytes (type-read held .value))
+    type-place {P} held long = place-behind (declared-exact (length (P .types))) line 1 (f .next .at) long within (type-read held .is)
+
+    pub input-read : {r : Step} {a : ℕ} → Fits line n → PlaceWord (f .next .at) a → Follows line types functions (f .next) (outsideNames n 0 0) r (exprAt nestingMost) → channels′ ≡ set (set (set channels (channelWords * n .inputs) (f .value)) (channelWords * n .inputs + 1) a) (channelWords * n .inputs + 2) 0 →
+        ReadsInput line types functions channels n r channels′
+    unfolding input inputEntry channelTable
+    input-read {r} {a} fits p u w = record {
+      says = λ P held none few long. let g = type-read held in passes-behind (number-moved v e) (ap forget (then-got _ (g .is)) ∙ forget-then _ _) (u .says (outerScope (P .types) (P .functions) 0 0) (tells-outside held 0 0) within);
+      enters = λ P held none few long i rest h.
+          let g = type-read held in
+          let m = last-got (λ (t : Expr). record { declared = g .value; initial = t }) _ (sym (then-got _ (g .is)) ∙ h) in
+          let empty : length (P .nodes) ≡ 0 = ap length none in
+          let so-far : channels ≡ padded (channelsMost * channelWords) (spellAll inputEntry (P .inputs) ++ spellAll nodeEntry []) = held .channelsAre ∙ ap (channelTable (P .inputs)) none in
+          let added = channel-added (f .value) a 0 (spellAll inputEntry (P .inputs) ++ spellAll nodeEntry []) w so-far (channels-so-far (P .inputs) [] ∙ omega (arith, held .inputCount)) (omega arith) in
+          let entry : f .value ∷ a ∷ 0 ∷ [] ≡ inputEntry i = three-words (sym (g .word)) (place-is fits p (ends-within (number-moved v e)) ∙ type-place held long) refl ∙ ap inputEntry (sym (m .made)) in
+          added ∙ ap (λ l. padded (channelsMost * channelWords) ((spellAll inputEntry (P .inputs) ++ spellAll nodeEntry []) ++ l)) entry ∙ sym (input-more (P .inputs) i);
+    }
+
+  -- ---- a node
+  module _ (all : ℕ) where
+    node-stops : {r : Step} {k : ℕ} → r ≡ Stop k → ((P : File) → Held types functions channels n P → Passes line 1 r (forget (node all P (bytesFrom line 1)))) → ReadsNode line types functions channels n all r channels′
+    node-stops e says = record {
+      says = λ P held few long. says P held;
+      enters = λ P held few long m rest h. bad-is-not-got (sym (pass-bad (says P held) e) ∙ h);
+    }
+
+    pub node-no-type : {k : ℕ} {r : Step} → x ≡ Refused k → r ≡ stepOf x → ReadsNode line types functions channels n all r channels′
+    unfolding node forget
+    node-no-type {k} e d = node-stops (d ∙ ap stepOf e) λ P held.
+        let none : declared (length (P .types)) (bytesFrom line 1) ≡ bad k = ap (λ t. declared t (bytesFrom line 1)) (held .typeCount) ∙ map-bad declaredWord _ (number-bad v e) in
+        pass-none e d (ap forget (then-bad _ none))
+
+    module _ {f : Found} (e : x ≡ Is f) {y : Step} (u : Follows line types functions (f .next) (outsideNames n 0 0) y (exprAt nestingMost)) where
+      initial-passes : {P : File} → Held types functions channels n P → Passes line (f .next .at) y (forget (exprAt nestingMost (outerScope (P .types) (P .functions) 0 0) (bytesFrom line (f .next .at))))
+      initial-passes {P} held = u .says (outerScope (P .types) (P .functions) 0 0) (tells-outside held 0 0) (ends-within (number-moved v e))
+
+      pub node-no-initial : {k : ℕ} → y ≡ Stop k → ReadsNode line types functions channels n all y channels′
+      unfolding node
+      node-no-initial {k} h = node-stops h λ P held. passes-behind (number-moved v e) (ap forget (then-got _ (type-read e held .is))) (pass-stops-pass _ _ (initial-passes held) h)
+
+      pub node-read : {d : Cursor} {r : Step} {a b : ℕ} → y ≡ Next d → Fits line n → PlaceWord (f .next .at) a → PlaceWord (d .at) b → Follows line types functions d (outsideNames n (n .inputs + n .nodes) all) r (exprAt nestingMost) →
+          channels′ ≡ set (set (set channels (channelWords * (n .inputs + n .nodes)) (f .value)) (channelWords * (n .inputs + n .nodes) + 1) a) (channelWords * (n .inputs + n .nodes) + 2) b → ReadsNode line types functions channels n all r channels′
+      unfolding node nodeEntry channelTable
+      node-read {d} {r} {a} {b} there fits p q z w = record {
+        says = λ P held few long.
+            let g = type-read e held in
+            let i = pass-got (initial-passes held) there in
+            passes-behind (number-moved v e) (ap forget (then-got _ (g .is))) (passes-behind (pass-moved (initial-passes held) there) (ap forget (then-got _ (i .is)) ∙ forget-then _ _) (update-passes held));
+        enters = λ P held few long m rest h.
+            let g = type-read e held in
+            let i = pass-got (initial-passes held) there in
+            let made = last-got (λ (t : Expr). record { declared = g .value; initial = i .value; update = t }) _ (sym (then-got _ (i .is)) ∙ sym (then-got _ (g .is)) ∙ h) in
+            let so-far : List ℕ = spellAll inputEntry (P .inputs) ++ spellAll nodeEntry (P .nodes) in
+            let added = channel-added (f .value) a b so-far w (held .channelsAre) (channels-so-far (P .inputs) (P .nodes) ∙ omega (arith, held .inputCount, held .nodeCount)) (omega (arith, held .inputCount, held .fewInputs)) in
+            let behind = place-behind (expr-exact nestingMost (outerScope (P .types) (P .functions) 0 0)) line (f .next .at) (d .at) (ends-within (number-moved v e)) (ends-within (pass-moved (initial-passes held) there)) (i .is) in
+            let entry : f .value ∷ a ∷ b ∷ [] ≡ nodeEntry m = three-words (sym (g .word)) (place-is fits p (ends-within (number-moved v e)) ∙ type-place e held long) (place-is fits q (ends-within (pass-moved (initial-passes held) there)) ∙ behind ∙ ap (λ p. p + length (exprBytes (i .value))) (type-place e held long)) ∙ ap nodeEntry (sym (made .made)) in
+            added ∙ ap (λ l. padded (channelsMost * channelWords) (so-far ++ l)) entry ∙ sym (node-more (P .inputs) (P .nodes) m);
+      }
+        where
+          update-passes : {P : File} → Held types functions channels n P → Passes line (d .at) r (forget (exprAt nestingMost (outerScope (P .types) (P .functions) (length (P .inputs) + length (P .nodes)) all) (bytesFrom line (d .at))))
+          update-passes {P} held = rw (held .inputCount, held .nodeCount) (z .says (outerScope (P .types) (P .functions) (n .inputs + n .nodes) all) (tells-outside held (n .inputs + n .nodes) all) (ends-within (pass-moved (initial-passes held) there)))

@@ -1,0 +1,406 @@
+-- A frame, return by return: what the calls so far promise, the frame promises.
+use Prim.Native.Nat.{ℕ, zero, suc, _+_, _-_, _*_, _/_, _≤_, _<_}
+use mathlib.Core.List.{List, [], _∷_, _++_}
+use mathlib.Core.Bool.{Bool, true, false, not}
+use mathlib.Core.Option.{Option, none, some}
+use mathlib.Core.Path.{_≡_, refl, sym, ap, _∙_, subst}
+use native.Mathlib.Omega.{arith}
+use lib.ListN.{length, drop, length-append, length-drop, drop-of-length-le}
+use lib.Dec.{ltb}
+use borrow.Author.Tests.{lt-ltb, ltb-true, le-ltb, ltb-false, le-leb}
+use Rattle.language.specs.Limits.{typesMost, functionsMost, inputsMost, nodesMost, parametersMost}
+use Rattle.language.specs.Result.{Result, ok, no, bind, need, from, both, choose}
+use Rattle.language.specs.Syntax.{TypeDef, Function, Input, Node, File, selfFree}
+use Rattle.language.specs.Parser.{Read, got, bad, byte, decode}
+use Rattle.language.specs.Reader.{typeDef, function, input, node, whole, Kind, typeKind, functionKind, inputKind, nodeKind, kinds, isEmpty, inOrder, withType, withFunction, withInput, withNode, readKind, readFrame}
+use Rattle.theory.specs.Alls.{all-snoc}
+use Rattle.theory.specs.Lists.{both-left, both-right}
+use Rattle.text.specs.declared.Cursor.{Cursor}
+use Rattle.text.specs.declared.Found.{Found}
+use Rattle.text.specs.declared.Number.{Number}
+use Rattle.text.specs.declared.Number.the-variants.{Is, Refused as NoNumber}
+use Rattle.text.specs.declared.Step.{Step}
+use Rattle.text.specs.declared.Step.the-variants.{Next, Stop}
+use Rattle.text.specs.Bytes.{bytesOf, bytesFrom, forget, ReadsNumber, Passes}
+use Rattle.text.specs.StepLaws.{number-got, number-bad, pass-got, pass-bad}
+use Rattle.text.specs.DigitLaws.{bytes-length}
+use Rattle.index.specs.Tables.{typeWords, typeEntry, typeTable, functionTable, channelTable}
+use Rattle.index.specs.Enters.{Enters, typeBehind, SelfFree}
+use Rattle.index.specs.TypeTable.{FewParts, type-def-behind, type-added, read-few, self-free-told}
+use Rattle.passing.specs.ExprLaws.{negated, affirmed}
+use Rattle.reader.specs.declared.Counts.{Counts}
+use Rattle.reader.specs.declared.Frame.{Frame}
+use Rattle.reader.specs.declared.Frame.the-variants.{Taken, Refused}
+use Rattle.reader.specs.Held.{Held, ReadsFunction, ReadsInput, ReadsNode, FrameRead, taken, refused, ReadsFrame, TypeTaken}
+use Rattle.reader.specs.Functions.{passes-as}
+use Rattle.reader.specs.Frames.{ordered, Ordered, endedAs, moreTypes, moreFunctions, moreInputs, moreNodes}
+
+-- ---- kinds
+data Which : ℕ → Type 0 where
+  first : Which 1
+  second : Which 2
+  third : Which 3
+  fourth : Which 4
+  unknown : {k : ℕ} → decode 0x01 kinds k ≡ none → Which k
+
+beyond : (k : ℕ) → decode 0x01 kinds (suc (suc (suc (suc (suc k))))) ≡ none
+unfolding decode choose
+beyond k = let on : suc (suc (suc (suc (suc k)))) - 1 ≡ suc (suc (suc (suc k))) = omega arith in rw (le-leb 1 (suc (suc (suc (suc (suc k))))) (omega arith), on)
+
+which : (k : ℕ) → Which k
+unfolding decode choose
+which zero = unknown refl
+which (suc zero) = first
+which (suc (suc zero)) = second
+which (suc (suc (suc zero))) = third
+which (suc (suc (suc (suc zero)))) = fourth
+which (suc (suc (suc (suc (suc k))))) = unknown (beyond k)
+
+empty-is : {A : Type 0} (l : List A) → length l ≡ 0 → isEmpty l ≡ true
+unfolding isEmpty
+empty-is [] e = refl
+empty-is (a ∷ l) e = absurd (omega arith)
+
+empty-not : {A : Type 0} (l : List A) → (length l ≡ 0 → ⊥) → isEmpty l ≡ false
+unfolding isEmpty
+empty-not [] e = absurd (e refl)
+empty-not (a ∷ l) e = refl
+
+nothing-left : {A : Type 0} (l : List A) → isEmpty l ≡ true → l ≡ []
+unfolding isEmpty
+nothing-left [] e = refl
+nothing-left (a ∷ l) e = absurd (let z : _≡_ {A = ℕ} 0 1 = cc in omega arith)
+
+both-no : (a : Bool) → both a false ≡ false
+unfolding both
+both-no true = refl
+both-no false = refl
+
+-- ---- order: at each return of the test
+module _ {kind : ℕ} {n : Counts} where
+  pub node-order : kind ≡ 4 → Ordered kind n (ltb (n .nodes) nodesMost)
+  unfolding ordered decode choose inOrder
+  node-order e = record { says = λ types functions channels P held. rw (e, held .nodeCount) }
+
+  pub nodes-before : (kind ≡ 4 → ⊥) → (n .nodes ≡ 0 → ⊥) → Ordered kind n false
+  unfolding ordered decode choose inOrder both
+  nodes-before other late = record { says = λ types functions channels P held. sym (by held (empty-not (P .nodes) (λ e. late (sym (held .nodeCount) ∙ e))) (which kind) other) }
+    where
+      by : {types functions channels : List ℕ} {P : File} → Held types functions channels n P → isEmpty (P .nodes) ≡ false → {k : ℕ} → Which k → (k ≡ 4 → ⊥) → ordered (decode 0x01 kinds k) P ≡ false
+      by {P} held e first h = rw (e, both-no (isEmpty (P .inputs)), both-no (isEmpty (P .functions)))
+      by {P} held e second h = rw (e, both-no (isEmpty (P .inputs)))
+      by held e third h = rw e
+      by held e fourth h = absurd (h refl)
+      by held e (unknown p) h = rw p
+
+  pub input-order : kind ≡ 3 → n .nodes ≡ 0 → Ordered kind n (ltb (n .inputs) inputsMost)
+  unfolding ordered decode choose inOrder both
+  input-order e z = record { says = λ types functions channels P held. rw (e, empty-is (P .nodes) (held .nodeCount ∙ z), held .inputCount) }
+
+  pub inputs-before : (kind ≡ 4 → ⊥) → (kind ≡ 3 → ⊥) → (n .inputs ≡ 0 → ⊥) → Ordered kind n false
+  unfolding ordered decode choose inOrder both
+  inputs-before fo th late = record { says = λ types functions channels P held. sym (by held (empty-not (P .inputs) (λ e. late (sym (held .inputCount) ∙ e))) (which kind) fo th) }
+    where
+      by : {types functions channels : List ℕ} {P : File} → Held types functions channels n P → isEmpty (P .inputs) ≡ false → {k : ℕ} → Which k → (k ≡ 4 → ⊥) → (k ≡ 3 → ⊥) → ordered (decode 0x01 kinds k) P ≡ false
+      by {P} held e first h j = rw (e, both-no (isEmpty (P .functions)))
+      by held e second h j = rw e
+      by held e third h j = absurd (j refl)
+      by held e fourth h j = absurd (h refl)
+      by held e (unknown p) h j = rw p
+
+  pub function-order : kind ≡ 2 → n .nodes ≡ 0 → n .inputs ≡ 0 → Ordered kind n (ltb (n .functions) functionsMost)
+  unfolding ordered decode choose inOrder both
+  function-order e z z′ = record { says = λ types functions channels P held. rw (e, empty-is (P .nodes) (held .nodeCount ∙ z), empty-is (P .inputs) (held .inputCount ∙ z′), held .functionCount) }
+
+  pub functions-before : (kind ≡ 4 → ⊥) → (kind ≡ 3 → ⊥) → (kind ≡ 2 → ⊥) → (n .functions ≡ 0 → ⊥) → Ordered kind n false
+  unfolding ordered decode choose inOrder both
+  functions-before fo th se late = record { says = λ types functions channels P held. sym (by held (empty-not (P .functions) (λ e. late (sym (held .functionCount) ∙ e))) (which kind) fo th se) }
+    where
+      by : {types functions channels : List ℕ} {P : File} → Held types functions channels n P → isEmpty (P .functions) ≡ false → {k : ℕ} → Which k → (k ≡ 4 → ⊥) → (k ≡ 3 → ⊥) → (k ≡ 2 → ⊥) → ordered (decode 0x01 kinds k) P ≡ false
+      by held e first h j i = rw e
+      by held e second h j i = absurd (i refl)
+      by held e third h j i = absurd (j refl)
+      by held e fourth h j i = absurd (h refl)
+      by held e (unknown p) h j i = rw p
+
+  pub type-order : kind ≡ 1 → n .nodes ≡ 0 → n .inputs ≡ 0 → n .functions ≡ 0 → Ordered kind n (ltb (n .types) typesMost)
+  unfolding ordered decode choose inOrder both
+  type-order e z z′ z″ = record { says = λ types functions channels P held. rw (e, empty-is (P .nodes) (held .nodeCount ∙ z), empty-is (P .inputs) (held .inputCount ∙ z′), empty-is (P .functions) (held .functionCount ∙ z″), held .typeCount) }
+
+  pub unknown-kind : (kind ≡ 4 → ⊥) → (kind ≡ 3 → ⊥) → (kind ≡ 2 → ⊥) → (kind ≡ 1 → ⊥) → Ordered kind n false
+  unfolding ordered
+  unknown-kind fo th se fi = record { says = λ types functions channels P held. sym (by P (which kind) fo th se fi) }
+    where
+      by : (P : File) {k : ℕ} → Which k → (k ≡ 4 → ⊥) → (k ≡ 3 → ⊥) → (k ≡ 2 → ⊥) → (k ≡ 1 → ⊥) → ordered (decode 0x01 kinds k) P ≡ false
+      by P first h j i g = absurd (g refl)
+      by P second h j i g = absurd (i refl)
+      by P third h j i g = absurd (j refl)
+      by P fourth h j i g = absurd (h refl)
+      by P (unknown p) h j i g = rw p
+
+-- ---- the end of a frame
+pub ended-stops : (line : List ℕ) (n : Counts) {r : Step} {k : ℕ} → r ≡ Stop k → Refused k ≡ endedAs line r n
+ended-stops line n e = rw e
+
+pub ended-goes-on : (line : List ℕ) (n : Counts) {r : Step} {c : Cursor} → r ≡ Next c → c .at < length line / 2 → Refused 4 ≡ endedAs line r n
+unfolding choose
+ended-goes-on line n {c = c} e h = rw (e, lt-ltb (c .at) (length (bytesOf line)) (omega (arith, bytes-length line)))
+
+pub ended-there : (line : List ℕ) (n : Counts) {r : Step} {c : Cursor} → r ≡ Next c → length line / 2 ≤ c .at → Taken n ≡ endedAs line r n
+unfolding choose
+ended-there line n {c = c} e h = rw (e, le-ltb (c .at) (length (bytesOf line)) (omega (arith, bytes-length line)))
+
+data Ended {A : Type 0} (frame : ℕ) (y : Read A) (n : Counts) (x : Frame) : Type 0 where
+  stops : {k : ℕ} → x ≡ Refused k → whole frame y ≡ no k frame → Ended frame y n x
+  ends : {a : A} {rest : List ℕ} → x ≡ Taken n → y ≡ got a rest → whole frame y ≡ ok a → Ended frame y n x
+
+goes-on : {A : Type 0} (frame : ℕ) (a : A) (l : List ℕ) → 0 < length l → whole frame (got a l) ≡ no 4 frame
+unfolding whole
+goes-on frame a [] h = absurd (omega arith)
+goes-on frame a (b ∷ l) h = refl
+
+stays : {A : Type 0} (frame : ℕ) (a : A) (l : List ℕ) → l ≡ [] → whole frame (got a l) ≡ ok a
+unfolding whole
+stays frame a l e = rw e
+
+ended-is : {A : Type 0} {line : List ℕ} {n : Counts} {x : Frame} (frame : ℕ) (y : Read A) (r : Step) → Passes line 1 r (forget y) → x ≡ endedAs line r n → Ended frame y n x
+unfolding whole choose
+ended-is frame y (Stop k) p e = stops e (ap (whole frame) (pass-bad p refl))
+ended-is {A} {line} {n} {x} frame y (Next c) p e = by (ltb (c .at) (length (bytesOf line))) refl
+  where
+    by : (b : Bool) → ltb (c .at) (length (bytesOf line)) ≡ b → Ended frame y n x
+    by true t = let g = pass-got p refl in
+        stops (e ∙ ap (λ b. choose b (Refused 4) (Taken n)) t) (ap (whole frame) (g .is) ∙ goes-on frame (g .value) (bytesFrom line (c .at)) (omega (arith, length-drop (c .at) (bytesOf line), ltb-true (c .at) (length (bytesOf line)) t)))
+    by false t = let g = pass-got p refl in
+        ends (e ∙ ap (λ b. choose b (Refused 4) (Taken n)) t) (g .is) (ap (whole frame) (g .is) ∙ stays frame (g .value) (bytesFrom line (c .at)) (drop-of-length-le (bytesOf line) (ltb-false (c .at) (length (bytesOf line)) t)))
+
+-- ---- one frame more is held
+module _ {types functions channels : List ℕ} {n : Counts} {P : File} (held : Held types functions channels n P) where
+  held-type : {types′ : List ℕ} (d : TypeDef) → types′ ≡ typeTable (P .types ++ (d ∷ [])) → n .types < typesMost → FewParts d → Held types′ functions channels (moreTypes n) (withType P d)
+  unfolding withType
+  held-type d tb few parts = record {
+    typesAre = tb;
+    functionsAre = held .functionsAre;
+    channelsAre = held .channelsAre;
+    typeCount = length-append (P .types) (d ∷ []) ∙ ap (λ k. k + 1) (held .typeCount);
+    functionCount = held .functionCount;
+    inputCount = held .inputCount;
+    nodeCount = held .nodeCount;
+    fewTypes = omega (arith, length-append (P .types) (d ∷ []), held .typeCount);
+    fewFunctions = held .fewFunctions;
+    fewInputs = held .fewInputs;
+    fewNodes = held .fewNodes;
+    parts = all-snoc (held .parts) parts;
+    parameters = held .parameters;
+  }
+
+  held-function : {functions′ : List ℕ} (F : Function) → (functions′ ≡ functionTable (P .functions ++ (F ∷ []))) × (length (F .parameters) ≤ parametersMost) → n .functions < functionsMost → Held types functions′ channels (moreFunctions n) (withFunction P F)
+  unfolding withFunction
+  held-function F tb few = record {
+    typesAre = held .typesAre;
+    functionsAre = tb .0;
+    channelsAre = held .channelsAre;
+    typeCount = held .typeCount;
+    functionCount = length-append (P .functions) (F ∷ []) ∙ ap (λ k. k + 1) (held .functionCount);
+    inputCount = held .inputCount;
+    nodeCount = held .nodeCount;
+    fewTypes = held .fewTypes;
+    fewFunctions = omega (arith, length-append (P .functions) (F ∷ []), held .functionCount);
+    fewInputs = held .fewInputs;
+    fewNodes = held .fewNodes;
+    parts = held .parts;
+    parameters = all-snoc (held .parameters) (tb .1);
+  }
+
+  held-input : {channels′ : List ℕ} (i : Input) → channels′ ≡ channelTable (P .inputs ++ (i ∷ [])) [] → P .nodes ≡ [] → n .inputs < inputsMost → Held types functions channels′ (moreInputs n) (withInput P i)
+  unfolding withInput
+  held-input i tb empty few = record {
+    typesAre = held .typesAre;
+    functionsAre = held .functionsAre;
+    channelsAre = tb ∙ ap (channelTable (P .inputs ++ (i ∷ []))) (sym empty);
+    typeCount = held .typeCount;
+    functionCount = held .functionCount;
+    inputCount = length-append (P .inputs) (i ∷ []) ∙ ap (λ k. k + 1) (held .inputCount);
+    nodeCount = held .nodeCount;
+    fewTypes = held .fewTypes;
+    fewFunctions = held .fewFunctions;
+    fewInputs = omega (arith, length-append (P .inputs) (i ∷ []), held .inputCount);
+    fewNodes = held .fewNodes;
+    parts = held .parts;
+    parameters = held .parameters;
+  }
+
+  held-node : {channels′ : List ℕ} (m : Node) → channels′ ≡ channelTable (P .inputs) (P .nodes ++ (m ∷ [])) → n .nodes < nodesMost → Held types functions channels′ (moreNodes n) (withNode P m)
+  unfolding withNode
+  held-node m tb few = record {
+    typesAre = held .typesAre;
+    functionsAre = held .functionsAre;
+    channelsAre = tb;
+    typeCount = held .typeCount;
+    functionCount = held .functionCount;
+    inputCount = held .inputCount;
+    nodeCount = length-append (P .nodes) (m ∷ []) ∙ ap (λ k. k + 1) (held .nodeCount);
+    fewTypes = held .fewTypes;
+    fewFunctions = held .fewFunctions;
+    fewInputs = held .fewInputs;
+    fewNodes = omega (arith, length-append (P .nodes) (m ∷ []), held .nodeCount);
+    parts = held .parts;
+    parameters = held .parameters;
+  }
+
+-- ---- the answer of a frame, where the parser's is known
+as-read : {r : Frame} {types functions channels : List ℕ} {y z : Result File} → z ≡ y → FrameRead r types functions channels y → FrameRead r types functions channels z
+as-read {r} {types} {functions} {channels} e u = subst (FrameRead r types functions channels) (sym e) u
+
+bound : {A : Type 0} {frame : ℕ} {y : Read A} {n : Counts} {x : Frame} {types functions channels : List ℕ} (k : A → File) → Ended frame y n x → ((a : A) (rest : List ℕ) → y ≡ got a rest → Held types functions channels n (k a)) → FrameRead x types functions channels (bind (whole frame y) (λ a. ok (k a)))
+unfolding bind
+bound k (stops e p) f = as-read (ap (λ w. bind w (λ a. ok (k a))) p) (refused e)
+bound k (ends {a} {rest} e h p) f = as-read (ap (λ w. bind w (λ b. ok (k b))) p) (taken e (f a rest h))
+
+-- ---- a type's frame
+taken-refused : {B : Type 0} {n : Counts} {k : ℕ} {x : Frame} → x ≡ Taken n → x ≡ Refused k → B
+taken-refused e h = absurd (let same = sym e ∙ h in let z : _≡_ {A = ℕ} 0 1 = cc in omega arith)
+
+module _ (line types types′ : List ℕ) (n : Counts) {r : Step} (v : Enters typeEntry line 1 (typeWords * n .types) types r types′ (typeBehind (n .types) (bytesFrom line 1))) {x : Frame} {more : Counts} (m : more ≡ moreTypes n) (e : x ≡ endedAs line r more) where
+  type-ended : {functions channels : List ℕ} {P : File} → Held types functions channels n P → (frame : ℕ) → Ended frame (typeDef P (bytesFrom line 1)) (moreTypes n) x
+  type-ended {P} held frame = ended-is frame (typeDef P (bytesFrom line 1)) r (passes-as (ap forget (type-def-behind P (bytesFrom line 1) ∙ ap (λ t. typeBehind t (bytesFrom line 1)) (held .typeCount))) (v .passes)) (e ∙ ap (endedAs line r) m)
+
+  module _ {functions channels : List ℕ} {P : File} (held : Held types functions channels n P) (few : n .types < typesMost) {d : TypeDef} {rest : List ℕ} (h : typeDef P (bytesFrom line 1) ≡ got d rest) where
+    behind-is : typeBehind (n .types) (bytesFrom line 1) ≡ got d rest
+    behind-is = ap (λ t. typeBehind t (bytesFrom line 1)) (sym (held .typeCount)) ∙ sym (type-def-behind P (bytesFrom line 1)) ∙ h
+
+    type-table : types′ ≡ typeTable (P .types ++ (d ∷ []))
+    type-table = type-added (P .types) v (held .typeCount) few (held .typesAre) behind-is
+
+    type-few : FewParts d
+    type-few = read-few (n .types) (bytesFrom line 1) behind-is
+
+  pub type-stops : {k : ℕ} → x ≡ Refused k → TypeTaken line types n x types′
+  unfolding readKind bind
+  type-stops no-frame = record { says = λ functions channels P held frame few. by held frame (type-ended held frame) }
+    where
+      by : {functions channels : List ℕ} {P : File} → Held types functions channels n P → (frame : ℕ) → Ended frame (typeDef P (bytesFrom line 1)) (moreTypes n) x → FrameRead x types′ functions channels (readKind 0 frame P (bytesFrom line 1) typeKind)
+      by {P} held frame (stops s p) = as-read (ap (λ w. bind w (λ d. need (selfFree d) 8 frame (ok (withType P d)))) p) (refused s)
+      by held frame (ends s h p) = taken-refused s no-frame
+
+  module _ {there : Counts} (yes : x ≡ Taken there) {b : Bool} (free : SelfFree types′ (n .types) b) where
+    pub type-free : b ≡ true → TypeTaken line types n x types′
+    unfolding readKind bind need
+    type-free t = record { says = λ functions channels P held frame few. by held few frame (type-ended held frame) }
+      where
+        by : {functions channels : List ℕ} {P : File} → Held types functions channels n P → n .types < typesMost → (frame : ℕ) → Ended frame (typeDef P (bytesFrom line 1)) (moreTypes n) x → FrameRead x types′ functions channels (readKind 0 frame P (bytesFrom line 1) typeKind)
+        by held few frame (stops s p) = taken-refused yes s
+        by {P} held few frame (ends {a = d} s h p) =
+            let is-free : selfFree d ≡ true = sym (self-free-told (P .types) d free (type-table held few h) (held .typeCount) few (type-few held few h)) ∙ t in
+            as-read (ap (λ w. bind w (λ d. need (selfFree d) 8 frame (ok (withType P d)))) p ∙ ap (λ b. need b 8 frame (ok (withType P d))) is-free) (taken s (held-type held d (type-table held few h) few (type-few held few h)))
+
+    pub type-not-free : b ≡ false → TypeTaken line types n (Refused 8) types′
+    unfolding readKind bind need
+    type-not-free t = record { says = λ functions channels P held frame few. by held few frame (type-ended held frame) }
+      where
+        by : {functions channels : List ℕ} {P : File} → Held types functions channels n P → n .types < typesMost → (frame : ℕ) → Ended frame (typeDef P (bytesFrom line 1)) (moreTypes n) x → FrameRead (Refused 8) types′ functions channels (readKind 0 frame P (bytesFrom line 1) typeKind)
+        by held few frame (stops s p) = taken-refused yes s
+        by {P} held few frame (ends {a = d} s h p) =
+            let not-free : selfFree d ≡ false = sym (self-free-told (P .types) d free (type-table held few h) (held .typeCount) few (type-few held few h)) ∙ t in
+            as-read (ap (λ w. bind w (λ d. need (selfFree d) 8 frame (ok (withType P d)))) p ∙ ap (λ b. need b 8 frame (ok (withType P d))) not-free) (refused refl)
+
+-- ---- the kind's byte, and what the definition makes of it
+first-byte : (l : List ℕ) {k : ℕ} {rest : List ℕ} → byte l ≡ got k rest → l ≡ k ∷ drop 1 l
+unfolding byte
+first-byte [] e = absurd (let z : _≡_ {A = ℕ} 0 1 = cc in omega arith)
+first-byte (b ∷ l) {k} e = let same : b ≡ k = cc in ap (λ c. c ∷ l) same
+
+no-byte : (l : List ℕ) {k : ℕ} → byte l ≡ bad k → l ≡ []
+unfolding byte
+no-byte [] e = refl
+no-byte (b ∷ l) e = absurd (let z : _≡_ {A = ℕ} 0 1 = cc in omega arith)
+
+module _ (all frame : ℕ) (P : File) where
+  frame-is : (l : List ℕ) {k : ℕ} {bs : List ℕ} → l ≡ k ∷ bs → readFrame all frame P l ≡ from (decode 0x01 kinds k) 3 frame (λ kind. need (inOrder kind P) 3 frame (readKind all frame P bs kind))
+  unfolding readFrame
+  frame-is l e = ap (readFrame all frame P) e
+
+  out-of-order : (o : Option Kind) (bs : List ℕ) → ordered o P ≡ false → from o 3 frame (λ kind. need (inOrder kind P) 3 frame (readKind all frame P bs kind)) ≡ no 3 frame
+  unfolding from need ordered
+  out-of-order none bs e = refl
+  out-of-order (some kind) bs e = rw e
+
+  in-order : {o : Option Kind} {kind : Kind} (bs : List ℕ) → o ≡ some kind → inOrder kind P ≡ true → from o 3 frame (λ kind. need (inOrder kind P) 3 frame (readKind all frame P bs kind)) ≡ readKind all frame P bs kind
+  unfolding from need
+  in-order bs e t = rw (e, t)
+
+module _ (line types functions channels : List ℕ) (n : Counts) (all : ℕ) {x : Number} (v : ReadsNumber line 0 x (byte (bytesFrom line 0))) where
+  pub frame-no-kind : {k : ℕ} {types′ functions′ channels′ : List ℕ} → x ≡ NoNumber k → ReadsFrame line types functions channels n all (Refused 4) types′ functions′ channels′
+  unfolding readFrame
+  frame-no-kind e = record { says = λ P held frame long. as-read (ap (readFrame all frame P) (no-byte (bytesOf line) (number-bad v e))) (refused refl) }
+
+  module _ {f : Found} (e : x ≡ Is f) {b : Bool} (o : Ordered (f .value) n b) where
+    kind-first : bytesOf line ≡ f .value ∷ bytesFrom line 1
+    kind-first = first-byte (bytesOf line) (number-got v e)
+
+    pub frame-unordered : {types′ functions′ channels′ : List ℕ} → not b ≡ true → ReadsFrame line types functions channels n all (Refused 3) types′ functions′ channels′
+    frame-unordered t = record {
+      says = λ P held frame long.
+          as-read (frame-is all frame P (bytesOf line) kind-first ∙ out-of-order all frame P (decode 0x01 kinds (f .value)) (bytesFrom line 1) (sym (o .says types functions channels P held) ∙ negated b t)) (refused refl);
+    }
+
+    module _ (t : not b ≡ false) where
+      in-turn : {P : File} {kind : Kind} → Held types functions channels n P → decode 0x01 kinds (f .value) ≡ some kind → inOrder kind P ≡ true
+      unfolding ordered
+      in-turn {P} held d = ap (λ w. ordered w P) (sym d) ∙ sym (o .says types functions channels P held) ∙ affirmed b t
+
+      behind-kind : {P : File} {kind : Kind} (frame : ℕ) → Held types functions channels n P → decode 0x01 kinds (f .value) ≡ some kind → readFrame all frame P (bytesOf line) ≡ readKind all frame P (bytesFrom line 1) kind
+      behind-kind {P} frame held d = frame-is all frame P (bytesOf line) kind-first ∙ in-order all frame P (bytesFrom line 1) d (in-turn held d)
+
+      pub frame-type : {r : Frame} {types′ : List ℕ} → f .value ≡ 1 → TypeTaken line types n r types′ → ReadsFrame line types functions channels n all r types′ functions channels
+      unfolding decode choose inOrder readKind
+      frame-type k u = record {
+        says = λ P held frame long.
+            let d : decode 0x01 kinds (f .value) ≡ some typeKind = ap (decode 0x01 kinds) k in
+            let few : length (P .types) < typesMost = ltb-true _ _ (both-right _ _ (in-turn held d)) in
+            as-read (behind-kind frame held d) (u .says functions channels P held frame (omega (arith, held .typeCount)));
+      }
+
+      pub frame-function : {s : Step} {r : Frame} {more : Counts} {functions′ : List ℕ} → f .value ≡ 2 → ReadsFunction line types functions n s functions′ → more ≡ moreFunctions n → r ≡ endedAs line s more → ReadsFrame line types functions channels n all r types functions′ channels
+      unfolding decode choose inOrder readKind
+      frame-function {s} k u m h = record {
+        says = λ P held frame long.
+            let d : decode 0x01 kinds (f .value) ≡ some functionKind = ap (decode 0x01 kinds) k in
+            let less : length (P .functions) < functionsMost = ltb-true _ _ (both-right _ _ (in-turn held d)) in
+            let few : n .functions < functionsMost = omega (arith, held .functionCount) in
+            as-read (behind-kind frame held d) (bound (withFunction P) (ended-is frame (function P (bytesFrom line 1)) s (u .says channels P held few long) (h ∙ ap (endedAs line s) m)) (λ F rest g. held-function held F (u .enters channels P held few long F rest g) few));
+      }
+
+      pub frame-input : {s : Step} {r : Frame} {more : Counts} {channels′ : List ℕ} → f .value ≡ 3 → ReadsInput line types functions channels n s channels′ → more ≡ moreInputs n → r ≡ endedAs line s more → ReadsFrame line types functions channels n all r types functions channels′
+      unfolding decode choose inOrder readKind
+      frame-input {s} k u m h = record {
+        says = λ P held frame long.
+            let d : decode 0x01 kinds (f .value) ≡ some inputKind = ap (decode 0x01 kinds) k in
+            let less : length (P .inputs) < inputsMost = ltb-true _ _ (both-right _ _ (in-turn held d)) in
+            let few : n .inputs < inputsMost = omega (arith, held .inputCount) in
+            let empty : P .nodes ≡ [] = nothing-left (P .nodes) (both-left _ _ (in-turn held d)) in
+            as-read (behind-kind frame held d) (bound (withInput P) (ended-is frame (input P (bytesFrom line 1)) s (u .says P held empty few long) (h ∙ ap (endedAs line s) m)) (λ i rest g. held-input held i (u .enters P held empty few long i rest g) empty few));
+      }
+
+      module _ {s : Step} {r : Frame} {more : Counts} {channels′ : List ℕ} where
+        node-here : f .value ≡ 4 → ReadsNode line types functions channels n all s channels′ → more ≡ moreNodes n → r ≡ endedAs line s more → ReadsFrame line types functions channels n all r types functions channels′
+        unfolding decode choose inOrder readKind
+        node-here k u m h = record {
+          says = λ P held frame long.
+              let d : decode 0x01 kinds (f .value) ≡ some nodeKind = ap (decode 0x01 kinds) k in
+              let less : length (P .nodes) < nodesMost = ltb-true _ _ (in-turn held d) in
+              let few : n .nodes < nodesMost = omega (arith, held .nodeCount) in
+              as-read (behind-kind frame held d) (bound (withNode P) (ended-is frame (node all P (bytesFrom line 1)) s (u .says P held few long) (h ∙ ap (endedAs line s) m)) (λ a rest g. held-node held a (u .enters P held few long a rest g) few));
+        }
+
+        -- a kind that is in turn, and none of the first three
+        pub frame-node : (f .value ≡ 1 → ⊥) → (f .value ≡ 2 → ⊥) → (f .value ≡ 3 → ⊥) → ReadsNode line types functions channels n all s channels′ → more ≡ moreNodes n → r ≡ endedAs line s more → ReadsFrame line types functions channels n all r types functions channels′
+        unfolding ordered
+        frame-node one two three u m h = record { says = λ P held frame long. by P held frame long (which (f .value)) refl }
+          where
+            by : (P : File) (held : Held types functions channels n P) (frame : ℕ) → 1 ≤ length (bytesOf line) → {k : ℕ} → Which k → f .value ≡ k → FrameRead r types functions channels′ (readFrame all frame P (bytesOf line))
+            by P held frame long first k = absurd (one k)
+            by P held frame long second k = absurd (two k)
+            by P held frame long third k = absurd (three k)
+            by P held frame long fourth k = node-here k u m h .says P held frame long
+            by P held frame long (unknown p) k = absurd (let same = ap (λ w. ordered w P) (sym (ap (decode 0x01 kinds) k ∙ p)) ∙ sym (o .says types functions channels P held) ∙ affirmed b t in let z : _≡_ {A = ℕ} 0 1 = cc in omega arith)

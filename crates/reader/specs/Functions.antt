@@ -1,0 +1,274 @@
+-- Function frames: what the reads of the parts promise, a function's frame promises.
+use Prim.Native.Nat.{ℕ, zero, suc, _+_, _-_, _*_, _%_, _≤_, _<_}
+use mathlib.Core.List.{List, [], _∷_, _++_}
+use mathlib.Core.Path.{_≡_, refl, sym, ap, _∙_}
+use native.Mathlib.Omega.{arith}
+use lib.ListN.{length, getD, set, length-map, length-append, length-drop, List·getD-append}
+use lib.Seq.{getD-at}
+use Rattle.language.specs.Limits.{functionsMost, parametersMost, conditionsMost, measuresMost, nestingMost}
+use Rattle.language.specs.Syntax.{Plain, ResultType, Condition, Expr, Function, File}
+use Rattle.language.specs.Format.{spellAll, plainBytes, resultBytes, conditionBytes, exprBytes, functionBytes}
+use Rattle.language.specs.Layout.{padded}
+use Rattle.language.specs.Scope.{namedCount, aritiesOf, bodyScope}
+use Rattle.language.specs.Parser.{Read, got, Parser, andThen, index, counted}
+use Rattle.language.specs.ReadExpr.{plain, result, exprAt}
+use Rattle.language.specs.Reader.{condition, function}
+use Rattle.theory.specs.ExactParts.{one, index-exact, counted-exact}
+use Rattle.theory.specs.ExactTypes.{plain-exact, result-exact}
+use Rattle.theory.specs.ExactExpr.{expr-exact}
+use Rattle.theory.specs.ExactFrames.{function-exact}
+use Rattle.text.specs.declared.Cursor.{Cursor}
+use Rattle.text.specs.declared.Step.{Step}
+use Rattle.text.specs.declared.Step.the-variants.{Next, Stop}
+use Rattle.text.specs.Bytes.{bytesOf, bytesFrom, forget, Passes}
+use Rattle.text.specs.StepLaws.{ends-within, Gives, pass-got, pass-bad, pass-moved, passes-behind, pass-stops-pass, forget-then}
+use Rattle.index.specs.Tables.{functionWords, functionEntry, functionTable, resultPlace, conditionsPlace, measurePlace, bodyPlace}
+use Rattle.index.specs.Enters.{Enters, parametersEntry, Named, TellsParameters}
+use Rattle.index.specs.FunctionTable.{headWords, ParametersRead, parameters-read, places-added, tells-parameters}
+use Rattle.index.specs.ParserLaws.{bad-is-not-got}
+use Rattle.passing.specs.declared.Names.{Names}
+use Rattle.passing.specs.Follows.{Tells, Follows}
+use Rattle.reader.specs.declared.Counts.{Counts}
+use Rattle.reader.specs.Held.{Held, Fits, PlaceWord, ReadsFunction}
+use Rattle.reader.specs.Places.{read-spelled, place-behind}
+use Rattle.reader.specs.Channels.{all-getD, noFunction, arity-at, few-arities, tells-types, then-got, last-got, place-is}
+
+abbrev pub insideNames : Counts → ℕ → ℕ → Names
+insideNames n variables sizes = record { variables = variables; sizes = sizes; now = 0; last = 0; types = n .types; functions = n .functions + 1 }
+
+-- ---- what is left to read behind each part of a function
+abbrev behindMeasure : File → List Plain → ResultType → List Condition → List ℕ → Parser Function
+behindMeasure P ps r cs m bs = andThen (exprAt nestingMost (bodyScope (P .types) (P .functions) ps) bs) (λ e rest. got (record { parameters = ps; result = r; conditions = cs; measure = m; body = e }) rest)
+
+abbrev behindConditions : File → List Plain → ResultType → List Condition → Parser Function
+behindConditions P ps r cs bs = andThen (counted 0 measuresMost (index (namedCount ps)) bs) (λ m. behindMeasure P ps r cs m)
+
+abbrev behindResult : File → List Plain → ResultType → Parser Function
+behindResult P ps r bs = andThen (counted 0 conditionsMost (condition (namedCount ps)) bs) (λ cs. behindConditions P ps r cs)
+
+abbrev behindParameters : File → List Plain → Parser Function
+behindParameters P ps bs = andThen (result (length (P .types)) (namedCount ps) bs) (λ r. behindResult P ps r)
+
+function-is : (P : File) (bs : List ℕ) → function P bs ≡ andThen (counted 0 parametersMost (plain (length (P .types))) bs) (λ ps. behindParameters P ps)
+unfolding function
+function-is P bs = refl
+
+pub passes-as : {line : List ℕ} {at : ℕ} {r : Step} {y z : Read (Unit {0})} → z ≡ y → Passes line at r y → Passes line at r z
+passes-as p u = record { is = u .is ∙ sym p; on = u .on }
+
+-- ---- the scope of a body, told by the table with the parameters of the function itself
+small : (a b : ℕ) → a ≡ b → b ≤ parametersMost → a % 256 ≡ b
+small a b e h = omega arith
+
+data Last (f n : ℕ) : Type 0 where
+  before : f < n → Last f n
+  here : f ≡ n → Last f n
+
+last-or : (f n : ℕ) → f < n + 1 → Last f n
+last-or zero zero h = here refl
+last-or zero (suc n) h = before (omega arith)
+last-or (suc f) zero h = absurd (omega arith)
+last-or (suc f) (suc n) h = by (last-or f n (omega arith))
+  where
+    by : Last f n → Last (suc f) (suc n)
+    by (before k) = before (omega arith)
+    by (here k) = here (ap suc k)
+
+module _ {types functions functions₁ channels : List ℕ} {n : Counts} {P : File} (held : Held types functions channels n P) {ps : List Plain} where
+  tells-inside : {variables sizes : ℕ} → n .functions < functionsMost → functions₁ ≡ padded (functionsMost * functionWords) (spellAll functionEntry (P .functions) ++ parametersEntry ps) → TellsParameters functions₁ (n .functions) ps →
+      length ps ≡ variables → namedCount ps ≡ sizes → Tells types functions₁ (insideNames n variables sizes) (bodyScope (P .types) (P .functions) ps)
+  unfolding bodyScope
+  tells-inside few tb told v z = record {
+    variables = v;
+    sizes = z;
+    now = refl;
+    last = refl;
+    typeCount = held .typeCount;
+    functionCount = length-append (aritiesOf (P .functions)) (length ps ∷ []) ∙ omega (arith, length-map (P .functions) (λ (F : Function). length (F .parameters)), held .functionCount);
+    each = tells-types held;
+    arities = λ f h. by f (last-or f (n .functions) h);
+    few = λ f h. most f (last-or f (n .functions) h);
+  }
+    where
+      long : length (aritiesOf (P .functions)) ≡ n .functions
+      long = length-map (P .functions) (λ (F : Function). length (F .parameters)) ∙ held .functionCount
+
+      arity-of : (f : ℕ) → Last f (n .functions) → ℕ
+      arity-of f (before h) = getD (aritiesOf (P .functions)) f 0
+      arity-of f (here e) = length ps
+
+      arity-is : (f : ℕ) (l : Last f (n .functions)) → getD (aritiesOf (P .functions) ++ (length ps ∷ [])) f 0 ≡ arity-of f l
+      arity-is f (before h) = List·getD-append (aritiesOf (P .functions)) (length ps ∷ []) 0 f (omega (arith, long))
+      arity-is f (here e) = getD-at (aritiesOf (P .functions)) (length ps) [] 0 f (long ∙ sym e)
+
+      by : (f : ℕ) → Last f (n .functions) → getD functions₁ (functionWords * f) 0 ≡ getD (aritiesOf (P .functions) ++ (length ps ∷ [])) f 0
+      by f (before h) =
+          let less : f < length (P .functions) = omega (arith, held .functionCount) in
+          tells-parameters (functionsMost * functionWords) (P .functions) (parametersEntry ps) f noFunction tb (omega (arith, held .fewFunctions)) less (all-getD (held .parameters) f noFunction less) .count
+          ∙ sym (arity-at (P .functions) f) ∙ sym (arity-is f (before h))
+      by f (here e) = ap (λ i. getD functions₁ (functionWords * i) 0) e ∙ told .count ∙ sym (arity-is f (here e))
+
+      most : (f : ℕ) → Last f (n .functions) → getD (aritiesOf (P .functions) ++ (length ps ∷ [])) f 0 ≤ parametersMost
+      most f (before h) = omega (arith, arity-is f (before h), few-arities held f (omega (arith, held .functionCount)))
+      most f (here e) = omega (arith, arity-is f (here e), told .few)
+
+-- ---- the places: from the front, and from the end of all that is spelled
+ones-long : (l : List ℕ) → length (spellAll one l) ≡ length l
+unfolding spellAll
+ones-long [] = refl
+ones-long (i ∷ l) = ap suc (ones-long l)
+
+function-long : (F : Function) → length (functionBytes F) ≡ 3 + length (spellAll plainBytes (F .parameters)) + length (resultBytes (F .result)) + length (spellAll conditionBytes (F .conditions)) + length (F .measure) + length (exprBytes (F .body))
+unfolding functionBytes
+function-long F =
+    let e = exprBytes (F .body) in
+    let m : List ℕ = length (F .measure) ∷ F .measure ++ e in
+    let c : List ℕ = length (F .conditions) ∷ spellAll conditionBytes (F .conditions) ++ m in
+    omega (arith, length-append (F .measure) e, length-append (spellAll conditionBytes (F .conditions)) m, length-append (resultBytes (F .result)) c, length-append (spellAll plainBytes (F .parameters)) (resultBytes (F .result) ++ c))
+
+record PlacesAre (F : Function) (c d m b : ℕ) : Type 0 where
+  result : c ≡ resultPlace F
+  conditions : d ≡ conditionsPlace F
+  measure : m ≡ measurePlace F
+  body : b ≡ bodyPlace F
+
+places-are : (F : Function) (line rest : List ℕ) {c d m b : ℕ} → 1 ≤ length (bytesOf line) → b ≤ length (bytesOf line) → c ≡ 1 + length (length (F .parameters) ∷ spellAll plainBytes (F .parameters)) → d ≡ c + length (resultBytes (F .result)) →
+    b ≡ m + length (length (F .measure) ∷ spellAll one (F .measure)) → bytesFrom line 1 ≡ functionBytes F ++ rest → bytesFrom line b ≡ exprBytes (F .body) ++ rest → PlacesAre F c d m b
+unfolding resultPlace conditionsPlace measurePlace bodyPlace
+places-are F line rest {c} {d} {m} {b} long within at₁ at₂ at₄ all end =
+    let whole : length (bytesFrom line 1) ≡ length (functionBytes F) + length rest = ap length all ∙ length-append (functionBytes F) rest in
+    let tail : length (bytesFrom line b) ≡ length (exprBytes (F .body)) + length rest = ap length end ∙ length-append (exprBytes (F .body)) rest in
+    let front : length (bytesFrom line 1) ≡ length (bytesOf line) - 1 = length-drop 1 (bytesOf line) in
+    let back : length (bytesFrom line b) ≡ length (bytesOf line) - b = length-drop b (bytesOf line) in
+    let parts = function-long F in
+    let ones = ones-long (F .measure) in
+    record { result = omega arith; conditions = omega arith; measure = omega arith; body = omega arith }
+
+-- ---- the frame, part by part
+module _ (line types functions functions′ : List ℕ) (n : Counts) {w : Step} {functions₁ : List ℕ} (v : Enters parametersEntry line 1 (functionWords * n .functions) functions w functions₁ (counted 0 parametersMost (plain (n .types)) (bytesFrom line 1))) where
+  -- where the frame is refused, nothing is said of the table
+  function-stops : {r : Step} {k : ℕ} → r ≡ Stop k → ((channels : List ℕ) (P : File) → Held types functions channels n P → n .functions < functionsMost → Passes line 1 r (forget (function P (bytesFrom line 1)))) → ReadsFunction line types functions n r functions′
+  function-stops e says = record {
+    says = λ channels P held few long. says channels P held few;
+    enters = λ channels P held few long F rest h. bad-is-not-got (sym (pass-bad (says channels P held few) e) ∙ h);
+  }
+
+  parameters-pass : {channels : List ℕ} {P : File} → Held types functions channels n P → Passes line 1 w (forget (counted 0 parametersMost (plain (length (P .types))) (bytesFrom line 1)))
+  parameters-pass {P} held = passes-as (ap (λ t. forget (counted 0 parametersMost (plain t) (bytesFrom line 1))) (held .typeCount)) (v .passes)
+
+  pub function-no-parameters : {k : ℕ} → w ≡ Stop k → ReadsFunction line types functions n w functions′
+  function-no-parameters e = function-stops e λ channels P held few. passes-as (ap forget (function-is P (bytesFrom line 1))) (pass-stops-pass _ _ (parameters-pass held) e)
+
+  module _ {c : Cursor} (e : w ≡ Next c) {vars : ℕ} (named : Named functions₁ (n .functions) vars) where
+    module _ {channels : List ℕ} {P : File} (held : Held types functions channels n P) (few : n .functions < functionsMost) where
+      head : ParametersRead (n .types) (P .functions) (n .functions) (bytesFrom line 1) (bytesFrom line (c .at)) functions₁
+      head = parameters-read (n .types) (P .functions) v (held .functionCount) few (held .functionsAre) e
+
+      sizes-are : namedCount (head .list) ≡ vars
+      sizes-are = sym (named .says (head .list) (head .tells))
+
+      parameters-are : counted 0 parametersMost (plain (length (P .types))) (bytesFrom line 1) ≡ got (head .list) (bytesFrom line (c .at))
+      parameters-are = ap (λ t. counted 0 parametersMost (plain t) (bytesFrom line 1)) (held .typeCount) ∙ head .read
+
+      to-result : function P (bytesFrom line 1) ≡ behindParameters P (head .list) (bytesFrom line (c .at))
+      to-result = function-is P (bytesFrom line 1) ∙ then-got _ parameters-are
+
+      from-parameters : {r : Step} → Passes line (c .at) r (forget (behindParameters P (head .list) (bytesFrom line (c .at)))) → Passes line 1 r (forget (function P (bytesFrom line 1)))
+      from-parameters u = passes-behind (pass-moved (v .passes) e) (ap forget to-result) u
+
+    module _ {x : Step} (p : Passes line (c .at) x (forget (result (n .types) vars (bytesFrom line (c .at))))) where
+      result-passes : {channels : List ℕ} {P : File} (held : Held types functions channels n P) (few : n .functions < functionsMost) → Passes line (c .at) x (forget (result (length (P .types)) (namedCount (head held few .list)) (bytesFrom line (c .at))))
+      result-passes held few = passes-as (ap (λ t. forget (result t (namedCount (head held few .list)) (bytesFrom line (c .at)))) (held .typeCount) ∙ ap (λ z. forget (result (n .types) z (bytesFrom line (c .at)))) (sizes-are held few)) p
+
+      pub function-no-result : {k : ℕ} → x ≡ Stop k → ReadsFunction line types functions n x functions′
+      function-no-result h = function-stops h λ channels P held few. from-parameters held few (pass-stops-pass _ _ (result-passes held few) h)
+
+      module _ {d : Cursor} (e₂ : x ≡ Next d) where
+        module _ {channels : List ℕ} {P : File} (held : Held types functions channels n P) (few : n .functions < functionsMost) where
+          the-result : Gives (result (length (P .types)) (namedCount (head held few .list)) (bytesFrom line (c .at))) (bytesFrom line (d .at))
+          the-result = pass-got (result-passes held few) e₂
+
+          from-result : {r : Step} → Passes line (d .at) r (forget (behindResult P (head held few .list) (the-result .value) (bytesFrom line (d .at)))) → Passes line 1 r (forget (function P (bytesFrom line 1)))
+          from-result u = from-parameters held few (passes-behind (pass-moved p e₂) (ap forget (then-got _ (the-result .is))) u)
+
+        module _ {y : Step} (q : Passes line (d .at) y (forget (counted 0 conditionsMost (condition vars) (bytesFrom line (d .at))))) where
+          conditions-pass : {channels : List ℕ} {P : File} (held : Held types functions channels n P) (few : n .functions < functionsMost) → Passes line (d .at) y (forget (counted 0 conditionsMost (condition (namedCount (head held few .list))) (bytesFrom line (d .at))))
+          conditions-pass held few = passes-as (ap (λ z. forget (counted 0 conditionsMost (condition z) (bytesFrom line (d .at)))) (sizes-are held few)) q
+
+          pub function-no-conditions : {k : ℕ} → y ≡ Stop k → ReadsFunction line types functions n y functions′
+          function-no-conditions h = function-stops h λ channels P held few. from-result held few (pass-stops-pass _ _ (conditions-pass held few) h)
+
+          module _ {m : Cursor} (e₃ : y ≡ Next m) where
+            module _ {channels : List ℕ} {P : File} (held : Held types functions channels n P) (few : n .functions < functionsMost) where
+              the-conditions : Gives (counted 0 conditionsMost (condition (namedCount (head held few .list))) (bytesFrom line (d .at))) (bytesFrom line (m .at))
+              the-conditions = pass-got (conditions-pass held few) e₃
+
+              from-conditions : {r : Step} → Passes line (m .at) r (forget (behindConditions P (head held few .list) (the-result held few .value) (the-conditions .value) (bytesFrom line (m .at)))) → Passes line 1 r (forget (function P (bytesFrom line 1)))
+              from-conditions u = from-result held few (passes-behind (pass-moved q e₃) (ap forget (then-got _ (the-conditions .is))) u)
+
+            module _ {z : Step} (s : Passes line (m .at) z (forget (counted 0 measuresMost (index vars) (bytesFrom line (m .at))))) where
+              measure-passes : {channels : List ℕ} {P : File} (held : Held types functions channels n P) (few : n .functions < functionsMost) → Passes line (m .at) z (forget (counted 0 measuresMost (index (namedCount (head held few .list))) (bytesFrom line (m .at))))
+              measure-passes held few = passes-as (ap (λ i. forget (counted 0 measuresMost (index i) (bytesFrom line (m .at)))) (sizes-are held few)) s
+
+              pub function-no-measure : {k : ℕ} → z ≡ Stop k → ReadsFunction line types functions n z functions′
+              function-no-measure h = function-stops h λ channels P held few. from-conditions held few (pass-stops-pass _ _ (measure-passes held few) h)
+
+              module _ {b : Cursor} (e₄ : z ≡ Next b) where
+                module _ {channels : List ℕ} {P : File} (held : Held types functions channels n P) (few : n .functions < functionsMost) where
+                  the-measure : Gives (counted 0 measuresMost (index (namedCount (head held few .list))) (bytesFrom line (m .at))) (bytesFrom line (b .at))
+                  the-measure = pass-got (measure-passes held few) e₄
+
+                  from-measure : {r : Step} → Passes line (b .at) r (forget (behindMeasure P (head held few .list) (the-result held few .value) (the-conditions held few .value) (the-measure .value) (bytesFrom line (b .at)))) → Passes line 1 r (forget (function P (bytesFrom line 1)))
+                  from-measure u = from-conditions held few (passes-behind (pass-moved s e₄) (ap forget (then-got _ (the-measure .is))) u)
+
+                  to-body : function P (bytesFrom line 1) ≡ behindMeasure P (head held few .list) (the-result held few .value) (the-conditions held few .value) (the-measure .value) (bytesFrom line (b .at))
+                  to-body = to-result held few ∙ then-got _ (the-result held few .is) ∙ then-got _ (the-conditions held few .is) ∙ then-got _ (the-measure .is)
+
+                  scope-told : {variables : ℕ} → variables ≡ getD functions₁ (functionWords * n .functions) 0 % 256 → Tells types functions₁ (insideNames n variables vars) (bodyScope (P .types) (P .functions) (head held few .list))
+                  scope-told a = tells-inside held few (head held few .table) (head held few .tells) (sym (a ∙ small _ _ (head held few .tells .count) (head held few .tells .few))) (sizes-are held few)
+
+                pub function-read : {variables to i₁ i₂ i₃ i₄ : ℕ} {r : Step} → Fits line n → variables ≡ getD functions₁ (functionWords * n .functions) 0 % 256 → Follows line types functions₁ b (insideNames n variables vars) r (exprAt nestingMost) →
+                    PlaceWord (c .at) i₁ → PlaceWord (d .at) i₂ → PlaceWord (m .at) i₃ → PlaceWord (b .at) i₄ →
+                    to ≡ functionWords * n .functions + headWords → functions′ ≡ set (set (set (set functions₁ to i₁) (to + 1) i₂) (to + 2) i₃) (to + 3) i₄ → ReadsFunction line types functions n r functions′
+                function-read {to} {i₁} {i₂} {i₃} {i₄} {r} fits a u p₁ p₂ p₃ p₄ where-to wrote = record {
+                  says = λ channels P held few long. from-measure held few (passes-as (forget-then _ _) (u .says (bodyScope (P .types) (P .functions) (head held few .list)) (scope-told held few a) within₄));
+                  enters = λ channels P held few long F rest h.
+                      let made = last-got (λ (t : Expr). record { parameters = head held few .list; result = the-result held few .value; conditions = the-conditions held few .value; measure = the-measure held few .value; body = t }) _ (sym (to-body held few) ∙ h) in (
+                        entered held few long (made .value) (h ∙ ap (λ G. got G rest) (made .made)) (made .is) ∙ ap (λ G. functionTable (P .functions ++ (G ∷ []))) (sym (made .made)),
+                        omega (arith, ap (λ G. length (G .parameters)) (made .made), head held few .tells .few),
+                      );
+                }
+                  where
+                    within₁ : c .at ≤ length (bytesOf line)
+                    within₁ = ends-within (pass-moved (v .passes) e)
+
+                    within₂ : d .at ≤ length (bytesOf line)
+                    within₂ = ends-within (pass-moved p e₂)
+
+                    within₃ : m .at ≤ length (bytesOf line)
+                    within₃ = ends-within (pass-moved q e₃)
+
+                    within₄ : b .at ≤ length (bytesOf line)
+                    within₄ = ends-within (pass-moved s e₄)
+
+                    the-function : {channels : List ℕ} {P : File} → Held types functions channels n P → n .functions < functionsMost → Expr → Function
+                    the-function held few t = record { parameters = head held few .list; result = the-result held few .value; conditions = the-conditions held few .value; measure = the-measure held few .value; body = t }
+
+                    entered : {channels : List ℕ} {P : File} (held : Held types functions channels n P) (few : n .functions < functionsMost) → 1 ≤ length (bytesOf line) → (t : Expr) {rest : List ℕ} → function P (bytesFrom line 1) ≡ got (the-function held few t) rest →
+                        exprAt nestingMost (bodyScope (P .types) (P .functions) (head held few .list)) (bytesFrom line (b .at)) ≡ got t rest → functions′ ≡ functionTable (P .functions ++ (the-function held few t ∷ []))
+                    entered {P} held few long t {rest} all end =
+                        let F = the-function held few t in
+                        let at₁ = place-behind (counted-exact (plain-exact (n .types)) 0 parametersMost) line 1 (c .at) long within₁ (head held few .read) in
+                        let at₂ = place-behind (result-exact (length (P .types)) (namedCount (head held few .list))) line (c .at) (d .at) within₁ within₂ (the-result held few .is) in
+                        let at₄ = place-behind (counted-exact (index-exact (namedCount (head held few .list))) 0 measuresMost) line (m .at) (b .at) within₃ within₄ (the-measure held few .is) in
+                        let places = places-are F line rest long within₄ at₁ at₂ at₄ (read-spelled (function-exact P) line 1 all .spelled) (read-spelled (expr-exact nestingMost (bodyScope (P .types) (P .functions) (head held few .list))) line (b .at) end .spelled) in
+                        let at = functionWords * n .functions + headWords in
+                        let table₁ = set functions₁ at i₁ in
+                        let table₂ = set table₁ (at + 1) i₂ in
+                        let table₃ = set table₂ (at + 2) i₃ in
+                        let same = wrote ∙ ap (λ i. set (set (set (set functions₁ i i₁) (i + 1) i₂) (i + 2) i₃) (i + 3) i₄) where-to in
+                        places-added (P .functions) F (held .functionCount) few (head held few .table)
+                        (ap (set functions₁ at) (place-is fits p₁ within₁ ∙ places .result))
+                        (ap (set table₁ (at + 1)) (place-is fits p₂ within₂ ∙ places .conditions))
+                        (ap (set table₂ (at + 2)) (place-is fits p₃ within₃ ∙ places .measure))
+                        (same ∙ ap (set table₃ (at + 3)) (place-is fits p₄ within₄ ∙ places .body))

@@ -1,0 +1,11 @@
+pub mod Held
+pub mod Places
+pub mod Channels
+pub mod Functions
+pub mod Frames
+pub mod FrameLaws
+pub mod Texts
+pub mod TableLaws
+pub mod LineLaws
+pub mod ReadLoop
+pub mod TextLaws

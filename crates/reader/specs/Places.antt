@@ -1,0 +1,74 @@
+-- Where a cursor stands behind what was read: as many bytes further on as its spelling has.
+use Prim.Native.Nat.{ℕ, zero, suc, _+_, _*_, _≤_, _<_, _^_}
+use mathlib.Core.List.{List, [], _∷_}
+use mathlib.Core.Path.{_≡_, ap, _∙_, subst}
+use native.Mathlib.Omega.{arith}
+use lib.ListN.{length, drop, length-drop, length-append}
+use Rattle.language.specs.Within.{All, all-nil, all-cons}
+use Rattle.language.specs.Parser.{Read, got, Parser}
+use Rattle.text.specs.Bytes.{bytesOf, bytesFrom, digitValue}
+use Rattle.text.specs.DigitLaws.{digit-below, digit-decimal, digit-between, digit-letter, digit-above}
+use Rattle.theory.specs.Outcomes.{Reads, reads-got, reads-bad}
+use Rattle.theory.specs.Exact.{Byte, Starts, Exact}
+
+-- a digit is below sixteen, and what two spell is a byte
+data Side (n m : ℕ) : Type 0 where
+  under : m < n → Side n m
+  from-on : n ≤ m → Side n m
+
+on-a-side : (n m : ℕ) → Side n m
+on-a-side zero m = from-on (omega arith)
+on-a-side (suc n) zero = under (omega arith)
+on-a-side (suc n) (suc m) = by (on-a-side n m)
+  where
+    by : Side n m → Side (suc n) (suc m)
+    by (under h) = under (omega arith)
+    by (from-on h) = from-on (omega arith)
+
+digit-small : (c : ℕ) → digitValue c < 16
+digit-small c = low (on-a-side 0x30 c)
+  where
+    letters : 0x41 ≤ c → Side 0x47 c → digitValue c < 16
+    letters h (under k) = omega (arith, digit-letter c h (omega arith))
+    letters h (from-on k) = omega (arith, digit-above c (omega arith))
+
+    middle : 0x39 < c → Side 0x41 c → digitValue c < 16
+    middle h (under k) = omega (arith, digit-between c h k)
+    middle h (from-on k) = letters k (on-a-side 0x47 c)
+
+    decimals : 0x30 ≤ c → Side 0x3A c → digitValue c < 16
+    decimals h (under k) = omega (arith, digit-decimal c h (omega arith))
+    decimals h (from-on k) = middle (omega arith) (on-a-side 0x41 c)
+
+    low : Side 0x30 c → digitValue c < 16
+    low (under h) = omega (arith, digit-below c h)
+    low (from-on h) = decimals h (on-a-side 0x3A c)
+
+bytes-small : (line : List ℕ) → All Byte (bytesOf line)
+unfolding bytesOf
+bytes-small [] = all-nil
+bytes-small (a ∷ []) = all-nil
+bytes-small (a ∷ b ∷ l) = let small : digitValue a * 16 + digitValue b < 2 ^ 8 = omega (arith, digit-small a, digit-small b) in all-cons small (bytes-small l)
+
+all-drop : {Q : ℕ → Type 0} (n : ℕ) {l : List ℕ} → All Q l → All Q (drop n l)
+all-drop zero q = q
+all-drop (suc n) all-nil = all-nil
+all-drop (suc n) (all-cons q qs) = all-drop n qs
+
+started : {A : Type 0} {Q : A → List ℕ → Type 0} {y : Read A} {a : A} {rest : List ℕ} → Reads Q y → y ≡ got a rest → Q a rest
+started {Q} {a} {rest} (reads-got {a = b} {rest = l} q) e =
+    let value : b ≡ a = cc in
+    let left : l ≡ rest = cc in
+    subst (λ x. Q x rest) value (subst (λ x. Q b x) left q)
+started reads-bad e = absurd (let z : _≡_ {A = ℕ} 0 1 = cc in omega arith)
+
+-- what was read is spelled where it was read
+pub read-spelled : {A : Type 0} {p : Parser A} {bytes : A → List ℕ} {W : A → Type 0} (x : Exact p bytes W) (line : List ℕ) (at : ℕ) {a : A} {rest : List ℕ} → p (bytesFrom line at) ≡ got a rest → Starts bytes W (bytesFrom line at) a rest
+read-spelled x line at e = started (x .forth .reads (bytesFrom line at) (all-drop at (bytes-small line))) e
+
+pub place-behind : {A : Type 0} {p : Parser A} {bytes : A → List ℕ} {W : A → Type 0} (x : Exact p bytes W) (line : List ℕ) (at next : ℕ) {a : A} → at ≤ length (bytesOf line) → next ≤ length (bytesOf line) →
+    p (bytesFrom line at) ≡ got a (bytesFrom line next) → next ≡ at + length (bytes a)
+place-behind {bytes} x line at next {a} h k e =
+    let s = read-spelled x line at e in
+    let long : length (bytesFrom line at) ≡ length (bytes a) + length (bytesFrom line next) = ap length (s .spelled) ∙ length-append (bytes a) (bytesFrom line next) in
+    omega (arith, length-drop at (bytesOf line), length-drop next (bytesOf line))

@@ -1,0 +1,90 @@
+-- The four tables of the reader: cleared, blank before the first frame, and one frame's place more.
+use Prim.Native.Nat.{ℕ, zero, suc, _+_, _*_}
+use mathlib.Core.List.{List, [], _∷_, _++_}
+use mathlib.Core.Path.{_≡_, refl, sym, ap, _∙_}
+use native.Mathlib.Omega.{arith}
+use lib.ListN.{length, set, replicate, length-replicate, length-append}
+use lib.Seq.{append-snoc}
+use Rattle.language.specs.Limits.{typesMost, functionsMost, channelsMost}
+use Rattle.language.specs.Layout.{padded}
+use Rattle.language.specs.Within.{all-nil}
+use Rattle.language.specs.Reader.{emptyFile}
+use Rattle.index.specs.Tables.{typeWords, functionWords, channelWords, frameWords, framesMost, placesFrom}
+use Rattle.index.specs.FrameTable.{placeBehind, frame-more, frames-so-far, no-channels}
+use Rattle.index.specs.TypeTable.{no-types}
+use Rattle.index.specs.FunctionTable.{no-functions}
+use Rattle.reader.specs.Held.{Held}
+use Rattle.reader.specs.Texts.{Tables, Blank, Clears}
+use Rattle.reader.specs.declared.Counts.{Counts}
+
+-- ---- cleared tables
+zeros-of-length : {l′ : List ℕ} {n : ℕ} (l : List ℕ) → l′ ≡ replicate (length l) 0 → length l ≡ n → l′ ≡ replicate n 0
+zeros-of-length l e h = e ∙ ap (λ n. replicate n 0) h
+
+pub all-cleared : {frames types functions channels frames′ types′ functions′ channels′ : List ℕ} → frames′ ≡ replicate (length frames) 0 → types′ ≡ replicate (length types) 0 → functions′ ≡ replicate (length functions) 0 → channels′ ≡ replicate (length channels) 0 →
+    Clears frames types functions channels frames′ types′ functions′ channels′
+all-cleared {frames} {types} {functions} {channels} a b d e = record {
+  says = λ long. record {
+    framesZero = zeros-of-length frames a (long .framesLong);
+    typesZero = zeros-of-length types b (long .typesLong);
+    functionsZero = zeros-of-length functions d (long .functionsLong);
+    channelsZero = zeros-of-length channels e (long .channelsLong);
+  };
+}
+
+zeros-long : (l l′ : List ℕ) (n : ℕ) → l ≡ replicate n 0 → length l′ ≡ length l → length l′ ≡ n
+zeros-long l l′ n e h = h ∙ ap length e ∙ length-replicate n 0
+
+-- blank tables keep their lengths, whatever is written
+pub blank-long : {frames types functions channels frames′ types′ functions′ channels′ : List ℕ} → Blank frames types functions channels → length frames′ ≡ length frames → length types′ ≡ length types → length functions′ ≡ length functions → length channels′ ≡ length channels →
+    Tables frames′ types′ functions′ channels′
+blank-long {frames} {types} {functions} {channels} {frames′} {types′} {functions′} {channels′} z a b d e = record {
+  framesLong = zeros-long frames frames′ (framesMost * frameWords) (z .framesZero) a;
+  typesLong = zeros-long types types′ (typesMost * typeWords) (z .typesZero) b;
+  functionsLong = zeros-long functions functions′ (functionsMost * functionWords) (z .functionsZero) d;
+  channelsLong = zeros-long channels channels′ (channelsMost * channelWords) (z .channelsZero) e;
+}
+
+-- blank tables hold the file without frames
+pub blank-held : {frames types functions channels : List ℕ} {n : Counts} → Blank frames types functions channels → n .types ≡ 0 → n .functions ≡ 0 → n .inputs ≡ 0 → n .nodes ≡ 0 → Held types functions channels n emptyFile
+blank-held z a b d e = record {
+  typesAre = z .typesZero ∙ sym no-types;
+  functionsAre = z .functionsZero ∙ sym no-functions;
+  channelsAre = z .channelsZero ∙ sym no-channels;
+  typeCount = sym a;
+  functionCount = sym b;
+  inputCount = sym d;
+  nodeCount = sym e;
+  fewTypes = omega arith;
+  fewFunctions = omega arith;
+  fewInputs = omega arith;
+  fewNodes = omega arith;
+  parts = all-nil;
+  parameters = all-nil;
+}
+
+-- ---- one frame's place more: beyond the table nothing is written, and nothing is asked for
+padded-snoc : (n : ℕ) (ls : List ℕ) (v : ℕ) → set (padded n ls) (length ls) v ≡ padded n (ls ++ (v ∷ []))
+unfolding padded
+padded-snoc zero ls v = refl
+padded-snoc (suc n) [] v = refl
+padded-snoc (suc n) (l ∷ ls) v = ap (λ ws. l ∷ ws) (padded-snoc n ls v)
+
+padded-two : (n i j : ℕ) (ls : List ℕ) (v w : ℕ) → length ls ≡ i → i + 1 ≡ j → set (set (padded n ls) i v) j w ≡ padded n (ls ++ (v ∷ w ∷ []))
+padded-two n i j ls v w e f =
+    let next : j ≡ length (ls ++ (v ∷ [])) = omega (arith, length-append ls (v ∷ [])) in
+    ap (λ k. set (set (padded n ls) k v) j w) (sym e) ∙ ap (λ l. set l j w) (padded-snoc n ls v) ∙ ap (λ k. set (padded n (ls ++ (v ∷ []))) k w) next
+    ∙ padded-snoc n (ls ++ (v ∷ [])) w ∙ ap (padded n) (append-snoc ls v (w ∷ []))
+
+pub place-entered : {frames frames₁ frames₂ : List ℕ} {at read size : ℕ} (n : ℕ) (fs : List (List ℕ)) (f : List ℕ) → frames ≡ padded n (placesFrom 0 fs) → length fs ≡ read → placeBehind 0 fs ≡ at → size ≡ 2 * length f →
+    frames₁ ≡ set frames (2 * read) at → frames₂ ≡ set frames₁ (2 * read + 1) size → frames₂ ≡ padded n (placesFrom 0 (fs ++ (f ∷ [])))
+place-entered {frames} {frames₁} {at = at} {read} {size} n fs f is count place long put₁ put₂ =
+    put₂ ∙ ap (λ l. set l (2 * read + 1) size) (put₁ ∙ ap (λ l. set l (2 * read) at) is)
+    ∙ padded-two n (2 * read) (2 * read + 1) (placesFrom 0 fs) at size (omega (arith, frames-so-far 0 fs)) refl
+    ∙ ap (padded n) ((λ i. placesFrom 0 fs ++ (sym place i ∷ long i ∷ [])) ∙ sym (frame-more 0 fs f))
+
+-- where the next one starts
+pub place-behind : (at : ℕ) (fs : List (List ℕ)) (f : List ℕ) → placeBehind at (fs ++ (f ∷ [])) ≡ placeBehind at fs + 2 * length f + 1
+unfolding placeBehind
+place-behind at [] f = refl
+place-behind at (g ∷ fs) f = place-behind (at + 2 * length g + 1) fs f

@@ -1,0 +1,56 @@
+-- What reading a text promises, in tables of the index's lengths: the file's counts and all its tables, or the refusal with its
+-- frame and every table zero.
+use Prim.Native.Nat.{ℕ, _*_}
+use mathlib.Core.List.{List}
+use mathlib.Core.Path.{_≡_}
+use lib.ListN.{length, replicate}
+use lib.Dec.{eqb}
+use Rattle.language.specs.Limits.{typesMost, functionsMost, channelsMost}
+use Rattle.language.specs.Result.{Result, ok, no, choose}
+use Rattle.language.specs.Syntax.{File}
+use Rattle.language.specs.Reader.{readFile}
+use Rattle.index.specs.Tables.{typeWords, functionWords, channelWords, frameWords, framesMost, frameTable}
+use Rattle.reader.specs.Held.{Held}
+use Rattle.reader.specs.declared.Counts.{Counts}
+use Rattle.reader.specs.declared.Reading.{Reading}
+use Rattle.reader.specs.declared.Reading.the-variants.{Done, Fault}
+
+-- tables as long as the index has them
+pub record Tables (frames types functions channels : List ℕ) : Type 0 where
+  pub framesLong : length frames ≡ framesMost * frameWords
+  pub typesLong : length types ≡ typesMost * typeWords
+  pub functionsLong : length functions ≡ functionsMost * functionWords
+  pub channelsLong : length channels ≡ channelsMost * channelWords
+
+-- such tables, every word zero
+pub record Blank (frames types functions channels : List ℕ) : Type 0 where
+  pub framesZero : frames ≡ replicate (framesMost * frameWords) 0
+  pub typesZero : types ≡ replicate (typesMost * typeWords) 0
+  pub functionsZero : functions ≡ replicate (functionsMost * functionWords) 0
+  pub channelsZero : channels ≡ replicate (channelsMost * channelWords) 0
+
+pub record Clears (frames types functions channels frames′ types′ functions′ channels′ : List ℕ) : Type 0 where
+  pub says : Tables frames types functions channels → Blank frames′ types′ functions′ channels′
+
+-- the answer after the last frame: "no node (frame: one after the last)"
+unfoldable pub finished : Counts → ℕ → Reading
+finished n next = choose (eqb (n .nodes) 0) (Fault 3 next) (Done n)
+
+-- a text read frame by frame: after a refusal the tables are free
+pub data LinesRead (r : Reading) (frames types functions channels : List ℕ) : Result File → Type 0 where
+  all-lines : {n : Counts} {P : File} → r ≡ Done n → Held types functions channels n P → frames ≡ frameTable P → LinesRead r frames types functions channels (ok P)
+  bad-line : {m frame : ℕ} → r ≡ Fault m frame → LinesRead r frames types functions channels (no m frame)
+
+pub record ReadsLines (text frames types functions channels : List ℕ) (r : Reading) (frames′ types′ functions′ channels′ : List ℕ) : Type 0 where
+  pub says : Blank frames types functions channels → LinesRead r frames′ types′ functions′ channels′ (readFile text)
+
+-- a text read: after a refusal every word is zero
+pub data TextRead (r : Reading) (frames types functions channels : List ℕ) : Result File → Type 0 where
+  done : {n : Counts} {P : File} → r ≡ Done n → Held types functions channels n P → frames ≡ frameTable P → TextRead r frames types functions channels (ok P)
+  fault : {m frame : ℕ} → r ≡ Fault m frame → Blank frames types functions channels → TextRead r frames types functions channels (no m frame)
+
+pub record ReadsJudged (text frames types functions channels : List ℕ) (r : Reading) (frames′ types′ functions′ channels′ : List ℕ) : Type 0 where
+  pub says : Blank frames types functions channels → TextRead r frames′ types′ functions′ channels′ (readFile text)
+
+pub record ReadsText (text frames types functions channels : List ℕ) (r : Reading) (frames′ types′ functions′ channels′ : List ℕ) : Type 0 where
+  pub says : Tables frames types functions channels → TextRead r frames′ types′ functions′ channels′ (readFile text)

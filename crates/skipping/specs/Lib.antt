@@ -1,0 +1,4 @@
+pub mod Skips
+pub mod PartLaws
+pub mod HeadLaws
+pub mod SkipLaws
