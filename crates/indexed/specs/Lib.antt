@@ -1,1 +1,6 @@
 pub mod Indexed
+pub mod WithinParts
+pub mod FrameLines
+pub mod TableWords
+pub mod Indexes
+pub mod ScopeShapes
