@@ -19,7 +19,7 @@ use Rattle.index.specs.FrameTable.{placeBehind, frame-at}
 use Rattle.spelling.specs.FrameSpells.{lineAt, frames-are-file}
 use Rattle.reader.specs.LineLaws.{line-long}
 use Rattle.reader.specs.TableLaws.{place-behind}
-use Rattle.indexed.specs.Indexed.{framePlace, frameLength, lineCount, FrameIndexed}
+use Rattle.indexed.specs.Indexed.{framePlace, frameLength, framePart, lineCount, FrameIndexed}
 
 -- as many frames as lines
 pub frames-counted : (P : File) → length (fileFrames P) ≡ lineCount P
@@ -62,6 +62,7 @@ module _ (t : List ℕ) (fs : List (List ℕ)) (are : framesFrom 1 t ≡ ok fs) 
 
 -- ---- a text that was read
 pub frame-indexed : {text frames : List ℕ} {P : File} → readFile text ≡ ok P → lineCount P ≤ framesMost → frames ≡ frameTable P → (i : ℕ) → i < lineCount P → FrameIndexed text frames i
+unfolding framePart
 frame-indexed {text} {frames} {P} read few table i less = record {
   within = omega (arith, place, long, line-frame text (fileFrames P) i are there .next .within);
   line = ap₂ (λ (n p : ℕ). take n (drop p text)) long place ∙ first-line-taken (drop (lineStart text i) text);

@@ -28,7 +28,7 @@ framePlace frames i = getD frames (frameWords * i) 0
 abbrev pub frameLength : List ℕ → ℕ → ℕ
 frameLength frames i = getD frames (frameWords * i + 1) 0
 
-abbrev pub framePart : List ℕ → List ℕ → ℕ → List ℕ
+unfoldable pub framePart : List ℕ → List ℕ → ℕ → List ℕ
 framePart text frames i = take (frameLength frames i) (drop (framePlace frames i) text)
 
 -- of type t: the word of field j of constructor c

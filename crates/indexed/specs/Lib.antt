@@ -4,3 +4,4 @@ pub mod FrameLines
 pub mod TableWords
 pub mod Indexes
 pub mod ScopeShapes
+pub mod FramePartLaws
