@@ -1,0 +1,7 @@
+pub mod Indexed
+pub mod WithinParts
+pub mod FrameLines
+pub mod TableWords
+pub mod Indexes
+pub mod ScopeShapes
+pub mod FramePartLaws

@@ -1,0 +1,34 @@
+-- A file within the limits: each function, input and node by its number, in the scope that its place in the file gives it.
+use Prim.Native.Nat.{ℕ, zero, suc, _+_}
+use mathlib.Core.List.{List, [], _∷_, _++_, append-nil}
+use mathlib.Core.Option.{some}
+use mathlib.Core.Path.{_≡_}
+use native.Mathlib.Nat.{add-zero, zero-add}
+use native.Mathlib.Omega.{arith}
+use lib.ListN.{take, getElem? as look}
+use lib.Seq.{append-snoc}
+use Rattle.language.specs.Syntax.{TypeDef, Function, Input, Node, File}
+use Rattle.language.specs.Within.{WithinFunction, WithinFunctions, wf-nil, wf-cons, WithinInput, WithinNode, WithinNodes, wn-nil, wn-cons, Within}
+use Rattle.theory.specs.Lists.{none-is-not-some}
+use Rattle.theory.specs.Alls.{all-at}
+
+-- the functions before it are those before the list, and those in the list before it
+function-at : {types : List TypeDef} {Fs : List Function} {F : Function} (earlier : List Function) → WithinFunctions types earlier Fs → (f : ℕ) → look Fs f ≡ some F → WithinFunction types (earlier ++ take f Fs) F
+function-at earlier wf-nil f e = none-is-not-some e
+function-at {types} {F} earlier (wf-cons {F = G} w ws) zero e = let same : G ≡ F = cc in rw (append-nil earlier) (rw same at w)
+function-at {types} {F} earlier (wf-cons {F = G} {Fs = Fs} w ws) (suc f) e = rw (append-snoc earlier G (take f Fs)) at (function-at (earlier ++ (G ∷ [])) ws f e)
+
+node-at : {P : File} {ns : List Node} {n : Node} (earlier : ℕ) → WithinNodes P earlier ns → (m : ℕ) → look ns m ≡ some n → WithinNode P (earlier + m) n
+node-at earlier wn-nil m e = none-is-not-some e
+node-at {n} earlier (wn-cons {n = k} w ws) zero e = let same : k ≡ n = cc in rw (add-zero earlier) (rw same at w)
+node-at {P} {n} earlier (wn-cons w ws) (suc m) e = let on : suc earlier + m ≡ earlier + suc m = omega arith in rw on at (node-at (suc earlier) ws m e)
+
+module _ {P : File} (w : Within P) where
+  pub function-within : (f : ℕ) {F : Function} → look (P .functions) f ≡ some F → WithinFunction (P .types) (take f (P .functions)) F
+  function-within f e = function-at [] (w .functions) f e
+
+  pub input-within : (c : ℕ) {i : Input} → look (P .inputs) c ≡ some i → WithinInput P i
+  input-within c e = all-at (w .inputs) c e
+
+  pub node-within : (m : ℕ) {n : Node} → look (P .nodes) m ≡ some n → WithinNode P m n
+  node-within m e = rw (zero-add m) at (node-at 0 (w .nodes) m e)
