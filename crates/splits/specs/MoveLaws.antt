@@ -1,8 +1,8 @@
 -- The steps of a move: looking for the place that gives, from the right; and the stores at and before it, which make the next split.
 use Prim.Native.Nat.{ℕ, zero, suc, _+_, _-_, _≤_, _<_}
 use mathlib.Core.List.{List, [], _∷_, _++_, append-assoc}
-use mathlib.Core.Bool.{Bool, true, false}
-use mathlib.Core.Option.{Option, none, some}
+use mathlib.Core.Bool.{true, false}
+use mathlib.Core.Option.{none, some}
 use mathlib.Core.Path.{_≡_, refl, sym, ap, _∙_}
 use native.Mathlib.Nat.{zero-add, suc-add}
 use native.Mathlib.Numerals.{add-one}
@@ -135,12 +135,11 @@ module _ {sizes : List ℕ} {at end j : ℕ} (g : Giver sizes at end j) (ne : j 
 
 -- the places of the second and the third store are still in the list
 module _ {sizes : List ℕ} {at end j : ℕ} (g : Giver sizes at end j) (room : end ≤ length sizes) where
-  pub second-within : j < length (set sizes (j - 1) (getD sizes (j - 1) 0 + 1))
-  second-within = lt-length-set sizes (j - 1) (getD sizes (j - 1) 0 + 1) (omega (arith, g .within))
+  pub second-within : (k : ℕ) → j < length (set sizes (j - 1) k)
+  second-within k = lt-length-set sizes (j - 1) k (omega (arith, g .within))
 
-  pub third-within : end - 1 < length (set (set sizes (j - 1) (getD sizes (j - 1) 0 + 1)) j 1)
-  third-within =
-      lt-length-set (set sizes (j - 1) (getD sizes (j - 1) 0 + 1)) j 1 (lt-length-set sizes (j - 1) (getD sizes (j - 1) 0 + 1) (omega (arith, g .within)))
+  pub third-within : (k p : ℕ) → end - 1 < length (set (set sizes (j - 1) k) j p)
+  third-within k p = lt-length-set (set sizes (j - 1) k) j p (lt-length-set sizes (j - 1) k (omega (arith, g .within)))
 
 module _ (sizes : List ℕ) (at end j : ℕ) (room : end ≤ length sizes) (h : at < j) (g : Giver sizes at end j) where
   abbrev size : ℕ

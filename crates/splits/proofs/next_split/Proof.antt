@@ -48,7 +48,7 @@ slice-write-sizes : tie.Need-slice-write-sizes
 slice-write-sizes c = omega (arith, (c .before .before .before .before .before .before .if2 .left), (c .before .before .before .before .before .if3 .left), (c .before .before .before .giver .ensures .within))
 
 slice-write-sizes-2 : tie.Need-slice-write-sizes-2
-slice-write-sizes-2 c = second-within (c .before .before .before .giver .ensures) (omega (arith, (c .before .before .before .before .before .before .if2 .left), (c .before .before .before .before .before .if3 .left)))
+slice-write-sizes-2 c = second-within (c .before .before .before .giver .ensures) (omega (arith, (c .before .before .before .before .before .before .if2 .left), (c .before .before .before .before .before .if3 .left))) _
 
 sub-sizes-3 : tie.Need-sub-sizes-3
 sub-sizes-3 c = omega (arith, giver-some (c .before .before .before .giver .ensures) (c .before .before .if4 .left))
@@ -57,7 +57,7 @@ sub-sizes-4 : tie.Need-sub-sizes-4
 sub-sizes-4 c = omega (arith, (c .before .before .before .before .before .before .before .if1 .left))
 
 slice-write-sizes-3 : tie.Need-slice-write-sizes-3
-slice-write-sizes-3 c = third-within (c .before .before .before .giver .ensures) (omega (arith, (c .before .before .before .before .before .before .if2 .left), (c .before .before .before .before .before .if3 .left)))
+slice-write-sizes-3 c = third-within (c .before .before .before .giver .ensures) (omega (arith, (c .before .before .before .before .before .before .if2 .left), (c .before .before .before .before .before .if3 .left))) _ _
 
 same-length-2 : tie.Need-same-length-2
 same-length-2 c = search needs
