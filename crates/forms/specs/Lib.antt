@@ -1,0 +1,4 @@
+pub mod Heads
+pub mod HeadForms
+pub mod ReadLaws
+pub mod HeadLaws
