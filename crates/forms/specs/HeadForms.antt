@@ -19,6 +19,7 @@ use Rattle.forms.specs.declared.Form.{Form}
 use Rattle.forms.specs.declared.Form.the-variants.{Bool as BoolForm, Int, Variable, Now, Last, Let, If, Operator, Call, Construct, Case, Adjust, Fit, Missing}
 use Rattle.forms.specs.declared.Head.{Head}
 use Rattle.forms.specs.Heads.{Heads, shown}
+use Rattle.forms.specs.UnreadLaws.{unread-none}
 
 -- ---- the heads; next is where the first part starts, n the levels left, S the scope; left the levels left inside
 pub record BoolHead (at next n : ℕ) (S : Scope) (e : Expr) (b : ℕ) : Type 0 where
@@ -329,7 +330,7 @@ fit-made i (w-fit {n = m} room bound a b d) = record {
 -- ---- from the form that was read
 module _ {line : List ℕ} {at : ℕ} {r : Head} {e : Expr} (h : Heads line at r) (s : Spells exprBytes line at e) where
   pub no-missing : r .form ≡ Missing → ⊥
-  no-missing q = shown h q .1 e s
+  no-missing q = unread-none (shown h q .1) s
 
   module _ {n : ℕ} {S : Scope} (w : WithinExpr n S e) where
     pub bool-head : {b : ℕ} → r .form ≡ BoolForm b → BoolHead at (r .next .at) n S e b

@@ -1,15 +1,13 @@
 -- What reading the head of an expression promises, on any bytes: a form that is read has its code at the place and its operands
--- behind the code, and the parts start behind those; where none is read, no expression is spelled.
+-- behind the code, and the parts start behind those; where none is read, the line ends too early or the code is of no form.
 use Prim.Native.Nat.{ℕ, _+_, _≤_, _<_, _^_}
 use mathlib.Core.List.{List}
 use mathlib.Core.Bool.{Bool, true, false}
 use mathlib.Core.Path.{_≡_, refl, subst}
 use native.Mathlib.Omega.{arith}
 use lib.ListN.{length}
-use Rattle.language.specs.Syntax.{Expr}
-use Rattle.language.specs.Format.{exprBytes}
 use Rattle.text.specs.Bytes.{bytesOf}
-use Rattle.spelling.specs.Spells.{byteAt, Spells}
+use Rattle.spelling.specs.Spells.{byteAt}
 use Rattle.spelling.specs.Forms.{fourAt}
 use Rattle.forms.specs.declared.Form.{Form}
 use Rattle.forms.specs.declared.Form.the-variants.{Bool as BoolForm, Int, Variable, Now, Last, Let, If, Operator, Call, Construct, Case, Adjust, Fit, Missing}
@@ -30,6 +28,33 @@ pub record OperandAt (line : List ℕ) (at b : ℕ) : Type 0 where
   pub is : b ≡ byteAt line at
   pub small : b < byteRange
 
+-- the code is of no form with no byte, or more than one, behind it
+pub record OtherCode (code : ℕ) : Type 0 where
+  pub noInt : code ≡ 0x11 → ⊥
+  pub noLet : code ≡ 0x15 → ⊥
+  pub noIf : code ≡ 0x16 → ⊥
+  pub noConstruct : code ≡ 0x19 → ⊥
+  pub noAdjust : code ≡ 0x1B → ⊥
+
+-- the code is of no form with one byte behind it
+pub record NoOperand (code : ℕ) : Type 0 where
+  pub noBool : code ≡ 0x10 → ⊥
+  pub noVariable : code ≡ 0x12 → ⊥
+  pub noNow : code ≡ 0x13 → ⊥
+  pub noLast : code ≡ 0x14 → ⊥
+  pub noOperator : code ≡ 0x17 → ⊥
+  pub noCall : code ≡ 0x18 → ⊥
+  pub noCase : code ≡ 0x1A → ⊥
+  pub noFit : code ≡ 0x1C → ⊥
+
+-- why no form is read: the line ends before the code or before the head does, or the code is of no form
+pub data Unread (line : List ℕ) (at : ℕ) : Type 0 where
+  no-code : length (bytesOf line) ≤ at → Unread line at
+  no-form : OtherCode (byteAt line at) → NoOperand (byteAt line at) → Unread line at
+  no-operand : OtherCode (byteAt line at) → length (bytesOf line) < at + 2 → Unread line at
+  no-constructor : byteAt line at ≡ 0x19 → length (bytesOf line) < at + 3 → Unread line at
+  no-int : byteAt line at ≡ 0x11 → length (bytesOf line) < at + 5 → Unread line at
+
 -- a form at a place, whose parts start at next
 abbrev pub Shows : List ℕ → ℕ → ℕ → Form → Type 0
 Shows line at next (BoolForm b) = Coded line at 0x10 2 next × OperandAt line (at + 1) b
@@ -45,7 +70,7 @@ Shows line at next (Construct t c) = Coded line at 0x19 3 next × (OperandAt lin
 Shows line at next (Case t) = Coded line at 0x1A 2 next × OperandAt line (at + 1) t
 Shows line at next Adjust = Coded line at 0x1B 1 next
 Shows line at next (Fit k) = Coded line at 0x1C 2 next × OperandAt line (at + 1) k
-Shows line at next Missing = (next ≡ at) × ((e : Expr) → Spells exprBytes line at e → ⊥)
+Shows line at next Missing = (next ≡ at) × Unread line at
 
 pub record Heads (line : List ℕ) (at : ℕ) (r : Head) : Type 0 where
   pub shows : Shows line at (r .next .at) (r .form)

@@ -1,7 +1,7 @@
 // Reading the head of an expression: its form by the first byte, with the bytes that belong to it.
 ghost use mathlib.Core.Path.{_≡_};
-ghost use Rattle.forms.specs.Heads.{Heads, Coded};
-ghost use Rattle.forms.specs.HeadLaws.{missingHead, OtherCode};
+ghost use Rattle.forms.specs.HeadLaws.{missingHead};
+ghost use Rattle.forms.specs.Heads.{Heads, Coded, OtherCode};
 use text::Cursor;
 use text::Number;
 
@@ -91,40 +91,20 @@ fn one_operand(line: &[u8], start: Cursor, c: Cursor, code: u32) -> Head
     };
     let b = f.value;
     let next = f.next;
-    match code {
-        0x10 => Head {
-            form: Form::Bool(b),
-            next: next,
-        },
-        0x12 => Head {
-            form: Form::Variable(b),
-            next: next,
-        },
-        0x13 => Head {
-            form: Form::Now(b),
-            next: next,
-        },
-        0x14 => Head {
-            form: Form::Last(b),
-            next: next,
-        },
-        0x17 => Head {
-            form: Form::Operator(b),
-            next: next,
-        },
-        0x18 => Head {
-            form: Form::Call(b),
-            next: next,
-        },
-        0x1A => Head {
-            form: Form::Case(b),
-            next: next,
-        },
-        0x1C => Head {
-            form: Form::Fit(b),
-            next: next,
-        },
-        _ => missing(start),
+    let form = match code {
+        0x10 => Form::Bool(b),
+        0x12 => Form::Variable(b),
+        0x13 => Form::Now(b),
+        0x14 => Form::Last(b),
+        0x17 => Form::Operator(b),
+        0x18 => Form::Call(b),
+        0x1A => Form::Case(b),
+        0x1C => Form::Fit(b),
+        _ => return missing(start),
+    };
+    Head {
+        form: form,
+        next: next,
     }
 }
 
