@@ -1,0 +1,6 @@
+pub mod Heads
+pub mod UnreadLaws
+pub mod HeadParts
+pub mod HeadForms
+pub mod ReadLaws
+pub mod HeadLaws
