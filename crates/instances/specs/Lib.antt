@@ -3,3 +3,4 @@ pub mod Matches
 pub mod ListLaws
 pub mod FindLaws
 pub mod WriteLaws
+pub mod Records

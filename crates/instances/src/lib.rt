@@ -1,6 +1,6 @@
 // The lent list of instances, as words: a record is the function, its sizes and its three numbers.
 ghost use mathlib.Core.Path.{_≡_};
-ghost use Prim.Native.Nat.{_^_, _<_, _≤_, _+_};
+ghost use Prim.Native.Nat.{_^_, _<_};
 ghost use lib.ListN.{length, getD, replicate};
 ghost use lib.Seq.{sets};
 ghost use Rattle.language.specs.Limits.{parametersMost};
