@@ -1,0 +1,137 @@
+-- Looking an instance up: comparing sizes, comparing a record, one record after the other.
+use Prim.Native.Nat.{ℕ, zero, suc, _+_, _*_, _≤_, _<_}
+use mathlib.Core.List.{List, _∷_}
+use mathlib.Core.Bool.{Bool, true, false}
+use mathlib.Core.Option.{some}
+use mathlib.Core.Path.{_≡_, refl, sym, ap, _∙_}
+use native.Mathlib.Numerals.{add-one}
+use native.Mathlib.Omega.{arith}
+use lib.ListN.{length, getD, take, drop, drop-of-length-le}
+use lib.Dec.{eqb}
+use lib.Seq.{drop-cons, ext-getD}
+use borrow.Author.Tests.{eqb-true, eqb-false, eq-eqb, ne-eqb}
+use Rattle.language.specs.Limits.{parametersMost}
+use Rattle.language.specs.Result.{both}
+use Rattle.language.specs.Sizes.{sameSizes}
+use Rattle.language.specs.Layout.{padded}
+use Rattle.language.specs.Checker.{Instance, find}
+use Rattle.language.specs.Within.{All, all-nil, all-cons}
+use Rattle.theory.specs.SameTests.{same-sizes, sizes-same}
+use Rattle.theory.specs.Padding.{padded-length, padded-front}
+use Rattle.index.specs.Padded.{padded-at}
+use Rattle.estimate.specs.declared.Estimate.{Estimate as Held}
+use Rattle.instances.specs.declared.Search.the-variants.{Found, Absent}
+use Rattle.instances.specs.Listed.{instanceWordsCount, numbersFrom, Listed, SizesAre, SameArity, Finds, found, absent}
+use Rattle.instances.specs.Matches.{Compared, all-same, one-other, noInstance, at, Matches, Numbers}
+use Rattle.instances.specs.ListLaws.{function-word, size-word, number-word}
+
+-- ---- comparing sizes: those before j are the same
+pub record SameBefore (words : List ℕ) (from : ℕ) (sizes : List ℕ) (j : ℕ) : Type 0 where
+  pub says : (k : ℕ) → k < j → getD words (from + k) 0 ≡ getD sizes k 0
+
+module _ {words : List ℕ} {from : ℕ} {sizes : List ℕ} where
+  pub same-start : SameBefore words from sizes 0
+  same-start = record { says = λ k h. absurd (omega arith) }
+
+  pub same-on : {j word size : ℕ} → SameBefore words from sizes j → word ≡ getD words (from + j) 0 → size ≡ getD sizes j 0 → word ≡ size → SameBefore words from sizes (j + 1)
+  same-on {j} v p q e = record { says = λ k h. go k h (eqb k j) refl }
+    where
+      go : (k : ℕ) → k < j + 1 → (b : Bool) → eqb k j ≡ b → getD words (from + k) 0 ≡ getD sizes k 0
+      go k h true t = let same : k ≡ j = eqb-true k j t in rw same (sym p ∙ e ∙ q)
+      go k h false t = let other : k ≡ j → ⊥ = eqb-false k j t in v .says k (omega arith)
+
+  pub same-end : {j : ℕ} → SameBefore words from sizes j → parametersMost ≤ j → Compared words from sizes true
+  same-end v h = all-same (λ k less. v .says k (omega arith))
+
+  pub same-not : {j word size : ℕ} → j < parametersMost → word ≡ getD words (from + j) 0 → size ≡ getD sizes j 0 → (word ≡ size → ⊥) → Compared words from sizes false
+  same-not {j} h p q other = one-other j h (λ e. other (p ∙ e ∙ sym q))
+
+-- ---- comparing a record
+-- as many sizes, filled up the same, are the same
+filled-same : (n : ℕ) (ks js : List ℕ) → length ks ≡ length js → length js ≤ n → padded n ks ≡ padded n js → ks ≡ js
+filled-same n ks js long few e = sym (padded-front n ks (omega arith)) ∙ ap (λ m. take m (padded n ks)) long ∙ ap (take (length js)) e ∙ padded-front n js few
+
+false-of : (b : Bool) → (b ≡ true → ⊥) → false ≡ b
+false-of true h = absurd (h refl)
+false-of false h = refl
+
+-- a record's sizes and those asked for, word by word
+module _ {words : List ℕ} {i : ℕ} {sizes : List ℕ} (L : List Instance) (ks : List ℕ) (v : Listed words L) (h : i < length L) (s : SizesAre sizes ks) where
+  size-here : (j : ℕ) → j < parametersMost → getD words (instanceWordsCount * i + 1 + j) 0 ≡ getD (padded parametersMost (at L i .sizes)) j 0
+  size-here j less = size-word L v i h j less
+
+  size-asked : (j : ℕ) → j < parametersMost → getD sizes j 0 ≡ getD (padded parametersMost ks) j 0
+  size-asked j less = sym (padded-at parametersMost sizes j less) ∙ ap (λ (l : List ℕ). getD l j 0) (s .is)
+
+  sizes-compared : {r : Bool} → length (at L i .sizes) ≡ length ks → Compared words (instanceWordsCount * i + 1) sizes r → r ≡ sameSizes (at L i .sizes) ks
+  sizes-compared long (all-same p) =
+      let here = padded parametersMost (at L i .sizes) in
+      let size : length here ≡ parametersMost = padded-length parametersMost (at L i .sizes) in
+      let same : here ≡ padded parametersMost ks = ext-getD 0 here (padded parametersMost ks) (size ∙ sym (padded-length parametersMost ks))
+      (λ j less. let few : j < parametersMost = omega (arith, size) in sym (size-here j few) ∙ p j few ∙ size-asked j few) in
+      sym (sizes-same (filled-same parametersMost (at L i .sizes) ks long (s .few) same))
+  sizes-compared long (one-other j less other) =
+      false-of _ (λ t. other (size-here j less ∙ ap (λ (l : List ℕ). getD (padded parametersMost l) j 0) (same-sizes (at L i .sizes) ks t) ∙ sym (size-asked j less)))
+
+module _ {words : List ℕ} {i f : ℕ} {sizes : List ℕ} where
+  pub other-function : {g : ℕ} → g ≡ getD words (instanceWordsCount * i) 0 → (g ≡ f → ⊥) → Matches words i f sizes false
+  unfolding both
+  other-function q other = record { says = λ L ks v h s a. rw (ne-eqb (at L i .function) f (λ e. other (q ∙ function-word L v i h ∙ e))) }
+
+  pub same-function : {g : ℕ} {r : Bool} → g ≡ getD words (instanceWordsCount * i) 0 → g ≡ f → Compared words (instanceWordsCount * i + 1) sizes r → Matches words i f sizes r
+  unfolding both
+  same-function q e u = record {
+    says = λ L ks v h s a.
+        let same : at L i .function ≡ f = sym (function-word L v i h) ∙ sym q ∙ e in
+        rw (eq-eqb (at L i .function) f same) (sizes-compared L ks v h s (a same) u);
+  }
+
+pub numbers-read : {words : List ℕ} {i : ℕ} {x : Held} → x .env ≡ getD words (instanceWordsCount * i + numbersFrom) 0 → x .heap ≡ getD words (instanceWordsCount * i + numbersFrom + 1) 0 → x .stack ≡ getD words (instanceWordsCount * i + numbersFrom + 2) 0 → Numbers words i x
+numbers-read {words} {i} p q o = record {
+  says = λ L v h.
+      let first : instanceWordsCount * i + numbersFrom ≡ instanceWordsCount * i + numbersFrom + 0 = omega arith in
+      record { env = p ∙ ap (λ m. getD words m 0) first ∙ number-word L v i h 0 (omega arith); heap = q ∙ number-word L v i h 1 (omega arith); stack = o ∙ number-word L v i h 2 (omega arith) };
+}
+
+-- ---- one record after the other: those before i are not it
+pub record Passed (words : List ℕ) (used f : ℕ) (sizes : List ℕ) (i : ℕ) : Type 0 where
+  pub says : (L : List Instance) (ks : List ℕ) → Listed words L → used ≡ length L → SizesAre sizes ks → All (SameArity f ks) L → find L f ks ≡ find (drop i L) f ks
+
+all-got : {Q : Instance → Type 0} {L : List Instance} → All Q L → (i : ℕ) → i < length L → Q (at L i)
+all-got all-nil i h = absurd (omega arith)
+all-got (all-cons q qs) zero h = q
+all-got (all-cons q qs) (suc i) h = all-got qs i (omega arith)
+
+find-here : (f : ℕ) (ks : List ℕ) (q : Instance) (L : List Instance) → both (eqb (q .function) f) (sameSizes (q .sizes) ks) ≡ true → find (q ∷ L) f ks ≡ some (q .numbers)
+unfolding find
+find-here f ks q L e = rw (e, find)
+
+find-later : (f : ℕ) (ks : List ℕ) (q : Instance) (L : List Instance) → both (eqb (q .function) f) (sameSizes (q .sizes) ks) ≡ false → find (q ∷ L) f ks ≡ find L f ks
+unfolding find
+find-later f ks q L e = rw (e, find)
+
+module _ {words : List ℕ} {used f : ℕ} {sizes : List ℕ} where
+  pub passed-start : Passed words used f sizes 0
+  passed-start = record { says = λ L ks v u s a. refl }
+
+  module _ {i : ℕ} (p : Passed words used f sizes i) where
+    pub passed-found : {r : Bool} {x : Held} → i < used → Matches words i f sizes r → r ≡ true → Numbers words i x → Finds words used f sizes (Found x)
+    passed-found less m e n = record {
+      says = λ L ks v u s a.
+          let h : i < length L = omega (arith, u) in
+          let is = p .says L ks v u s a ∙ ap (λ M. find M f ks) (drop-cons L i noInstance h) ∙ find-here f ks (at L i) (drop (suc i) L) (sym (m .says L ks v h s (all-got a i h)) ∙ e) in
+          rw is (found (n .says L v h));
+    }
+
+    pub passed-on : {r : Bool} → i < used → Matches words i f sizes r → r ≡ false → Passed words used f sizes (i + 1)
+    passed-on less m e = record {
+      says = λ L ks v u s a.
+          let h : i < length L = omega (arith, u) in
+          p .says L ks v u s a ∙ ap (λ M. find M f ks) (drop-cons L i noInstance h) ∙ find-later f ks (at L i) (drop (suc i) L) (sym (m .says L ks v h s (all-got a i h)) ∙ e) ∙ rw add-one;
+    }
+
+    pub passed-end : used ≤ i → Finds words used f sizes Absent
+    unfolding find
+    passed-end le = record {
+      says = λ L ks v u s a. rw (p .says L ks v u s a, drop-of-length-le L {i = i} (omega (arith, u))) absent;
+    }

@@ -1,0 +1,6 @@
+pub mod Listed
+pub mod Matches
+pub mod ListLaws
+pub mod FindLaws
+pub mod WriteLaws
+pub mod Records

@@ -1,0 +1,149 @@
+// The lent list of instances, as words: a record is the function, its sizes and its three numbers.
+ghost use mathlib.Core.Path.{_≡_};
+ghost use Prim.Native.Nat.{_^_, _<_};
+ghost use lib.ListN.{length, getD, replicate};
+ghost use lib.Seq.{sets};
+ghost use Rattle.language.specs.Limits.{parametersMost};
+ghost use Rattle.language.specs.Layout.{padded};
+ghost use Rattle.instances.specs.Listed.{Finds, Adds, Finishes, numberWords};
+ghost use Rattle.instances.specs.Matches.{Compared, Matches, Numbers};
+use estimate::Estimate;
+use estimate::nothing;
+use index::clear as clear_words;
+use index::put;
+use index::word_at;
+use language::limits::PARAMETERS_MOST;
+
+// The words of a record: the function, its sizes, environment, heap and stack.
+pub const INSTANCE_WORDS: usize = 1 + PARAMETERS_MOST + 3;
+
+// Where its numbers start.
+const NUMBERS_FROM: usize = 1 + PARAMETERS_MOST;
+
+pub enum Search {
+    Found(Estimate),
+    Absent,
+}
+
+// A size; 0 beyond those given.
+fn size_at(sizes: &[u8], j: usize) -> u32
+    ensures { λ r. ⌜ r ≡ getD (now (sizes .entry)) j 0 ⌝ }
+{
+    if j < sizes.len() {
+        return sizes[j] as u32;
+    }
+    0
+}
+
+// Whether the words from a place on are these sizes.
+fn same_sizes(list: &[u32], from: usize, sizes: &[u8]) -> bool
+    requires { ⌜ from < 2 ^ 62 ⌝ }
+    ensures { λ r. ⌜ Compared (now (list .entry)) from (now (sizes .entry)) r ⌝ }
+{
+    let mut j: usize = 0;
+    while j < PARAMETERS_MOST {
+        let word = word_at(list, from + j);
+        let size = size_at(sizes, j);
+        if word != size {
+            return false;
+        }
+        j += 1;
+    }
+    true
+}
+
+// Whether record i is the instance of f at these sizes.
+fn is_instance(list: &[u32], i: u32, f: u32, sizes: &[u8]) -> bool
+    ensures { λ r. ⌜ Matches (now (list .entry)) i f (now (sizes .entry)) r ⌝ }
+{
+    let at = INSTANCE_WORDS * (i as usize);
+    let g = word_at(list, at);
+    if g != f {
+        return false;
+    }
+    same_sizes(list, at + 1, sizes)
+}
+
+// The numbers of record i.
+fn numbers(list: &[u32], i: u32) -> Estimate
+    ensures { λ r. ⌜ Numbers (now (list .entry)) i r ⌝ }
+{
+    let at = INSTANCE_WORDS * (i as usize) + NUMBERS_FROM;
+    let env = word_at(list, at);
+    let heap = word_at(list, at + 1);
+    let stack = word_at(list, at + 2);
+    Estimate {
+        env: env,
+        heap: heap,
+        stack: stack,
+    }
+}
+
+// The first of the records in use that is the instance of f at these sizes.
+pub fn find(list: &[u32], used: u32, f: u32, sizes: &[u8]) -> Search
+    ensures { λ r. ⌜ Finds (now (list .entry)) used f (now (sizes .entry)) r ⌝ }
+{
+    let mut i: u32 = 0;
+    while i < used {
+        if is_instance(list, i, f, sizes) {
+            return Search::Found(numbers(list, i));
+        }
+        i += 1;
+    }
+    Search::Absent
+}
+
+// Writes the sizes from a place on.
+fn put_sizes(list: &mut [u32], from: usize, sizes: &[u8])
+    requires { ⌜ from < 2 ^ 62 ⌝ }
+    ensures { λ _. ⌜ now (list .exit) ≡ sets (now (list .entry)) from (padded parametersMost (now (sizes .entry))) ⌝ }
+{
+    let mut j: usize = 0;
+    while j < PARAMETERS_MOST {
+        let size = size_at(sizes, j);
+        put(list, from + j, size);
+        j += 1;
+    }
+}
+
+// Writes three numbers from a place on.
+fn put_numbers(list: &mut [u32], from: usize, x: Estimate)
+    requires { ⌜ from < 2 ^ 62 ⌝ }
+    ensures { λ _. ⌜ now (list .exit) ≡ sets (now (list .entry)) from (numberWords x) ⌝ }
+{
+    put(list, from, x.env);
+    put(list, from + 1, x.heap);
+    put(list, from + 2, x.stack);
+}
+
+// Writes the record behind those in use: f at these sizes, its numbers 0. Where it does not fit nothing is written.
+pub fn add(list: &mut [u32], used: u32, f: u32, sizes: &[u8])
+    ensures { λ _. ⌜ Adds (now (list .entry)) used f (now (sizes .entry)) (now (list .exit)) ⌝ }
+{
+    let at = INSTANCE_WORDS * (used as usize);
+    if list.len() < at + INSTANCE_WORDS {
+        return;
+    }
+    put(list, at, f);
+    put_sizes(list, at + 1, sizes);
+    let none = nothing();
+    put_numbers(list, at + NUMBERS_FROM, none);
+}
+
+// Writes the numbers of record i. Where it is not there nothing is written.
+pub fn finish(list: &mut [u32], i: u32, x: Estimate)
+    ensures { λ _. ⌜ Finishes (now (list .entry)) i x (now (list .exit)) ⌝ }
+{
+    let at = INSTANCE_WORDS * (i as usize);
+    if list.len() < at + INSTANCE_WORDS {
+        return;
+    }
+    put_numbers(list, at + NUMBERS_FROM, x);
+}
+
+// Every word 0.
+pub fn clear(list: &mut [u32])
+    ensures { λ _. ⌜ now (list .exit) ≡ replicate (length (now (list .entry))) 0 ⌝ }
+{
+    clear_words(list);
+}
