@@ -1,0 +1,195 @@
+-- Bytes, variables and sizes, return by return: what is worked out is what the written size says.
+use Prim.Native.Nat.{ℕ, zero, suc, _+_, _-_, _^_, _<_, _≤_}
+use mathlib.Core.List.{List}
+use mathlib.Core.Path.{_≡_, refl, sym, ap, ap₂, _∙_, subst}
+use native.Mathlib.Omega.{arith}
+use native.Mathlib.Nat.{two-pow-succ, pow-le-pow-right, lt-of-lt-of-le, le-trans}
+use lib.ListN.{length, getD, List·getD-eq-default}
+use Rattle.language.specs.Limits.{nestingMost}
+use Rattle.language.specs.Syntax.{Size, lit, svar, plus, minus}
+use Rattle.language.specs.Format.{sizeBytes}
+use Rattle.language.specs.Within.{WithinSize, w-plus, w-minus}
+use Rattle.language.specs.Sizes.{added, taken}
+use Rattle.language.specs.Parser.{byte}
+use Rattle.text.specs.declared.Cursor.{Cursor}
+use Rattle.text.specs.declared.Found.{Found}
+use Rattle.text.specs.declared.Number.{Number}
+use Rattle.text.specs.declared.Number.the-variants.{Is, Refused}
+use Rattle.text.specs.Bytes.{bytesOf, bytesFrom, ReadsNumber, Below, below}
+use Rattle.spelling.specs.Spells.{byteAt, Spells, spells-within, IsLeaf}
+use Rattle.spelling.specs.TypeInversions.{OfTwoSizes, SizeCoded, lit-coded, svar-coded, plus-coded, minus-coded, size-of-byte, lit-spelled, plus-spelled}
+use Rattle.spelling.specs.CursorSpells.{byte-is}
+use Rattle.sizes.specs.declared.Worked.{Worked}
+use Rattle.sizes.specs.Promises.{Reads, Told, IsWorked, WorksOut, LeafWorked}
+
+-- ---- a byte
+valueOf : Number → ℕ
+valueOf (Is f) = f .value
+valueOf (Refused n) = 0
+
+placeOf : Number → ℕ
+placeOf (Is f) = f .next .at
+placeOf (Refused n) = 0
+
+module _ (line : List ℕ) (c : Cursor) {x : Number} (v : ReadsNumber line (c .at) x (byte (bytesFrom line (c .at))) × Below 256 x) where
+  pub read-none : {m : ℕ} → x ≡ Refused m → Reads line c (record { value = 0; next = c })
+  read-none {m} e = record { value = λ less. absurd (there less); next = λ less. absurd (there less); less = omega arith }
+    where
+      there : c .at < length (bytesOf line) → ⊥
+      there less = let same = sym e ∙ byte-is x less (v .0) in let z : _≡_ {A = ℕ} 0 1 = cc in omega arith
+
+  pub read-done : {f : Found} → x ≡ Is f → Reads line c f
+  unfolding valueOf placeOf
+  read-done {f} e = record {
+    value = λ less. ap valueOf (sym e ∙ byte-is x less (v .0));
+    next = λ less. ap placeOf (sym e ∙ byte-is x less (v .0));
+    less = elim (subst (Below 256) e (v .1)) [ below q ↦ q ];
+  }
+
+-- ---- a variable
+pub variable-none : (Δ : List ℕ) {i : ℕ} → length Δ ≤ i → Told Δ i 0
+variable-none Δ le = record { is = sym (List·getD-eq-default Δ 0 le); less = omega arith }
+
+pub variable-told : (Δ : List ℕ) {i k : ℕ} → k ≡ getD Δ i 0 → k < 256 → Told Δ i k
+variable-told Δ e less = record { is = e; less = less }
+
+-- ---- leaves
+some-byte : (s : Size) → 0 < length (sizeBytes s)
+unfolding sizeBytes
+some-byte (lit k) = omega arith
+some-byte (svar i) = omega arith
+some-byte (plus a b) = omega arith
+some-byte (minus a b) = omega arith
+
+spelled-less : {line : List ℕ} {at : ℕ} {s : Size} → Spells sizeBytes line at s → at < length (bytesOf line)
+spelled-less {s} w = omega (arith, spells-within w, some-byte s)
+
+leaf-long : {s t : Size} → IsLeaf sizeBytes 2 s t → length (sizeBytes s) ≡ 2
+leaf-long i = ap (λ (a : Size). length (sizeBytes a)) (i .is) ∙ i .long
+
+variable-coded : {line : List ℕ} {at : ℕ} {s : Size} {code : ℕ} → SizeCoded line at s code → code < 3 → (code ≡ 1 → ⊥) → IsLeaf sizeBytes 2 s (svar (byteAt line (at + 1)))
+variable-coded (lit-coded i) less other = absurd (other refl)
+variable-coded (svar-coded i) less other = i
+variable-coded (plus-coded i) less other = absurd (omega (arith, less))
+variable-coded (minus-coded i) less other = absurd (omega (arith, less))
+
+difference-coded : {line : List ℕ} {at : ℕ} {s : Size} {code : ℕ} → SizeCoded line at s code → 3 ≤ code → (code ≡ 3 → ⊥) → OfTwoSizes minus line at s
+difference-coded (lit-coded i) le other = absurd (omega (arith, le))
+difference-coded (svar-coded i) le other = absurd (omega (arith, le))
+difference-coded (plus-coded i) le other = absurd (other refl)
+difference-coded (minus-coded i) le other = i
+
+module _ (line : List ℕ) (c : Cursor) (Δ : List ℕ) {f : Found} (v : Reads line c f) where
+  -- the byte behind the code
+  second-byte : {at : ℕ} {s t : Size} → c .at ≡ at + 1 → Spells sizeBytes line at s → IsLeaf sizeBytes 2 s t → (f .value ≡ byteAt line (at + 1)) × (f .next .at ≡ at + length (sizeBytes s))
+  second-byte here w i =
+      let less : c .at < length (bytesOf line) = omega (arith, here, spells-within w, leaf-long i) in
+      (v .value less ∙ ap (byteAt line) here, omega (arith, here, v .next less, leaf-long i))
+
+  pub leaf-number : {code : ℕ} → code ≡ 1 → LeafWorked line c Δ code (record { added = f .value; taken = 0; next = f .next })
+  unfolding added
+  leaf-number {code} q = record { says = number; addedLess = omega (arith, v .less); takenLess = omega arith }
+    where
+      number : (at : ℕ) (s : Size) → c .at ≡ at + 1 → byteAt line at ≡ code → code < 3 → Spells sizeBytes line at s → IsWorked Δ s at (record { added = f .value; taken = 0; next = f .next })
+      number at s here b less w =
+          let i = lit-spelled w (b ∙ q) in
+          let second = second-byte here w i in
+          record { isAdded = second .0 ∙ sym (ap (added Δ) (i .is)); isTaken = sym (ap (taken Δ) (i .is)); ends = second .1 }
+
+  pub leaf-variable : {code k : ℕ} → (code ≡ 1 → ⊥) → Told Δ (f .value) k → LeafWorked line c Δ code (record { added = k; taken = 0; next = f .next })
+  unfolding added
+  leaf-variable {code} {k} other u = record { says = variable; addedLess = omega (arith, u .less); takenLess = omega arith }
+    where
+      variable : (at : ℕ) (s : Size) → c .at ≡ at + 1 → byteAt line at ≡ code → code < 3 → Spells sizeBytes line at s → IsWorked Δ s at (record { added = k; taken = 0; next = f .next })
+      variable at s here b less w =
+          let i = variable-coded (subst (SizeCoded line at s) b (size-of-byte w)) less other in
+          let second = second-byte here w i in
+          record { isAdded = u .is ∙ ap (λ j. getD Δ j 0) (second .0) ∙ sym (ap (added Δ) (i .is)); isTaken = sym (ap (taken Δ) (i .is)); ends = second .1 }
+
+-- ---- how large a size can be
+least : (levels : ℕ) → 2 ^ 8 ≤ 2 ^ (8 + levels)
+least levels = pow-le-pow-right {n = 2} (omega arith) {i = 8} {j = 8 + levels} (omega arith)
+
+one-less : (n : ℕ) → (n ≡ 0 → ⊥) → n ≡ suc (n - 1)
+one-less n more = omega (arith, more)
+
+doubled : (levels : ℕ) → (levels ≡ 0 → ⊥) → 2 ^ (8 + levels) ≡ 2 ^ (8 + (levels - 1)) + 2 ^ (8 + (levels - 1))
+doubled levels more = let next : 8 + levels ≡ suc (8 + (levels - 1)) = omega (arith, more) in ap (λ n. 2 ^ n) next ∙ two-pow-succ (8 + (levels - 1))
+
+sum-less : {m n p a b : ℕ} → m ≡ n + p → a < n → b < p → a + b < m
+sum-less e h k = omega (arith, e, h, k)
+
+-- the sum of two sizes with one level less
+pub sum-fits : {levels a b : ℕ} → (levels ≡ 0 → ⊥) → levels ≤ nestingMost → a < 2 ^ (8 + (levels - 1)) → b < 2 ^ (8 + (levels - 1)) → a + b < 2 ^ 64
+sum-fits {levels} {a} {b} more le h k =
+    let less : a + b < 2 ^ (8 + levels) = sum-less (doubled levels more) h k in
+    let most : 2 ^ (8 + levels) ≤ 2 ^ 40 = pow-le-pow-right {n = 2} (omega arith) {i = 8 + levels} {j = 40} (omega (arith, le)) in
+    lt-of-lt-of-le less (le-trans most (omega arith))
+
+-- ---- levels
+no-level : {vars : ℕ} {s : Size} → WithinSize vars zero s → ⊥
+no-level w = elim w [ ]
+
+module _ {vars n : ℕ} {a b : Size} where
+  plus-parts : WithinSize vars (suc n) (plus a b) → WithinSize vars n a × WithinSize vars n b
+  plus-parts (w-plus v w) = (v, w)
+
+  minus-parts : WithinSize vars (suc n) (minus a b) → WithinSize vars n a × WithinSize vars n b
+  minus-parts (w-minus v w) = (v, w)
+
+module _ (line : List ℕ) (c : Cursor) (Δ : List ℕ) (levels : ℕ) where
+  small : {k : ℕ} → k < 2 ^ 8 → k < 2 ^ (8 + levels)
+  small h = lt-of-lt-of-le h (least levels)
+
+  pub work-none : levels ≡ 0 → WorksOut line c Δ levels (record { added = 0; taken = 0; next = c })
+  work-none q = record { says = λ vars s le w z. absurd (no-level (subst (λ m. WithinSize vars m s) q w)); addedLess = small (omega arith); takenLess = small (omega arith) }
+
+  pub work-deep : nestingMost < levels → WorksOut line c Δ levels (record { added = 0; taken = 0; next = c })
+  work-deep q = record { says = λ vars s le w z. absurd (omega (arith, q, le)); addedLess = small (omega arith); takenLess = small (omega arith) }
+
+  module _ {f : Found} (v : Reads line c f) where
+    pub work-leaf : {r : Worked} → f .value < 3 → LeafWorked line (f .next) Δ (f .value) r → WorksOut line c Δ levels r
+    work-leaf less u = record {
+      says = λ vars s le w z. let here = spelled-less z in u .says (c .at) s (v .next here) (sym (v .value here)) less z;
+      addedLess = small (u .addedLess);
+      takenLess = small (u .takenLess);
+    }
+
+    module _ (more : levels ≡ 0 → ⊥) (enough : levels ≤ nestingMost) {x y : Worked} (u : WorksOut line (f .next) Δ (levels - 1) x) (t : WorksOut line (x .next) Δ (levels - 1) y) where
+      first-worked : {vars : ℕ} {s : Size} {join : Size → Size → Size} → Spells sizeBytes line (c .at) s → (i : OfTwoSizes join line (c .at) s) → WithinSize vars (levels - 1) (i .first) → IsWorked Δ (i .first) (c .at + 1) x
+      first-worked {vars} z i w =
+          let place : f .next .at ≡ c .at + 1 = v .next (spelled-less z) in
+          subst (λ m. IsWorked Δ (i .first) m x) place (u .says vars (i .first) (omega (arith, enough)) w (subst (λ m. Spells sizeBytes line m (i .first)) (sym place) (i .spelled)))
+
+      second-worked : {vars : ℕ} {s : Size} {join : Size → Size → Size} → Spells sizeBytes line (c .at) s → (i : OfTwoSizes join line (c .at) s) → WithinSize vars (levels - 1) (i .first) → WithinSize vars (levels - 1) (i .second) →
+          IsWorked Δ (i .second) (c .at + 1 + length (sizeBytes (i .first))) y
+      second-worked {vars} z i w o =
+          let place : x .next .at ≡ c .at + 1 + length (sizeBytes (i .first)) = first-worked z i w .ends in
+          subst (λ m. IsWorked Δ (i .second) m y) place (t .says vars (i .second) (omega (arith, enough)) o (subst (λ m. Spells sizeBytes line m (i .second)) (sym place) (i .next)))
+
+      both-end : {s : Size} {join : Size → Size → Size} {n : ℕ} (i : OfTwoSizes join line (c .at) s) → n ≡ c .at + 1 + length (sizeBytes (i .first)) + length (sizeBytes (i .second)) → n ≡ c .at + length (sizeBytes s)
+      both-end i e = omega (arith, e, ap (λ (a : Size). length (sizeBytes a)) (i .is), i .long)
+
+      pub work-sum : f .value ≡ 3 → WorksOut line c Δ levels (record { added = x .added + y .added; taken = x .taken + y .taken; next = y .next })
+      unfolding added
+      work-sum code = record { says = sums; addedLess = sum-less (doubled levels more) (u .addedLess) (t .addedLess); takenLess = sum-less (doubled levels more) (u .takenLess) (t .takenLess) }
+        where
+          sums : (vars : ℕ) (s : Size) → levels ≤ nestingMost → WithinSize vars levels s → Spells sizeBytes line (c .at) s → IsWorked Δ s (c .at) (record { added = x .added + y .added; taken = x .taken + y .taken; next = y .next })
+          sums vars s le w z =
+              let i = plus-spelled z (sym (v .value (spelled-less z)) ∙ code) in
+              let within = plus-parts (subst (WithinSize vars (suc (levels - 1))) (i .is) (subst (λ m. WithinSize vars m s) (one-less levels more) w)) in
+              let a = first-worked z i (within .0) in
+              let b = second-worked z i (within .0) (within .1) in
+              record { isAdded = ap₂ _+_ (a .isAdded) (b .isAdded) ∙ sym (ap (added Δ) (i .is)); isTaken = ap₂ _+_ (a .isTaken) (b .isTaken) ∙ sym (ap (taken Δ) (i .is)); ends = both-end i (b .ends) }
+
+      pub work-difference : 3 ≤ f .value → (f .value ≡ 3 → ⊥) → WorksOut line c Δ levels (record { added = x .added + y .taken; taken = x .taken + y .added; next = y .next })
+      unfolding added
+      work-difference most other = record { says = differs; addedLess = sum-less (doubled levels more) (u .addedLess) (t .takenLess); takenLess = sum-less (doubled levels more) (u .takenLess) (t .addedLess) }
+        where
+          differs : (vars : ℕ) (s : Size) → levels ≤ nestingMost → WithinSize vars levels s → Spells sizeBytes line (c .at) s → IsWorked Δ s (c .at) (record { added = x .added + y .taken; taken = x .taken + y .added; next = y .next })
+          differs vars s le w z =
+              let i = difference-coded (subst (SizeCoded line (c .at) s) (sym (v .value (spelled-less z))) (size-of-byte z)) most other in
+              let within = minus-parts (subst (WithinSize vars (suc (levels - 1))) (i .is) (subst (λ m. WithinSize vars m s) (one-less levels more) w)) in
+              let a = first-worked z i (within .0) in
+              let b = second-worked z i (within .0) (within .1) in
+              record { isAdded = ap₂ _+_ (a .isAdded) (b .isTaken) ∙ sym (ap (added Δ) (i .is)); isTaken = ap₂ _+_ (a .isTaken) (b .isAdded) ∙ sym (ap (taken Δ) (i .is)); ends = both-end i (b .ends) }
