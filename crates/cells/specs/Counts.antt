@@ -4,7 +4,7 @@ use Prim.Native.Nat.{ℕ, zero, suc, _+_, _*_, _≤_, _<_}
 use mathlib.Core.List.{List, map}
 use mathlib.Core.Path.{_≡_}
 use lib.ListN.{length, getD, take}
-use Rattle.language.specs.Limits.{sizeMost, fieldsMost, numberMost}
+use Rattle.language.specs.Limits.{typesMost, fieldsMost, sizeMost, numberMost}
 use Rattle.language.specs.Syntax.{fbool, Ty, File, constructorsOf, fieldsOf, declaredTypes}
 use Rattle.language.specs.Sizes.{sum}
 use Rattle.language.specs.Within.{WithinDeclared, Within}
@@ -20,6 +20,9 @@ sizeWords = 1 + sizeMost
 
 abbrev pub rowWords : ℕ
 rowWords = (1 + fieldsMost) * sizeWords
+
+abbrev pub tableWords : ℕ
+tableWords = typesMost * rowWords
 
 abbrev pub place : ℕ → ℕ → ℕ → ℕ
 place t r m = rowWords * t + sizeWords * r + m

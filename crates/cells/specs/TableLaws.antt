@@ -8,10 +8,16 @@ use lib.ListN.{length, getD, set, replicate}
 use lib.Dec.{eqb, leb}
 use lib.Seq.{set-out, getD-set-same, getD-set-other}
 use borrow.Author.Tests.{eqb-true, eqb-false, leb-true, leb-false}
-use Rattle.language.specs.Limits.{fieldsMost, sizeMost}
+use Rattle.language.specs.Limits.{typesMost, fieldsMost, sizeMost}
 use Rattle.language.specs.Syntax.{File}
+use Rattle.language.specs.Within.{Within}
 use Rattle.language.specs.Estimate.{stop}
-use Rattle.cells.specs.Counts.{place, standsFor, Remembers, Right, Counts, Several}
+use Rattle.index.specs.Tables.{typeTable}
+use Rattle.cells.specs.Counts.{tableWords, place, standsFor, Remembers, Right, Counts, Several}
+
+-- every number has its word
+pub place-fits : (t r m : ℕ) → t < typesMost → r ≤ fieldsMost → m ≤ sizeMost → place t r m < tableWords
+place-fits t r m named few low = omega (arith, named, few, low)
 
 -- ---- nothing known
 same-at : (w n i : ℕ) → getD (replicate n w) i w ≡ w
@@ -21,6 +27,9 @@ same-at w (suc n) (suc i) = same-at w n i
 
 pub remembers-nothing : (P : File) (n : ℕ) → Remembers P (replicate n 0)
 remembers-nothing P n = record { word = λ t r m named few low some. absurd (some (same-at 0 n (place t r m))) }
+
+pub right-nothing : {types : List ℕ} {P : File} (n : ℕ) → Within P → types ≡ typeTable (P .types) → Right types (replicate n 0) P
+right-nothing {P} n w e = record { within = w; told = e; remembers = remembers-nothing P n }
 
 -- ---- a word stored: another stays as it was
 set-cases : {X : Type 0} (l : List ℕ) (i j v : ℕ) → (getD (set l i v) j 0 ≡ getD l j 0 → X) → (j ≡ i → getD (set l i v) j 0 ≡ v → X) → X
