@@ -1,0 +1,9 @@
+pub mod Most
+pub mod Counts
+pub mod MostLaws
+pub mod TypeWords
+pub mod TableLaws
+pub mod CountLaws
+pub mod CellLaws
+pub mod FieldLaws
+pub mod ChannelLaws
