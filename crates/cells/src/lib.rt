@@ -5,12 +5,14 @@ ghost use lib.ListN.{getD, set};
 ghost use Rattle.language.specs.Limits.{numberMost};
 ghost use Rattle.language.specs.Estimate.{stop};
 ghost use Rattle.cells.specs.Counts.{place, CountsCells, CountsOwn, CountsConstructor, CountsOthers, CountsField, CountsType, CountsChannels};
+use index::CHANNEL_WORDS;
 use index::CONSTRUCTOR_WORDS;
 use index::TYPE_WORDS;
 use index::constructors;
 use index::fields;
 use index::own_fields;
 use index::put;
+use index::types::OWN_FIELD;
 use index::word_at;
 use language::limits::FIELDS_MOST;
 use language::limits::NUMBER_MOST;
@@ -25,12 +27,6 @@ const ROW_WORDS: usize = (1 + FIELDS_MOST) * SIZE_WORDS;
 
 // Its words; all 0 where nothing is known. With a shorter one the answers are the same, but what is not noted is counted again.
 pub const CELLS_TABLE: usize = TYPES_MOST * ROW_WORDS;
-
-const CHANNEL_WORDS: usize = 3;
-
-// The word of a field of the type itself.
-const OWN_FIELD: u32 = 2;
-
 // A sum that stops at the most that is reported.
 fn total(a: u32, b: u32) -> u32
     ensures { λ r. ⌜ r ≡ stop (a + b) ⌝ }

@@ -6,16 +6,13 @@ use mathlib.Core.Bool.{Bool, true, false}
 use mathlib.Core.Path.{_≡_, refl, subst}
 use native.Mathlib.Omega.{arith}
 use lib.ListN.{length}
+use Rattle.language.specs.Limits.{byteRange}
 use Rattle.text.specs.Bytes.{bytesOf}
 use Rattle.spelling.specs.Spells.{byteAt}
 use Rattle.spelling.specs.Forms.{fourAt}
 use Rattle.forms.specs.declared.Form.{Form}
 use Rattle.forms.specs.declared.Form.the-variants.{Bool as BoolForm, Int, Variable, Now, Last, Let, If, Operator, Call, Construct, Case, Adjust, Fit, Missing}
 use Rattle.forms.specs.declared.Head.{Head}
-
--- an operand of one byte is below this
-abbrev pub byteRange : ℕ
-byteRange = 2 ^ 8
 
 -- the code stands at the place, and the line has the bytes of the head, up to next
 pub record Coded (line : List ℕ) (at first long next : ℕ) : Type 0 where

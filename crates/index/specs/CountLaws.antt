@@ -7,6 +7,7 @@ use native.Mathlib.Nat.{add-zero}
 use native.Mathlib.Omega.{arith}
 use lib.ListN.{length, getD}
 use borrow.Author.Tests.{ne-eqb, le-leb}
+use Rattle.language.specs.Limits.{byteRange}
 use Rattle.language.specs.Format.{bit}
 use Rattle.language.specs.Syntax.{Field, fbool, fint, own, other, owns, Plain, pbool, pint, pnamed}
 use Rattle.language.specs.Scope.{namedCount}
@@ -76,7 +77,7 @@ unfolding namedCount
 named-words-counted table from ps each = count-of-words plainWord isNamed namedCount refl named-more table from ps each
 
 -- how many parameters of a function are named
-pub named-in-all : {functions : List ℕ} {f n i sum : ℕ} → (n ≡ getD functions (functionWords * f) 0 % 256) × (n < 256) → n ≤ i → Counted isNamed functions (functionWords * f + 1) n i sum → Named functions f sum
+pub named-in-all : {functions : List ℕ} {f n i sum : ℕ} → (n ≡ getD functions (functionWords * f) 0 % byteRange) × (n < byteRange) → n ≤ i → Counted isNamed functions (functionWords * f + 1) n i sum → Named functions f sum
 named-in-all {functions} {f} {n} {i} {sum} a h v = record { says = says; small = omega (arith, v .few, v .low, a .1) }
   where
     says : (ps : List Plain) → TellsParameters functions f ps → sum ≡ namedCount ps

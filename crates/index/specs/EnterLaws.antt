@@ -6,6 +6,7 @@ use native.Mathlib.Nat.{le-refl, mul-le-mul-left}
 use native.Mathlib.Omega.{arith}
 use lib.ListN.{length, set, length-append}
 use lib.Seq.{append-snoc}
+use Rattle.language.specs.Limits.{byteRange}
 use Rattle.language.specs.Format.{spellAll}
 use Rattle.language.specs.Layout.{padded}
 use Rattle.language.specs.Parser.{Read, got, bad, Parser, andThen, many, count, counted}
@@ -115,7 +116,7 @@ module _ {A : Type 0} {p : Parser A} {entry : A → List ℕ} (w : ℕ) (wide : 
     leads-on {k} some same e = record { within = ends-within (pass-moved (u .passes) e); on = λ s. v .on (rw some (many-then p entry w wide u k e (rw same at s))) }
 
 -- ---- a count, and as many behind it
-module _ {A : Type 0} (least most : ℕ) (p : Parser A) {line : List ℕ} {at : ℕ} {x : Number} (v : ReadsNumber line at x (count least most (bytesFrom line at)) × Below 256 x) where
+module _ {A : Type 0} (least most : ℕ) (p : Parser A) {line : List ℕ} {at : ℕ} {x : Number} (v : ReadsNumber line at x (count least most (bytesFrom line at)) × Below byteRange x) where
   pub count-refused : (words : List A → List ℕ) {to n : ℕ} {s : Step} {table : List ℕ} → x ≡ Refused n → s ≡ stepOf x → Enters words line at to table s table (counted least most p (bytesFrom line at))
   unfolding counted
   count-refused words e d = stops-entering words (read-stops (many p) (v .0) e) (read-stops-pass (many p) (v .0) e d)
@@ -137,7 +138,7 @@ abbrev pub countedEntry : {A : Type 0} → ℕ → (A → List ℕ) → List A �
 countedEntry k entry l = length l ∷ padded k (spellAll entry l)
 
 module _ {A : Type 0} (least most : ℕ) (p : Parser A) (entry : A → List ℕ) (w k : ℕ) (wide : (a : A) → length (entry a) ≡ w) (fits : w * most ≤ k) where
-  pub counted-entered : {line : List ℕ} {at to : ℕ} {x : Number} {f : Found} {table table₁ table₂ : List ℕ} {r : Step} → ReadsNumber line at x (count least most (bytesFrom line at)) × Below 256 x → x ≡ Is f → table₁ ≡ set table to (f .value) →
+  pub counted-entered : {line : List ℕ} {at to : ℕ} {x : Number} {f : Found} {table table₁ table₂ : List ℕ} {r : Step} → ReadsNumber line at x (count least most (bytesFrom line at)) × Below byteRange x → x ≡ Is f → table₁ ≡ set table to (f .value) →
       Enters (spellAll entry) line (f .next .at) (to + 1) table₁ r table₂ (many p (f .value) (bytesFrom line (f .next .at))) → Enters (countedEntry k entry) line at to table r table₂ (counted least most p (bytesFrom line at))
   counted-entered {line} {at} {to} {f = f} {table} {table₂ = table₂} v e wrote u = record { passes = counted-passes least most p v e (u .passes); enters = enters }
     where

@@ -5,7 +5,7 @@ use mathlib.Core.Bool.{Bool}
 use mathlib.Core.Path.{_≡_}
 use lib.ListN.{length, getD}
 use lib.Dec.{eqb, leb}
-use Rattle.language.specs.Limits.{constructorsMost, fieldsMost, parametersMost}
+use Rattle.language.specs.Limits.{byteRange, constructorsMost, fieldsMost, parametersMost}
 use Rattle.language.specs.Syntax.{Field, Constructor, TypeDef, owns, selfFree, Plain}
 use Rattle.language.specs.Format.{bit}
 use Rattle.language.specs.Layout.{padded, tagStep}
@@ -68,4 +68,4 @@ pub record SelfFree (types : List ℕ) (t : ℕ) (r : Bool) : Type 0 where
 
 pub record Named (functions : List ℕ) (f r : ℕ) : Type 0 where
   pub says : (ps : List Plain) → TellsParameters functions f ps → r ≡ namedCount ps
-  pub small : r < 256
+  pub small : r < byteRange

@@ -71,7 +71,7 @@ frames-so-far at [] = refl
 frames-so-far at (f ∷ fs) = omega (arith, frames-so-far (at + 2 * length f + 1) fs)
 
 -- where frame i starts, and how long it is
-places-at : (at : ℕ) (fs : List (List ℕ)) (i : ℕ) → i < length fs → (getD (placesFrom at fs) (2 * i) 0 ≡ placeBehind at (take i fs)) × (getD (placesFrom at fs) (2 * i + 1) 0 ≡ 2 * length (getD fs i []))
+pub places-at : (at : ℕ) (fs : List (List ℕ)) (i : ℕ) → i < length fs → (getD (placesFrom at fs) (2 * i) 0 ≡ placeBehind at (take i fs)) × (getD (placesFrom at fs) (2 * i + 1) 0 ≡ 2 * length (getD fs i []))
 unfolding placesFrom placeBehind
 places-at at [] i h = absurd (omega arith)
 places-at at (f ∷ fs) zero h = (refl, refl)

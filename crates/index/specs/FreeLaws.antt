@@ -9,6 +9,7 @@ use lib.ListN.{length, getD, drop, drop-of-length-le}
 use lib.Dec.{eqb}
 use lib.Seq.{drop-cons}
 use borrow.Author.Tests.{ne-eqb}
+use Rattle.language.specs.Limits.{byteRange}
 use Rattle.language.specs.Result.{oneOf}
 use Rattle.language.specs.Syntax.{Field, fbool, fint, own, other, TypeDef, owns, selfFree}
 use Rattle.index.specs.Tables.{typeWords, constructorWords}
@@ -29,11 +30,11 @@ pub record FreeFrom (types : List ℕ) (t c : ℕ) : Type 0 where
 pub free-start : (types : List ℕ) (t : ℕ) → FreeFrom types t 0
 free-start types t = record { says = λ d q. refl }
 
-module _ {types : List ℕ} {t c n : ℕ} (a : (n ≡ getD types (typeWords * t) 0 % 256) × (n < 256)) (v : FreeFrom types t c) where
+module _ {types : List ℕ} {t c n : ℕ} (a : (n ≡ getD types (typeWords * t) 0 % byteRange) × (n < byteRange)) (v : FreeFrom types t c) where
   constructors-are : (d : TypeDef) → TellsType types t d → n ≡ length d
   constructors-are d q = omega (arith, a .0, q .constructors, q .few)
 
-  module _ {k : ℕ} (h : c < n) (b : (k ≡ getD types (typeWords * t + 2 + constructorWords * c) 0 % 256) × (k < 256)) where
+  module _ {k : ℕ} (h : c < n) (b : (k ≡ getD types (typeWords * t + 2 + constructorWords * c) 0 % byteRange) × (k < byteRange)) where
     owns-are : (d : TypeDef) → TellsType types t d → k ≡ owns (getD d c [])
     owns-are d q = let less : c < length d = omega (arith, constructors-are d q) in omega (arith, b .0, q .owns c less, q .fewFields c less, owns-fewer (getD d c []))
 

@@ -27,6 +27,14 @@ padded-at (suc n) [] i h = padded-none-at (suc n) i
 padded-at (suc n) (l ∷ ls) zero h = refl
 padded-at (suc n) (l ∷ ls) (suc i) h = padded-at n ls i (omega arith)
 
+pub padded-beyond : (n : ℕ) (ls : List ℕ) (i : ℕ) → n ≤ i → getD (padded n ls) i 0 ≡ 0
+unfolding padded
+padded-beyond zero ls i h = refl
+padded-beyond (suc n) [] zero h = absurd (omega arith)
+padded-beyond (suc n) [] (suc i) h = padded-none-at n i
+padded-beyond (suc n) (l ∷ ls) zero h = absurd (omega arith)
+padded-beyond (suc n) (l ∷ ls) (suc i) h = padded-beyond n ls i (omega arith)
+
 -- a word written over one of the list, and one written behind it
 pub padded-set : (n : ℕ) (ls ms : List ℕ) (w v : ℕ) → length ls < n → set (padded n (ls ++ (w ∷ ms))) (length ls) v ≡ padded n (ls ++ (v ∷ ms))
 unfolding padded

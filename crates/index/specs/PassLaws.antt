@@ -5,7 +5,7 @@ use mathlib.Core.Path.{_≡_, refl, ap}
 use native.Mathlib.Nat.{le-refl}
 use native.Mathlib.Omega.{arith}
 use lib.ListN.{length}
-use Rattle.language.specs.Limits.{nestingMost}
+use Rattle.language.specs.Limits.{byteRange, nestingMost}
 use Rattle.language.specs.Syntax.{Size, Relation, req, rlt, rle, Condition}
 use Rattle.language.specs.Parser.{got, Parser, _>>=_, return, andThen, many, count, counted}
 use Rattle.language.specs.ReadExpr.{size, sizeAt}
@@ -55,7 +55,7 @@ module _ {A : Type 0} {p : Parser A} {line : List ℕ} {n at m at′ : ℕ} (v :
     }
 
 -- no count, no list
-pub no-count : {A : Type 0} (least most : ℕ) (p : Parser A) {line : List ℕ} {at n : ℕ} {x : Number} {s : Step} → ReadsNumber line at x (count least most (bytesFrom line at)) × Below 256 x → x ≡ Refused n → s ≡ stepOf x → Passes line at s (forget (counted least most p (bytesFrom line at)))
+pub no-count : {A : Type 0} (least most : ℕ) (p : Parser A) {line : List ℕ} {at n : ℕ} {x : Number} {s : Step} → ReadsNumber line at x (count least most (bytesFrom line at)) × Below byteRange x → x ≡ Refused n → s ≡ stepOf x → Passes line at s (forget (counted least most p (bytesFrom line at)))
 unfolding counted
 no-count least most p v e d = read-stops-pass (many p) (v .0) e d
 
@@ -68,7 +68,7 @@ module _ {p : Parser ℕ} {line : List ℕ} {n at m at′ : ℕ} (v : PassesOn p
   number-passed-on some e = passes-on v (read-passes x u) some (ap stepOf e)
 
 -- ---- a condition: a relation and two sizes
-module _ (line : List ℕ) (at vars : ℕ) {x : Number} (v : ReadsNumber line at x (codePlace 0x00 3 (bytesFrom line at)) × Below 256 x) where
+module _ (line : List ℕ) (at vars : ℕ) {x : Number} (v : ReadsNumber line at x (codePlace 0x00 3 (bytesFrom line at)) × Below byteRange x) where
   abbrev sizesBehind : Relation → Parser Condition
   sizesBehind r = do
     a ← size vars

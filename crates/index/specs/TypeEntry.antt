@@ -5,7 +5,7 @@ use mathlib.Core.Path.{_≡_, sym, ap, _∙_}
 use native.Mathlib.Omega.{arith}
 use lib.ListN.{length, getD, set, length-append, length-map}
 use lib.Seq.{append-snoc, getD-append-add}
-use Rattle.language.specs.Limits.{constructorsMost, fieldsMost}
+use Rattle.language.specs.Limits.{byteRange, constructorsMost, fieldsMost}
 use Rattle.language.specs.Format.{spellAll}
 use Rattle.language.specs.Layout.{padded}
 use Rattle.language.specs.Syntax.{Constructor, owns}
@@ -51,7 +51,7 @@ module _ (n : ℕ) (before ws : List ℕ) where
       let size : length before + 2 + i ≡ length (before ++ (0 ∷ 0 ∷ [])) + i = omega (arith, length-append before (0 ∷ 0 ∷ [])) in
       padded-at n ((before ++ (0 ∷ 0 ∷ [])) ++ ws) (length before + 2 + i) room ∙ ap (λ m. getD ((before ++ (0 ∷ 0 ∷ [])) ++ ws) m 0) size ∙ getD-append-add (before ++ (0 ∷ 0 ∷ [])) ws i 0
 
-pub constructor-entered : {line table table₁ table₂ table₃ : List ℕ} {at to own : ℕ} (t : ℕ) {x : Number} {f : Found} {y : Step} → ReadsNumber line at x (count 0 fieldsMost (bytesFrom line at)) × Below 256 x → x ≡ Is f →
+pub constructor-entered : {line table table₁ table₂ table₃ : List ℕ} {at to own : ℕ} (t : ℕ) {x : Number} {f : Found} {y : Step} → ReadsNumber line at x (count 0 fieldsMost (bytesFrom line at)) × Below byteRange x → x ≡ Is f →
     Enters (spellAll fieldWords) line (f .next .at) (to + 2) table y table₁ (many (field t) (f .value) (bytesFrom line (f .next .at))) → own ≡ howMany isOwn table₁ (to + 2) (f .value) →
     table₂ ≡ set table₁ to (f .value) → table₃ ≡ set table₂ (to + 1) own → Enters constructorEntry line at to table y table₃ (constructorBehind t (bytesFrom line at))
 unfolding constructorEntry
@@ -73,7 +73,7 @@ constructor-entered {line} {table} {table₁} {table₂} {table₃} {at} {to} {o
         ∙ ap (padded n) (sym (append-assoc before (length fs ∷ owns fs ∷ []) ws)) ∙ sym (padded-within n (before ++ (length fs ∷ owns fs ∷ [])) fieldsMost ws (omega arith)) ∙ ap (padded n) (append-assoc before (length fs ∷ owns fs ∷ []) (padded fieldsMost ws))
 
 -- ---- a type: its constructors counted, and their entries
-pub type-entered : {line table table₁ table₂ : List ℕ} {at to : ℕ} (t : ℕ) {x : Number} {f : Found} {r : Step} → ReadsNumber line at x (count 1 constructorsMost (bytesFrom line at)) × Below 256 x → x ≡ Is f → table₁ ≡ set table to (f .value) →
+pub type-entered : {line table table₁ table₂ : List ℕ} {at to : ℕ} (t : ℕ) {x : Number} {f : Found} {r : Step} → ReadsNumber line at x (count 1 constructorsMost (bytesFrom line at)) × Below byteRange x → x ≡ Is f → table₁ ≡ set table to (f .value) →
     Enters (spellAll constructorEntry) line (f .next .at) (to + 1) table₁ r table₂ (many (constructorBehind t) (f .value) (bytesFrom line (f .next .at))) → Enters typeEntry line at to table r table₂ (typeBehind t (bytesFrom line at))
 unfolding typeEntry
 type-entered t v e wrote u = counted-entered 1 constructorsMost (constructorBehind t) constructorEntry constructorWords (constructorsMost * constructorWords) constructor-wide (omega arith) v e wrote u

@@ -5,8 +5,10 @@ pub mod types;
 ghost use mathlib.Core.Path.{_≡_};
 ghost use Prim.Native.Nat.{_+_, _*_, _%_, _<_, _≤_};
 ghost use lib.ListN.{length, getD, set, replicate};
+ghost use Rattle.language.specs.Limits.{byteRange};
 ghost use Rattle.language.specs.Format.{bit};
 ghost use Rattle.index.specs.Tables.{typeWords, constructorWords, functionWords};
+use language::limits::BYTE_RANGE;
 use language::limits::CONSTRUCTORS_MOST;
 use language::limits::FIELDS_MOST;
 use language::limits::PARAMETERS_MOST;
@@ -15,7 +17,14 @@ pub const CONSTRUCTOR_WORDS: usize = 2 + FIELDS_MOST;
 
 pub const TYPE_WORDS: usize = 1 + CONSTRUCTORS_MOST * CONSTRUCTOR_WORDS;
 
-pub const FUNCTION_WORDS: usize = 1 + PARAMETERS_MOST + 4;
+// The parameters of a function come first in its entry.
+pub const HEAD_WORDS: usize = 1 + PARAMETERS_MOST;
+
+pub const FUNCTION_WORDS: usize = HEAD_WORDS + 4;
+
+pub const CHANNEL_WORDS: usize = 3;
+
+pub const FRAME_WORDS: usize = 2;
 
 // A word of a table; 0 beyond the table.
 pub fn word_at(table: &[u32], i: usize) -> u32
@@ -59,21 +68,21 @@ pub fn one_if(holds: bool) -> u32
 
 // A word of a table that is a count, a byte; 0 beyond the table.
 pub fn count_at(table: &[u32], i: usize) -> u32
-    ensures { λ r. ⌜ (r ≡ getD (now (table .entry)) i 0 % 256) × (r < 256) ⌝ }
+    ensures { λ r. ⌜ (r ≡ getD (now (table .entry)) i 0 % byteRange) × (r < byteRange) ⌝ }
 {
-    word_at(table, i) % 256
+    word_at(table, i) % BYTE_RANGE
 }
 
 // How many constructors a type has.
 pub fn constructors(types: &[u32], t: u32) -> u32
-    ensures { λ r. ⌜ (r ≡ getD (now (types .entry)) (typeWords * t) 0 % 256) × (r < 256) ⌝ }
+    ensures { λ r. ⌜ (r ≡ getD (now (types .entry)) (typeWords * t) 0 % byteRange) × (r < byteRange) ⌝ }
 {
     count_at(types, TYPE_WORDS * (t as usize))
 }
 
 // How many fields a constructor has, and how many of them are of the type itself.
 pub fn fields(types: &[u32], t: u32, c: u32) -> u32
-    ensures { λ r. ⌜ (r ≡ getD (now (types .entry)) (typeWords * t + 1 + constructorWords * c) 0 % 256) × (r < 256) ⌝ }
+    ensures { λ r. ⌜ (r ≡ getD (now (types .entry)) (typeWords * t + 1 + constructorWords * c) 0 % byteRange) × (r < byteRange) ⌝ }
 {
     count_at(
         types,
@@ -82,7 +91,7 @@ pub fn fields(types: &[u32], t: u32, c: u32) -> u32
 }
 
 pub fn own_fields(types: &[u32], t: u32, c: u32) -> u32
-    ensures { λ r. ⌜ (r ≡ getD (now (types .entry)) (typeWords * t + 2 + constructorWords * c) 0 % 256) × (r < 256) ⌝ }
+    ensures { λ r. ⌜ (r ≡ getD (now (types .entry)) (typeWords * t + 2 + constructorWords * c) 0 % byteRange) × (r < byteRange) ⌝ }
 {
     count_at(
         types,
@@ -92,7 +101,7 @@ pub fn own_fields(types: &[u32], t: u32, c: u32) -> u32
 
 // How many parameters a function has.
 pub fn arity(functions: &[u32], f: u32) -> u32
-    ensures { λ r. ⌜ (r ≡ getD (now (functions .entry)) (functionWords * f) 0 % 256) × (r < 256) ⌝ }
+    ensures { λ r. ⌜ (r ≡ getD (now (functions .entry)) (functionWords * f) 0 % byteRange) × (r < byteRange) ⌝ }
 {
     count_at(functions, FUNCTION_WORDS * (f as usize))
 }

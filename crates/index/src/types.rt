@@ -23,7 +23,7 @@ use text::Step;
 use text::step_of;
 
 // The word of a field of the type itself.
-const OWN_FIELD: u32 = 2;
+pub const OWN_FIELD: u32 = 2;
 
 // Reads a field and writes its word.
 fn field_into(line: &[u8], types: &mut [u32], c: Cursor, t: u32, to: usize) -> Step

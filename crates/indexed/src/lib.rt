@@ -1,8 +1,8 @@
 // A text that was read, as later passes see it: the line of a frame. What the tables say stands in specs/.
 ghost use mathlib.Core.Path.{_≡_};
 ghost use Rattle.indexed.specs.Indexed.{framePart};
+use index::FRAME_WORDS;
 use index::word_at;
-use reader::FRAME_WORDS;
 
 // The part of the text that the table names for frame i, from 0, as far as the text goes.
 pub fn frame_line<'a>(text: &'a [u8], frames: &[u32], i: u32) -> &'a [u8]

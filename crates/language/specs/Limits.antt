@@ -82,6 +82,10 @@ cellWords = 2 + fieldsMost
 abbrev pub scratchWords : ℕ
 scratchWords = 2048
 
+-- two hexadecimal digits spell a number below this
+abbrev pub byteRange : ℕ
+byteRange = 256
+
 -- "Int is 32 bits": its bits are below this
 abbrev pub intRange : ℕ
 intRange = 2 ^ 32

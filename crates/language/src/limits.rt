@@ -1,6 +1,9 @@
 ghost use mathlib.Core.Path.{_≡_};
 ghost use Rattle.language.specs.Constants.{fileLimits, boardLimits};
 
+// Two hexadecimal digits spell a number below this.
+pub const BYTE_RANGE: u32 = 256;
+
 pub const TEXT_MOST: usize = 16384;
 
 pub const TYPES_MOST: usize = 8;
@@ -49,6 +52,7 @@ pub const SCRATCH_WORDS: usize = 2048;
 
 // The limits of a file, and of a board with its buffers.
 pub struct FileLimits {
+    pub byte_range: u32,
     pub text: usize,
     pub types: usize,
     pub functions: usize,
@@ -82,6 +86,7 @@ pub fn file_limits() -> FileLimits
     ensures { λ r. ⌜ r ≡ fileLimits ⌝ }
 {
     FileLimits {
+        byte_range: BYTE_RANGE,
         text: TEXT_MOST,
         types: TYPES_MOST,
         functions: FUNCTIONS_MOST,

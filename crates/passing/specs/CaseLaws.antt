@@ -7,7 +7,7 @@ use native.Mathlib.Nat.{le-refl}
 use native.Mathlib.Numerals.{add-one}
 use lib.ListN.{length, getD, drop, drop-of-length-le}
 use lib.Seq.{drop-cons}
-use Rattle.language.specs.Limits.{nestingMost, sizeMost}
+use Rattle.language.specs.Limits.{byteRange, nestingMost, sizeMost}
 use Rattle.language.specs.Syntax.{Constructor, fbool, fint, own, other, owns, ecase, eadj, efit, econs}
 use Rattle.language.specs.Scope.{Scope, wider}
 use Rattle.language.specs.Parser.{index, count}
@@ -36,7 +36,7 @@ owns-few (other t k ∷ fs) = omega (arith, owns-few fs)
 
 module _ (line types functions : List ℕ) (c : Cursor) (s : Names) (levels : ℕ) where
   -- ---- the branches of type t from constructor k on
-  module _ (t k : ℕ) {n : ℕ} (q : (n ≡ getD types (typeWords * t) 0 % 256) × (n < 256)) (known : t < s .types) where
+  module _ (t k : ℕ) {n : ℕ} (q : (n ≡ getD types (typeWords * t) 0 % byteRange) × (n < byteRange)) (known : t < s .types) where
     count-is : (S : Scope) → Tells types functions s S → n ≡ length (getD (S .types) t [])
     count-is S h = let d = h .each t known in q .0 ∙ small (length (getD (S .types) t [])) (getD types (typeWords * t) 0) (d .constructors) (omega (arith, d .few))
 
@@ -44,7 +44,7 @@ module _ (line types functions : List ℕ) (c : Cursor) (s : Names) (levels : �
     unfolding branches forget
     branches-none le = record { says = λ S h here. rw (drop-of-length-le (getD (S .types) t []) {i = k} (omega (arith, count-is S h))) (pass-here (moved {c = c} (le-refl (c .at)) here) refl) }
 
-    module _ (more : k < n) {i j : ℕ} (p : (i ≡ getD types (typeWords * t + 1 + constructorWords * k) 0 % 256) × (i < 256)) (o : (j ≡ getD types (typeWords * t + 2 + constructorWords * k) 0 % 256) × (j < 256)) {z : Names} (wide : z ≡ widerNames i j s) {x : Step} (u : Follows line types functions c z x (exprAt levels)) where
+    module _ (more : k < n) {i j : ℕ} (p : (i ≡ getD types (typeWords * t + 1 + constructorWords * k) 0 % byteRange) × (i < byteRange)) (o : (j ≡ getD types (typeWords * t + 2 + constructorWords * k) 0 % byteRange) × (j < byteRange)) {z : Names} (wide : z ≡ widerNames i j s) {x : Step} (u : Follows line types functions c z x (exprAt levels)) where
       branch-scope : (S : Scope) → Tells types functions s S → Tells types functions z (wider (length (getD (getD (S .types) t []) k [])) (owns (getD (getD (S .types) t []) k [])) S)
       branch-scope S h =
           let d = h .each t known in
@@ -70,7 +70,7 @@ module _ (line types functions : List ℕ) (c : Cursor) (s : Names) (levels : �
       }
 
   -- ---- `1A`
-  module _ {x : Number} (v : ReadsNumber line (c .at) x (index (s .types) (bytesFrom line (c .at))) × Below 256 x) where
+  module _ {x : Number} (v : ReadsNumber line (c .at) x (index (s .types) (bytesFrom line (c .at))) × Below byteRange x) where
     pub case-stops : {m : ℕ} {r : Step} → x ≡ Refused m → r ≡ stepOf x → Follows line types functions c s r (λ S. exprBehind (exprAt levels) S caseForm)
     unfolding exprBehind
     case-stops e d = record { says = λ S t here. rw (t .typeCount) (read-stops-pass _ (v .0) e d) }
@@ -116,7 +116,7 @@ module _ (line types functions : List ℕ) (c : Cursor) (s : Names) (levels : �
     }
 
   -- ---- `1C`
-  module _ {x : Number} (v : ReadsNumber line (c .at) x (count 1 sizeMost (bytesFrom line (c .at))) × Below 256 x) where
+  module _ {x : Number} (v : ReadsNumber line (c .at) x (count 1 sizeMost (bytesFrom line (c .at))) × Below byteRange x) where
     pub fit-stops : {m : ℕ} {r : Step} → x ≡ Refused m → r ≡ stepOf x → Follows line types functions c s r (λ S. exprBehind (exprAt levels) S fitForm)
     unfolding exprBehind bound
     fit-stops e d = record { says = λ S t here. read-stops-pass _ (v .0) e d }

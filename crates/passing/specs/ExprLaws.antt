@@ -8,7 +8,7 @@ use native.Mathlib.Omega.{arith}
 use lib.ListN.{length, getD, getElem? as look}
 use lib.Dec.{ltb, leb}
 use borrow.Author.Tests.{lt-ltb, le-leb, lt-leb, leb-true}
-use Rattle.language.specs.Limits.{variablesMost, sizeVariablesMost}
+use Rattle.language.specs.Limits.{byteRange, variablesMost, sizeVariablesMost}
 use Rattle.language.specs.Result.{both}
 use Rattle.language.specs.Syntax.{Expr, enil, econs}
 use Rattle.language.specs.Scope.{Scope, wider, roomIn}
@@ -37,7 +37,7 @@ unfolding roomIn
 tells-room t = rw (t .variables, t .sizes)
 
 -- a byte's remainder is itself
-pub small : (n m : ℕ) → m ≡ n → n < 256 → m % 256 ≡ n
+pub small : (n m : ℕ) → m ≡ n → n < byteRange → m % byteRange ≡ n
 small n m e less = omega arith
 
 look-at : {A : Type 0} (T : List A) (i : ℕ) (d : A) → i < length T → look T i ≡ some (getD T i d)
@@ -69,7 +69,7 @@ pub exprs-more : (p : Parser Expr) (n : ℕ) (bs : List ℕ) → forget (andThen
 unfolding exprs
 exprs-more p n bs = forget-cong (p bs) _ _ (λ e cs. sym (forget-then (econs e) (exprs p n cs)))
 
-exprs-one : (p : Parser Expr) (bs : List ℕ) → forget (p bs) ≡ forget (exprs p 1 bs)
+pub exprs-one : (p : Parser Expr) (bs : List ℕ) → forget (p bs) ≡ forget (exprs p 1 bs)
 unfolding exprs andThen
 exprs-one p bs = sym (forget-then (λ e. econs e enil) (p bs))
 
@@ -96,7 +96,7 @@ module _ (line types functions : List ℕ) (c : Cursor) (s : Names) (levels : �
   no-code {x = Refused n} k v e = pass-none refl e (ap forget (code-in-stops false 16 forms k v refl))
 
   -- no level is left, or the scope is too wide
-  pub expr-narrow : {x : Number} {r : Step} → isRoomy s levels ≡ false → ReadsNumber line (c .at) x (placeIn false 16 13 (bytesFrom line (c .at))) × Below 256 x → r ≡ stepOf x → Follows line types functions c s r (exprAt levels)
+  pub expr-narrow : {x : Number} {r : Step} → isRoomy s levels ≡ false → ReadsNumber line (c .at) x (placeIn false 16 13 (bytesFrom line (c .at))) × Below byteRange x → r ≡ stepOf x → Follows line types functions c s r (exprAt levels)
   unfolding exprAt both
   expr-narrow {x} {r} narrow v e = record { says = λ S t here. by levels S t narrow }
     where
@@ -104,7 +104,7 @@ module _ (line types functions : List ℕ) (c : Cursor) (s : Names) (levels : �
       by zero S t h = no-code (λ form. refuse 7) (v .0) e
       by (suc n) S t h = let room : roomIn S ≡ false = tells-room t ∙ (rw (lt-ltb 0 (suc n) (omega arith)) at h) in rw room (no-code (λ form. exprBehind (exprAt n) S form) (v .0) e)
 
-  module _ {x : Number} (roomy : isRoomy s levels ≡ true) (v : ReadsNumber line (c .at) x (placeIn true 16 13 (bytesFrom line (c .at))) × Below 256 x) where
+  module _ {x : Number} (roomy : isRoomy s levels ≡ true) (v : ReadsNumber line (c .at) x (placeIn true 16 13 (bytesFrom line (c .at))) × Below byteRange x) where
     -- with a level left and room, the code's form is what stands behind it
     roomy-expr : {r : Step} → ((S : Scope) → Tells types functions s S → Passes line (c .at) r (forget (andThen (codeIn true 16 forms (bytesFrom line (c .at))) (λ form. exprBehind (exprAt (levels - 1)) S form)))) → Follows line types functions c s r (exprAt levels)
     unfolding exprAt both
@@ -134,7 +134,7 @@ module _ (line types functions : List ℕ) (c : Cursor) (s : Names) (levels : �
     expr-leaf {f} e less u = form-behind e (record { says = λ S t here. rw (leaf-any (f .value) (exprAt (levels - 1)) S less) (u .says S t here) })
 
 -- a form is one of thirteen
-pub form-less : {line : List ℕ} {at : ℕ} {x : Number} {f : Found} → ReadsNumber line at x (placeIn true 16 13 (bytesFrom line at)) × Below 256 x → x ≡ Is f → f .value < 13
+pub form-less : {line : List ℕ} {at : ℕ} {x : Number} {f : Found} → ReadsNumber line at x (placeIn true 16 13 (bytesFrom line at)) × Below byteRange x → x ≡ Is f → f .value < 13
 form-less v e = code-in-below true 16 forms (v .0) e
 
 -- what the test of the scope says
@@ -186,5 +186,5 @@ affirmed true e = refl
 affirmed false e = absurd (let y : _≡_ {A = ℕ} 0 1 = cc in omega arith)
 
 -- fewer levels, whatever the place in the cycle
-pub fewer-levels : {t levels : ℕ} → levels * 1024 ≡ t → 0 < levels → (levels - 1) * 1024 + 800 < t
+pub fewer-levels : {t levels : ℕ} → levels * 1024 + 1 ≡ t → 0 < levels → (levels - 1) * 1024 + 800 < t
 fewer-levels e pos = omega arith

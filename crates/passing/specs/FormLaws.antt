@@ -8,6 +8,7 @@ use native.Mathlib.Nat.{le-refl}
 use lib.ListN.{length, getD}
 use lib.Dec.{ltb}
 use borrow.Author.Tests.{ltb-true}
+use Rattle.language.specs.Limits.{byteRange}
 use Rattle.language.specs.Syntax.{ebool, eint, evar, enow, elast, elet, eif, eop, ecall, econ}
 use Rattle.language.specs.Scope.{Scope, wider}
 use Rattle.language.specs.Parser.{Read, got, bad, andThen, must, byte, index, code}
@@ -46,7 +47,7 @@ one-less n some = omega arith
 
 module _ (line types functions : List ℕ) (c : Cursor) (s : Names) where
   -- ---- `10` to `14`
-  pub leaf-bool : {x : Number} {r : Step} (form : ℕ) → form ≡ 0 → ReadsNumber line (c .at) x (codePlace 0 2 (bytesFrom line (c .at))) × Below 256 x → r ≡ stepOf x → Follows line types functions c s r (leafBehind form)
+  pub leaf-bool : {x : Number} {r : Step} (form : ℕ) → form ≡ 0 → ReadsNumber line (c .at) x (codePlace 0 2 (bytesFrom line (c .at))) × Below byteRange x → r ≡ stepOf x → Follows line types functions c s r (leafBehind form)
   unfolding exprBehind
   leaf-bool {x} form e v d = rw e (record { says = λ S t here. code-ends-pass 0 bools ebool x (v .0) d })
 
@@ -54,15 +55,15 @@ module _ (line types functions : List ℕ) (c : Cursor) (s : Names) where
   unfolding exprBehind
   leaf-int form e v d = rw e (record { says = λ S t here. read-ends-pass eint v d })
 
-  pub leaf-variable : {x : Number} {r : Step} (form : ℕ) → form ≡ 2 → ReadsNumber line (c .at) x (index (s .variables) (bytesFrom line (c .at))) × Below 256 x → r ≡ stepOf x → Follows line types functions c s r (leafBehind form)
+  pub leaf-variable : {x : Number} {r : Step} (form : ℕ) → form ≡ 2 → ReadsNumber line (c .at) x (index (s .variables) (bytesFrom line (c .at))) × Below byteRange x → r ≡ stepOf x → Follows line types functions c s r (leafBehind form)
   unfolding exprBehind
   leaf-variable form e v d = rw e (record { says = λ S t here. rw (t .variables) (read-ends-pass evar (v .0) d) })
 
-  pub leaf-now : {x : Number} {r : Step} (form : ℕ) → form ≡ 3 → ReadsNumber line (c .at) x (index (s .now) (bytesFrom line (c .at))) × Below 256 x → r ≡ stepOf x → Follows line types functions c s r (leafBehind form)
+  pub leaf-now : {x : Number} {r : Step} (form : ℕ) → form ≡ 3 → ReadsNumber line (c .at) x (index (s .now) (bytesFrom line (c .at))) × Below byteRange x → r ≡ stepOf x → Follows line types functions c s r (leafBehind form)
   unfolding exprBehind
   leaf-now form e v d = rw e (record { says = λ S t here. rw (t .now) (read-ends-pass enow (v .0) d) })
 
-  pub leaf-last : {x : Number} {r : Step} (form : ℕ) → form ≡ 4 → ReadsNumber line (c .at) x (index (s .last) (bytesFrom line (c .at))) × Below 256 x → r ≡ stepOf x → Follows line types functions c s r (leafBehind form)
+  pub leaf-last : {x : Number} {r : Step} (form : ℕ) → form ≡ 4 → ReadsNumber line (c .at) x (index (s .last) (bytesFrom line (c .at))) × Below byteRange x → r ≡ stepOf x → Follows line types functions c s r (leafBehind form)
   unfolding exprBehind
   leaf-last form e v d = rw e (record { says = λ S t here. rw (t .last) (read-ends-pass elast (v .0) d) })
 
@@ -104,7 +105,7 @@ module _ (line types functions : List ℕ) (c : Cursor) (s : Names) where
       }
 
     -- ---- `17`
-    module _ {x : Number} (v : ReadsNumber line (c .at) x (codePlace 0 8 (bytesFrom line (c .at))) × Below 256 x) where
+    module _ {x : Number} (v : ReadsNumber line (c .at) x (codePlace 0 8 (bytesFrom line (c .at))) × Below byteRange x) where
       pub operation-stops : {m : ℕ} {r : Step} → x ≡ Refused m → r ≡ stepOf x → Follows line types functions c s r (λ S. exprBehind (exprAt levels) S opForm)
       unfolding exprBehind forget
       operation-stops e d = record { says = λ S t here. pass-none e d (ap forget (code-stops 0 ops _ (v .0) e)) }
@@ -118,12 +119,12 @@ module _ (line types functions : List ℕ) (c : Cursor) (s : Names) where
       }
 
     -- ---- `18`
-    module _ {x : Number} (v : ReadsNumber line (c .at) x (index (s .functions) (bytesFrom line (c .at))) × Below 256 x) where
+    module _ {x : Number} (v : ReadsNumber line (c .at) x (index (s .functions) (bytesFrom line (c .at))) × Below byteRange x) where
       pub call-stops : {m : ℕ} {r : Step} → x ≡ Refused m → r ≡ stepOf x → Follows line types functions c s r (λ S. exprBehind (exprAt levels) S callForm)
       unfolding exprBehind
       call-stops e d = record { says = λ S t here. rw (t .functionCount) (read-stops-pass _ (v .0) e d) }
 
-      pub call-done : {f : Found} {r : Step} {n : ℕ} → x ≡ Is f → (n ≡ getD functions (functionWords * f .value) 0 % 256) × (n < 256) → Follows line types functions (f .next) s r (λ S. exprs (exprAt levels S) n) → Follows line types functions c s r (λ S. exprBehind (exprAt levels) S callForm)
+      pub call-done : {f : Found} {r : Step} {n : ℕ} → x ≡ Is f → (n ≡ getD functions (functionWords * f .value) 0 % byteRange) × (n < byteRange) → Follows line types functions (f .next) s r (λ S. exprs (exprAt levels S) n) → Follows line types functions c s r (λ S. exprBehind (exprAt levels) S callForm)
       unfolding exprBehind
       call-done {f} {r} {n} e q w = record {
         says = λ S t here.
@@ -133,12 +134,12 @@ module _ (line types functions : List ℕ) (c : Cursor) (s : Names) where
       }
 
     -- ---- `19`
-    module _ {x : Number} (v : ReadsNumber line (c .at) x (index (s .types) (bytesFrom line (c .at))) × Below 256 x) where
+    module _ {x : Number} (v : ReadsNumber line (c .at) x (index (s .types) (bytesFrom line (c .at))) × Below byteRange x) where
       pub construct-stops : {m : ℕ} {r : Step} → x ≡ Refused m → r ≡ stepOf x → Follows line types functions c s r (λ S. exprBehind (exprAt levels) S conForm)
       unfolding exprBehind
       construct-stops e d = record { says = λ S t here. rw (t .typeCount) (read-stops-pass _ (v .0) e d) }
 
-      module _ {f : Found} (e : x ≡ Is f) {k : ℕ} (q : (k ≡ getD types (typeWords * f .value) 0 % 256) × (k < 256)) {y : Number} (w : ReadsNumber line (f .next .at) y (index k (bytesFrom line (f .next .at))) × Below 256 y) where
+      module _ {f : Found} (e : x ≡ Is f) {k : ℕ} (q : (k ≡ getD types (typeWords * f .value) 0 % byteRange) × (k < byteRange)) {y : Number} (w : ReadsNumber line (f .next .at) y (index k (bytesFrom line (f .next .at))) × Below byteRange y) where
         type-less : f .value < s .types
         type-less = index-less (v .0) e
 
@@ -149,7 +150,7 @@ module _ (line types functions : List ℕ) (c : Cursor) (s : Names) where
         unfolding exprBehind
         construct-none h d = record { says = λ S t here. rw (t .typeCount) (read-then-pass _ (v .0) e (rw (← (constructor-count S t)) (read-stops-pass _ (w .0) h d))) }
 
-        pub construct-done : {g : Found} {r : Step} {n : ℕ} → y ≡ Is g → (n ≡ getD types (typeWords * f .value + 1 + constructorWords * g .value) 0 % 256) × (n < 256) →
+        pub construct-done : {g : Found} {r : Step} {n : ℕ} → y ≡ Is g → (n ≡ getD types (typeWords * f .value + 1 + constructorWords * g .value) 0 % byteRange) × (n < byteRange) →
             Follows line types functions (g .next) s r (λ S. exprs (exprAt levels S) n) → Follows line types functions c s r (λ S. exprBehind (exprAt levels) S conForm)
         unfolding exprBehind
         construct-done {g} {r} {n} h p z = record {

@@ -4,6 +4,7 @@ ghost use mathlib.Core.Path.{_≡_};
 ghost use mathlib.Core.List.{[]};
 ghost use Prim.Native.Nat.{_+_, _≤_, _<_};
 ghost use lib.ListN.{getD, drop};
+ghost use Rattle.language.specs.Limits.{byteRange};
 ghost use Rattle.language.specs.ReadExpr.{exprAt, exprs, exprBehind, branches as branchesRead, letForm, opForm, callForm, conForm, caseForm, adjForm, fitForm};
 ghost use Rattle.passing.specs.Follows.{Follows, Roomy, widerNames, isRoomy, behind, leafBehind};
 use index::arity;
@@ -46,7 +47,7 @@ fn roomy(s: Names, levels: u32) -> bool
 // The scope with more variables and size variables.
 fn wider(s: Names, variables: u32, sizes: u32) -> Names
     requires { ⌜ Roomy s ⌝ }
-    requires { ⌜ (variables < 256) × (sizes < 256) ⌝ }
+    requires { ⌜ (variables < byteRange) × (sizes < byteRange) ⌝ }
     ensures { λ r. ⌜ r ≡ widerNames variables sizes s ⌝ }
 {
     Names {
@@ -86,19 +87,7 @@ fn leaf(line: &[u8], types: &[u32], functions: &[u32], c: Cursor, s: Names, form
 pub fn expr(line: &[u8], types: &[u32], functions: &[u32], c: Cursor, s: Names, levels: u32) -> Step
     ensures { λ r. ⌜ Follows (now (line .entry)) (now (types .entry)) (now (functions .entry)) c s r (exprAt levels) ⌝ }
 {
-    if !roomy(s, levels) {
-        return step_of(c.code_in(line, false, 16, 13));
-    }
-    let x = c.code_in(line, true, 16, 13);
-    let Number::Is(f) = x else {
-        return step_of(x);
-    };
-    let form = f.value;
-    let next = f.next;
-    if form < 5 {
-        return leaf(line, types, functions, next, s, form);
-    }
-    compound(line, types, functions, next, s, levels - 1, form)
+    several(line, types, functions, c, s, levels, 1)
 }
 
 // `15` to `1C`, with so many levels left inside.
@@ -151,14 +140,32 @@ fn several(
 ) -> Step
     ensures { λ r. ⌜ Follows (now (line .entry)) (now (types .entry)) (now (functions .entry)) c s r (λ S. exprs (exprAt levels S) n) ⌝ }
 {
-    if n == 0 {
-        return Step::Next(c);
+    let room = roomy(s, levels);
+    let mut next = c;
+    let mut i: u32 = 0;
+    while i < n {
+        let x = next.code_in(line, room, 16, 13);
+        let Number::Is(f) = x else {
+            return step_of(x);
+        };
+        let form = f.value;
+        let inner = f.next;
+        if form < 5 {
+            let y = leaf(line, types, functions, inner, s, form);
+            let Step::Next(d) = y else {
+                return y;
+            };
+            next = d;
+        } else {
+            let z = compound(line, types, functions, inner, s, levels - 1, form);
+            let Step::Next(e) = z else {
+                return z;
+            };
+            next = e;
+        }
+        i += 1;
     }
-    let x = expr(line, types, functions, c, s, levels);
-    let Step::Next(next) = x else {
-        return x;
-    };
-    several(line, types, functions, next, s, levels, n - 1)
+    Step::Next(next)
 }
 
 // `15`: a let.
@@ -271,7 +278,7 @@ fn branches(
     k: u32,
 ) -> Step
     requires { ⌜ Roomy s ⌝ }
-    requires { ⌜ (t < s .types) × (k < 256) ⌝ }
+    requires { ⌜ (t < s .types) × (k < byteRange) ⌝ }
     ensures { λ r. ⌜ Follows (now (line .entry)) (now (types .entry)) (now (functions .entry)) c s r (λ S. branchesRead (exprAt levels) S (drop k (getD (S .types) t []))) ⌝ }
 {
     let count = constructors(types, t);

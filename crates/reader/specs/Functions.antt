@@ -5,7 +5,7 @@ use mathlib.Core.Path.{_≡_, refl, sym, ap, _∙_}
 use native.Mathlib.Omega.{arith}
 use lib.ListN.{length, getD, set, length-map, length-append, length-drop, List·getD-append}
 use lib.Seq.{getD-at}
-use Rattle.language.specs.Limits.{functionsMost, parametersMost, conditionsMost, measuresMost, nestingMost}
+use Rattle.language.specs.Limits.{byteRange, functionsMost, parametersMost, conditionsMost, measuresMost, nestingMost}
 use Rattle.language.specs.Syntax.{Plain, ResultType, Condition, Expr, Function, File}
 use Rattle.language.specs.Format.{spellAll, plainBytes, resultBytes, conditionBytes, exprBytes, functionBytes}
 use Rattle.language.specs.Layout.{padded}
@@ -57,7 +57,7 @@ pub passes-as : {line : List ℕ} {at : ℕ} {r : Step} {y z : Read (Unit {0})} 
 passes-as p u = record { is = u .is ∙ sym p; on = u .on }
 
 -- ---- the scope of a body, told by the table with the parameters of the function itself
-small : (a b : ℕ) → a ≡ b → b ≤ parametersMost → a % 256 ≡ b
+small : (a b : ℕ) → a ≡ b → b ≤ parametersMost → a % byteRange ≡ b
 small a b e h = omega arith
 
 data Last (f n : ℕ) : Type 0 where
@@ -224,10 +224,10 @@ module _ (line types functions functions′ : List ℕ) (n : Counts) {w : Step} 
                   to-body : function P (bytesFrom line 1) ≡ behindMeasure P (head held few .list) (the-result held few .value) (the-conditions held few .value) (the-measure .value) (bytesFrom line (b .at))
                   to-body = to-result held few ∙ then-got _ (the-result held few .is) ∙ then-got _ (the-conditions held few .is) ∙ then-got _ (the-measure .is)
 
-                  scope-told : {variables : ℕ} → variables ≡ getD functions₁ (functionWords * n .functions) 0 % 256 → Tells types functions₁ (insideNames n variables vars) (bodyScope (P .types) (P .functions) (head held few .list))
+                  scope-told : {variables : ℕ} → variables ≡ getD functions₁ (functionWords * n .functions) 0 % byteRange → Tells types functions₁ (insideNames n variables vars) (bodyScope (P .types) (P .functions) (head held few .list))
                   scope-told a = tells-inside held few (head held few .table) (head held few .tells) (sym (a ∙ small _ _ (head held few .tells .count) (head held few .tells .few))) (sizes-are held few)
 
-                pub function-read : {variables to i₁ i₂ i₃ i₄ : ℕ} {r : Step} → Fits line n → variables ≡ getD functions₁ (functionWords * n .functions) 0 % 256 → Follows line types functions₁ b (insideNames n variables vars) r (exprAt nestingMost) →
+                pub function-read : {variables to i₁ i₂ i₃ i₄ : ℕ} {r : Step} → Fits line n → variables ≡ getD functions₁ (functionWords * n .functions) 0 % byteRange → Follows line types functions₁ b (insideNames n variables vars) r (exprAt nestingMost) →
                     PlaceWord (c .at) i₁ → PlaceWord (d .at) i₂ → PlaceWord (m .at) i₃ → PlaceWord (b .at) i₄ →
                     to ≡ functionWords * n .functions + headWords → functions′ ≡ set (set (set (set functions₁ to i₁) (to + 1) i₂) (to + 2) i₃) (to + 3) i₄ → ReadsFunction line types functions n r functions′
                 function-read {to} {i₁} {i₂} {i₃} {i₄} {r} fits a u p₁ p₂ p₃ p₄ where-to wrote = record {

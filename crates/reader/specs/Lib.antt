@@ -7,5 +7,6 @@ pub mod FrameLaws
 pub mod Texts
 pub mod TableLaws
 pub mod LineLaws
+pub mod JudgeLaws
 pub mod ReadLoop
 pub mod TextLaws

@@ -7,43 +7,11 @@ use lib.ListN.{length, drop, length-drop, length-append}
 use Rattle.language.specs.Within.{All, all-nil, all-cons}
 use Rattle.language.specs.Parser.{Read, got, Parser}
 use Rattle.text.specs.Bytes.{bytesOf, bytesFrom, digitValue}
-use Rattle.text.specs.DigitLaws.{digit-below, digit-decimal, digit-between, digit-letter, digit-above}
+use Rattle.text.specs.DigitLaws.{digit-small}
 use Rattle.theory.specs.Outcomes.{Reads, reads-got, reads-bad}
 use Rattle.theory.specs.Exact.{Byte, Starts, Exact}
 
--- a digit is below sixteen, and what two spell is a byte
-data Side (n m : ℕ) : Type 0 where
-  under : m < n → Side n m
-  from-on : n ≤ m → Side n m
-
-on-a-side : (n m : ℕ) → Side n m
-on-a-side zero m = from-on (omega arith)
-on-a-side (suc n) zero = under (omega arith)
-on-a-side (suc n) (suc m) = by (on-a-side n m)
-  where
-    by : Side n m → Side (suc n) (suc m)
-    by (under h) = under (omega arith)
-    by (from-on h) = from-on (omega arith)
-
-digit-small : (c : ℕ) → digitValue c < 16
-digit-small c = low (on-a-side 0x30 c)
-  where
-    letters : 0x41 ≤ c → Side 0x47 c → digitValue c < 16
-    letters h (under k) = omega (arith, digit-letter c h (omega arith))
-    letters h (from-on k) = omega (arith, digit-above c (omega arith))
-
-    middle : 0x39 < c → Side 0x41 c → digitValue c < 16
-    middle h (under k) = omega (arith, digit-between c h k)
-    middle h (from-on k) = letters k (on-a-side 0x47 c)
-
-    decimals : 0x30 ≤ c → Side 0x3A c → digitValue c < 16
-    decimals h (under k) = omega (arith, digit-decimal c h (omega arith))
-    decimals h (from-on k) = middle (omega arith) (on-a-side 0x41 c)
-
-    low : Side 0x30 c → digitValue c < 16
-    low (under h) = omega (arith, digit-below c h)
-    low (from-on h) = decimals h (on-a-side 0x3A c)
-
+-- what two digits spell is a byte
 bytes-small : (line : List ℕ) → All Byte (bytesOf line)
 unfolding bytesOf
 bytes-small [] = all-nil

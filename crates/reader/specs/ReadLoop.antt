@@ -5,10 +5,10 @@ use mathlib.Core.Bool.{Bool, true, false}
 use mathlib.Core.Path.{_≡_, refl, sym, ap, subst, _∙_}
 use native.Mathlib.Omega.{arith}
 use native.Mathlib.Numerals.{add-one}
-use lib.ListN.{length, set, drop, length-append}
-use lib.Seq.{append-snoc}
-use lib.Dec.{eqb}
-use borrow.Author.Tests.{eqb-true, eqb-false, eq-eqb, ne-eqb}
+use lib.ListN.{length, getD, drop, length-append}
+use lib.Seq.{append-snoc, getD-append-seam}
+use lib.Dec.{ltb, eqb}
+use borrow.Author.Tests.{ltb-true, ltb-false, eqb-true, eqb-false, eq-eqb, ne-eqb}
 use Rattle.language.specs.Limits.{textMost}
 use Rattle.language.specs.Result.{Result, ok, no, choose}
 use Rattle.language.specs.Syntax.{File}
@@ -18,17 +18,17 @@ use Rattle.text.specs.declared.lines.Counts.{Counts as TextCounts}
 use Rattle.text.specs.Bytes.{bytesOf}
 use Rattle.text.specs.Lines.{firstLine, framesFrom}
 use Rattle.text.specs.LinesWalk.{FramesLeft, NextFrame, frames-left-start, frame-there, frames-over}
-use Rattle.text.specs.LinesJudge.{Accepted}
 use Rattle.index.specs.Tables.{frameWords, framesMost, placesFrom, frameTable}
-use Rattle.index.specs.FrameTable.{placeBehind, no-frames}
+use Rattle.index.specs.Padded.{padded-at, padded-beyond}
+use Rattle.index.specs.FrameTable.{places-at}
 use Rattle.reader.specs.declared.Counts.{Counts}
 use Rattle.reader.specs.declared.Frame.{Frame}
 use Rattle.reader.specs.declared.Frame.the-variants.{Taken, Refused}
 use Rattle.reader.specs.declared.Reading.{Reading}
 use Rattle.reader.specs.declared.Reading.the-variants.{Done, Fault}
 use Rattle.reader.specs.Held.{Held, Fits, FrameRead, taken, refused, ReadsFrame}
-use Rattle.reader.specs.Texts.{Blank, finished, LinesRead, all-lines, bad-line, ReadsLines}
-use Rattle.reader.specs.TableLaws.{blank-held, place-entered, place-behind}
+use Rattle.reader.specs.Texts.{Listed, Ready, finished, LinesRead, all-lines, bad-line}
+use Rattle.reader.specs.TableLaws.{blank-held}
 use Rattle.reader.specs.LineLaws.{line-long, frame-refused, frame-taken, no-node, some-node, frames-of-file}
 
 -- ---- the answer after the last frame
@@ -41,54 +41,49 @@ unfolding finished choose
 finished-with-node n next e = rw (ne-eqb (n .nodes) 0 e)
 
 -- ---- the loop
--- what is in the tables when so many frames are read, of which the next one starts at a place
-pub record ReadTo (t : List ℕ) (all : ℕ) (left : List (List ℕ)) (known : Counts) (at read : ℕ) (frames types functions channels : List ℕ) : Type 0 where
+-- what is in the tables when so many frames are read
+pub record ReadTo (t : List ℕ) (all : ℕ) (left : List (List ℕ)) (known : Counts) (read : ℕ) (frames types functions channels : List ℕ) : Type 0 where
   pub file : File
   pub held : Held types functions channels known file
   pub earlier : List (List ℕ)
-  pub places : frames ≡ padded (framesMost * frameWords) (placesFrom 0 earlier)
   pub count : length earlier ≡ read
-  pub place : placeBehind 0 earlier ≡ at
   pub split : framesFrom 1 t ≡ ok (earlier ++ left)
+  pub places : frames ≡ padded (framesMost * frameWords) (placesFrom 0 (earlier ++ left))
   pub is : readFile t ≡ readFrames all (suc read) file left
 
--- the same from blank tables, and what holds wherever they come from
-pub record LinesTo (t : List ℕ) (all : ℕ) (frames₀ types₀ functions₀ channels₀ : List ℕ) (known : Counts) (at read : ℕ) (frames types functions channels : List ℕ) : Type 0 where
+-- the same with what is left from a place on, and the lengths of the tables
+pub record LinesTo (t : List ℕ) (all : ℕ) (frames types₀ functions₀ channels₀ : List ℕ) (known : Counts) (at read : ℕ) (types functions channels : List ℕ) : Type 0 where
   pub fits : length t ≤ textMost
   pub fewer : read ≤ at
   pub left : List (List ℕ)
   pub walk : FramesLeft t at left
-  pub framesKept : length frames ≡ length frames₀
   pub typesKept : length types ≡ length types₀
   pub functionsKept : length functions ≡ length functions₀
   pub channelsKept : length channels ≡ length channels₀
-  pub blank : Blank frames₀ types₀ functions₀ channels₀
-  pub so : ReadTo t all left known at read frames types functions channels
+  pub so : ReadTo t all left known read frames types functions channels
 
-pub lines-start : {t frames types functions channels : List ℕ} {c : TextCounts} {known : Counts} → Accepted t c → Blank frames types functions channels → known .types ≡ 0 → known .functions ≡ 0 → known .inputs ≡ 0 → known .nodes ≡ 0 →
-    LinesTo t (c .channels) frames types functions channels known 0 0 frames types functions channels
-unfolding placeBehind
-lines-start {t} {c} a z ts fs is ns = record {
-  fits = a .fits;
-  fewer = omega arith;
-  left = a .frames;
-  walk = frames-left-start t (a .are);
-  framesKept = refl;
-  typesKept = refl;
-  functionsKept = refl;
-  channelsKept = refl;
-  blank = z;
-  so = record {
-    file = emptyFile;
-    held = blank-held z ts fs is ns;
-    earlier = [];
-    places = z .framesZero ∙ sym no-frames;
-    count = refl;
-    place = refl;
-    split = a .are;
-    is = a .file ∙ ap (λ n. readFrames n 1 emptyFile (a .frames)) (sym (a .channels));
-  };
-}
+pub lines-start : {t frames types functions channels : List ℕ} {c : TextCounts} {known : Counts} → Ready t frames types functions channels c → known .types ≡ 0 → known .functions ≡ 0 → known .inputs ≡ 0 → known .nodes ≡ 0 →
+    LinesTo t (c .channels) frames types functions channels known 0 0 types functions channels
+lines-start {t} {c} z ts fs is ns =
+    let a = z .accepted in
+    record {
+      fits = a .fits;
+      fewer = omega arith;
+      left = a .frames;
+      walk = frames-left-start t (a .are);
+      typesKept = refl;
+      functionsKept = refl;
+      channelsKept = refl;
+      so = record {
+        file = emptyFile;
+        held = blank-held z ts fs is ns;
+        earlier = [];
+        count = refl;
+        split = a .are;
+        places = z .places;
+        is = a .file ∙ ap (λ n. readFrames n 1 emptyFile (a .frames)) (sym (a .channels));
+      };
+    }
 
 -- what reading a frame gives, by its answer
 frame-file : {r : Frame} {types functions channels : List ℕ} {n : Counts} {x : Result File} → FrameRead r types functions channels x → r ≡ Taken n → (Q : File) × ((x ≡ ok Q) × Held types functions channels n Q)
@@ -105,13 +100,34 @@ lines-fault t q e = rw e (bad-line q)
 lines-file : (t : List ℕ) {frames types functions channels : List ℕ} {r : Reading} {n : Counts} {P : File} → r ≡ Done n → Held types functions channels n P → frames ≡ frameTable P → readFile t ≡ ok P → LinesRead r frames types functions channels (readFile t)
 lines-file t q h f e = rw e (all-lines q h f)
 
-module _ {t frames₀ types₀ functions₀ channels₀ frames types functions channels : List ℕ} {all at read : ℕ} {known : Counts} (s : LinesTo t all frames₀ types₀ functions₀ channels₀ known at read frames types functions channels) where
+module _ {t frames types₀ functions₀ channels₀ types functions channels : List ℕ} {all at read : ℕ} {known : Counts} (s : LinesTo t all frames types₀ functions₀ channels₀ known at read types functions channels) where
   -- the line at the place, and its frame
   line-there : {l : List ℕ} → at < length t → l ≡ firstLine (drop at t) → NextFrame t at l (s .left)
   line-there h e = frame-there (s .left) h e (s .walk)
 
   line-filled : {l : List ℕ} → NextFrame t at l (s .left) → (length l ≡ 2 * length (bytesOf l)) × (1 ≤ length (bytesOf l))
   line-filled {l} x = rw (x .here .bytes) (line-long l (x .frame) (x .here .spelled))
+
+  -- its length is in the table, if the table goes so far
+  pub line-listed : at < length t → Listed t frames at read
+  line-listed h =
+      let x = line-there h refl in
+      let r = s .so in
+      let n = framesMost * frameWords in
+      let l = firstLine (drop at t) in
+      let there : read < length (r .earlier ++ s .left) = omega (arith, length-append (r .earlier) (s .left), ap length (x .split), r .count) in
+      let same : getD (r .earlier ++ s .left) read [] ≡ x .frame = ap (λ k. getD (r .earlier ++ k) read []) (x .split) ∙ ap (λ k. getD (r .earlier ++ (x .frame ∷ x .others)) k []) (sym (r .count)) ∙ getD-append-seam (r .earlier) (x .frame) (x .others) [] in
+      let long : 2 * length (x .frame) ≡ length l = sym (line-long l (x .frame) (x .here .spelled) .0) in
+      let size : getD (placesFrom 0 (r .earlier ++ s .left)) (frameWords * read + 1) 0 ≡ length l = places-at 0 (r .earlier ++ s .left) read there .1 ∙ ap (λ f. 2 * length f) same ∙ long in
+      record {
+        within = omega arith;
+        few = omega (arith, s .fewer, s .fits);
+        says = λ some. go (ltb (frameWords * read + 1) n) refl size some;
+      }
+    where
+      go : (b : Bool) → ltb (frameWords * read + 1) (framesMost * frameWords) ≡ b → getD (placesFrom 0 (s .so .earlier ++ s .left)) (frameWords * read + 1) 0 ≡ length (firstLine (drop at t)) → (getD frames (frameWords * read + 1) 0 ≡ 0 → ⊥) → getD frames (frameWords * read + 1) 0 ≡ length (firstLine (drop at t))
+      go true q size some = ap (λ l. getD l (frameWords * read + 1) 0) (s .so .places) ∙ padded-at (framesMost * frameWords) (placesFrom 0 (s .so .earlier ++ s .left)) (frameWords * read + 1) (ltb-true (frameWords * read + 1) (framesMost * frameWords) q) ∙ size
+      go false q size some = absurd (some (ap (λ l. getD l (frameWords * read + 1) 0) (s .so .places) ∙ padded-beyond (framesMost * frameWords) (placesFrom 0 (s .so .earlier ++ s .left)) (frameWords * read + 1) (ltb-false (frameWords * read + 1) (framesMost * frameWords) q)))
 
   pub line-end : {l : List ℕ} → at < length t → l ≡ firstLine (drop at t) → at + length l + 1 ≤ length t
   line-end h e = line-there h e .here .next .within
@@ -129,80 +145,67 @@ module _ {t frames₀ types₀ functions₀ channels₀ frames types functions c
       }
 
   pub line-refused : {l types′ functions′ channels′ : List ℕ} {x : Frame} {m : ℕ} → at < length t → l ≡ firstLine (drop at t) → ReadsFrame l types functions channels known all x types′ functions′ channels′ → x ≡ Refused m →
-      ReadsLines t frames₀ types₀ functions₀ channels₀ (Fault m (read + 1)) frames types′ functions′ channels′
-  line-refused {l} {types′} {functions′} {channels′} {m = m} h e v q = record { says = go }
-    where
-      go : Blank frames₀ types₀ functions₀ channels₀ → LinesRead (Fault m (read + 1)) frames types′ functions′ channels′ (readFile t)
-      go z =
-          let x = line-there h e in
-          let r = s .so in
-          let no-file = frame-fault (v .says (r .file) (r .held) (suc read) (line-filled x .1)) q in
-          lines-fault t refl (r .is ∙ frame-refused all (suc read) (r .file) (x .split) (ap (readFrame all (suc read) (r .file)) (sym (x .here .bytes)) ∙ no-file .1) ∙ ap (no m) (sym (add-one read)))
+      LinesRead (Fault m (read + 1)) frames types′ functions′ channels′ (readFile t)
+  line-refused {l} {types′} {functions′} {channels′} {m = m} h e v q =
+      let x = line-there h e in
+      let r = s .so in
+      let no-file = frame-fault (v .says (r .file) (r .held) (suc read) (line-filled x .1)) q in
+      lines-fault t refl (r .is ∙ frame-refused all (suc read) (r .file) (x .split) (ap (readFrame all (suc read) (r .file)) (sym (x .here .bytes)) ∙ no-file .1) ∙ ap (no m) (sym (add-one read)))
 
-  pub line-taken : {l frames₁ frames₂ types′ functions′ channels′ : List ℕ} {x : Frame} {n : Counts} → at < length t → l ≡ firstLine (drop at t) → ReadsFrame l types functions channels known all x types′ functions′ channels′ → x ≡ Taken n →
-      frames₁ ≡ set frames (2 * read) at → frames₂ ≡ set frames₁ (2 * read + 1) (length l) → length frames₂ ≡ length frames → length types′ ≡ length types → length functions′ ≡ length functions → length channels′ ≡ length channels →
-      LinesTo t all frames₀ types₀ functions₀ channels₀ n (at + length l + 1) (read + 1) frames₂ types′ functions′ channels′
-  line-taken {l} {frames₂ = frames₂} {types′} {functions′} {channels′} {n = n} h e v q put₁ put₂ kept₁ kept₂ kept₃ kept₄ = record {
+  pub line-taken : {l types′ functions′ channels′ : List ℕ} {x : Frame} {n : Counts} → at < length t → l ≡ firstLine (drop at t) → ReadsFrame l types functions channels known all x types′ functions′ channels′ → x ≡ Taken n →
+      length types′ ≡ length types → length functions′ ≡ length functions → length channels′ ≡ length channels → LinesTo t all frames types₀ functions₀ channels₀ n (at + length l + 1) (read + 1) types′ functions′ channels′
+  line-taken {l} {types′} {functions′} {channels′} {n = n} h e v q kept₁ kept₂ kept₃ = record {
     fits = s .fits;
     fewer = omega (arith, s .fewer);
     left = next .others;
     walk = next .here .next;
-    framesKept = kept₁ ∙ s .framesKept;
-    typesKept = kept₂ ∙ s .typesKept;
-    functionsKept = kept₃ ∙ s .functionsKept;
-    channelsKept = kept₄ ∙ s .channelsKept;
-    blank = s .blank;
+    typesKept = kept₁ ∙ s .typesKept;
+    functionsKept = kept₂ ∙ s .functionsKept;
+    channelsKept = kept₃ ∙ s .channelsKept;
     so = go;
   }
     where
       next : NextFrame t at l (s .left)
       next = line-there h e
 
-      long : length l ≡ 2 * length (next .frame)
-      long = line-long l (next .frame) (next .here .spelled) .0
-
-      go : ReadTo t all (next .others) n (at + length l + 1) (read + 1) frames₂ types′ functions′ channels′
+      go : ReadTo t all (next .others) n (read + 1) frames types′ functions′ channels′
       go =
           let r = s .so in
           let Q = frame-file (v .says (r .file) (r .held) (suc read) (line-filled next .1)) q in
+          let one-more : r .earlier ++ s .left ≡ (r .earlier ++ (next .frame ∷ [])) ++ next .others = ap (λ k. r .earlier ++ k) (next .split) ∙ sym (append-snoc (r .earlier) (next .frame) (next .others)) in
           record {
             file = Q .0;
             held = Q .1 .1;
             earlier = r .earlier ++ (next .frame ∷ []);
-            places = place-entered (framesMost * frameWords) (r .earlier) (next .frame) (r .places) (r .count) (r .place) long put₁ put₂;
             count = omega (arith, length-append (r .earlier) (next .frame ∷ []), r .count);
-            place = place-behind 0 (r .earlier) (next .frame) ∙ omega (arith, r .place, long);
-            split = r .split ∙ ap ok (ap (λ k. r .earlier ++ k) (next .split) ∙ sym (append-snoc (r .earlier) (next .frame) (next .others)));
+            split = r .split ∙ ap ok one-more;
+            places = r .places ∙ ap (λ fs. padded (framesMost * frameWords) (placesFrom 0 fs)) one-more;
             is = r .is ∙ frame-taken all (suc read) (r .file) (next .split) (ap (readFrame all (suc read) (r .file)) (sym (next .here .bytes)) ∙ Q .1 .0) ∙ ap (λ k. readFrames all (suc k) (Q .0) (next .others)) (sym (add-one read));
           }
 
   -- behind the last line no frame is left
-  last-read : {left : List (List ℕ)} → left ≡ [] → (z : ReadTo t all left known at read frames types functions channels) → readFile t ≡ readFrames all (suc read) (z .file) []
+  last-read : {left : List (List ℕ)} → left ≡ [] → (z : ReadTo t all left known read frames types functions channels) → readFile t ≡ readFrames all (suc read) (z .file) []
   last-read e z = z .is ∙ ap (readFrames all (suc read) (z .file)) e
 
-  lines-without-node : length t ≤ at → known .nodes ≡ 0 → ReadsLines t frames₀ types₀ functions₀ channels₀ (Fault 3 (read + 1)) frames types functions channels
-  lines-without-node h none = record {
-    says = λ z.
-        let r = s .so in
-        lines-fault t refl (last-read (frames-over h (s .walk)) r ∙ no-node all (suc read) (r .file) (r .held .nodeCount ∙ none) ∙ ap (no 3) (sym (add-one read)));
-  }
+  lines-without-node : length t ≤ at → known .nodes ≡ 0 → LinesRead (Fault 3 (read + 1)) frames types functions channels (readFile t)
+  lines-without-node h none =
+      let r = s .so in
+      lines-fault t refl (last-read (frames-over h (s .walk)) r ∙ no-node all (suc read) (r .file) (r .held .nodeCount ∙ none) ∙ ap (no 3) (sym (add-one read)))
 
-  lines-with-node : length t ≤ at → (known .nodes ≡ 0 → ⊥) → ReadsLines t frames₀ types₀ functions₀ channels₀ (Done known) frames types functions channels
+  lines-with-node : length t ≤ at → (known .nodes ≡ 0 → ⊥) → LinesRead (Done known) frames types functions channels (readFile t)
   unfolding frameTable
-  lines-with-node h some = record { says = go }
-    where
-      go : Blank frames₀ types₀ functions₀ channels₀ → LinesRead (Done known) frames types functions channels (readFile t)
-      go z =
-          let r = s .so in
-          let none-left = frames-over h (s .walk) in
-          let ends = last-read none-left r ∙ some-node all (suc read) (r .file) (λ e. some (sym (r .held .nodeCount) ∙ e)) in
-          let all-frames : framesFrom 1 t ≡ ok (r .earlier) = r .split ∙ ap ok (ap (λ k. r .earlier ++ k) none-left ∙ append-nil (r .earlier)) in
-          lines-file t refl (r .held) (r .places ∙ ap (λ fs. padded (framesMost * frameWords) (placesFrom 0 fs)) (sym (frames-of-file t (r .file) (r .earlier) ends all-frames))) ends
+  lines-with-node h some =
+      let r = s .so in
+      let none-left = frames-over h (s .walk) in
+      let ends = last-read none-left r ∙ some-node all (suc read) (r .file) (λ e. some (sym (r .held .nodeCount) ∙ e)) in
+      let all-frames : r .earlier ++ s .left ≡ r .earlier = ap (λ k. r .earlier ++ k) none-left ∙ append-nil (r .earlier) in
+      let of-file = frames-of-file t (r .file) (r .earlier) ends (r .split ∙ ap ok all-frames) in
+      lines-file t refl (r .held) (r .places ∙ ap (λ fs. padded (framesMost * frameWords) (placesFrom 0 fs)) (all-frames ∙ sym of-file)) ends
 
-  pub lines-end : {r : Reading} → length t ≤ at → r ≡ finished known (read + 1) → ReadsLines t frames₀ types₀ functions₀ channels₀ r frames types functions channels
+  pub lines-end : {r : Reading} → length t ≤ at → r ≡ finished known (read + 1) → LinesRead r frames types functions channels (readFile t)
   unfolding finished choose
   lines-end h e = rw e (go (eqb (known .nodes) 0) refl)
     where
-      go : (b : Bool) → eqb (known .nodes) 0 ≡ b → ReadsLines t frames₀ types₀ functions₀ channels₀ (choose b (Fault 3 (read + 1)) (Done known)) frames types functions channels
+      go : (b : Bool) → eqb (known .nodes) 0 ≡ b → LinesRead (choose b (Fault 3 (read + 1)) (Done known)) frames types functions channels (readFile t)
       go true q = lines-without-node h (eqb-true (known .nodes) 0 q)
       go false q = lines-with-node h (eqb-false (known .nodes) 0 q)

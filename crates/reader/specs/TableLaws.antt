@@ -1,20 +1,20 @@
--- The four tables of the reader: cleared, blank before the first frame, and one frame's place more.
+-- The four tables of the reader: cleared, zero before the first frame, and one frame's place more.
 use Prim.Native.Nat.{ℕ, zero, suc, _+_, _*_}
 use mathlib.Core.List.{List, [], _∷_, _++_}
 use mathlib.Core.Path.{_≡_, refl, sym, ap, _∙_}
 use native.Mathlib.Omega.{arith}
-use lib.ListN.{length, set, replicate, length-replicate, length-append}
+use lib.ListN.{length, set, replicate, length-append}
 use lib.Seq.{append-snoc}
-use Rattle.language.specs.Limits.{typesMost, functionsMost, channelsMost}
 use Rattle.language.specs.Layout.{padded}
 use Rattle.language.specs.Within.{all-nil}
 use Rattle.language.specs.Reader.{emptyFile}
-use Rattle.index.specs.Tables.{typeWords, functionWords, channelWords, frameWords, framesMost, placesFrom}
+use Rattle.index.specs.Tables.{frameWords, placesFrom}
 use Rattle.index.specs.FrameTable.{placeBehind, frame-more, frames-so-far, no-channels}
 use Rattle.index.specs.TypeTable.{no-types}
 use Rattle.index.specs.FunctionTable.{no-functions}
+use Rattle.text.specs.declared.lines.Counts.{Counts as TextCounts}
 use Rattle.reader.specs.Held.{Held}
-use Rattle.reader.specs.Texts.{Tables, Blank, Clears}
+use Rattle.reader.specs.Texts.{Clears, Ready}
 use Rattle.reader.specs.declared.Counts.{Counts}
 
 -- ---- cleared tables
@@ -32,21 +32,8 @@ all-cleared {frames} {types} {functions} {channels} a b d e = record {
   };
 }
 
-zeros-long : (l l′ : List ℕ) (n : ℕ) → l ≡ replicate n 0 → length l′ ≡ length l → length l′ ≡ n
-zeros-long l l′ n e h = h ∙ ap length e ∙ length-replicate n 0
-
--- blank tables keep their lengths, whatever is written
-pub blank-long : {frames types functions channels frames′ types′ functions′ channels′ : List ℕ} → Blank frames types functions channels → length frames′ ≡ length frames → length types′ ≡ length types → length functions′ ≡ length functions → length channels′ ≡ length channels →
-    Tables frames′ types′ functions′ channels′
-blank-long {frames} {types} {functions} {channels} {frames′} {types′} {functions′} {channels′} z a b d e = record {
-  framesLong = zeros-long frames frames′ (framesMost * frameWords) (z .framesZero) a;
-  typesLong = zeros-long types types′ (typesMost * typeWords) (z .typesZero) b;
-  functionsLong = zeros-long functions functions′ (functionsMost * functionWords) (z .functionsZero) d;
-  channelsLong = zeros-long channels channels′ (channelsMost * channelWords) (z .channelsZero) e;
-}
-
--- blank tables hold the file without frames
-pub blank-held : {frames types functions channels : List ℕ} {n : Counts} → Blank frames types functions channels → n .types ≡ 0 → n .functions ≡ 0 → n .inputs ≡ 0 → n .nodes ≡ 0 → Held types functions channels n emptyFile
+-- tables of zeros hold the file without frames
+pub blank-held : {text frames types functions channels : List ℕ} {c : TextCounts} {n : Counts} → Ready text frames types functions channels c → n .types ≡ 0 → n .functions ≡ 0 → n .inputs ≡ 0 → n .nodes ≡ 0 → Held types functions channels n emptyFile
 blank-held z a b d e = record {
   typesAre = z .typesZero ∙ sym no-types;
   functionsAre = z .functionsZero ∙ sym no-functions;
@@ -77,10 +64,10 @@ padded-two n i j ls v w e f =
     ∙ padded-snoc n (ls ++ (v ∷ [])) w ∙ ap (padded n) (append-snoc ls v (w ∷ []))
 
 pub place-entered : {frames frames₁ frames₂ : List ℕ} {at read size : ℕ} (n : ℕ) (fs : List (List ℕ)) (f : List ℕ) → frames ≡ padded n (placesFrom 0 fs) → length fs ≡ read → placeBehind 0 fs ≡ at → size ≡ 2 * length f →
-    frames₁ ≡ set frames (2 * read) at → frames₂ ≡ set frames₁ (2 * read + 1) size → frames₂ ≡ padded n (placesFrom 0 (fs ++ (f ∷ [])))
+    frames₁ ≡ set frames (frameWords * read) at → frames₂ ≡ set frames₁ (frameWords * read + 1) size → frames₂ ≡ padded n (placesFrom 0 (fs ++ (f ∷ [])))
 place-entered {frames} {frames₁} {at = at} {read} {size} n fs f is count place long put₁ put₂ =
-    put₂ ∙ ap (λ l. set l (2 * read + 1) size) (put₁ ∙ ap (λ l. set l (2 * read) at) is)
-    ∙ padded-two n (2 * read) (2 * read + 1) (placesFrom 0 fs) at size (omega (arith, frames-so-far 0 fs)) refl
+    put₂ ∙ ap (λ l. set l (frameWords * read + 1) size) (put₁ ∙ ap (λ l. set l (frameWords * read) at) is)
+    ∙ padded-two n (frameWords * read) (frameWords * read + 1) (placesFrom 0 fs) at size (omega (arith, frames-so-far 0 fs)) refl
     ∙ ap (padded n) ((λ i. placesFrom 0 fs ++ (sym place i ∷ long i ∷ [])) ∙ sym (frame-more 0 fs f))
 
 -- where the next one starts

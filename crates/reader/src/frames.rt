@@ -7,9 +7,9 @@ ghost use Rattle.language.specs.Limits.{typesMost, functionsMost, inputsMost, n
 ghost use Rattle.reader.specs.Channels.{outsideNames};
 ghost use Rattle.reader.specs.Frames.{Ordered, endedAs, moreTypes, moreFunctions, moreInputs, moreNodes};
 ghost use Rattle.reader.specs.Functions.{insideNames};
-use super::CHANNEL_WORDS;
 use super::Counts;
 use super::Frame;
+use index::CHANNEL_WORDS;
 use index::FUNCTION_WORDS;
 use index::arity;
 use index::functions::conditions;

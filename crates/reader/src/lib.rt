@@ -1,30 +1,27 @@
 // The reader of rule files: refusals 1 to 8, and the index for later passes.
 mod frames;
+mod lines;
 
 ghost use mathlib.Core.Path.{_≡_};
 ghost use Rattle.language.specs.Reader.{readFile};
-ghost use Rattle.text.specs.LinesJudge.{Accepted};
-ghost use Rattle.reader.specs.Texts.{Tables, Blank, Clears, finished, ReadsLines, ReadsJudged, ReadsText, TextRead};
+ghost use Rattle.reader.specs.Texts.{Tables, Clears, Ready, finished, LinesRead, TextRead};
 use frames::frame;
+use index::CHANNEL_WORDS;
+use index::FRAME_WORDS;
 use index::FUNCTION_WORDS;
 use index::TYPE_WORDS;
 use index::clear;
-use index::put;
 use language::limits::CHANNELS_MOST;
 use language::limits::FUNCTIONS_MOST;
 use language::limits::INPUTS_MOST;
 use language::limits::NODES_MOST;
 use language::limits::TYPES_MOST;
+use lines::judge;
+use lines::line_of;
 use text::lines::Counts as TextCounts;
 use text::lines::Judged;
-use text::lines::judge;
-use text::lines::line_at;
 
 // How long the tables are.
-pub const FRAME_WORDS: usize = 2;
-
-pub const CHANNEL_WORDS: usize = 3;
-
 pub const FRAME_TABLE: usize = (TYPES_MOST + FUNCTIONS_MOST + INPUTS_MOST + NODES_MOST)
     * FRAME_WORDS;
 
@@ -74,17 +71,17 @@ fn finish(known: Counts, next: u32) -> Reading
     Reading::Done(known)
 }
 
-// Reads frame after frame, and writes where each starts and how long it is.
+// Reads frame after frame, each where its place is written.
 fn read_lines(
     text: &[u8],
-    frames: &mut [u32],
+    frames: &[u32],
     types: &mut [u32],
     functions: &mut [u32],
     channels: &mut [u32],
     counts: TextCounts,
 ) -> Reading
-    requires { ⌜ Accepted (now text) counts × Blank (now frames) (now types) (now functions) (now channels) ⌝ }
-    ensures { λ r. ⌜ ReadsLines (now (text .entry)) (now (frames .entry)) (now (types .entry)) (now (functions .entry)) (now (channels .entry)) r (now (frames .exit)) (now (types .exit)) (now (functions .exit)) (now (channels .exit)) ⌝ }
+    requires { ⌜ Ready (now text) (now frames) (now types) (now functions) (now channels) counts ⌝ }
+    ensures { λ r. ⌜ LinesRead r (now (frames .entry)) (now (types .exit)) (now (functions .exit)) (now (channels .exit)) (readFile (now (text .entry))) ⌝ }
 {
     let all = counts.channels;
     let mut known = Counts {
@@ -96,7 +93,7 @@ fn read_lines(
     let mut at: usize = 0;
     let mut read: u32 = 0;
     while at < text.len() {
-        let line = line_at(text, at);
+        let line = line_of(text, frames, at, read);
         let x = frame(line, types, functions, channels, known, all);
         match x {
             Frame::Refused(m) => {
@@ -106,9 +103,6 @@ fn read_lines(
                 known = n;
             }
         }
-        let entry = FRAME_WORDS * (read as usize);
-        put(frames, entry, at as u32);
-        put(frames, entry + 1, line.len() as u32);
         at = at + line.len() + 1;
         read += 1;
     }
@@ -124,8 +118,9 @@ fn read_judged(
     channels: &mut [u32],
     counts: TextCounts,
 ) -> Reading
-    requires { ⌜ Accepted (now text) counts × Blank (now frames) (now types) (now functions) (now channels) ⌝ }
-    ensures { λ r. ⌜ ReadsJudged (now (text .entry)) (now (frames .entry)) (now (types .entry)) (now (functions .entry)) (now (channels .entry)) r (now (frames .exit)) (now (types .exit)) (now (functions .exit)) (now (channels .exit)) ⌝ }
+    requires { ⌜ Tables (now frames) (now types) (now functions) (now channels) ⌝ }
+    requires { ⌜ Ready (now text) (now frames) (now types) (now functions) (now channels) counts ⌝ }
+    ensures { λ r. ⌜ TextRead r (now (frames .exit)) (now (types .exit)) (now (functions .exit)) (now (channels .exit)) (readFile (now (text .entry))) ⌝ }
 {
     let r = read_lines(text, frames, types, functions, channels, counts);
     let Reading::Done(n) = r else {
@@ -144,13 +139,16 @@ fn read_into(
     channels: &mut [u32],
 ) -> Reading
     requires { ⌜ Tables (now frames) (now types) (now functions) (now channels) ⌝ }
-    ensures { λ r. ⌜ ReadsText (now (text .entry)) (now (frames .entry)) (now (types .entry)) (now (functions .entry)) (now (channels .entry)) r (now (frames .exit)) (now (types .exit)) (now (functions .exit)) (now (channels .exit)) ⌝ }
+    ensures { λ r. ⌜ TextRead r (now (frames .exit)) (now (types .exit)) (now (functions .exit)) (now (channels .exit)) (readFile (now (text .entry))) ⌝ }
 {
     clear_all(frames, types, functions, channels);
-    let j = judge(text);
+    let j = judge(text, frames);
     match j {
         Judged::Lines(c) => read_judged(text, frames, types, functions, channels, c),
-        Judged::Refused(n, f) => Reading::Fault(n, f),
+        Judged::Refused(n, f) => {
+            clear(frames);
+            Reading::Fault(n, f)
+        }
     }
 }
 

@@ -4,7 +4,7 @@ use mathlib.Core.List.{List, []}
 use mathlib.Core.Path.{_≡_, refl, sym, ap, _∙_, subst}
 use native.Mathlib.Omega.{arith}
 use lib.ListN.{length, getD}
-use Rattle.language.specs.Limits.{sizeVariablesMost, nestingMost}
+use Rattle.language.specs.Limits.{byteRange, sizeVariablesMost, nestingMost}
 use Rattle.language.specs.Syntax.{Expr, Exprs, enil, econs}
 use Rattle.language.specs.Format.{exprBytes, exprsBytes, sizeBytes}
 use Rattle.language.specs.Scope.{Scope}
@@ -38,7 +38,7 @@ placeOf : Number → ℕ
 placeOf (Is f) = f .next .at
 placeOf (Refused n) = 0
 
-module _ {line : List ℕ} {at : ℕ} {x : Number} (less : at < length (bytesOf line)) (v : ReadsNumber line at x (byte (bytesFrom line at)) × Below 256 x) where
+module _ {line : List ℕ} {at : ℕ} {x : Number} (less : at < length (bytesOf line)) (v : ReadsNumber line at x (byte (bytesFrom line at)) × Below byteRange x) where
   pub byte-found : {f : Found} → x ≡ Is f → (f .value ≡ byteAt line at) × (f .next .at ≡ at + 1)
   unfolding valueOf placeOf
   byte-found e = let same = sym e ∙ byte-is x less (v .0) in (ap valueOf same, ap placeOf same)
@@ -59,7 +59,7 @@ pub next-there : {x : Step} {n m : ℕ} → x ≡ Next (record { at = n }) → x
 next-there q e = let same = sym e ∙ q in let z : _≡_ {A = ℕ} 0 1 = cc in omega arith
 
 -- a count of a table is its word
-pub count-same : {n word m : ℕ} → (n ≡ word % 256) × (n < 256) → word ≡ m → m < 256 → n ≡ m
+pub count-same : {n word m : ℕ} → (n ≡ word % byteRange) × (n < byteRange) → word ≡ m → m < byteRange → n ≡ m
 count-same q e less = omega (arith, q .0, e, less)
 
 -- ---- moving on over bytes
@@ -159,11 +159,11 @@ module _ (line types functions : List ℕ) (c : Cursor) where
     }
 
   -- ---- `18`
-  module _ {x : Number} (v : ReadsNumber line (c .at) x (byte (bytesFrom line (c .at))) × Below 256 x) where
+  module _ {x : Number} (v : ReadsNumber line (c .at) x (byte (bytesFrom line (c .at))) × Below byteRange x) where
     pub call-stops : {m : ℕ} {r : Parts} → x ≡ Refused m → Heads line types functions c 0x18 r
     call-stops q = record { says = λ at levels S e here b h w s. absurd (byte-there (omega (arith, here, call-spelled s b .spelled .within)) v q) }
 
-    pub call-done : {f : Found} {n : ℕ} → x ≡ Is f → (n ≡ getD functions (functionWords * f .value) 0 % 256) × (n < 256) → Heads line types functions c 0x18 (record { next = f .next; count = n })
+    pub call-done : {f : Found} {n : ℕ} → x ≡ Is f → (n ≡ getD functions (functionWords * f .value) 0 % byteRange) × (n < byteRange) → Heads line types functions c 0x18 (record { next = f .next; count = n })
     call-done {f} {n} q k = record {
       says = λ at levels S e here b h w s.
           let i = call-spelled s b in
@@ -178,7 +178,7 @@ module _ (line types functions : List ℕ) (c : Cursor) where
     pub construct-stops : {m : ℕ} {r : Parts} → x ≡ Refused m → Heads line types functions c 0x19 r
     construct-stops q = record { says = λ at levels S e here b h w s. absurd (byte-there (omega (arith, here, con-spelled s b .spelled .within)) v q) }
 
-    module _ {f : Found} (q : x ≡ Is f) {y : Number} (u : ReadsNumber line (f .next .at) y (byte (bytesFrom line (f .next .at))) × Below 256 y) where
+    module _ {f : Found} (q : x ≡ Is f) {y : Number} (u : ReadsNumber line (f .next .at) y (byte (bytesFrom line (f .next .at))) × Below byteRange y) where
       pub construct-none : {m : ℕ} {r : Parts} → y ≡ Refused m → Heads line types functions c 0x19 r
       construct-none g = record {
         says = λ at levels S e here b h w s.
@@ -187,7 +187,7 @@ module _ (line types functions : List ℕ) (c : Cursor) where
             absurd (byte-there (omega (arith, here, found .1, i .spelled .within)) u g);
       }
 
-      pub construct-done : {g : Found} {n : ℕ} → y ≡ Is g → (n ≡ getD types (typeWords * f .value + 1 + constructorWords * g .value) 0 % 256) × (n < 256) → Heads line types functions c 0x19 (record { next = g .next; count = n })
+      pub construct-done : {g : Found} {n : ℕ} → y ≡ Is g → (n ≡ getD types (typeWords * f .value + 1 + constructorWords * g .value) 0 % byteRange) × (n < byteRange) → Heads line types functions c 0x19 (record { next = g .next; count = n })
       construct-done {g} {n} o k = record {
         says = λ at levels S e here b h w s.
             let i = con-spelled s b in

@@ -4,7 +4,7 @@ use mathlib.Core.List.{List, []}
 use mathlib.Core.Path.{_≡_, sym, ap, _∙_, subst}
 use native.Mathlib.Omega.{arith}
 use lib.ListN.{length, getD}
-use Rattle.language.specs.Limits.{typesMost, sizeVariablesMost}
+use Rattle.language.specs.Limits.{byteRange, typesMost, sizeVariablesMost}
 use Rattle.language.specs.Syntax.{Expr, Exprs, enil, econs}
 use Rattle.language.specs.Format.{exprBytes, exprsBytes, resultBytes}
 use Rattle.language.specs.Scope.{Scope}
@@ -44,7 +44,7 @@ module _ (line types functions : List ℕ) (c : Cursor) (levels : ℕ) where
   pub skip-none : {r : Cursor} → levels ≡ 0 → Skips line types functions c levels r
   skip-none q = record { says = λ S e h w s. absurd (no-level (subst (λ m. WithinExpr m S e) q w)) }
 
-  module _ {x : Number} (v : ReadsNumber line (c .at) x (byte (bytesFrom line (c .at))) × Below 256 x) where
+  module _ {x : Number} (v : ReadsNumber line (c .at) x (byte (bytesFrom line (c .at))) × Below byteRange x) where
     pub skip-stops : {m : ℕ} {r : Cursor} → x ≡ Refused m → Skips line types functions c levels r
     skip-stops q = record { says = λ S e h w s. absurd (byte-there (spelled-less s) v q) }
 
@@ -81,7 +81,7 @@ module _ (line types functions : List ℕ) (c : Cursor) (levels : ℕ) where
           omega (arith, place, more-long e es, a .says es ws (subst (λ m. Spells exprsBytes line m es) (sym place) (two .next)))
 
   -- ---- a case
-  module _ {x : Number} (v : ReadsNumber line (c .at) x (byte (bytesFrom line (c .at))) × Below 256 x) where
+  module _ {x : Number} (v : ReadsNumber line (c .at) x (byte (bytesFrom line (c .at))) × Below byteRange x) where
     pub case-stops : {m : ℕ} {r : Cursor} → x ≡ Refused m → SkipsCase line types functions c levels r
     case-stops q = record { says = λ at S e here b h w s. absurd (byte-there (omega (arith, here, case-spelled s b .spelled .within)) v q) }
 
@@ -103,7 +103,7 @@ module _ (line types functions : List ℕ) (c : Cursor) (levels : ℕ) where
       pub case-none : {m : ℕ} {r : Cursor} → y ≡ Stop m → SkipsCase line types functions c levels r
       case-none o = record { says = λ at S e here b h w s. absurd (next-there (result-passed here b h w s) o) }
 
-      pub case-done : {g r : Cursor} {n : ℕ} → y ≡ Next g → (n ≡ getD types (typeWords * f .value) 0 % 256) × (n < 256) → SkipsAll line types functions g levels n r → SkipsCase line types functions c levels r
+      pub case-done : {g r : Cursor} {n : ℕ} → y ≡ Next g → (n ≡ getD types (typeWords * f .value) 0 % byteRange) × (n < byteRange) → SkipsAll line types functions g levels n r → SkipsCase line types functions c levels r
       case-done {g} {r} {n} o k a = record {
         says = λ at S e here b h w s.
             let i = case-spelled s b in

@@ -3,6 +3,7 @@
 ghost use mathlib.Core.Path.{_≡_};
 ghost use Prim.Native.Nat.{_+_, _≤_, _<_};
 ghost use lib.ListN.{length};
+ghost use Rattle.language.specs.Limits.{byteRange};
 ghost use Rattle.text.specs.Bytes.{bytesOf};
 ghost use Rattle.skipping.specs.Skips.{Skips, SkipsAll, SkipsCase, Heads};
 use index::arity;
@@ -39,7 +40,7 @@ fn ahead(line: &[u8], c: Cursor, n: usize) -> Cursor
 // The forms that have the same number of parts wherever they stand.
 fn fixed(line: &[u8], types: &[u32], functions: &[u32], c: Cursor, code: u32) -> Parts
     requires { ⌜ (code ≡ 0x18 → ⊥) × ((code ≡ 0x19 → ⊥) × ((code ≡ 0x1A → ⊥) × (code ≡ 0x1B → ⊥))) ⌝ }
-    ensures { λ r. ⌜ Heads (now (line .entry)) (now (types .entry)) (now (functions .entry)) c code r × (r .count < 256) ⌝ }
+    ensures { λ r. ⌜ Heads (now (line .entry)) (now (types .entry)) (now (functions .entry)) c code r × (r .count < byteRange) ⌝ }
 {
     if code == 0x11 {
         let behind = ahead(line, c, 4);
@@ -75,7 +76,7 @@ fn fixed(line: &[u8], types: &[u32], functions: &[u32], c: Cursor, code: u32) ->
 
 // `18`: a call has as many parts as the function has parameters.
 fn call(line: &[u8], types: &[u32], functions: &[u32], c: Cursor) -> Parts
-    ensures { λ r. ⌜ Heads (now (line .entry)) (now (types .entry)) (now (functions .entry)) c 0x18 r × (r .count < 256) ⌝ }
+    ensures { λ r. ⌜ Heads (now (line .entry)) (now (types .entry)) (now (functions .entry)) c 0x18 r × (r .count < byteRange) ⌝ }
 {
     let x = c.byte(line);
     let Number::Is(f) = x else {
@@ -91,7 +92,7 @@ fn call(line: &[u8], types: &[u32], functions: &[u32], c: Cursor) -> Parts
 
 // `19`: a constructor has as many parts as fields.
 fn construct(line: &[u8], types: &[u32], functions: &[u32], c: Cursor) -> Parts
-    ensures { λ r. ⌜ Heads (now (line .entry)) (now (types .entry)) (now (functions .entry)) c 0x19 r × (r .count < 256) ⌝ }
+    ensures { λ r. ⌜ Heads (now (line .entry)) (now (types .entry)) (now (functions .entry)) c 0x19 r × (r .count < byteRange) ⌝ }
 {
     let x = c.byte(line);
     let Number::Is(f) = x else {
@@ -112,7 +113,7 @@ fn construct(line: &[u8], types: &[u32], functions: &[u32], c: Cursor) -> Parts
 
 // `1B`: behind the written size is one expression.
 fn adjust(line: &[u8], types: &[u32], functions: &[u32], c: Cursor) -> Parts
-    ensures { λ r. ⌜ Heads (now (line .entry)) (now (types .entry)) (now (functions .entry)) c 0x1B r × (r .count < 256) ⌝ }
+    ensures { λ r. ⌜ Heads (now (line .entry)) (now (types .entry)) (now (functions .entry)) c 0x1B r × (r .count < byteRange) ⌝ }
 {
     let x = c.size(line, SIZE_VARIABLES_MOST, NESTING_MOST);
     let Step::Next(next) = x else {
@@ -127,7 +128,7 @@ fn adjust(line: &[u8], types: &[u32], functions: &[u32], c: Cursor) -> Parts
 // The parts of any form but a case; c stands behind the code.
 fn heading(line: &[u8], types: &[u32], functions: &[u32], c: Cursor, code: u32) -> Parts
     requires { ⌜ (code ≡ 0x1A → ⊥) ⌝ }
-    ensures { λ r. ⌜ Heads (now (line .entry)) (now (types .entry)) (now (functions .entry)) c code r × (r .count < 256) ⌝ }
+    ensures { λ r. ⌜ Heads (now (line .entry)) (now (types .entry)) (now (functions .entry)) c code r × (r .count < byteRange) ⌝ }
 {
     if code == 0x18 {
         return call(line, types, functions, c);

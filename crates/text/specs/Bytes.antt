@@ -1,12 +1,9 @@
 -- The bytes that a line's digits spell, whatever they are, and what the reads of a cursor say of them.
-use Prim.Native.Nat.{ℕ, _+_, _*_, _≤_, _<_}
+use Prim.Native.Nat.{ℕ, _+_, _*_, _/_, _%_, _≤_, _<_}
 use mathlib.Core.List.{List, [], _∷_}
-use mathlib.Core.Bool.{Bool}
-use mathlib.Core.Option.{Option, none, some}
 use mathlib.Core.Path.{_≡_}
 use lib.ListN.{length, drop}
 use Rattle.language.specs.Syntax.{Field, fbool, fint, own, other, Plain, pbool, pint, pnamed, Ty, tbool, tint, tnamed}
-use Rattle.language.specs.Reader.{digit}
 use Rattle.language.specs.Layout.{tagStep}
 use Rattle.language.specs.Parser.{Read, got, bad}
 use Rattle.text.specs.declared.Cursor.{Cursor}
@@ -16,13 +13,9 @@ use Rattle.text.specs.declared.Number.the-variants.{Is, Refused}
 use Rattle.text.specs.declared.Step.{Step}
 use Rattle.text.specs.declared.Step.the-variants.{Next, Stop}
 
-unfoldable pub orZero : Option ℕ → ℕ
-orZero (some d) = d
-orZero none = 0
-
--- the value of a hexadecimal digit; 0 of any other character
-abbrev pub digitValue : ℕ → ℕ
-digitValue c = orZero (digit c)
+-- the value of an upper-case hexadecimal digit; of any other character some number below 16
+unfoldable pub digitValue : ℕ → ℕ
+digitValue c = (c % 16 + 9 * (c / 64)) % 16
 
 -- pair by pair; a character left over spells nothing
 unfoldable pub bytesOf : List ℕ → List ℕ

@@ -8,6 +8,7 @@ use native.Mathlib.Omega.{arith}
 use lib.ListN.{length, getElem? as look}
 use lib.Dec.{ltb, leb}
 use borrow.Author.Tests.{lt-ltb, le-ltb, le-leb, lt-leb}
+use Rattle.language.specs.Limits.{byteRange}
 use Rattle.language.specs.Result.{both, choose}
 use Rattle.language.specs.Parser.{Read, got, bad, Parser, andThen, return, must, fromOption, byte, decode, code, codeIn}
 use Rattle.text.specs.declared.Found.{Found}
@@ -119,38 +120,38 @@ pub code-in-below : {A : Type 0} (room : Bool) (first : ℕ) (T : List A) {line 
 code-in-below room first T {line} {at} v e = place-below (code-in-places room first T (bytesFrom line at)) v e
 
 -- ---- the cursor's read of a place
-module _ (line : List ℕ) (at first size : ℕ) {x : Number} (v : ReadsNumber line at x (byte (bytesFrom line at)) × Below 256 x) where
+module _ (line : List ℕ) (at first size : ℕ) {x : Number} (v : ReadsNumber line at x (byte (bytesFrom line at)) × Below byteRange x) where
   abbrev placing : ℕ → Parser ℕ
   placing b = must (both (leb first b) (ltb (b - first) size)) 5 (return (b - first))
 
-  pub place-no-byte : {n : ℕ} → x ≡ Refused n → ReadsNumber line at x (codePlace first size (bytesFrom line at)) × Below 256 x
+  pub place-no-byte : {n : ℕ} → x ≡ Refused n → ReadsNumber line at x (codePlace first size (bytesFrom line at)) × Below byteRange x
   unfolding codePlace
   place-no-byte e = (read-stops-read placing (v .0) e, v .1)
 
-  pub place-before : {f : Found} → x ≡ Is f → f .value < first → ReadsNumber line at (Refused 5) (codePlace first size (bytesFrom line at)) × Below 256 (Refused 5)
+  pub place-before : {f : Found} → x ≡ Is f → f .value < first → ReadsNumber line at (Refused 5) (codePlace first size (bytesFrom line at)) × Below byteRange (Refused 5)
   unfolding codePlace must both
   place-before e h = (number-refused (read-then placing (v .0) e ∙ rw (lt-leb _ _ h)), no-number)
 
-  pub place-after : {f : Found} → x ≡ Is f → first ≤ f .value → size ≤ f .value - first → ReadsNumber line at (Refused 5) (codePlace first size (bytesFrom line at)) × Below 256 (Refused 5)
+  pub place-after : {f : Found} → x ≡ Is f → first ≤ f .value → size ≤ f .value - first → ReadsNumber line at (Refused 5) (codePlace first size (bytesFrom line at)) × Below byteRange (Refused 5)
   unfolding codePlace must both
   place-after e h g = (number-refused (read-then placing (v .0) e ∙ rw (le-leb _ _ h, le-ltb _ _ g)), no-number)
 
-  pub place-found : {f : Found} → x ≡ Is f → first ≤ f .value → f .value - first < size → ReadsNumber line at (Is (record { value = f .value - first; next = f .next })) (codePlace first size (bytesFrom line at)) × Below 256 (Is (record { value = f .value - first; next = f .next }))
+  pub place-found : {f : Found} → x ≡ Is f → first ≤ f .value → f .value - first < size → ReadsNumber line at (Is (record { value = f .value - first; next = f .next })) (codePlace first size (bytesFrom line at)) × Below byteRange (Is (record { value = f .value - first; next = f .next }))
   unfolding codePlace must both
   place-found {f} e h g = (number-other (v .0) e (read-then placing (v .0) e ∙ rw (le-leb _ _ h, lt-ltb _ _ g)), below {f = record { value = f .value - first; next = f .next }} (omega (arith, number-below (v .1) e)))
 
-module _ (line : List ℕ) (at first size : ℕ) (room : Bool) {x : Number} (v : ReadsNumber line at x (codePlace first size (bytesFrom line at)) × Below 256 x) where
+module _ (line : List ℕ) (at first size : ℕ) (room : Bool) {x : Number} (v : ReadsNumber line at x (codePlace first size (bytesFrom line at)) × Below byteRange x) where
   abbrev rooming : ℕ → Parser ℕ
   rooming i = must room 7 (return i)
 
-  pub place-in-none : {n : ℕ} → x ≡ Refused n → ReadsNumber line at x (placeIn room first size (bytesFrom line at)) × Below 256 x
+  pub place-in-none : {n : ℕ} → x ≡ Refused n → ReadsNumber line at x (placeIn room first size (bytesFrom line at)) × Below byteRange x
   unfolding placeIn
   place-in-none e = (read-stops-read rooming (v .0) e, v .1)
 
-  pub place-in-full : {f : Found} → x ≡ Is f → room ≡ false → ReadsNumber line at (Refused 7) (placeIn room first size (bytesFrom line at)) × Below 256 (Refused 7)
+  pub place-in-full : {f : Found} → x ≡ Is f → room ≡ false → ReadsNumber line at (Refused 7) (placeIn room first size (bytesFrom line at)) × Below byteRange (Refused 7)
   unfolding placeIn must
   place-in-full e h = (number-refused (read-then rooming (v .0) e ∙ rw h), no-number)
 
-  pub place-in-found : {f : Found} → x ≡ Is f → room ≡ true → ReadsNumber line at x (placeIn room first size (bytesFrom line at)) × Below 256 x
+  pub place-in-found : {f : Found} → x ≡ Is f → room ≡ true → ReadsNumber line at x (placeIn room first size (bytesFrom line at)) × Below byteRange x
   unfolding placeIn must
   place-in-found e h = (rw e (number-same (v .0) e (read-then rooming (v .0) e ∙ rw h)), v .1)

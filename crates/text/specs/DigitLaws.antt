@@ -1,34 +1,52 @@
--- The value of a digit, by where its character lies; the bytes of a line, by place.
-use Prim.Native.Nat.{ℕ, zero, suc, _+_, _*_, _-_, _/_, _≤_, _<_}
+-- The value of a digit, as the definitions have it; the bytes of a line, by place.
+use Prim.Native.Nat.{ℕ, zero, suc, _+_, _*_, _-_, _/_, _%_, _≤_, _<_}
 use mathlib.Core.List.{List, [], _∷_}
+use mathlib.Core.Bool.{Bool, true, false}
+use mathlib.Core.Option.{some}
 use mathlib.Core.Path.{_≡_, refl, sym, ap, _∙_}
 use native.Mathlib.Omega.{arith}
 use lib.ListN.{length, getD}
-use borrow.Author.Tests.{le-leb, lt-leb}
+use lib.Dec.{leb}
+use borrow.Author.Tests.{leb-true}
 use Rattle.language.specs.Result.{both, when, choose}
 use Rattle.language.specs.Reader.{digit}
-use Rattle.text.specs.Bytes.{orZero, digitValue, bytesOf}
+use Rattle.text.specs.Bytes.{digitValue, bytesOf}
 
-module _ (c : ℕ) where
-  pub digit-below : c < 0x30 → digitValue c ≡ 0
-  unfolding digit orZero both when choose
-  digit-below h = rw (lt-leb 0x30 c h, lt-leb 0x41 c (omega arith))
+pub digit-small : (c : ℕ) → digitValue c < 16
+unfolding digitValue
+digit-small c = omega arith
 
-  pub digit-decimal : 0x30 ≤ c → c ≤ 0x39 → digitValue c ≡ c - 0x30
-  unfolding digit orZero both when choose
-  digit-decimal h k = rw (le-leb 0x30 c h, le-leb c 0x39 k)
+digit-decimal : (c : ℕ) → 0x30 ≤ c → c ≤ 0x39 → digitValue c ≡ c - 0x30
+unfolding digitValue
+digit-decimal c h k =
+    let quotient : c / 64 ≡ 0 = omega arith in
+    let remainder : c % 16 ≡ c - 0x30 = omega arith in
+    rw (quotient, remainder) (omega arith)
 
-  pub digit-between : 0x39 < c → c < 0x41 → digitValue c ≡ 0
-  unfolding digit orZero both when choose
-  digit-between h k = rw (le-leb 0x30 c (omega arith), lt-leb c 0x39 h, lt-leb 0x41 c k)
+digit-letter : (c : ℕ) → 0x41 ≤ c → c ≤ 0x46 → digitValue c ≡ c - 0x37
+unfolding digitValue
+digit-letter c h k =
+    let quotient : c / 64 ≡ 1 = omega arith in
+    let remainder : c % 16 ≡ c - 0x40 = omega arith in
+    rw (quotient, remainder) (omega arith)
 
-  pub digit-letter : 0x41 ≤ c → c ≤ 0x46 → digitValue c ≡ c - 0x37
-  unfolding digit orZero both when choose
-  digit-letter h k = rw (le-leb 0x30 c (omega arith), lt-leb c 0x39 (omega arith), le-leb 0x41 c h, le-leb c 0x46 k)
+pub both-hold : (a b : Bool) → both a b ≡ true → (a ≡ true) × (b ≡ true)
+unfolding both
+both-hold true b e = (refl, e)
+both-hold false b e = absurd (let z : _≡_ {A = ℕ} 0 1 = cc in omega arith)
 
-  pub digit-above : 0x46 < c → digitValue c ≡ 0
-  unfolding digit orZero both when choose
-  digit-above h = rw (le-leb 0x30 c (omega arith), lt-leb c 0x39 (omega arith), le-leb 0x41 c (omega arith), lt-leb c 0x46 h)
+between : (low high c : ℕ) → both (leb low c) (leb c high) ≡ true → (low ≤ c) × (c ≤ high)
+between low high c e = let p = both-hold (leb low c) (leb c high) e in (leb-true low c (p .0), leb-true c high (p .1))
+
+-- of a digit it is the digit's value
+pub digit-value : (c d : ℕ) → digit c ≡ some d → digitValue c ≡ d
+unfolding digit when choose
+digit-value c d e = go (both (leb 0x30 c) (leb c 0x39)) (both (leb 0x41 c) (leb c 0x46)) refl refl e
+  where
+    go : (a b : Bool) → both (leb 0x30 c) (leb c 0x39) ≡ a → both (leb 0x41 c) (leb c 0x46) ≡ b → choose a (some (c - 0x30)) (when b (c - 0x37)) ≡ some d → digitValue c ≡ d
+    go true b p q e = let same : c - 0x30 ≡ d = cc in let in-range = between 0x30 0x39 c p in digit-decimal c (in-range .0) (in-range .1) ∙ same
+    go false true p q e = let same : c - 0x37 ≡ d = cc in let in-range = between 0x41 0x46 c q in digit-letter c (in-range .0) (in-range .1) ∙ same
+    go false false p q e = absurd (let z : _≡_ {A = ℕ} 0 1 = cc in omega arith)
 
 pub bytes-length : (l : List ℕ) → length (bytesOf l) ≡ length l / 2
 unfolding bytesOf

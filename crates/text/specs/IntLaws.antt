@@ -2,6 +2,7 @@
 use Prim.Native.Nat.{ℕ, _+_, _*_, _^_}
 use mathlib.Core.List.{List}
 use mathlib.Core.Path.{_≡_}
+use Rattle.language.specs.Limits.{byteRange}
 use Rattle.language.specs.Parser.{Parser, _>>=_, return, byte}
 use Rattle.language.specs.ReadExpr.{int}
 use Rattle.text.specs.declared.Found.{Found}
@@ -32,7 +33,7 @@ behindOne a = do
 
 -- a byte read at a place
 abbrev pub ByteAt : List ℕ → ℕ → Number → Type 0
-ByteAt line at x = ReadsNumber line at x (byte (bytesFrom line at)) × Below 256 x
+ByteAt line at x = ReadsNumber line at x (byte (bytesFrom line at)) × Below byteRange x
 
 module _ (line : List ℕ) (at : ℕ) {x : Number} (v : ByteAt line at x) where
   pub int-first-missing : {n : ℕ} → x ≡ Refused n → ReadsNumber line at x (int (bytesFrom line at))

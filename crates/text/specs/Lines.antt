@@ -1,14 +1,16 @@
 -- Lines as parts of a text, and what the pass over a whole text answers (document 01, "By place": refusals 1 and 2).
 use Prim.Native.Nat.{ℕ, zero, suc, _+_}
-use mathlib.Core.List.{List, [], _∷_}
+use mathlib.Core.List.{List, [], _∷_, _++_}
 use mathlib.Core.Bool.{Bool, true, false}
 use mathlib.Core.Option.{Option, none, some}
-use lib.ListN.{length, drop}
-use lib.Dec.{eqb, leb}
+use lib.ListN.{length, drop, replicate}
+use lib.Dec.{eqb, ltb, leb}
 use Rattle.language.specs.Limits.{textMost}
 use Rattle.language.specs.Format.{lineFeed}
-use Rattle.language.specs.Result.{Result, ok, no, need, choose}
-use Rattle.language.specs.Reader.{linesOf, framesOf, isChannel, channelCount}
+use Rattle.language.specs.Result.{Result, ok, no, need, both, choose}
+use Rattle.language.specs.Reader.{digit, lineBytes, linesOf, framesOf, isChannel, channelCount}
+use Rattle.text.specs.declared.lines.LineEnd.{LineEnd}
+use Rattle.text.specs.declared.lines.LineEnd.the-variants.{At, Bad}
 use Rattle.text.specs.declared.lines.Judged.{Judged}
 use Rattle.text.specs.declared.lines.Judged.the-variants.{Lines, Refused}
 
@@ -29,6 +31,20 @@ lineStart t (suc i) = nextLine t (lineStart t i)
 unfoldable pub isSome : {A : Type 0} → Option A → Bool
 isSome (some a) = true
 isSome none = false
+
+-- for each character 1 where it is a digit, else 0
+abbrev pub digitMarks : List ℕ
+digitMarks = replicate 0x30 0 ++ replicate 10 1 ++ replicate 7 0 ++ replicate 6 1 ++ replicate 0xB9 0
+
+-- so many characters at the start are pairs of digits
+unfoldable pub digitPairs : List ℕ → ℕ
+digitPairs [] = 0
+digitPairs (a ∷ []) = 0
+digitPairs (a ∷ b ∷ l) = choose (both (isSome (digit a)) (isSome (digit b))) (suc (suc (digitPairs l))) 0
+
+-- where the line from a place on ends, if LF ends it and it has bytes
+unfoldable pub lineEnd : List ℕ → ℕ → LineEnd
+lineEnd t at = let l = firstLine (drop at t) in choose (both (ltb (length l) (length (drop at t))) (isSome (lineBytes l))) (At (at + length l)) Bad
 
 -- 1 for the frame of a channel, 0 for any other
 abbrev pub channelsOf : List ℕ → ℕ

@@ -71,9 +71,6 @@ first-line-fits (c ∷ t) = go (eqb c lineFeed) (first-line-fits t)
     go true h = omega arith
     go false h = omega arith
 
-pub line-within : {l : List ℕ} (t : List ℕ) (at : ℕ) → l ≡ firstLine (drop at t) → length l ≤ length t - at
-line-within t at e = omega (arith, ap length e, first-line-fits (drop at t), length-drop at t)
-
 pub first-line-ended : (t : List ℕ) → length (firstLine t) < length t → linesOf t ≡ record { ended = firstLine t ∷ linesOf (behind t) .ended; rest = linesOf (behind t) .rest }
 unfolding firstLine linesOf longer choose
 first-line-ended [] h = absurd (omega arith)

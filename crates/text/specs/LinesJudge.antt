@@ -1,26 +1,29 @@
 -- The pass over a whole text: what a line adds to the counts, where it refuses, and what its answer says of the file.
-use Prim.Native.Nat.{ℕ, suc, _+_, _≤_, _<_}
-use mathlib.Core.List.{List, [], _∷_}
+use Prim.Native.Nat.{ℕ, suc, _+_, _-_, _≤_, _<_}
+use mathlib.Core.List.{List, [], _∷_, _++_, append-nil}
 use mathlib.Core.Bool.{Bool, true, false}
 use mathlib.Core.Option.{Option, none, some}
 use mathlib.Core.Path.{_≡_, refl, sym, ap, _∙_}
 use native.Mathlib.Omega.{arith}
 use native.Mathlib.Numerals.{add-one}
-use lib.ListN.{length, drop, length-drop, drop-of-length-le}
-use lib.Dec.{eqb, leb}
-use borrow.Author.Tests.{le-leb, lt-leb, leb-true, eq-eqb, ne-eqb}
-use Rattle.language.specs.Limits.{textMost}
-use Rattle.language.specs.Result.{Result, ok, no, bind, need, from, oneOf, choose}
+use lib.ListN.{length, take, drop, length-append, length-drop, drop-of-length-le}
+use lib.Seq.{append-snoc}
+use lib.Dec.{eqb, ltb, leb}
+use borrow.Author.Tests.{le-leb, lt-leb, leb-true, eq-eqb, ne-eqb, ltb-true, ltb-false}
+use Rattle.language.specs.Limits.{byteRange, textMost}
+use Rattle.language.specs.Result.{Result, ok, no, bind, need, from, both, oneOf, choose}
+use Rattle.language.specs.Format.{lineFeed}
 use Rattle.language.specs.Parser.{byte, bad}
 use Rattle.language.specs.Reader.{lineBytes, isChannel, channelCount, readFile, readFrames, emptyFile}
 use Rattle.text.specs.declared.Found.{Found}
 use Rattle.text.specs.declared.Number.{Number}
 use Rattle.text.specs.declared.Number.the-variants.{Is, Refused as NumberRefused}
 use Rattle.text.specs.declared.lines.Counts.{Counts}
-use Rattle.text.specs.declared.lines.Judged.{Judged}
+use Rattle.text.specs.declared.lines.LineEnd.{LineEnd}
+use Rattle.text.specs.declared.lines.LineEnd.the-variants.{At, Bad}
 use Rattle.text.specs.declared.lines.Judged.the-variants.{Lines, Refused}
 use Rattle.text.specs.Bytes.{bytesOf, bytesFrom, given, ReadsNumber, Below}
-use Rattle.text.specs.Lines.{firstLine, nextLine, isSome, channelsOf, framesFrom, judged, judgement}
+use Rattle.text.specs.Lines.{firstLine, nextLine, isSome, lineEnd, channelsOf, framesFrom, judged, judgement}
 use Rattle.text.specs.LinesEnd.{behind}
 use Rattle.text.specs.LinesSpell.{line-bytes-read}
 use Rattle.text.specs.LinesWalk.{frames-none, frames-ended, frames-unended, behind-next}
@@ -31,7 +34,7 @@ unfolding given byte isChannel
 first-byte [] line e q = absurd (let z = sym e ∙ ap (given (bytesOf line)) q in let y : _≡_ {A = ℕ} 0 1 = cc in omega arith)
 first-byte (b ∷ bs) line {f = f} e q = let y : b ≡ f .value = let u = sym e ∙ ap (given (bytesOf line)) q in cc in rw y
 
-module _ {line : List ℕ} {x : Number} (v : ReadsNumber line 0 x (byte (bytesFrom line 0)) × Below 256 x) where
+module _ {line : List ℕ} {x : Number} (v : ReadsNumber line 0 x (byte (bytesFrom line 0)) × Below byteRange x) where
   pub line-without-bytes : {n : ℕ} → x ≡ NumberRefused n → 0 ≡ channelsOf (bytesOf line)
   unfolding given byte isChannel choose
   line-without-bytes {n} q = go (bytesOf line) (sym (v .0 .is) ∙ ap (given (bytesOf line)) q)
@@ -52,46 +55,74 @@ module _ {line : List ℕ} {x : Number} (v : ReadsNumber line 0 x (byte (bytesFr
   unfolding oneOf choose
   other-line q n k = rw (first-byte (bytesOf line) line (v .0 .is) q, ne-eqb _ 0x03 n, ne-eqb _ 0x04 k)
 
--- ---- the answer when n lines with m channels came before
-unfoldable pub judgedAfter : ℕ → ℕ → Result (List (List ℕ)) → Judged
-judgedAfter n m (ok fs) = Lines (record { lines = n + length fs; channels = m + channelCount fs })
-judgedAfter n m (no number frame) = Refused number frame
+-- ---- the line at a place: LF ends it and it has bytes, or the text is refused there
+pub record Ended (t : List ℕ) (at end : ℕ) : Type 0 where
+  pub from : at < end
+  pub less : end < length t
+  pub place : end ≡ nextLine t at - 1
+  pub is : take (end - at) (drop at t) ≡ firstLine (drop at t)
+  pub frame : List ℕ
+  pub spelled : lineBytes (firstLine (drop at t)) ≡ some frame
 
-judged-from-none : (r : Result (List (List ℕ))) → judged r ≡ judgedAfter 0 0 r
-unfolding judged judgedAfter
-judged-from-none (ok fs) = λ i. Lines (record { lines = same (length fs) i; channels = same (channelCount fs) i })
+pub first-line-taken : (l : List ℕ) → take (length (firstLine l)) l ≡ firstLine l
+unfolding firstLine choose
+first-line-taken [] = refl
+first-line-taken (c ∷ l) = go (eqb c lineFeed) (first-line-taken l)
   where
-    same : (n : ℕ) → n ≡ 0 + n
-    same n = omega arith
-judged-from-none (no number frame) = refl
+    go : (b : Bool) → take (length (firstLine l)) l ≡ firstLine l → take (length (choose b [] (c ∷ firstLine l))) (c ∷ l) ≡ choose b [] (c ∷ firstLine l)
+    go true e = refl
+    go false e = ap (λ k. c ∷ k) e
 
-judged-one-more : (o : Option (List ℕ)) (r : Result (List (List ℕ))) (l : List ℕ) (n m k one : ℕ) → isSome o ≡ true → ((bs : List ℕ) → o ≡ some bs → bytesOf l ≡ bs) → one ≡ channelsOf (bytesOf l) →
-    judgedAfter n m (from o 2 k (λ bs. bind r (λ fs. ok (bs ∷ fs)))) ≡ judgedAfter (n + 1) (m + one) r
-unfolding judgedAfter from bind isSome channelCount
-judged-one-more (some bs) (ok fs) l n m k one good read is = λ i. Lines (record { lines = lines i; channels = channels i })
-  where
-    lines : n + length (bs ∷ fs) ≡ n + 1 + length fs
-    lines = omega arith
+filled : (l bs : List ℕ) → lineBytes l ≡ some bs → 0 < length l
+unfolding lineBytes
+filled [] bs e = absurd (let z : _≡_ {A = ℕ} 0 1 = cc in omega arith)
+filled (c ∷ l) bs e = omega arith
 
-    channels : m + (channelsOf bs + channelCount fs) ≡ m + one + channelCount fs
-    channels = let same : one ≡ channelsOf bs = is ∙ ap channelsOf (read bs refl) in omega (arith, same)
-judged-one-more (some bs) (no number frame) l n m k one good read is = refl
-judged-one-more none r l n m k one good read is = absurd (let z : _≡_ {A = ℕ} 0 1 = cc in omega arith)
+module _ (t : List ℕ) (at : ℕ) {x : LineEnd} (v : x ≡ lineEnd t at) where
+  pub line-ended : {end : ℕ} → x ≡ At end → Ended t at end
+  unfolding lineEnd both choose isSome
+  line-ended {end} q = go (ltb (length (firstLine (drop at t))) (length (drop at t))) (lineBytes (firstLine (drop at t))) refl refl (sym v ∙ q)
+    where
+      go : (a : Bool) (o : Option (List ℕ)) → ltb (length (firstLine (drop at t))) (length (drop at t)) ≡ a → lineBytes (firstLine (drop at t)) ≡ o → choose (both a (isSome o)) (At (at + length (firstLine (drop at t)))) Bad ≡ At end → Ended t at end
+      go true (some bs) p o e =
+          let place : at + length (firstLine (drop at t)) ≡ end = cc in
+          let same : end - at ≡ length (firstLine (drop at t)) = omega (arith, place) in
+          record {
+            from = omega (arith, place, filled (firstLine (drop at t)) bs o);
+            less = omega (arith, place, ltb-true (length (firstLine (drop at t))) (length (drop at t)) p, length-drop at t);
+            place = omega (arith, place);
+            is = ap (λ n. take n (drop at t)) same ∙ first-line-taken (drop at t);
+            frame = bs;
+            spelled = o;
+          }
+      go true none p o e = absurd (let z : _≡_ {A = ℕ} 0 1 = cc in omega arith)
+      go false o p q e = absurd (let z : _≡_ {A = ℕ} 0 1 = cc in omega arith)
 
-judged-unread : (n m k : ℕ) (r : List ℕ → Result (List (List ℕ))) (o : Option (List ℕ)) → isSome o ≡ false → judgedAfter n m (from o 2 k r) ≡ Refused 2 k
-unfolding from isSome judgedAfter
-judged-unread n m k r (some bs) b = absurd (let z : _≡_ {A = ℕ} 0 1 = cc in omega arith)
-judged-unread n m k r none b = refl
+  line-refused : at < length t → x ≡ Bad → (k : ℕ) → framesFrom k (drop at t) ≡ no 2 k
+  unfolding lineEnd both choose isSome from
+  line-refused h q k = go (ltb (length (firstLine (drop at t))) (length (drop at t))) (lineBytes (firstLine (drop at t))) refl refl (sym v ∙ q)
+    where
+      go : (a : Bool) (o : Option (List ℕ)) → ltb (length (firstLine (drop at t))) (length (drop at t)) ≡ a → lineBytes (firstLine (drop at t)) ≡ o → choose (both a (isSome o)) (At (at + length (firstLine (drop at t)))) Bad ≡ Bad → framesFrom k (drop at t) ≡ no 2 k
+      go true (some bs) p o e = absurd (let z : _≡_ {A = ℕ} 0 1 = cc in omega arith)
+      go true none p o e = frames-ended k (drop at t) (ltb-true _ _ p) ∙ rw o
+      go false o p q e = frames-unended k (drop at t) (omega (arith, length-drop at t)) (ltb-false _ _ p)
 
--- ---- the lines up to a place are counted
-pub record Counted (t : List ℕ) (at lines channels : ℕ) : Type 0 where
+-- ---- the lines up to a place are frames
+pub record Counted (t : List ℕ) (at lines channels : ℕ) (earlier : List (List ℕ)) : Type 0 where
   pub within : at ≤ length t
   pub fewer : lines ≤ at
   pub among : channels ≤ lines
-  pub is : judged (framesFrom 1 t) ≡ judgedAfter lines channels (framesFrom (suc lines) (drop at t))
+  pub count : length earlier ≡ lines
+  pub kinds : channelCount earlier ≡ channels
+  pub split : framesFrom 1 t ≡ bind (framesFrom (suc lines) (drop at t)) (λ fs. ok (earlier ++ fs))
 
-pub counted-start : (t : List ℕ) → Counted t 0 0 0
-counted-start t = record { within = omega arith; fewer = omega arith; among = omega arith; is = judged-from-none (framesFrom 1 t) }
+pub counted-start : (t : List ℕ) → Counted t 0 0 0 []
+unfolding channelCount bind
+counted-start t = record { within = omega arith; fewer = omega arith; among = omega arith; count = refl; kinds = refl; split = go (framesFrom 1 t) }
+  where
+    go : (r : Result (List (List ℕ))) → r ≡ bind r (λ fs. ok ([] ++ fs))
+    go (ok fs) = refl
+    go (no n frame) = refl
 
 pub one-at-most : {one : ℕ} (bs : List ℕ) → one ≡ channelsOf bs → one ≤ 1
 unfolding choose
@@ -101,51 +132,52 @@ one-at-most bs is = rw is (go (isChannel bs))
     go true = omega arith
     go false = omega arith
 
+channels-more : (fs : List (List ℕ)) (f : List ℕ) → channelCount (fs ++ (f ∷ [])) ≡ channelCount fs + channelsOf f
+unfolding channelCount
+channels-more [] f = omega arith
+channels-more (g ∷ fs) f = omega (arith, channels-more fs f)
+
+one-more : (earlier : List (List ℕ)) (f : List ℕ) (r : Result (List (List ℕ))) → bind (bind r (λ fs. ok (f ∷ fs))) (λ fs. ok (earlier ++ fs)) ≡ bind r (λ fs. ok ((earlier ++ (f ∷ [])) ++ fs))
+unfolding bind
+one-more earlier f (ok fs) = ap ok (sym (append-snoc earlier f fs))
+one-more earlier f (no n frame) = refl
+
 whole-judged : (t : List ℕ) → length t ≤ textMost → judgement t ≡ judged (framesFrom 1 t)
 unfolding judgement need
 whole-judged t h = rw (le-leb (length t) textMost h)
 
-module _ {t : List ℕ} {at lines channels : ℕ} (c : Counted t at lines channels) where
-  counted-line : {one : ℕ} → at + length (firstLine (drop at t)) < length t → isSome (lineBytes (firstLine (drop at t))) ≡ true → one ≡ channelsOf (bytesOf (firstLine (drop at t))) → Counted t (nextLine t at) (lines + 1) (channels + one)
-  counted-line {one} h good is =
+module _ {t : List ℕ} {at lines channels : ℕ} {earlier : List (List ℕ)} (c : Counted t at lines channels earlier) where
+  pub counted-on : {end one : ℕ} → (n : Ended t at end) → one ≡ channelsOf (bytesOf (take (end - at) (drop at t))) → Counted t (end + 1) (lines + 1) (channels + one) (earlier ++ (n .frame ∷ []))
+  unfolding from
+  counted-on {end} {one} n is =
       let l = firstLine (drop at t) in
       let after = framesFrom (suc (suc lines)) (behind (drop at t)) in
-      let ended : length l < length (drop at t) = omega (arith, length-drop at t) in
-      let small : one ≤ 1 = one-at-most (bytesOf l) is in
+      let ended : length l < length (drop at t) = omega (arith, length-drop at t, n .place, n .less) in
+      let kind : one ≡ channelsOf (n .frame) = is ∙ ap (λ k. channelsOf (bytesOf k)) (n .is) ∙ ap channelsOf (line-bytes-read l (n .frame) (n .spelled)) in
+      let next : nextLine t at ≡ end + 1 = omega (arith, n .place) in
+      let here : framesFrom (suc lines) (drop at t) ≡ bind after (λ fs. ok (n .frame ∷ fs)) = frames-ended (suc lines) (drop at t) ended ∙ rw (n .spelled) in
       record {
-        within = omega arith;
-        fewer = omega (arith, c .fewer);
-        among = omega (arith, c .among, small);
-        is = c .is ∙ ap (judgedAfter lines channels) (frames-ended (suc lines) (drop at t) ended)
-            ∙ judged-one-more (lineBytes l) after l lines channels (suc lines) one good (line-bytes-read l) is
-            ∙ ap (λ n. judgedAfter (lines + 1) (channels + one) (framesFrom (suc n) (behind (drop at t)))) (sym (add-one lines))
-            ∙ ap (λ u. judgedAfter (lines + 1) (channels + one) (framesFrom (suc (lines + 1)) u)) (behind-next t at);
+        within = omega (arith, n .less);
+        fewer = omega (arith, c .fewer, n .from);
+        among = omega (arith, c .among, one-at-most (n .frame) kind);
+        count = omega (arith, length-append earlier (n .frame ∷ []), c .count);
+        kinds = channels-more earlier (n .frame) ∙ omega (arith, c .kinds, kind);
+        split = c .split ∙ ap (λ r. bind r (λ fs. ok (earlier ++ fs))) here ∙ one-more earlier (n .frame) after
+            ∙ ap (λ k. bind (framesFrom (suc k) (behind (drop at t))) (λ fs. ok ((earlier ++ (n .frame ∷ [])) ++ fs))) (sym (add-one lines))
+            ∙ ap (λ u. bind (framesFrom (suc (lines + 1)) u) (λ fs. ok ((earlier ++ (n .frame ∷ [])) ++ fs))) (behind-next t at ∙ ap (λ k. drop k t) next);
       }
 
-  pub counted-on : {l : List ℕ} {one : ℕ} → l ≡ firstLine (drop at t) → at + length l < length t → isSome (lineBytes l) ≡ true → one ≡ channelsOf (bytesOf l) → Counted t (at + length l + 1) (lines + 1) (channels + one)
-  counted-on e h good is = rw e (counted-line (rw e at h) (rw e at good) (rw e at is))
+  pub judged-bad : {x : LineEnd} → length t ≤ textMost → at < length t → x ≡ lineEnd t at → x ≡ Bad → Refused 2 (lines + 1) ≡ judgement t
+  unfolding judged bind
+  judged-bad fits h v q = sym (whole-judged t fits ∙ ap judged (c .split ∙ ap (λ r. bind r (λ fs. ok (earlier ++ fs))) (line-refused t at v h q (suc lines))) ∙ ap (Refused 2) (sym (add-one lines)))
 
-  -- a line without LF, and one that spells nothing
-  pub judged-unended : {l : List ℕ} → length t ≤ textMost → at < length t → l ≡ firstLine (drop at t) → length t ≤ at + length l → Refused 2 (lines + 1) ≡ judgement t
-  unfolding judgedAfter
-  judged-unended {l} fits less e h =
-      let some-left : 0 < length (drop at t) = omega (arith, length-drop at t) in
-      let last : length (drop at t) ≤ length (firstLine (drop at t)) = omega (arith, length-drop at t, ap length e) in
-      sym (whole-judged t fits ∙ c .is ∙ rw (frames-unended (suc lines) (drop at t) some-left last, add-one))
-
-  pub judged-unspelled : {l : List ℕ} → length t ≤ textMost → l ≡ firstLine (drop at t) → at + length l < length t → isSome (lineBytes l) ≡ false → Refused 2 (lines + 1) ≡ judgement t
-  judged-unspelled {l} fits e h fails =
-      let ended : length (firstLine (drop at t)) < length (drop at t) = omega (arith, length-drop at t, ap length e) in
-      sym (whole-judged t fits ∙ c .is ∙ rw (frames-ended (suc lines) (drop at t) ended, add-one) (judged-unread lines channels (suc lines) _ (lineBytes (firstLine (drop at t))) (rw e at fails)))
+  pub frames-are : length t ≤ at → framesFrom 1 t ≡ ok earlier
+  unfolding bind
+  frames-are h = c .split ∙ ap (λ l. bind (framesFrom (suc lines) l) (λ fs. ok (earlier ++ fs))) (drop-of-length-le t {i = at} h) ∙ rw (frames-none (suc lines)) (ap ok (append-nil earlier))
 
   pub judged-end : length t ≤ textMost → length t ≤ at → Lines (record { lines = lines; channels = channels }) ≡ judgement t
-  unfolding judgedAfter channelCount
-  judged-end fits h =
-      let none-left : framesFrom (suc lines) (drop at t) ≡ ok [] = ap (λ l. framesFrom (suc lines) l) (drop-of-length-le t {i = at} h) ∙ frames-none (suc lines) in
-      sym (whole-judged t fits ∙ c .is ∙ ap (judgedAfter lines channels) none-left ∙ (λ i. Lines (record { lines = same lines i; channels = same channels i })))
-    where
-      same : (n : ℕ) → n + 0 ≡ n
-      same n = omega arith
+  unfolding judged
+  judged-end fits h = sym (whole-judged t fits ∙ ap judged (frames-are h) ∙ (λ i. Lines (record { lines = c .count i; channels = c .kinds i })))
 
 pub judged-too-long : (t : List ℕ) → textMost < length t → Refused 1 0 ≡ judgement t
 unfolding judgement judged need

@@ -1,6 +1,6 @@
 -- Reads in turn: what the cursor's answer says of the parser's, and of what comes behind it.
 use Prim.Native.Nat.{ℕ, _+_, _*_, _/_, _≤_, _<_}
-use mathlib.Core.List.{List, []}
+use mathlib.Core.List.{List}
 use mathlib.Core.Bool.{Bool, true, false}
 use mathlib.Core.Path.{_≡_, sym, ap, _∙_}
 use native.Mathlib.Omega.{arith}
@@ -9,6 +9,7 @@ use lib.ListN.{length, getD, drop-of-length-le}
 use lib.Seq.{drop-cons}
 use lib.Dec.{ltb, leb}
 use borrow.Author.Tests.{lt-ltb, le-ltb, le-leb, lt-leb}
+use Rattle.language.specs.Limits.{byteRange}
 use Rattle.language.specs.Result.{both}
 use Rattle.language.specs.Parser.{Read, got, bad, Parser, andThen, must, byte, index, count}
 use Rattle.text.specs.declared.Found.{Found}
@@ -26,12 +27,12 @@ byte-some : (line : List ℕ) (at : ℕ) → at < length line / 2 → byte (byte
 unfolding byte
 byte-some line at h = rw (add-one, drop-cons (bytesOf line) at 0 (omega (arith, bytes-length line)))
 
-pub byte-end : (line : List ℕ) (at : ℕ) → length line / 2 ≤ at → ReadsNumber line at (Refused 4) (byte (bytesFrom line at)) × Below 256 (Refused 4)
+pub byte-end : (line : List ℕ) (at : ℕ) → length line / 2 ≤ at → ReadsNumber line at (Refused 4) (byte (bytesFrom line at)) × Below byteRange (Refused 4)
 unfolding given
 byte-end line at h = (record { is = sym (byte-none line at h); on = stopped }, no-number)
 
 pub byte-done : (line : List ℕ) (at high low : ℕ) → at < length line / 2 → (high ≡ digitValue (getD line (2 * at) 0)) × (high < 16) → (low ≡ digitValue (getD line (2 * at + 1) 0)) × (low < 16) →
-    ReadsNumber line at (Is (record { value = high * 16 + low; next = record { at = at + 1 } })) (byte (bytesFrom line at)) × Below 256 (Is (record { value = high * 16 + low; next = record { at = at + 1 } }))
+    ReadsNumber line at (Is (record { value = high * 16 + low; next = record { at = at + 1 } })) (byte (bytesFrom line at)) × Below byteRange (Is (record { value = high * 16 + low; next = record { at = at + 1 } }))
 unfolding given
 byte-done line at high low h p q = (record { is = sym (byte-some line at h ∙ rw (bytes-at line at h, p .0, q .0)); on = moved {c = record { at = at + 1 }} (omega arith) (omega (arith, bytes-length line)) }, below {f = record { value = high * 16 + low; next = record { at = at + 1 } }} (omega (arith, p .1, q .1)))
 
@@ -44,48 +45,48 @@ pub read-stops : {B : Type 0} {line : List ℕ} {at n : ℕ} {x : Number} {y : R
 unfolding given andThen
 read-stops {line} k v e = let z = sym (v .is) ∙ ap (given (bytesOf line)) e in rw z
 
-pub number-stops : {line : List ℕ} {at n : ℕ} {x : Number} {y : Read ℕ} (k : ℕ → Parser ℕ) → ReadsNumber line at x y × Below 256 x → x ≡ Refused n → ReadsNumber line at x (andThen y k) × Below 256 x
+pub number-stops : {line : List ℕ} {at n : ℕ} {x : Number} {y : Read ℕ} (k : ℕ → Parser ℕ) → ReadsNumber line at x y × Below byteRange x → x ≡ Refused n → ReadsNumber line at x (andThen y k) × Below byteRange x
 unfolding given
 number-stops {line} k v e = (record { is = ap (given (bytesOf line)) e ∙ sym (read-stops k (v .0) e); on = v .0 .on }, v .1)
 
 -- a test of the number: refused with m, or passed on
-pub number-fails : {line : List ℕ} {at m : ℕ} {x : Number} {y : Read ℕ} {f : Found} (test : ℕ → Bool) → ReadsNumber line at x y × Below 256 x → x ≡ Is f → test (f .value) ≡ false →
-    ReadsNumber line at (Refused m) (andThen y (λ n. must (test n) m (λ bs. got n bs))) × Below 256 (Refused m)
+pub number-fails : {line : List ℕ} {at m : ℕ} {x : Number} {y : Read ℕ} {f : Found} (test : ℕ → Bool) → ReadsNumber line at x y × Below byteRange x → x ≡ Is f → test (f .value) ≡ false →
+    ReadsNumber line at (Refused m) (andThen y (λ n. must (test n) m (λ bs. got n bs))) × Below byteRange (Refused m)
 unfolding given must
 number-fails {m} test v e b = (record { is = sym (read-then (λ n. must (test n) m (λ bs. got n bs)) (v .0) e ∙ rw b); on = stopped }, no-number)
 
-pub number-passes : {line : List ℕ} {at : ℕ} (m : ℕ) {x : Number} {y : Read ℕ} {f : Found} (test : ℕ → Bool) → ReadsNumber line at x y × Below 256 x → x ≡ Is f → test (f .value) ≡ true →
-    ReadsNumber line at (Is f) (andThen y (λ n. must (test n) m (λ bs. got n bs))) × Below 256 (Is f)
+pub number-passes : {line : List ℕ} {at : ℕ} (m : ℕ) {x : Number} {y : Read ℕ} {f : Found} (test : ℕ → Bool) → ReadsNumber line at x y × Below byteRange x → x ≡ Is f → test (f .value) ≡ true →
+    ReadsNumber line at (Is f) (andThen y (λ n. must (test n) m (λ bs. got n bs))) × Below byteRange (Is f)
 unfolding given must
 number-passes m test v e b = (record { is = sym (read-then (λ n. must (test n) m (λ bs. got n bs)) (v .0) e ∙ rw b); on = rw e at (v .0 .on) }, rw e at (v .1))
 
 -- ---- an index, a count
-module _ (line : List ℕ) (at bound : ℕ) {x : Number} (v : ReadsNumber line at x (byte (bytesFrom line at)) × Below 256 x) where
-  pub index-stops : {n : ℕ} → x ≡ Refused n → ReadsNumber line at x (index bound (bytesFrom line at)) × Below 256 x
+module _ (line : List ℕ) (at bound : ℕ) {x : Number} (v : ReadsNumber line at x (byte (bytesFrom line at)) × Below byteRange x) where
+  pub index-stops : {n : ℕ} → x ≡ Refused n → ReadsNumber line at x (index bound (bytesFrom line at)) × Below byteRange x
   unfolding index
   index-stops e = number-stops _ v e
 
-  pub index-out : {f : Found} → x ≡ Is f → bound ≤ f .value → ReadsNumber line at (Refused 6) (index bound (bytesFrom line at)) × Below 256 (Refused 6)
+  pub index-out : {f : Found} → x ≡ Is f → bound ≤ f .value → ReadsNumber line at (Refused 6) (index bound (bytesFrom line at)) × Below byteRange (Refused 6)
   unfolding index
   index-out e h = number-fails (λ i. ltb i bound) v e (le-ltb _ _ h)
 
-  pub index-in : {f : Found} → x ≡ Is f → f .value < bound → ReadsNumber line at (Is f) (index bound (bytesFrom line at)) × Below 256 (Is f)
+  pub index-in : {f : Found} → x ≡ Is f → f .value < bound → ReadsNumber line at (Is f) (index bound (bytesFrom line at)) × Below byteRange (Is f)
   unfolding index
   index-in e h = number-passes 6 (λ i. ltb i bound) v e (lt-ltb _ _ h)
 
-module _ (line : List ℕ) (at least most : ℕ) {x : Number} (v : ReadsNumber line at x (byte (bytesFrom line at)) × Below 256 x) where
-  pub count-stops : {n : ℕ} → x ≡ Refused n → ReadsNumber line at x (count least most (bytesFrom line at)) × Below 256 x
+module _ (line : List ℕ) (at least most : ℕ) {x : Number} (v : ReadsNumber line at x (byte (bytesFrom line at)) × Below byteRange x) where
+  pub count-stops : {n : ℕ} → x ≡ Refused n → ReadsNumber line at x (count least most (bytesFrom line at)) × Below byteRange x
   unfolding count
   count-stops e = number-stops _ v e
 
-  pub count-few : {f : Found} → x ≡ Is f → f .value < least → ReadsNumber line at (Refused 7) (count least most (bytesFrom line at)) × Below 256 (Refused 7)
+  pub count-few : {f : Found} → x ≡ Is f → f .value < least → ReadsNumber line at (Refused 7) (count least most (bytesFrom line at)) × Below byteRange (Refused 7)
   unfolding count both
   count-few e h = number-fails (λ n. both (leb least n) (leb n most)) v e (rw (lt-leb _ _ h))
 
-  pub count-many : {f : Found} → x ≡ Is f → least ≤ f .value → most < f .value → ReadsNumber line at (Refused 7) (count least most (bytesFrom line at)) × Below 256 (Refused 7)
+  pub count-many : {f : Found} → x ≡ Is f → least ≤ f .value → most < f .value → ReadsNumber line at (Refused 7) (count least most (bytesFrom line at)) × Below byteRange (Refused 7)
   unfolding count both
   count-many e h k = number-fails (λ n. both (leb least n) (leb n most)) v e (rw (le-leb _ _ h, lt-leb _ _ k))
 
-  pub count-in : {f : Found} → x ≡ Is f → least ≤ f .value → f .value ≤ most → ReadsNumber line at (Is f) (count least most (bytesFrom line at)) × Below 256 (Is f)
+  pub count-in : {f : Found} → x ≡ Is f → least ≤ f .value → f .value ≤ most → ReadsNumber line at (Is f) (count least most (bytesFrom line at)) × Below byteRange (Is f)
   unfolding count both
   count-in e h k = number-passes 7 (λ n. both (leb least n) (leb n most)) v e (rw (le-leb _ _ h, le-leb _ _ k))

@@ -6,6 +6,7 @@ use mathlib.Core.Option.{some}
 use mathlib.Core.Path.{_≡_, refl, ap, _∙_}
 use native.Mathlib.Omega.{arith}
 use lib.ListN.{getElem? as look}
+use Rattle.language.specs.Limits.{byteRange}
 use Rattle.language.specs.Syntax.{Size, lit, svar, plus, minus}
 use Rattle.language.specs.Parser.{Read, got, bad, Parser, andThen, refuse, byte, index, codeIn}
 use Rattle.language.specs.ReadExpr.{SizeForm, litSize, varSize, plusSize, minusSize, sizeForms, sizeBehind, sizeAt}
@@ -36,7 +37,7 @@ two-forgot inner g (got a bs) = forget-then (g a) (inner bs)
 two-forgot inner g (bad n) = refl
 
 module _ (line : List ℕ) (at vars levels : ℕ) {x : Number} where
-  pub size-too-deep : {s : Step} → levels ≡ 0 → ReadsNumber line at x (placeIn false 0x01 4 (bytesFrom line at)) × Below 256 x → s ≡ stepOf x → Passes line at s (forget (sizeAt levels vars (bytesFrom line at)))
+  pub size-too-deep : {s : Step} → levels ≡ 0 → ReadsNumber line at x (placeIn false 0x01 4 (bytesFrom line at)) × Below byteRange x → s ≡ stepOf x → Passes line at s (forget (sizeAt levels vars (bytesFrom line at)))
   unfolding sizeAt forget
   size-too-deep {s} z v d = rw z (by-answer x refl)
     where
@@ -44,7 +45,7 @@ module _ (line : List ℕ) (at vars levels : ℕ) {x : Number} where
       by-answer (Is f) e = absurd (no-room 0x01 4 (v .0) e)
       by-answer (Refused n) e = pass-none e d (ap forget (code-in-stops false 0x01 sizeForms (λ _. refuse 7) (v .0) e))
 
-module _ (line : List ℕ) (at vars levels : ℕ) {x : Number} (h : levels ≡ 0 → ⊥) (v : ReadsNumber line at x (placeIn true 0x01 4 (bytesFrom line at)) × Below 256 x) where
+module _ (line : List ℕ) (at vars levels : ℕ) {x : Number} (h : levels ≡ 0 → ⊥) (v : ReadsNumber line at x (placeIn true 0x01 4 (bytesFrom line at)) × Below byteRange x) where
   abbrev inner : Parser Size
   inner = sizeAt (levels - 1) vars
 
@@ -55,11 +56,11 @@ module _ (line : List ℕ) (at vars levels : ℕ) {x : Number} (h : levels ≡ 0
   size-form : {f : Found} {i : ℕ} (form : SizeForm) → x ≡ Is f → f .value ≡ i → look sizeForms i ≡ some form → sizeAt levels vars (bytesFrom line at) ≡ sizeBehind vars inner form (bytesFrom line (f .next .at))
   size-form form e q p = size-open levels vars _ h ∙ code-in-then true 0x01 sizeForms (sizeBehind vars inner) (v .0) form e q p
 
-  pub size-literal : {f : Found} {w : Number} {s : Step} → x ≡ Is f → f .value ≡ 0 → ReadsNumber line (f .next .at) w (byte (bytesFrom line (f .next .at))) × Below 256 w → s ≡ stepOf w → Passes line at s (forget (sizeAt levels vars (bytesFrom line at)))
+  pub size-literal : {f : Found} {w : Number} {s : Step} → x ≡ Is f → f .value ≡ 0 → ReadsNumber line (f .next .at) w (byte (bytesFrom line (f .next .at))) × Below byteRange w → s ≡ stepOf w → Passes line at s (forget (sizeAt levels vars (bytesFrom line at)))
   unfolding sizeBehind
   size-literal e q u d = passes-behind (number-moved (v .0) e) (ap forget (size-form litSize e q refl)) (read-ends-pass lit (u .0) d)
 
-  pub size-variable : {f : Found} {w : Number} {s : Step} → x ≡ Is f → f .value ≡ 1 → ReadsNumber line (f .next .at) w (index vars (bytesFrom line (f .next .at))) × Below 256 w → s ≡ stepOf w → Passes line at s (forget (sizeAt levels vars (bytesFrom line at)))
+  pub size-variable : {f : Found} {w : Number} {s : Step} → x ≡ Is f → f .value ≡ 1 → ReadsNumber line (f .next .at) w (index vars (bytesFrom line (f .next .at))) × Below byteRange w → s ≡ stepOf w → Passes line at s (forget (sizeAt levels vars (bytesFrom line at)))
   unfolding sizeBehind
   size-variable e q u d = passes-behind (number-moved (v .0) e) (ap forget (size-form varSize e q refl)) (read-ends-pass svar (u .0) d)
 

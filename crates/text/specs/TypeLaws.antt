@@ -5,7 +5,7 @@ use mathlib.Core.Option.{some}
 use mathlib.Core.Path.{_≡_, refl, ap, _∙_}
 use native.Mathlib.Omega.{arith}
 use lib.ListN.{getElem? as look}
-use Rattle.language.specs.Limits.{sizeMost, nestingMost}
+use Rattle.language.specs.Limits.{byteRange, sizeMost, nestingMost}
 use Rattle.language.specs.Layout.{tagStep}
 use Rattle.language.specs.Syntax.{other, Plain, pnamed, tnamed, ResultType, rnamed}
 use Rattle.language.specs.Parser.{Read, got, bad, Parser, _>>=_, return, andThen, index, count}
@@ -22,7 +22,7 @@ use Rattle.text.specs.StepLaws.{below-more, number-below, number-moved, 
 use Rattle.text.specs.CodeLaws.{code-then, code-stops, code-below}
 
 -- words of types stay below this
-below-words : {x : Number} → Below 256 x → Below (2 ^ 17) x
+below-words : {x : Number} → Below byteRange x → Below (2 ^ 17) x
 below-words b = below-more (omega arith) b
 
 -- the last form of a table is the one left
@@ -33,7 +33,7 @@ last-field : {line : List ℕ} {at : ℕ} {x : Number} {f : Found} → ReadsNumb
 last-field v e h = omega (arith, code-below 0x00 fieldForms v e)
 
 -- ---- the type of a parameter
-module _ (line : List ℕ) (at types : ℕ) {x : Number} (v : ReadsNumber line at x (codePlace 0x00 3 (bytesFrom line at)) × Below 256 x) where
+module _ (line : List ℕ) (at types : ℕ) {x : Number} (v : ReadsNumber line at x (codePlace 0x00 3 (bytesFrom line at)) × Below byteRange x) where
   pub parameter-no-code : {n : ℕ} → x ≡ Refused n → ReadsNumber line at x (mapRead plainWord (plain types (bytesFrom line at))) × Below (2 ^ 17) x
   unfolding plain mapRead
   parameter-no-code e = (number-none (v .0) e (ap (mapRead plainWord) (code-stops 0x00 typeForms (plainBehind types) (v .0) e)), below-words (v .1))
@@ -48,7 +48,7 @@ module _ (line : List ℕ) (at types : ℕ) {x : Number} (v : ReadsNumber line a
     pub parameter-constant : f .value < 2 → ReadsNumber line at (Is f) (mapRead plainWord (plain types (bytesFrom line at))) × Below (2 ^ 17) (Is f)
     parameter-constant h = (number-same (v .0) e (plain-constant (f .value) refl h), below-words (rw e at (v .1)))
 
-    module _ (h : 2 ≤ f .value) {y : Number} (u : ReadsNumber line (f .next .at) y (index types (bytesFrom line (f .next .at))) × Below 256 y) where
+    module _ (h : 2 ≤ f .value) {y : Number} (u : ReadsNumber line (f .next .at) y (index types (bytesFrom line (f .next .at))) × Below byteRange y) where
       abbrev namedOf : ℕ → Parser Plain
       namedOf t = return (pnamed t)
 
@@ -65,7 +65,7 @@ module _ (line : List ℕ) (at types : ℕ) {x : Number} (v : ReadsNumber line a
       parameter-named {g} d = (reads-behind (number-moved (v .0) e) refl (number-other (u .0) d (ap (mapRead plainWord) (plain-named ∙ read-then namedOf (u .0) d))), below {f = record { value = tagStep * (g .value + 1); next = g .next }} (omega (arith, number-below (u .1) d)))
 
 -- ---- a named type and its size
-module _ (line : List ℕ) (at types : ℕ) {x : Number} (v : ReadsNumber line at x (index types (bytesFrom line at)) × Below 256 x) where
+module _ (line : List ℕ) (at types : ℕ) {x : Number} (v : ReadsNumber line at x (index types (bytesFrom line at)) × Below byteRange x) where
   abbrev wordOf : ℕ → ℕ → Parser ℕ
   wordOf t k = return (tagStep * (t + 1) + k)
 
@@ -78,7 +78,7 @@ module _ (line : List ℕ) (at types : ℕ) {x : Number} (v : ReadsNumber line a
   unfolding namedWord
   named-no-type e = (read-stops-read sizedOf (v .0) e, below-words (v .1))
 
-  module _ {f : Found} (e : x ≡ Is f) {y : Number} (u : ReadsNumber line (f .next .at) y (count 1 sizeMost (bytesFrom line (f .next .at))) × Below 256 y) where
+  module _ {f : Found} (e : x ≡ Is f) {y : Number} (u : ReadsNumber line (f .next .at) y (count 1 sizeMost (bytesFrom line (f .next .at))) × Below byteRange y) where
     pub named-no-size : {n : ℕ} → y ≡ Refused n → ReadsNumber line at y (namedWord types (bytesFrom line at)) × Below (2 ^ 17) y
     unfolding namedWord bound
     named-no-size d = (read-then-read sizedOf (v .0) e (read-stops-read (wordOf (f .value)) (u .0) d), below-words (u .1))
@@ -104,7 +104,7 @@ module _ {A : Type 0} (word : A → ℕ) (make : ℕ → ℕ → A) (p : (t k : 
   sized-word types bs = word-of-both (index types bs)
 
 -- ---- a declared type
-module _ (line : List ℕ) (at types : ℕ) {x : Number} (v : ReadsNumber line at x (codePlace 0x00 3 (bytesFrom line at)) × Below 256 x) where
+module _ (line : List ℕ) (at types : ℕ) {x : Number} (v : ReadsNumber line at x (codePlace 0x00 3 (bytesFrom line at)) × Below byteRange x) where
   pub declared-no-code : {n : ℕ} → x ≡ Refused n → ReadsNumber line at x (mapRead declaredWord (declared types (bytesFrom line at))) × Below (2 ^ 17) x
   unfolding declared mapRead
   declared-no-code e = (number-none (v .0) e (ap (mapRead declaredWord) (code-stops 0x00 typeForms (declaredBehind types) (v .0) e)), below-words (v .1))
@@ -129,7 +129,7 @@ module _ (line : List ℕ) (at types : ℕ) {x : Number} (v : ReadsNumber line a
     declared-named h u = (reads-behind (number-moved (v .0) e) (declared-form namedType (last-type (v .0) e h) refl ∙ sized-word declaredWord tnamed (λ t k. refl) types _) (u .0), u .1)
 
 -- ---- a field
-module _ (line : List ℕ) (at types : ℕ) {x : Number} (v : ReadsNumber line at x (codePlace 0x00 4 (bytesFrom line at)) × Below 256 x) where
+module _ (line : List ℕ) (at types : ℕ) {x : Number} (v : ReadsNumber line at x (codePlace 0x00 4 (bytesFrom line at)) × Below byteRange x) where
   pub field-no-code : {n : ℕ} → x ≡ Refused n → ReadsNumber line at x (mapRead fieldWord (field types (bytesFrom line at))) × Below (2 ^ 17) x
   unfolding field mapRead
   field-no-code e = (number-none (v .0) e (ap (mapRead fieldWord) (code-stops 0x00 fieldForms (fieldBehind types) (v .0) e)), below-words (v .1))
@@ -155,7 +155,7 @@ module _ (line : List ℕ) (at types : ℕ) {x : Number} (v : ReadsNumber line a
     field-other h u = (reads-behind (number-moved (v .0) e) (field-form otherField (last-field (v .0) e h) refl ∙ sized-word fieldWord other (λ t k. refl) types _) (u .0), u .1)
 
 -- ---- a result type
-module _ (line : List ℕ) (at types vars : ℕ) {x : Number} (v : ReadsNumber line at x (codePlace 0x00 3 (bytesFrom line at)) × Below 256 x) where
+module _ (line : List ℕ) (at types vars : ℕ) {x : Number} (v : ReadsNumber line at x (codePlace 0x00 3 (bytesFrom line at)) × Below byteRange x) where
   pub result-no-code : {n : ℕ} {s : Step} → x ≡ Refused n → s ≡ stepOf x → Passes line at s (forget (result types vars (bytesFrom line at)))
   unfolding result forget
   result-no-code e d = pass-none e d (ap forget (code-stops 0x00 typeForms (resultBehind types vars) (v .0) e))
@@ -174,7 +174,7 @@ module _ (line : List ℕ) (at types vars : ℕ) {x : Number} (v : ReadsNumber l
     pub result-constant : f .value < 2 → Passes line at (Next (f .next)) (forget (result types vars (bytesFrom line at)))
     result-constant h = pass-here (number-moved (v .0) e) (result-is (f .value) refl h)
 
-    module _ (h : 2 ≤ f .value) {y : Number} (u : ReadsNumber line (f .next .at) y (index types (bytesFrom line (f .next .at))) × Below 256 y) where
+    module _ (h : 2 ≤ f .value) {y : Number} (u : ReadsNumber line (f .next .at) y (index types (bytesFrom line (f .next .at))) × Below byteRange y) where
       abbrev sizedResult : ℕ → Parser ResultType
       sizedResult t = do
         s ← size vars

@@ -4,6 +4,7 @@ pub mod lines;
 ghost use mathlib.Core.Path.{_≡_};
 ghost use mathlib.Core.Bool.{true, false};
 ghost use Prim.Native.Nat.{_<_, _≤_, _^_};
+ghost use Rattle.language.specs.Limits.{byteRange};
 ghost use Rattle.language.specs.Parser.{byte as byteRead, index as indexRead, count as countRead};
 ghost use Rattle.language.specs.ReadExpr.{int as intRead, sizeAt, result as resultRead, plain, declared as declaredRead, field as fieldRead};
 ghost use Rattle.text.specs.Bytes.{digitValue, bytesFrom, ReadsNumber, Passes, Below, stepOf, forget, mapRead, plainWord, declaredWord, fieldWord};
@@ -14,23 +15,12 @@ use language::limits::SIZE_MOST;
 // A named type as a word: its number and one, times this, and its size.
 pub const TYPE_STEP: u32 = 256;
 
-// The value of a hexadecimal digit, upper case; 0 of any other character.
+// The value of an upper-case hexadecimal digit; of any other character some number below 16.
 pub fn digit(c: u8) -> u32
     ensures { λ r. ⌜ (r ≡ digitValue c) × (r < 16) ⌝ }
 {
-    if c < 48 {
-        return 0;
-    }
-    if c <= 57 {
-        return (c - 48) as u32;
-    }
-    if c < 65 {
-        return 0;
-    }
-    if c <= 70 {
-        return (c - 55) as u32;
-    }
-    0
+    let code = c as u32;
+    (code % 16 + 9 * (code / 64)) % 16
 }
 
 // A place in a frame: the number of bytes before it. Each read hands it back moved on.
@@ -71,7 +61,7 @@ pub fn step_of(x: Number) -> Step
 impl Cursor {
     // The next byte; 4 where the line ends.
     pub fn byte(self, line: &[u8]) -> Number
-        ensures { λ r. ⌜ ReadsNumber (now (line .entry)) (self .at) r (byteRead (bytesFrom (now (line .entry)) (self .at))) × Below 256 r ⌝ }
+        ensures { λ r. ⌜ ReadsNumber (now (line .entry)) (self .at) r (byteRead (bytesFrom (now (line .entry)) (self .at))) × Below byteRange r ⌝ }
     {
         let at = self.at;
         if line.len() / 2 <= at {
@@ -88,7 +78,7 @@ impl Cursor {
 
     // An index below a bound; 6 where it is none.
     pub fn index(self, line: &[u8], bound: u32) -> Number
-        ensures { λ r. ⌜ ReadsNumber (now (line .entry)) (self .at) r (indexRead bound (bytesFrom (now (line .entry)) (self .at))) × Below 256 r ⌝ }
+        ensures { λ r. ⌜ ReadsNumber (now (line .entry)) (self .at) r (indexRead bound (bytesFrom (now (line .entry)) (self .at))) × Below byteRange r ⌝ }
     {
         let x = self.byte(line);
         let Number::Is(f) = x else {
@@ -103,7 +93,7 @@ impl Cursor {
 
     // A count from least to most; 7 where it is outside.
     pub fn count(self, line: &[u8], least: u32, most: u32) -> Number
-        ensures { λ r. ⌜ ReadsNumber (now (line .entry)) (self .at) r (countRead least most (bytesFrom (now (line .entry)) (self .at))) × Below 256 r ⌝ }
+        ensures { λ r. ⌜ ReadsNumber (now (line .entry)) (self .at) r (countRead least most (bytesFrom (now (line .entry)) (self .at))) × Below byteRange r ⌝ }
     {
         let x = self.byte(line);
         let Number::Is(f) = x else {
@@ -121,7 +111,7 @@ impl Cursor {
 
     // A code of a set: its place, counted from the first code; 5 where it is none of them.
     pub fn code(self, line: &[u8], first: u32, size: u32) -> Number
-        ensures { λ r. ⌜ ReadsNumber (now (line .entry)) (self .at) r (codePlace first size (bytesFrom (now (line .entry)) (self .at))) × Below 256 r ⌝ }
+        ensures { λ r. ⌜ ReadsNumber (now (line .entry)) (self .at) r (codePlace first size (bytesFrom (now (line .entry)) (self .at))) × Below byteRange r ⌝ }
     {
         let x = self.byte(line);
         let Number::Is(f) = x else {
@@ -141,7 +131,7 @@ impl Cursor {
 
     // The same where it matters whether there is room: 5 comes before 7.
     pub fn code_in(self, line: &[u8], room: bool, first: u32, size: u32) -> Number
-        ensures { λ r. ⌜ ReadsNumber (now (line .entry)) (self .at) r (placeIn room first size (bytesFrom (now (line .entry)) (self .at))) × Below 256 r ⌝ }
+        ensures { λ r. ⌜ ReadsNumber (now (line .entry)) (self .at) r (placeIn room first size (bytesFrom (now (line .entry)) (self .at))) × Below byteRange r ⌝ }
     {
         let x = self.code(line, first, size);
         let Number::Is(_) = x else {

@@ -1,12 +1,12 @@
-// The lines of a text: where each ends, whether its characters spell bytes, and how many there are.
+// The lines of a text: where each ends, whether its characters spell bytes, and whether it is a channel.
 ghost use mathlib.Core.Path.{_≡_};
-ghost use lib.ListN.{drop};
-ghost use Rattle.language.specs.Reader.{digit as digitOf, lineBytes};
+ghost use Prim.Native.Nat.{_+_, _<_};
+ghost use lib.ListN.{length, drop};
 ghost use Rattle.text.specs.Bytes.{bytesOf};
-ghost use Rattle.text.specs.Lines.{firstLine, isSome, channelsOf, judgement};
+ghost use Rattle.text.specs.Lines.{firstLine, digitMarks, digitPairs, lineEnd, channelsOf};
 use super::Cursor;
 use super::Number;
-use language::limits::TEXT_MOST;
+use language::limits::BYTE_RANGE;
 
 // How many lines a text has, and how many of them are channels.
 pub struct Counts {
@@ -18,6 +18,12 @@ pub struct Counts {
 pub enum Judged {
     Lines(Counts),
     Refused(u32, u32),
+}
+
+// Where a line ends, if it is ended by LF and spells bytes.
+pub enum LineEnd {
+    At(usize),
+    Bad,
 }
 
 // The part of the text from a place up to the next LF, or to the end; empty beyond the end.
@@ -37,40 +43,68 @@ pub fn line_at<'a>(text: &'a [u8], at: usize) -> &'a [u8]
     &text[at..end]
 }
 
-// Whether a character is an upper-case hexadecimal digit.
-pub fn is_digit(c: u8) -> bool
-    ensures { λ r. ⌜ r ≡ isSome (digitOf c) ⌝ }
+// For each character 1 where it is an upper-case hexadecimal digit, else 0.
+fn digit_marks() -> [u8; BYTE_RANGE as usize]
+    ensures { λ r. ⌜ r ≡ digitMarks ⌝ }
 {
-    if c < 48 {
-        return false;
-    }
-    if c <= 57 {
-        return true;
-    }
-    if c < 65 {
-        return false;
-    }
-    c <= 70
+    let mut marks = [0u8; BYTE_RANGE as usize];
+    marks[48] = 1;
+    marks[49] = 1;
+    marks[50] = 1;
+    marks[51] = 1;
+    marks[52] = 1;
+    marks[53] = 1;
+    marks[54] = 1;
+    marks[55] = 1;
+    marks[56] = 1;
+    marks[57] = 1;
+    marks[65] = 1;
+    marks[66] = 1;
+    marks[67] = 1;
+    marks[68] = 1;
+    marks[69] = 1;
+    marks[70] = 1;
+    marks
 }
 
-// Whether a line spells bytes: it is not empty, its length is even, and all its characters are digits.
-pub fn spells(line: &[u8]) -> bool
-    ensures { λ r. ⌜ r ≡ isSome (lineBytes (now (line .entry))) ⌝ }
+// Where the pairs of digits end that stand from a place on.
+fn pairs_end(text: &[u8], at: usize) -> usize
+    requires { ⌜ at < length (now text) ⌝ }
+    ensures { λ r. ⌜ r ≡ at + digitPairs (drop at (now (text .entry))) ⌝ }
 {
-    if line.len() == 0 {
-        return false;
-    }
-    if line.len() % 2 == 1 {
-        return false;
-    }
-    let mut i = 0;
-    while i < line.len() {
-        if !is_digit(line[i]) {
-            return false;
+    let digits = digit_marks();
+    let last = text.len() - 1;
+    let mut end = at;
+    while end < last {
+        if digits[text[end] as usize] == 0 {
+            return end;
         }
-        i += 1;
+        if digits[text[end + 1] as usize] == 0 {
+            return end;
+        }
+        end += 2;
     }
-    true
+    end
+}
+
+// Where the line from a place on ends, if it is ended by LF and spells bytes.
+pub fn line_end(text: &[u8], at: usize) -> LineEnd
+    ensures { λ r. ⌜ r ≡ lineEnd (now (text .entry)) at ⌝ }
+{
+    if text.len() <= at {
+        return LineEnd::Bad;
+    }
+    let end = pairs_end(text, at);
+    if text.len() <= end {
+        return LineEnd::Bad;
+    }
+    if text[end] != 10 {
+        return LineEnd::Bad;
+    }
+    if end == at {
+        return LineEnd::Bad;
+    }
+    LineEnd::At(end)
 }
 
 // 1 for a line whose first byte is 03 or 04, an input or a node; 0 for any other.
@@ -89,33 +123,4 @@ pub fn channel(line: &[u8]) -> u32
         return 1;
     }
     0
-}
-
-// Refusal 1 for a text too long, 2 with the first bad line; else the counts of its lines and channels.
-pub fn judge(text: &[u8]) -> Judged
-    ensures { λ r. ⌜ r ≡ judgement (now (text .entry)) ⌝ }
-{
-    if TEXT_MOST < text.len() {
-        return Judged::Refused(1, 0);
-    }
-    let mut at: usize = 0;
-    let mut lines: u32 = 0;
-    let mut channels: u32 = 0;
-    while at < text.len() {
-        let line = line_at(text, at);
-        let end = at + line.len();
-        if text.len() <= end {
-            return Judged::Refused(2, lines + 1);
-        }
-        if !spells(line) {
-            return Judged::Refused(2, lines + 1);
-        }
-        channels += channel(line);
-        lines += 1;
-        at = end + 1;
-    }
-    Judged::Lines(Counts {
-        lines: lines,
-        channels: channels,
-    })
 }

@@ -1,9 +1,13 @@
--- The cycle of functions that pass over an expression meets its contracts: each need is answered by a law of ExprLaws, FormLaws or
+-- The cycle of functions that pass over an expression meets its contracts: each need is answered by a law of SeveralLaws, FormLaws or
 -- CaseLaws; the measure is levels left, then the place in the cycle.
 use Prim.Native.Nat.{ℕ, _<_, _+_, _*_, _-_}
-use mathlib.Core.Path.{sym, _∙_}
+use mathlib.Core.Logic.{⊎-elim}
 use native.Mathlib.Omega.{arith}
-use native.Mathlib.Nat.{pos-of-ne-zero}
+use Rattle.language.specs.Limits.{byteRange}
+use Rattle.passing.specs.ExprLaws.{last-form, fewer-levels}
+use Rattle.passing.specs.SeveralLaws.{SeveralTo, several-start, several-end, several-no-code, code-levels, code-roomy, code-less, several-leaf, several-no-leaf, several-compound, several-no-compound, one-alone}
+use Rattle.passing.specs.FormLaws.{index-less, is-form, is-if, binding-stops, binding-done, operation-stops, operation-done, call-stops, call-done, construct-stops, construct-none, construct-done}
+use Rattle.passing.specs.CaseLaws.{branches-none, branches-stop, branches-done, case-stops, case-subject, case-type, case-done, adjust-stops, adjust-done, fit-stops, fit-subject, fit-arm, fit-done}
 use borrow.Fn.Kinds.{In}
 use borrow.Fn.PlainCycle.{Measures, is, falls, and}
 use Rattle.passing.proofs.adjust.Reads as adjust
@@ -59,11 +63,7 @@ use Rattle.passing.proofs.+adjust+binding+branches+call+case_of+compoun
 use Rattle.passing.proofs.+adjust+binding+branches+call+case_of+compound+construct+expr+fit+operation+several.Tie.{
   close,
 }
-use Rattle.passing.specs.ExprLaws.{expr-narrow, expr-stops, expr-leaf, expr-compound, form-less, roomy-levels, roomy-names, last-form, fewer-levels, negated, affirmed}
-use Rattle.passing.specs.FormLaws.{index-less, is-form, is-if, several-none, several-stops, several-done, binding-stops, binding-done, operation-stops, operation-done, call-stops, call-done, construct-stops, construct-none, construct-done}
-use Rattle.passing.specs.CaseLaws.{branches-none, branches-stop, branches-done, case-stops, case-subject, case-type, case-done, adjust-stops, adjust-done, fit-stops, fit-subject, fit-arm, fit-done}
 
--- levels first, then the place in the cycle; a list by what is left of it
 abbrev μ-adjust : Measures 3 adjust-kinds.ps ℕ
 μ-adjust κs a = a .1 .1 .1 .1 .1 .0 * 1024 + 700
 
@@ -71,7 +71,7 @@ abbrev μ-binding : Measures 3 binding-kinds.ps ℕ
 μ-binding κs a = a .1 .1 .1 .1 .1 .0 * 1024 + 700
 
 abbrev μ-branches : Measures 3 branches-kinds.ps ℕ
-μ-branches κs a = a .1 .1 .1 .1 .1 .0 * 1024 + (300 + (256 - a .1 .1 .1 .1 .1 .1 .1 .0))
+μ-branches κs a = a .1 .1 .1 .1 .1 .0 * 1024 + (300 + (byteRange - a .1 .1 .1 .1 .1 .1 .1 .0))
 
 abbrev μ-call : Measures 3 call-kinds.ps ℕ
 μ-call κs a = a .1 .1 .1 .1 .1 .0 * 1024 + 700
@@ -86,7 +86,7 @@ abbrev μ-construct : Measures 3 construct-kinds.ps ℕ
 μ-construct κs a = a .1 .1 .1 .1 .1 .0 * 1024 + 700
 
 abbrev μ-expr : Measures 3 expr-kinds.ps ℕ
-μ-expr κs a = a .1 .1 .1 .1 .1 .0 * 1024
+μ-expr κs a = a .1 .1 .1 .1 .1 .0 * 1024 + 2
 
 abbrev μ-fit : Measures 3 fit-kinds.ps ℕ
 μ-fit κs a = a .1 .1 .1 .1 .1 .0 * 1024 + 700
@@ -95,7 +95,7 @@ abbrev μ-operation : Measures 3 operation-kinds.ps ℕ
 μ-operation κs a = a .1 .1 .1 .1 .1 .0 * 1024 + 700
 
 abbrev μ-several : Measures 3 several-kinds.ps ℕ
-μ-several κs a = a .1 .1 .1 .1 .1 .0 * 1024 + (1 + a .1 .1 .1 .1 .1 .1 .0)
+μ-several κs a = a .1 .1 .1 .1 .1 .0 * 1024 + 1
 
 abbrev adjust-at : ℕ → In 3 adjust-kinds.ps
 adjust-at t = and 3 adjust-kinds.ps (is 3 adjust-kinds.ps μ-adjust t) adjust.Pre
@@ -1285,201 +1285,13 @@ construct-returns-3 : (t : ℕ) → construct-lts.Need-returns-3 (
 ) (construct-at t) construct.Post
 construct-returns-3 t c = construct-done _ _ _ _ _ _ (c .before .before .before .before .before .before .before .before .before .before .before .before .index .ensures) (c .before .before .before .before .before .before .before .before .before .before .x .given .1) (c .before .before .before .before .before .before .before .constructors .ensures) (c .before .before .before .before .before .before .index2 .ensures) (c .before .before .before .before .y .given .1) (c .before .before .fields .ensures) (c .several .ensures)
 
-expr-roomy-requires : (t : ℕ) → expr-lts.Need-roomy-requires (
-  roomy-reads.Asked,
-  roomy-reads.Learnt,
-  code-in-reads.Asked,
-  code-in-reads.Learnt,
-  step-of-reads.Asked,
-  step-of-reads.Learnt,
-  leaf-reads.Asked,
-  leaf-reads.Learnt,
-  compound-below t,
-  compound.Post,
-) (expr-at t) expr.Post
-expr-roomy-requires t c κs = tt
+expr-several-requires :
+    (t : ℕ) → expr-lts.Need-several-requires (several-below t, several.Post) (expr-at t) expr.Post
+expr-several-requires t c κs = (omega (arith, (c .before .before .before .pre .0)), tt)
 
-expr-code-in-requires : (t : ℕ) → expr-lts.Need-code-in-requires (
-  roomy-reads.Asked,
-  roomy-reads.Learnt,
-  code-in-reads.Asked,
-  code-in-reads.Learnt,
-  step-of-reads.Asked,
-  step-of-reads.Learnt,
-  leaf-reads.Asked,
-  leaf-reads.Learnt,
-  compound-below t,
-  compound.Post,
-) (expr-at t) expr.Post
-expr-code-in-requires t c κs = tt
-
-expr-step-of-requires : (t : ℕ) → expr-lts.Need-step-of-requires (
-  roomy-reads.Asked,
-  roomy-reads.Learnt,
-  code-in-reads.Asked,
-  code-in-reads.Learnt,
-  step-of-reads.Asked,
-  step-of-reads.Learnt,
-  leaf-reads.Asked,
-  leaf-reads.Learnt,
-  compound-below t,
-  compound.Post,
-) (expr-at t) expr.Post
-expr-step-of-requires t c κs = tt
-
-expr-returns : (t : ℕ) → expr-lts.Need-returns (
-  roomy-reads.Asked,
-  roomy-reads.Learnt,
-  code-in-reads.Asked,
-  code-in-reads.Learnt,
-  step-of-reads.Asked,
-  step-of-reads.Learnt,
-  leaf-reads.Asked,
-  leaf-reads.Learnt,
-  compound-below t,
-  compound.Post,
-) (expr-at t) expr.Post
-expr-returns t c = expr-narrow _ _ _ _ _ _ (sym (c .before .before .before .roomy .ensures) ∙ negated _ (c .before .before .if1 .taken)) (c .before .code-in .ensures) (c .step-of .ensures)
-
-expr-code-in-requires-2 : (t : ℕ) → expr-lts.Need-code-in-requires-2 (
-  roomy-reads.Asked,
-  roomy-reads.Learnt,
-  code-in-reads.Asked,
-  code-in-reads.Learnt,
-  step-of-reads.Asked,
-  step-of-reads.Learnt,
-  leaf-reads.Asked,
-  leaf-reads.Learnt,
-  compound-below t,
-  compound.Post,
-) (expr-at t) expr.Post
-expr-code-in-requires-2 t c κs = tt
-
-expr-enum-known-x : (t : ℕ) → expr-lts.Need-enum-known-x (
-  roomy-reads.Asked,
-  roomy-reads.Learnt,
-  code-in-reads.Asked,
-  code-in-reads.Learnt,
-  step-of-reads.Asked,
-  step-of-reads.Learnt,
-  leaf-reads.Asked,
-  leaf-reads.Learnt,
-  compound-below t,
-  compound.Post,
-) (expr-at t) expr.Post
-expr-enum-known-x t c = (c .match .keys1)
-
-expr-enum-told : (t : ℕ) → expr-lts.Need-enum-told (
-  roomy-reads.Asked,
-  roomy-reads.Learnt,
-  code-in-reads.Asked,
-  code-in-reads.Learnt,
-  step-of-reads.Asked,
-  step-of-reads.Learnt,
-  leaf-reads.Asked,
-  leaf-reads.Learnt,
-  compound-below t,
-  compound.Post,
-) (expr-at t) expr.Post
-expr-enum-told t c = (c .match .keys2)
-
-expr-step-of-requires-2 : (t : ℕ) → expr-lts.Need-step-of-requires-2 (
-  roomy-reads.Asked,
-  roomy-reads.Learnt,
-  code-in-reads.Asked,
-  code-in-reads.Learnt,
-  step-of-reads.Asked,
-  step-of-reads.Learnt,
-  leaf-reads.Asked,
-  leaf-reads.Learnt,
-  compound-below t,
-  compound.Post,
-) (expr-at t) expr.Post
-expr-step-of-requires-2 t c κs = tt
-
-expr-returns-2 : (t : ℕ) → expr-lts.Need-returns-2 (
-  roomy-reads.Asked,
-  roomy-reads.Learnt,
-  code-in-reads.Asked,
-  code-in-reads.Learnt,
-  step-of-reads.Asked,
-  step-of-reads.Learnt,
-  leaf-reads.Asked,
-  leaf-reads.Learnt,
-  compound-below t,
-  compound.Post,
-) (expr-at t) expr.Post
-expr-returns-2 t c = expr-stops _ _ _ _ _ _ (sym (c .before .before .before .before .before .roomy .ensures) ∙ affirmed _ (c .before .before .before .before .if1 .left)) (c .before .before .before .code-in2 .ensures) (c .before .enum-told .given .1) (c .step-of2 .ensures)
-
-expr-leaf-requires : (t : ℕ) → expr-lts.Need-leaf-requires (
-  roomy-reads.Asked,
-  roomy-reads.Learnt,
-  code-in-reads.Asked,
-  code-in-reads.Learnt,
-  step-of-reads.Asked,
-  step-of-reads.Learnt,
-  leaf-reads.Asked,
-  leaf-reads.Learnt,
-  compound-below t,
-  compound.Post,
-) (expr-at t) expr.Post
-expr-leaf-requires t c κs = (c .if2 .taken)
-
-expr-returns-3 : (t : ℕ) → expr-lts.Need-returns-3 (
-  roomy-reads.Asked,
-  roomy-reads.Learnt,
-  code-in-reads.Asked,
-  code-in-reads.Learnt,
-  step-of-reads.Asked,
-  step-of-reads.Learnt,
-  leaf-reads.Asked,
-  leaf-reads.Learnt,
-  compound-below t,
-  compound.Post,
-) (expr-at t) expr.Post
-expr-returns-3 t c = expr-leaf _ _ _ _ _ _ (sym (c .before .before .before .before .before .before .before .before .roomy .ensures) ∙ affirmed _ (c .before .before .before .before .before .before .before .if1 .left)) (c .before .before .before .before .before .before .code-in2 .ensures) (c .before .before .before .before .x .given .1) (c .before .if2 .taken) (c .leaf .ensures)
-
-expr-sub-compound : (t : ℕ) → expr-lts.Need-sub-compound (
-  roomy-reads.Asked,
-  roomy-reads.Learnt,
-  code-in-reads.Asked,
-  code-in-reads.Learnt,
-  step-of-reads.Asked,
-  step-of-reads.Learnt,
-  leaf-reads.Asked,
-  leaf-reads.Learnt,
-  compound-below t,
-  compound.Post,
-) (expr-at t) expr.Post
-expr-sub-compound t c = roomy-levels (c .before .before .before .before .before .before .before .before .before .before .before .args .s) (c .before .before .before .before .before .before .before .before .before .before .before .args .levels) (sym (c .before .before .before .before .before .before .before .roomy .ensures) ∙ affirmed _ (c .before .before .before .before .before .before .if1 .left))
-
-expr-compound-requires : (t : ℕ) → expr-lts.Need-compound-requires (
-  roomy-reads.Asked,
-  roomy-reads.Learnt,
-  code-in-reads.Asked,
-  code-in-reads.Learnt,
-  step-of-reads.Asked,
-  step-of-reads.Learnt,
-  leaf-reads.Asked,
-  leaf-reads.Learnt,
-  compound-below t,
-  compound.Post,
-) (expr-at t) expr.Post
-expr-compound-requires t c κs = (fewer-levels (c .before .before .before .before .before .before .before .before .before .before .before .pre .0) (roomy-levels (c .before .before .before .before .before .before .before .before .before .before .before .args .s) (c .before .before .before .before .before .before .before .before .before .before .before .args .levels) (sym (c .before .before .before .before .before .before .before .roomy .ensures) ∙ affirmed _ (c .before .before .before .before .before .before .if1 .left))), (roomy-names (c .before .before .before .before .before .before .before .before .before .before .before .args .s) (c .before .before .before .before .before .before .before .before .before .before .before .args .levels) (sym (c .before .before .before .before .before .before .before .roomy .ensures) ∙ affirmed _ (c .before .before .before .before .before .before .if1 .left)), ((c .if2 .left), form-less (c .before .before .before .before .before .code-in2 .ensures) (c .before .before .before .x .given .1))))
-
-expr-returns-4 : (t : ℕ) → expr-lts.Need-returns-4 (
-  roomy-reads.Asked,
-  roomy-reads.Learnt,
-  code-in-reads.Asked,
-  code-in-reads.Learnt,
-  step-of-reads.Asked,
-  step-of-reads.Learnt,
-  leaf-reads.Asked,
-  leaf-reads.Learnt,
-  compound-below t,
-  compound.Post,
-) (expr-at t) expr.Post
-expr-returns-4 t c = expr-compound _ _ _ _ _ _ (sym (c .before .before .before .before .before .before .before .before .roomy .ensures) ∙ affirmed _ (c .before .before .before .before .before .before .before .if1 .left)) (c .before .before .before .before .before .before .code-in2 .ensures) (c .before .before .before .before .x .given .1) (c .compound .ensures)
+expr-returns :
+    (t : ℕ) → expr-lts.Need-returns (several-below t, several.Post) (expr-at t) expr.Post
+expr-returns t c = one-alone _ _ _ _ _ _ (c .several .ensures)
 
 fit-count-requires : (t : ℕ) → fit-lts.Need-count-requires (
   count-reads.Asked,
@@ -1743,69 +1555,291 @@ operation-returns-2 : (t : ℕ) → operation-lts.Need-returns-2 (
 ) (operation-at t) operation.Post
 operation-returns-2 t c = operation-done _ _ _ _ _ _ (c .before .before .before .before .before .code .ensures) (c .before .before .before .x .given .1) (c .several .ensures)
 
-several-returns : (t : ℕ) → several-lts.Need-returns (
-  expr-below t,
-  expr.Post,
-  several-below t,
-  several.Post,
-) (several-at t) several.Post
-several-returns t c = several-none _ _ _ _ _ _ _ (c .if1 .taken)
+abbrev several-Inv-loop : several-lts.InvT-loop
+several-Inv-loop line types functions s levels n room next₀ i₀ next i = SeveralTo line types functions next₀ s levels n next i
 
-several-expr-requires : (t : ℕ) → several-lts.Need-expr-requires (
-  expr-below t,
-  expr.Post,
-  several-below t,
-  several.Post,
-) (several-at t) several.Post
-several-expr-requires t c κs = (omega (arith, (c .before .before .before .before .pre .0)), tt)
+abbrev several-μ-loop : several-lts.MeasureT-loop
+several-μ-loop line types functions s levels n room next₀ i₀ next i = n - i
+
+several-roomy-requires : (t : ℕ) → several-lts.Need-roomy-requires (
+  roomy-reads.Asked,
+  roomy-reads.Learnt,
+  code-in-reads.Asked,
+  code-in-reads.Learnt,
+  step-of-reads.Asked,
+  step-of-reads.Learnt,
+  leaf-reads.Asked,
+  leaf-reads.Learnt,
+  compound-below t,
+  compound.Post,
+) (several-at t) several.Post several-Inv-loop several-μ-loop
+several-roomy-requires t c κs = tt
+
+several-loop-holds : (t : ℕ) → several-lts.Need-loop-holds (
+  roomy-reads.Asked,
+  roomy-reads.Learnt,
+  code-in-reads.Asked,
+  code-in-reads.Learnt,
+  step-of-reads.Asked,
+  step-of-reads.Learnt,
+  leaf-reads.Asked,
+  leaf-reads.Learnt,
+  compound-below t,
+  compound.Post,
+) (several-at t) several.Post several-Inv-loop several-μ-loop
+several-loop-holds t c = several-start _ _ _ _ _ _ _
+
+several-code-in-requires : (t : ℕ) → several-lts.Need-code-in-requires (
+  roomy-reads.Asked,
+  roomy-reads.Learnt,
+  code-in-reads.Asked,
+  code-in-reads.Learnt,
+  step-of-reads.Asked,
+  step-of-reads.Learnt,
+  leaf-reads.Asked,
+  leaf-reads.Learnt,
+  compound-below t,
+  compound.Post,
+) (several-at t) several.Post several-Inv-loop several-μ-loop
+several-code-in-requires t c κs = tt
 
 several-enum-known-x : (t : ℕ) → several-lts.Need-enum-known-x (
-  expr-below t,
-  expr.Post,
-  several-below t,
-  several.Post,
-) (several-at t) several.Post
+  roomy-reads.Asked,
+  roomy-reads.Learnt,
+  code-in-reads.Asked,
+  code-in-reads.Learnt,
+  step-of-reads.Asked,
+  step-of-reads.Learnt,
+  leaf-reads.Asked,
+  leaf-reads.Learnt,
+  compound-below t,
+  compound.Post,
+) (several-at t) several.Post several-Inv-loop several-μ-loop
 several-enum-known-x t c = (c .match .keys1)
 
 several-enum-told : (t : ℕ) → several-lts.Need-enum-told (
-  expr-below t,
-  expr.Post,
-  several-below t,
-  several.Post,
-) (several-at t) several.Post
+  roomy-reads.Asked,
+  roomy-reads.Learnt,
+  code-in-reads.Asked,
+  code-in-reads.Learnt,
+  step-of-reads.Asked,
+  step-of-reads.Learnt,
+  leaf-reads.Asked,
+  leaf-reads.Learnt,
+  compound-below t,
+  compound.Post,
+) (several-at t) several.Post several-Inv-loop several-μ-loop
 several-enum-told t c = (c .match .keys2)
 
+several-step-of-requires : (t : ℕ) → several-lts.Need-step-of-requires (
+  roomy-reads.Asked,
+  roomy-reads.Learnt,
+  code-in-reads.Asked,
+  code-in-reads.Learnt,
+  step-of-reads.Asked,
+  step-of-reads.Learnt,
+  leaf-reads.Asked,
+  leaf-reads.Learnt,
+  compound-below t,
+  compound.Post,
+) (several-at t) several.Post several-Inv-loop several-μ-loop
+several-step-of-requires t c κs = tt
+
+several-returns : (t : ℕ) → several-lts.Need-returns (
+  roomy-reads.Asked,
+  roomy-reads.Learnt,
+  code-in-reads.Asked,
+  code-in-reads.Learnt,
+  step-of-reads.Asked,
+  step-of-reads.Learnt,
+  leaf-reads.Asked,
+  leaf-reads.Learnt,
+  compound-below t,
+  compound.Post,
+) (several-at t) several.Post several-Inv-loop several-μ-loop
+several-returns t c = several-no-code _ _ _ _ _ _ _ (c .before .before .before .before .before .loop .inv) (c .before .before .before .before .loop-test .taken) (c .before .before .before .before .before .before .roomy .ensures) (c .before .before .before .code-in .ensures) (c .before .enum-told .given .1) (c .step-of .ensures)
+
+several-leaf-requires : (t : ℕ) → several-lts.Need-leaf-requires (
+  roomy-reads.Asked,
+  roomy-reads.Learnt,
+  code-in-reads.Asked,
+  code-in-reads.Learnt,
+  step-of-reads.Asked,
+  step-of-reads.Learnt,
+  leaf-reads.Asked,
+  leaf-reads.Learnt,
+  compound-below t,
+  compound.Post,
+) (several-at t) several.Post several-Inv-loop several-μ-loop
+several-leaf-requires t c κs = (c .if1 .taken)
+
+several-enum-known-y : (t : ℕ) → several-lts.Need-enum-known-y (
+  roomy-reads.Asked,
+  roomy-reads.Learnt,
+  code-in-reads.Asked,
+  code-in-reads.Learnt,
+  step-of-reads.Asked,
+  step-of-reads.Learnt,
+  leaf-reads.Asked,
+  leaf-reads.Learnt,
+  compound-below t,
+  compound.Post,
+) (several-at t) several.Post several-Inv-loop several-μ-loop
+several-enum-known-y t c = (c .match2 .keys1)
+
+several-enum-told-2 : (t : ℕ) → several-lts.Need-enum-told-2 (
+  roomy-reads.Asked,
+  roomy-reads.Learnt,
+  code-in-reads.Asked,
+  code-in-reads.Learnt,
+  step-of-reads.Asked,
+  step-of-reads.Learnt,
+  leaf-reads.Asked,
+  leaf-reads.Learnt,
+  compound-below t,
+  compound.Post,
+) (several-at t) several.Post several-Inv-loop several-μ-loop
+several-enum-told-2 t c = (c .match2 .keys2)
+
 several-returns-2 : (t : ℕ) → several-lts.Need-returns-2 (
-  expr-below t,
-  expr.Post,
-  several-below t,
-  several.Post,
-) (several-at t) several.Post
-several-returns-2 t c = several-stops _ _ _ _ _ _ (c .before .before .expr .ensures) _ (c .before .before .before .if1 .left) (c .enum-told .given .1)
+  roomy-reads.Asked,
+  roomy-reads.Learnt,
+  code-in-reads.Asked,
+  code-in-reads.Learnt,
+  step-of-reads.Asked,
+  step-of-reads.Learnt,
+  leaf-reads.Asked,
+  leaf-reads.Learnt,
+  compound-below t,
+  compound.Post,
+) (several-at t) several.Post several-Inv-loop several-μ-loop
+several-returns-2 t c = several-no-leaf _ _ _ _ _ _ _ (c .before .before .before .before .before .before .before .before .before .before .loop .inv) (c .before .before .before .before .before .before .before .before .before .loop-test .taken) (c .before .before .before .before .before .before .before .before .before .before .before .roomy .ensures) (c .before .before .before .before .before .before .before .before .code-in .ensures) (c .before .before .before .before .before .before .x .given .1) (c .before .before .before .if1 .taken) (c .before .before .leaf .ensures) (c .enum-told2 .given .1)
 
-several-sub-several : (t : ℕ) → several-lts.Need-sub-several (
-  expr-below t,
-  expr.Post,
-  several-below t,
-  several.Post,
-) (several-at t) several.Post
-several-sub-several t c = pos-of-ne-zero (c .before .before .before .before .if1 .left)
+several-sub-compound : (t : ℕ) → several-lts.Need-sub-compound (
+  roomy-reads.Asked,
+  roomy-reads.Learnt,
+  code-in-reads.Asked,
+  code-in-reads.Learnt,
+  step-of-reads.Asked,
+  step-of-reads.Learnt,
+  leaf-reads.Asked,
+  leaf-reads.Learnt,
+  compound-below t,
+  compound.Post,
+) (several-at t) several.Post several-Inv-loop several-μ-loop
+several-sub-compound t c = code-levels _ _ _ _ _ _ _ (c .before .before .before .before .before .before .before .loop .inv) (c .before .before .before .before .before .before .loop-test .taken) (c .before .before .before .before .before .before .before .before .roomy .ensures) (c .before .before .before .before .before .code-in .ensures) (c .before .before .before .x .given .1)
 
-several-several-requires : (t : ℕ) → several-lts.Need-several-requires (
-  expr-below t,
-  expr.Post,
-  several-below t,
-  several.Post,
-) (several-at t) several.Post
-several-several-requires t c κs = (omega (arith, (c .before .before .before .before .before .before .before .before .pre .0), (c .before .before .before .before .if1 .left)), tt)
+several-compound-requires : (t : ℕ) → several-lts.Need-compound-requires (
+  roomy-reads.Asked,
+  roomy-reads.Learnt,
+  code-in-reads.Asked,
+  code-in-reads.Learnt,
+  step-of-reads.Asked,
+  step-of-reads.Learnt,
+  leaf-reads.Asked,
+  leaf-reads.Learnt,
+  compound-below t,
+  compound.Post,
+) (several-at t) several.Post several-Inv-loop several-μ-loop
+several-compound-requires t c κs = (fewer-levels (c .before .before .before .before .before .before .before .before .before .before .before .before .pre .0) (code-levels _ _ _ _ _ _ _ (c .before .before .before .before .before .before .before .loop .inv) (c .before .before .before .before .before .before .loop-test .taken) (c .before .before .before .before .before .before .before .before .roomy .ensures) (c .before .before .before .before .before .code-in .ensures) (c .before .before .before .x .given .1)), (code-roomy _ _ _ _ _ _ _ (c .before .before .before .before .before .before .before .loop .inv) (c .before .before .before .before .before .before .loop-test .taken) (c .before .before .before .before .before .before .before .before .roomy .ensures) (c .before .before .before .before .before .code-in .ensures) (c .before .before .before .x .given .1), ((c .if1 .left), code-less _ _ _ _ _ _ _ (c .before .before .before .before .before .before .before .loop .inv) (c .before .before .before .before .before .before .loop-test .taken) (c .before .before .before .before .before .before .before .before .roomy .ensures) (c .before .before .before .before .before .code-in .ensures) (c .before .before .before .x .given .1))))
+
+several-enum-known-z : (t : ℕ) → several-lts.Need-enum-known-z (
+  roomy-reads.Asked,
+  roomy-reads.Learnt,
+  code-in-reads.Asked,
+  code-in-reads.Learnt,
+  step-of-reads.Asked,
+  step-of-reads.Learnt,
+  leaf-reads.Asked,
+  leaf-reads.Learnt,
+  compound-below t,
+  compound.Post,
+) (several-at t) several.Post several-Inv-loop several-μ-loop
+several-enum-known-z t c = (c .match3 .keys1)
+
+several-enum-told-3 : (t : ℕ) → several-lts.Need-enum-told-3 (
+  roomy-reads.Asked,
+  roomy-reads.Learnt,
+  code-in-reads.Asked,
+  code-in-reads.Learnt,
+  step-of-reads.Asked,
+  step-of-reads.Learnt,
+  leaf-reads.Asked,
+  leaf-reads.Learnt,
+  compound-below t,
+  compound.Post,
+) (several-at t) several.Post several-Inv-loop several-μ-loop
+several-enum-told-3 t c = (c .match3 .keys2)
 
 several-returns-3 : (t : ℕ) → several-lts.Need-returns-3 (
-  expr-below t,
-  expr.Post,
-  several-below t,
-  several.Post,
-) (several-at t) several.Post
-several-returns-3 t c = several-done _ _ _ _ _ _ (c .before .before .before .before .expr .ensures) _ (c .before .before .before .before .before .if1 .left) (c .before .before .x .given .1) (c .several .ensures)
+  roomy-reads.Asked,
+  roomy-reads.Learnt,
+  code-in-reads.Asked,
+  code-in-reads.Learnt,
+  step-of-reads.Asked,
+  step-of-reads.Learnt,
+  leaf-reads.Asked,
+  leaf-reads.Learnt,
+  compound-below t,
+  compound.Post,
+) (several-at t) several.Post several-Inv-loop several-μ-loop
+several-returns-3 t c = several-no-compound _ _ _ _ _ _ _ (c .before .before .before .before .before .before .before .before .before .before .loop .inv) (c .before .before .before .before .before .before .before .before .before .loop-test .taken) (c .before .before .before .before .before .before .before .before .before .before .before .roomy .ensures) (c .before .before .before .before .before .before .before .before .code-in .ensures) (c .before .before .before .before .before .before .x .given .1) (c .before .before .compound .ensures) (c .enum-told3 .given .1)
+
+several-add-i : (t : ℕ) → several-lts.Need-add-i (
+  roomy-reads.Asked,
+  roomy-reads.Learnt,
+  code-in-reads.Asked,
+  code-in-reads.Learnt,
+  step-of-reads.Asked,
+  step-of-reads.Learnt,
+  leaf-reads.Asked,
+  leaf-reads.Learnt,
+  compound-below t,
+  compound.Post,
+) (several-at t) several.Post several-Inv-loop several-μ-loop
+several-add-i t c = omega arith
+
+several-loop-less : (t : ℕ) → several-lts.Need-loop-less (
+  roomy-reads.Asked,
+  roomy-reads.Learnt,
+  code-in-reads.Asked,
+  code-in-reads.Learnt,
+  step-of-reads.Asked,
+  step-of-reads.Learnt,
+  leaf-reads.Asked,
+  leaf-reads.Learnt,
+  compound-below t,
+  compound.Post,
+) (several-at t) several.Post several-Inv-loop several-μ-loop
+several-loop-less t c = omega arith
+
+several-loop-again : (t : ℕ) → several-lts.Need-loop-again (
+  roomy-reads.Asked,
+  roomy-reads.Learnt,
+  code-in-reads.Asked,
+  code-in-reads.Learnt,
+  step-of-reads.Asked,
+  step-of-reads.Learnt,
+  leaf-reads.Asked,
+  leaf-reads.Learnt,
+  compound-below t,
+  compound.Post,
+) (several-at t) several.Post several-Inv-loop several-μ-loop
+several-loop-again t c = ⊎-elim (λ w. several-leaf _ _ _ _ _ _ _ (c .before .before .before .before .before .before .before .loop .inv) (c .before .before .before .before .before .before .loop-test .taken) (c .before .before .before .before .before .before .before .before .roomy .ensures) (c .before .before .before .before .before .code-in .ensures) (c .before .before .before .x .given .1) (w .0 .taken) (w .1 .ensures) (w .3 .given .1) (w .5)) (λ w. several-compound _ _ _ _ _ _ _ (c .before .before .before .before .before .before .before .loop .inv) (c .before .before .before .before .before .before .loop-test .taken) (c .before .before .before .before .before .before .before .before .roomy .ensures) (c .before .before .before .before .before .code-in .ensures) (c .before .before .before .x .given .1) (w .1 .ensures) (w .3 .given .1) (w .5)) (c .if1 .came)
+
+several-returns-4 : (t : ℕ) → several-lts.Need-returns-4 (
+  roomy-reads.Asked,
+  roomy-reads.Learnt,
+  code-in-reads.Asked,
+  code-in-reads.Learnt,
+  step-of-reads.Asked,
+  step-of-reads.Learnt,
+  leaf-reads.Asked,
+  leaf-reads.Learnt,
+  compound-below t,
+  compound.Post,
+) (several-at t) several.Post several-Inv-loop several-μ-loop
+several-returns-4 t c = several-end _ _ _ _ _ _ _ (c .before .loop .inv) (c .loop-test .left)
 
 pub +adjust+binding+branches+call+case-of+compound+construct+expr+fit+operation+several-spec :
     {M : Type 1} → statement M
@@ -1984,34 +2018,12 @@ pub +adjust+binding+branches+call+case-of+compound+construct+expr+fit+operation+
     (construct-fields-requires t)
     (construct-several-requires t)
     (construct-returns-3 t))
-    (λ t. expr-lts.spec (
-      roomy-reads.Asked,
-      roomy-reads.Learnt,
-      code-in-reads.Asked,
-      code-in-reads.Learnt,
-      step-of-reads.Asked,
-      step-of-reads.Learnt,
-      leaf-reads.Asked,
-      leaf-reads.Learnt,
-      compound-below t,
-      compound.Post,
-    )
+    (λ t. expr-lts.spec
+    (several-below t, several.Post)
     (expr-at t)
     expr.Post
-    (expr-roomy-requires t)
-    (expr-code-in-requires t)
-    (expr-step-of-requires t)
-    (expr-returns t)
-    (expr-code-in-requires-2 t)
-    (expr-enum-known-x t)
-    (expr-enum-told t)
-    (expr-step-of-requires-2 t)
-    (expr-returns-2 t)
-    (expr-leaf-requires t)
-    (expr-returns-3 t)
-    (expr-sub-compound t)
-    (expr-compound-requires t)
-    (expr-returns-4 t))
+    (expr-several-requires t)
+    (expr-returns t))
     (λ t. fit-lts.spec (
       count-reads.Asked,
       count-reads.Learnt,
@@ -2057,15 +2069,39 @@ pub +adjust+binding+branches+call+case-of+compound+construct+expr+fit+operation+
     (operation-returns t)
     (operation-several-requires t)
     (operation-returns-2 t))
-    λ t. several-lts.spec
-    (expr-below t, expr.Post, several-below t, several.Post)
+    λ t. several-lts.spec (
+      roomy-reads.Asked,
+      roomy-reads.Learnt,
+      code-in-reads.Asked,
+      code-in-reads.Learnt,
+      step-of-reads.Asked,
+      step-of-reads.Learnt,
+      leaf-reads.Asked,
+      leaf-reads.Learnt,
+      compound-below t,
+      compound.Post,
+    )
     (several-at t)
     several.Post
-    (several-returns t)
-    (several-expr-requires t)
+    several-Inv-loop
+    several-μ-loop
+    (several-roomy-requires t)
+    (several-loop-holds t)
+    (several-code-in-requires t)
     (several-enum-known-x t)
     (several-enum-told t)
+    (several-step-of-requires t)
+    (several-returns t)
+    (several-leaf-requires t)
+    (several-enum-known-y t)
+    (several-enum-told-2 t)
     (several-returns-2 t)
-    (several-sub-several t)
-    (several-several-requires t)
+    (several-sub-compound t)
+    (several-compound-requires t)
+    (several-enum-known-z t)
+    (several-enum-told-3 t)
     (several-returns-3 t)
+    (several-add-i t)
+    (several-loop-less t)
+    (several-loop-again t)
+    (several-returns-4 t)

@@ -1,0 +1,1 @@
+// The lemmas stand in specs/; this crate has no code.

@@ -1,0 +1,982 @@
+// Expressions, arguments, branches and bodies: they call each other, falling by the instances left and by the levels left.
+ghost use Prim.Native.Nat.{suc, _<_, _≤_, _^_};
+ghost use lib.ListN.{length};
+ghost use Rattle.sizing.specs.Sites.{Room};
+ghost use Rattle.sizing.specs.Leaves.{Entered, Operands};
+ghost use Rattle.sizing.specs.Promises.{lent, buffers, Sizes, SizesAll, SizesBranches, SizesBranch, SizesSplits, Enters, EntersNew, ExprPart};
+ghost use Rattle.sizing.specs.Parts.{LetPart, IfPart, OpPart, CallPart, ConPart, CasePart, AdjPart, FitPart, CompoundPart};
+use super::Checked;
+use super::Counting;
+use super::Entering;
+use super::Entry;
+use super::Place;
+use super::Sizing;
+use super::Subject;
+use super::leaves::adjusted;
+use super::leaves::agree;
+use super::leaves::behind;
+use super::leaves::body_place;
+use super::leaves::branched;
+use super::leaves::called;
+use super::leaves::cased;
+use super::leaves::chosen;
+use super::leaves::down;
+use super::leaves::fitted;
+use super::leaves::is_kind;
+use super::leaves::kind_word;
+use super::leaves::larger;
+use super::leaves::leaf;
+use super::leaves::made;
+use super::leaves::moved;
+use super::leaves::none;
+use super::leaves::not_entered;
+use super::leaves::one_more;
+use super::leaves::operated;
+use super::leaves::prepare;
+use super::leaves::refused;
+use super::leaves::slotted;
+use super::leaves::type_in;
+use super::leaves::widen;
+use super::leaves::with_let;
+use estimate::nothing;
+use estimate::one_cell;
+use forms::Form;
+use forms::head_at;
+use index::CHANNEL_WORDS;
+use index::arity;
+use index::constructors;
+use index::fields;
+use index::own_fields;
+use index::put;
+use indexed::frame_line;
+use instances::Search;
+use instances::add;
+use instances::find;
+use instances::finish;
+use language::limits::FIELDS_MOST;
+use language::limits::INSTANCES_MOST;
+use language::limits::SIZE_VARIABLES_MOST;
+use language::limits::VARIABLES_MOST;
+use rows::bind_fields;
+use rows::named_sizes;
+use sizes::SizeAt;
+use sizes::SizedType;
+use sizes::TypeAt;
+use sizes::size_at;
+use sizes::type_at;
+use sizes::word_of;
+use skipping::skip;
+use splits::first_split;
+use splits::next_split;
+
+// An expression.
+pub fn expr(
+    text: &[u8],
+    frames: &[u32],
+    types: &[u32],
+    functions: &[u32],
+    channels: &[u32],
+    list: &mut [u32],
+    scope: &mut [u32],
+    sizes: &mut [u8],
+    p: Place,
+) -> Sizing
+    requires { ⌜ Room (p .levels) (length (now scope)) (length (now sizes)) p ⌝ }
+    ensures { λ r. ⌜ Sizes ExprPart (lent (now (text .entry)) (now (frames .entry)) (now (types .entry)) (now (functions .entry)) (now (channels .entry))) (buffers (now (list .entry)) (now (scope .entry)) (now (sizes .entry))) p r (buffers (now (list .exit)) (now (scope .exit)) (now (sizes .exit))) ⌝ }
+{
+    if p.levels == 0 {
+        return Sizing::Refused(7, p.line + 1);
+    }
+    let at = p.at;
+    let line = frame_line(text, frames, p.line);
+    let h = head_at(line, at);
+    let form = h.form;
+    let next = h.next;
+    let q = down(p, next);
+    match form {
+        Form::Bool(_) => leaf(SizedType::Bool, one_cell(), q),
+        Form::Int(_) => leaf(SizedType::Int, one_cell(), q),
+        Form::Variable(v) => leaf(type_in(scope, v as usize), nothing(), q),
+        Form::Now(c) => leaf(
+            type_in(channels, CHANNEL_WORDS * (c as usize)),
+            nothing(),
+            q,
+        ),
+        Form::Last(c) => leaf(
+            type_in(channels, CHANNEL_WORDS * (c as usize)),
+            nothing(),
+            q,
+        ),
+        _ => compound(
+            text,
+            frames,
+            types,
+            functions,
+            channels,
+            list,
+            scope,
+            sizes,
+            q,
+            form,
+        ),
+    }
+}
+
+// `15` to `1C`; p stands behind the head.
+fn compound(
+    text: &[u8],
+    frames: &[u32],
+    types: &[u32],
+    functions: &[u32],
+    channels: &[u32],
+    list: &mut [u32],
+    scope: &mut [u32],
+    sizes: &mut [u8],
+    p: Place,
+    form: Form,
+) -> Sizing
+    requires { ⌜ Room (suc (p .levels)) (length (now scope)) (length (now sizes)) p ⌝ }
+    requires { ⌜ Operands form ⌝ }
+    ensures { λ r. ⌜ Sizes (CompoundPart form) (lent (now (text .entry)) (now (frames .entry)) (now (types .entry)) (now (functions .entry)) (now (channels .entry))) (buffers (now (list .entry)) (now (scope .entry)) (now (sizes .entry))) p r (buffers (now (list .exit)) (now (scope .exit)) (now (sizes .exit))) ⌝ }
+{
+    match form {
+        Form::Let => binding(
+            text,
+            frames,
+            types,
+            functions,
+            channels,
+            list,
+            scope,
+            sizes,
+            p,
+        ),
+        Form::If => choice(
+            text,
+            frames,
+            types,
+            functions,
+            channels,
+            list,
+            scope,
+            sizes,
+            p,
+        ),
+        Form::Operator(o) => operation(
+            text,
+            frames,
+            types,
+            functions,
+            channels,
+            list,
+            scope,
+            sizes,
+            p,
+            o,
+        ),
+        Form::Call(f) => call(
+            text,
+            frames,
+            types,
+            functions,
+            channels,
+            list,
+            scope,
+            sizes,
+            p,
+            f,
+        ),
+        Form::Construct(t, c) => construct(
+            text,
+            frames,
+            types,
+            functions,
+            channels,
+            list,
+            scope,
+            sizes,
+            p,
+            t,
+            c,
+        ),
+        Form::Case(t) => case_of(
+            text,
+            frames,
+            types,
+            functions,
+            channels,
+            list,
+            scope,
+            sizes,
+            p,
+            t,
+        ),
+        Form::Adjust => adjust(
+            text,
+            frames,
+            types,
+            functions,
+            channels,
+            list,
+            scope,
+            sizes,
+            p,
+        ),
+        Form::Fit(k) => fit(
+            text,
+            frames,
+            types,
+            functions,
+            channels,
+            list,
+            scope,
+            sizes,
+            p,
+            k,
+        ),
+        _ => Sizing::Refused(5, p.line + 1),
+    }
+}
+
+// `15`: a let.
+fn binding(
+    text: &[u8],
+    frames: &[u32],
+    types: &[u32],
+    functions: &[u32],
+    channels: &[u32],
+    list: &mut [u32],
+    scope: &mut [u32],
+    sizes: &mut [u8],
+    p: Place,
+) -> Sizing
+    requires { ⌜ Room (suc (p .levels)) (length (now scope)) (length (now sizes)) p ⌝ }
+    ensures { λ r. ⌜ Sizes LetPart (lent (now (text .entry)) (now (frames .entry)) (now (types .entry)) (now (functions .entry)) (now (channels .entry))) (buffers (now (list .entry)) (now (scope .entry)) (now (sizes .entry))) p r (buffers (now (list .exit)) (now (scope .exit)) (now (sizes .exit))) ⌝ }
+{
+    let x = expr(
+        text,
+        frames,
+        types,
+        functions,
+        channels,
+        list,
+        scope,
+        sizes,
+        p,
+    );
+    let Sizing::Is(a) = x else {
+        return x;
+    };
+    put(scope, p.variables as usize, kind_word(a));
+    let q = widen(behind(p, a), 1, 0);
+    let y = expr(
+        text,
+        frames,
+        types,
+        functions,
+        channels,
+        list,
+        scope,
+        sizes,
+        q,
+    );
+    let Sizing::Is(b) = y else {
+        return y;
+    };
+    with_let(a, b)
+}
+
+// `16`: an if, whose arms agree.
+fn choice(
+    text: &[u8],
+    frames: &[u32],
+    types: &[u32],
+    functions: &[u32],
+    channels: &[u32],
+    list: &mut [u32],
+    scope: &mut [u32],
+    sizes: &mut [u8],
+    p: Place,
+) -> Sizing
+    requires { ⌜ Room (suc (p .levels)) (length (now scope)) (length (now sizes)) p ⌝ }
+    ensures { λ r. ⌜ Sizes IfPart (lent (now (text .entry)) (now (frames .entry)) (now (types .entry)) (now (functions .entry)) (now (channels .entry))) (buffers (now (list .entry)) (now (scope .entry)) (now (sizes .entry))) p r (buffers (now (list .exit)) (now (scope .exit)) (now (sizes .exit))) ⌝ }
+{
+    let x = expr(
+        text,
+        frames,
+        types,
+        functions,
+        channels,
+        list,
+        scope,
+        sizes,
+        p,
+    );
+    let Sizing::Is(a) = x else {
+        return x;
+    };
+    let y = expr(
+        text,
+        frames,
+        types,
+        functions,
+        channels,
+        list,
+        scope,
+        sizes,
+        behind(p, a),
+    );
+    let Sizing::Is(b) = y else {
+        return y;
+    };
+    let z = expr(
+        text,
+        frames,
+        types,
+        functions,
+        channels,
+        list,
+        scope,
+        sizes,
+        behind(p, b),
+    );
+    let Sizing::Is(d) = z else {
+        return z;
+    };
+    if !agree(d, b) {
+        return Sizing::Refused(11, p.line + 1);
+    }
+    chosen(a, b, d)
+}
+
+// `17`: an operator and its operands.
+fn operation(
+    text: &[u8],
+    frames: &[u32],
+    types: &[u32],
+    functions: &[u32],
+    channels: &[u32],
+    list: &mut [u32],
+    scope: &mut [u32],
+    sizes: &mut [u8],
+    p: Place,
+    o: u32,
+) -> Sizing
+    requires { ⌜ Room (suc (p .levels)) (length (now scope)) (length (now sizes)) p ⌝ }
+    ensures { λ r. ⌜ Sizes (OpPart o) (lent (now (text .entry)) (now (frames .entry)) (now (types .entry)) (now (functions .entry)) (now (channels .entry))) (buffers (now (list .entry)) (now (scope .entry)) (now (sizes .entry))) p r (buffers (now (list .exit)) (now (scope .exit)) (now (sizes .exit))) ⌝ }
+{
+    let x = expr(
+        text,
+        frames,
+        types,
+        functions,
+        channels,
+        list,
+        scope,
+        sizes,
+        p,
+    );
+    let Sizing::Is(a) = x else {
+        return x;
+    };
+    let y = expr(
+        text,
+        frames,
+        types,
+        functions,
+        channels,
+        list,
+        scope,
+        sizes,
+        behind(p, a),
+    );
+    let Sizing::Is(b) = y else {
+        return y;
+    };
+    operated(o, a, b)
+}
+
+// Arguments or fields from number i of n on; the words of their types go into a row.
+fn several(
+    text: &[u8],
+    frames: &[u32],
+    types: &[u32],
+    functions: &[u32],
+    channels: &[u32],
+    list: &mut [u32],
+    scope: &mut [u32],
+    sizes: &mut [u8],
+    p: Place,
+    row: &mut [u32],
+    i: u32,
+    n: u32,
+) -> Counting
+    requires { ⌜ Room (suc (p .levels)) (length (now scope)) (length (now sizes)) p ⌝ }
+    requires { ⌜ n < 2 ^ 8 ⌝ }
+    ensures { λ r. ⌜ SizesAll (lent (now (text .entry)) (now (frames .entry)) (now (types .entry)) (now (functions .entry)) (now (channels .entry))) (buffers (now (list .entry)) (now (scope .entry)) (now (sizes .entry))) p i n (now (row .entry)) r (buffers (now (list .exit)) (now (scope .exit)) (now (sizes .exit))) (now (row .exit)) ⌝ }
+{
+    if n <= i {
+        return none(p);
+    }
+    let x = expr(
+        text,
+        frames,
+        types,
+        functions,
+        channels,
+        list,
+        scope,
+        sizes,
+        p,
+    );
+    match x {
+        Sizing::Refused(m, frame) => Counting::Refused(m, frame),
+        Sizing::Is(a) => {
+            put(row, i as usize, kind_word(a));
+            let y = several(
+                text,
+                frames,
+                types,
+                functions,
+                channels,
+                list,
+                scope,
+                sizes,
+                behind(p, a),
+                row,
+                i + 1,
+                n,
+            );
+            let Counting::Are(b) = y else {
+                return y;
+            };
+            one_more(a, b)
+        }
+    }
+}
+
+// `18`: a call and its arguments, which are the scope of its body.
+fn call(
+    text: &[u8],
+    frames: &[u32],
+    types: &[u32],
+    functions: &[u32],
+    channels: &[u32],
+    list: &mut [u32],
+    scope: &mut [u32],
+    sizes: &mut [u8],
+    p: Place,
+    f: u32,
+) -> Sizing
+    requires { ⌜ Room (suc (p .levels)) (length (now scope)) (length (now sizes)) p ⌝ }
+    requires { ⌜ f < 2 ^ 8 ⌝ }
+    ensures { λ r. ⌜ Sizes (CallPart f) (lent (now (text .entry)) (now (frames .entry)) (now (types .entry)) (now (functions .entry)) (now (channels .entry))) (buffers (now (list .entry)) (now (scope .entry)) (now (sizes .entry))) p r (buffers (now (list .exit)) (now (scope .exit)) (now (sizes .exit))) ⌝ }
+{
+    let n = arity(functions, f);
+    let mut inner = [0u32; VARIABLES_MOST as usize];
+    let mut named = [0u8; SIZE_VARIABLES_MOST as usize];
+    let x = several(
+        text,
+        frames,
+        types,
+        functions,
+        channels,
+        list,
+        scope,
+        sizes,
+        p,
+        &mut inner,
+        0,
+        n,
+    );
+    let Counting::Are(a) = x else {
+        return refused(x);
+    };
+    let m = named_sizes(&inner, n, &mut named);
+    let next = a.next;
+    let q = moved(p, next, a.used);
+    let y = prepare(text, frames, functions, &named, q, f, n, m);
+    let Entering::Ready(e) = y else {
+        return not_entered(y);
+    };
+    let z = enter(
+        text,
+        frames,
+        types,
+        functions,
+        channels,
+        list,
+        &mut inner,
+        &mut named,
+        q,
+        e,
+    );
+    let Sizing::Is(b) = z else {
+        return z;
+    };
+    called(n, a, b)
+}
+
+// The numbers of an instance: those found in the list, or of its body.
+fn enter(
+    text: &[u8],
+    frames: &[u32],
+    types: &[u32],
+    functions: &[u32],
+    channels: &[u32],
+    list: &mut [u32],
+    scope: &mut [u32],
+    sizes: &mut [u8],
+    p: Place,
+    e: Entry,
+) -> Sizing
+    requires { ⌜ Room (suc (p .levels)) (length (now scope)) (length (now sizes)) p ⌝ }
+    requires { ⌜ Entered e ⌝ }
+    ensures { λ r. ⌜ Enters e (lent (now (text .entry)) (now (frames .entry)) (now (types .entry)) (now (functions .entry)) (now (channels .entry))) (buffers (now (list .entry)) (now (scope .entry)) (now (sizes .entry))) p r (buffers (now (list .exit)) (now (scope .exit)) (now (sizes .exit))) ⌝ }
+{
+    let x = find(list, p.used, e.function, sizes);
+    let kind = e.kind;
+    match x {
+        Search::Found(numbers) => leaf(kind, numbers, p),
+        Search::Absent => body(
+            text,
+            frames,
+            types,
+            functions,
+            channels,
+            list,
+            scope,
+            sizes,
+            p,
+            e,
+        ),
+    }
+}
+
+// A body entered for the first time at its sizes: its record is added on entry, and filled in when it has been checked.
+fn body(
+    text: &[u8],
+    frames: &[u32],
+    types: &[u32],
+    functions: &[u32],
+    channels: &[u32],
+    list: &mut [u32],
+    scope: &mut [u32],
+    sizes: &mut [u8],
+    p: Place,
+    e: Entry,
+) -> Sizing
+    requires { ⌜ Room (suc (p .levels)) (length (now scope)) (length (now sizes)) p ⌝ }
+    requires { ⌜ Entered e ⌝ }
+    ensures { λ r. ⌜ EntersNew e (lent (now (text .entry)) (now (frames .entry)) (now (types .entry)) (now (functions .entry)) (now (channels .entry))) (buffers (now (list .entry)) (now (scope .entry)) (now (sizes .entry))) p r (buffers (now (list .exit)) (now (scope .exit)) (now (sizes .exit))) ⌝ }
+{
+    if INSTANCES_MOST <= p.used as usize {
+        return Sizing::Refused(14, p.line + 1);
+    }
+    add(list, p.used, e.function, sizes);
+    let q = body_place(functions, p, e);
+    let x = expr(
+        text,
+        frames,
+        types,
+        functions,
+        channels,
+        list,
+        scope,
+        sizes,
+        q,
+    );
+    let Sizing::Is(a) = x else {
+        return x;
+    };
+    let kind = e.kind;
+    if !is_kind(a, kind) {
+        return Sizing::Refused(11, q.line + 1);
+    }
+    let numbers = a.numbers;
+    finish(list, p.used, numbers);
+    let at = p.at;
+    leaf(kind, numbers, moved(p, at, a.used))
+}
+
+// `19`: a constructor and its fields.
+fn construct(
+    text: &[u8],
+    frames: &[u32],
+    types: &[u32],
+    functions: &[u32],
+    channels: &[u32],
+    list: &mut [u32],
+    scope: &mut [u32],
+    sizes: &mut [u8],
+    p: Place,
+    t: u32,
+    c: u32,
+) -> Sizing
+    requires { ⌜ Room (suc (p .levels)) (length (now scope)) (length (now sizes)) p ⌝ }
+    requires { ⌜ (t < 2 ^ 8) × (c < 2 ^ 8) ⌝ }
+    ensures { λ r. ⌜ Sizes (ConPart t c) (lent (now (text .entry)) (now (frames .entry)) (now (types .entry)) (now (functions .entry)) (now (channels .entry))) (buffers (now (list .entry)) (now (scope .entry)) (now (sizes .entry))) p r (buffers (now (list .exit)) (now (scope .exit)) (now (sizes .exit))) ⌝ }
+{
+    let n = fields(types, t, c);
+    let mut row = [0u32; FIELDS_MOST];
+    let x = several(
+        text,
+        frames,
+        types,
+        functions,
+        channels,
+        list,
+        scope,
+        sizes,
+        p,
+        &mut row,
+        0,
+        n,
+    );
+    let Counting::Are(a) = x else {
+        return refused(x);
+    };
+    made(types, &row, p, a, t, c)
+}
+
+// `1A`: a case over type t: its subject, its return type, its branches.
+fn case_of(
+    text: &[u8],
+    frames: &[u32],
+    types: &[u32],
+    functions: &[u32],
+    channels: &[u32],
+    list: &mut [u32],
+    scope: &mut [u32],
+    sizes: &mut [u8],
+    p: Place,
+    t: u32,
+) -> Sizing
+    requires { ⌜ Room (suc (p .levels)) (length (now scope)) (length (now sizes)) p ⌝ }
+    requires { ⌜ t < 2 ^ 8 ⌝ }
+    ensures { λ r. ⌜ Sizes (CasePart t) (lent (now (text .entry)) (now (frames .entry)) (now (types .entry)) (now (functions .entry)) (now (channels .entry))) (buffers (now (list .entry)) (now (scope .entry)) (now (sizes .entry))) p r (buffers (now (list .exit)) (now (scope .exit)) (now (sizes .exit))) ⌝ }
+{
+    let x = expr(
+        text,
+        frames,
+        types,
+        functions,
+        channels,
+        list,
+        scope,
+        sizes,
+        p,
+    );
+    let Sizing::Is(a) = x else {
+        return x;
+    };
+    let kind = a.kind;
+    let SizedType::Named(_, m) = kind else {
+        return Sizing::Refused(9, p.line + 1);
+    };
+    let written = a.next;
+    let line = frame_line(text, frames, p.line);
+    let y = type_at(line, written, sizes);
+    let TypeAt::Is(wanted, next) = y else {
+        return Sizing::Refused(10, p.line + 1);
+    };
+    let s = Subject {
+        of: t,
+        size: m,
+        kind: wanted,
+    };
+    let q = moved(p, next, a.used);
+    let z = branches(
+        text,
+        frames,
+        types,
+        functions,
+        channels,
+        list,
+        scope,
+        sizes,
+        q,
+        s,
+        0,
+    );
+    let Sizing::Is(b) = z else {
+        return z;
+    };
+    cased(a, b)
+}
+
+// The branches of a case from constructor k on.
+fn branches(
+    text: &[u8],
+    frames: &[u32],
+    types: &[u32],
+    functions: &[u32],
+    channels: &[u32],
+    list: &mut [u32],
+    scope: &mut [u32],
+    sizes: &mut [u8],
+    p: Place,
+    s: Subject,
+    k: u32,
+) -> Sizing
+    requires { ⌜ Room (suc (p .levels)) (length (now scope)) (length (now sizes)) p ⌝ }
+    requires { ⌜ (s .of < 2 ^ 8) × (k ≤ 2 ^ 8) ⌝ }
+    ensures { λ r. ⌜ SizesBranches s k (lent (now (text .entry)) (now (frames .entry)) (now (types .entry)) (now (functions .entry)) (now (channels .entry))) (buffers (now (list .entry)) (now (scope .entry)) (now (sizes .entry))) p r (buffers (now (list .exit)) (now (scope .exit)) (now (sizes .exit))) ⌝ }
+{
+    if constructors(types, s.of) <= k {
+        let kind = s.kind;
+        return leaf(kind, nothing(), p);
+    }
+    let x = branch(
+        text,
+        frames,
+        types,
+        functions,
+        channels,
+        list,
+        scope,
+        sizes,
+        p,
+        s,
+        k,
+    );
+    let Sizing::Is(a) = x else {
+        return x;
+    };
+    let y = branches(
+        text,
+        frames,
+        types,
+        functions,
+        channels,
+        list,
+        scope,
+        sizes,
+        behind(p, a),
+        s,
+        k + 1,
+    );
+    let Sizing::Is(b) = y else {
+        return y;
+    };
+    branched(a, b)
+}
+
+// One branch: it is skipped where the subject is too small for its constructor, else checked for every split.
+fn branch(
+    text: &[u8],
+    frames: &[u32],
+    types: &[u32],
+    functions: &[u32],
+    channels: &[u32],
+    list: &mut [u32],
+    scope: &mut [u32],
+    sizes: &mut [u8],
+    p: Place,
+    s: Subject,
+    k: u32,
+) -> Sizing
+    requires { ⌜ Room (suc (p .levels)) (length (now scope)) (length (now sizes)) p ⌝ }
+    requires { ⌜ (s .of < 2 ^ 8) × (k < 2 ^ 8) ⌝ }
+    ensures { λ r. ⌜ SizesBranch s k (lent (now (text .entry)) (now (frames .entry)) (now (types .entry)) (now (functions .entry)) (now (channels .entry))) (buffers (now (list .entry)) (now (scope .entry)) (now (sizes .entry))) p r (buffers (now (list .exit)) (now (scope .exit)) (now (sizes .exit))) ⌝ }
+{
+    let own = own_fields(types, s.of, k);
+    let m = s.size;
+    if (m as u32) <= own {
+        let at = p.at;
+        let kind = s.kind;
+        let line = frame_line(text, frames, p.line);
+        let next = skip(line, types, functions, at, p.levels);
+        return leaf(kind, nothing(), moved(p, next, p.used));
+    }
+    first_split(sizes, p.sizes as usize, own, m - 1);
+    at_splits(
+        text,
+        frames,
+        types,
+        functions,
+        channels,
+        list,
+        scope,
+        sizes,
+        p,
+        s,
+        k,
+    )
+}
+
+// A branch for every split from the one on that stands among the sizes.
+fn at_splits(
+    text: &[u8],
+    frames: &[u32],
+    types: &[u32],
+    functions: &[u32],
+    channels: &[u32],
+    list: &mut [u32],
+    scope: &mut [u32],
+    sizes: &mut [u8],
+    p: Place,
+    s: Subject,
+    k: u32,
+) -> Sizing
+    requires { ⌜ Room (suc (p .levels)) (length (now scope)) (length (now sizes)) p ⌝ }
+    requires { ⌜ (s .of < 2 ^ 8) × (k < 2 ^ 8) ⌝ }
+    ensures { λ r. ⌜ SizesSplits s k (lent (now (text .entry)) (now (frames .entry)) (now (types .entry)) (now (functions .entry)) (now (channels .entry))) (buffers (now (list .entry)) (now (scope .entry)) (now (sizes .entry))) p r (buffers (now (list .exit)) (now (scope .exit)) (now (sizes .exit))) ⌝ }
+{
+    let n = fields(types, s.of, k);
+    let own = own_fields(types, s.of, k);
+    let at = p.at;
+    let kind = s.kind;
+    let mut all = Checked {
+        kind: kind,
+        numbers: nothing(),
+        next: at,
+        used: p.used,
+    };
+    let mut more = true;
+    while more {
+        bind_fields(types, scope, sizes, s.of, k, p.variables, p.sizes);
+        let q = widen(moved(p, at, all.used), n, own);
+        let x = expr(
+            text,
+            frames,
+            types,
+            functions,
+            channels,
+            list,
+            scope,
+            sizes,
+            q,
+        );
+        let Sizing::Is(a) = x else {
+            return x;
+        };
+        if !is_kind(a, kind) {
+            return Sizing::Refused(11, p.line + 1);
+        }
+        all = larger(all, a);
+        more = next_split(sizes, p.sizes as usize, own);
+    }
+    slotted(n, all)
+}
+
+// `1B`: a written size, and the expression that it adjusts, which never lowers.
+fn adjust(
+    text: &[u8],
+    frames: &[u32],
+    types: &[u32],
+    functions: &[u32],
+    channels: &[u32],
+    list: &mut [u32],
+    scope: &mut [u32],
+    sizes: &mut [u8],
+    p: Place,
+) -> Sizing
+    requires { ⌜ Room (suc (p .levels)) (length (now scope)) (length (now sizes)) p ⌝ }
+    ensures { λ r. ⌜ Sizes AdjPart (lent (now (text .entry)) (now (frames .entry)) (now (types .entry)) (now (functions .entry)) (now (channels .entry))) (buffers (now (list .entry)) (now (scope .entry)) (now (sizes .entry))) p r (buffers (now (list .exit)) (now (scope .exit)) (now (sizes .exit))) ⌝ }
+{
+    let at = p.at;
+    let line = frame_line(text, frames, p.line);
+    let s = size_at(line, at, sizes);
+    let SizeAt::Is(k, next) = s else {
+        return Sizing::Refused(10, p.line + 1);
+    };
+    let q = moved(p, next, p.used);
+    let x = expr(
+        text,
+        frames,
+        types,
+        functions,
+        channels,
+        list,
+        scope,
+        sizes,
+        q,
+    );
+    let Sizing::Is(a) = x else {
+        return x;
+    };
+    let kind = a.kind;
+    let SizedType::Named(t, j) = kind else {
+        return Sizing::Refused(9, p.line + 1);
+    };
+    if k < j {
+        return Sizing::Refused(11, p.line + 1);
+    }
+    adjusted(t, k, a)
+}
+
+// `1C`: a fit: the subject, the arm where it fits with a variable of size k, the other arm.
+fn fit(
+    text: &[u8],
+    frames: &[u32],
+    types: &[u32],
+    functions: &[u32],
+    channels: &[u32],
+    list: &mut [u32],
+    scope: &mut [u32],
+    sizes: &mut [u8],
+    p: Place,
+    k: u32,
+) -> Sizing
+    requires { ⌜ Room (suc (p .levels)) (length (now scope)) (length (now sizes)) p ⌝ }
+    requires { ⌜ k < 2 ^ 8 ⌝ }
+    ensures { λ r. ⌜ Sizes (FitPart k) (lent (now (text .entry)) (now (frames .entry)) (now (types .entry)) (now (functions .entry)) (now (channels .entry))) (buffers (now (list .entry)) (now (scope .entry)) (now (sizes .entry))) p r (buffers (now (list .exit)) (now (scope .exit)) (now (sizes .exit))) ⌝ }
+{
+    let x = expr(
+        text,
+        frames,
+        types,
+        functions,
+        channels,
+        list,
+        scope,
+        sizes,
+        p,
+    );
+    let Sizing::Is(a) = x else {
+        return x;
+    };
+    let kind = a.kind;
+    let SizedType::Named(t, _) = kind else {
+        return Sizing::Refused(9, p.line + 1);
+    };
+    put(
+        scope,
+        p.variables as usize,
+        word_of(SizedType::Named(t, k as u8)),
+    );
+    let q = widen(behind(p, a), 1, 0);
+    let y = expr(
+        text,
+        frames,
+        types,
+        functions,
+        channels,
+        list,
+        scope,
+        sizes,
+        q,
+    );
+    let Sizing::Is(b) = y else {
+        return y;
+    };
+    let z = expr(
+        text,
+        frames,
+        types,
+        functions,
+        channels,
+        list,
+        scope,
+        sizes,
+        behind(p, b),
+    );
+    let Sizing::Is(d) = z else {
+        return z;
+    };
+    if !agree(d, b) {
+        return Sizing::Refused(11, p.line + 1);
+    }
+    fitted(a, b, d)
+}

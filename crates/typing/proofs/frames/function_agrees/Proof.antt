@@ -1,0 +1,63 @@
+-- A function's body is of its result type where the check of an expression says so.
+use borrow.Author.Needs.{needs}
+use native.Mathlib.Omega.{arith}
+use Rattle.typing.specs.FrameLaws.{function-fits}
+use Rattle.typing.proofs.frames.function_agrees.Statement.{statement}
+use Rattle.typing.proofs.frames.function_agrees.Tie as tie
+
+arity-requires : tie.Need-arity-requires
+arity-requires c κs = search needs
+
+slice-aggregate-enter : tie.Need-slice-aggregate-enter
+slice-aggregate-enter c = search needs
+
+enter-requires : tie.Need-enter-requires
+enter-requires c κs = search needs
+
+mul-word-at : tie.Need-mul-word-at
+mul-word-at c = search needs
+
+add-word-at : tie.Need-add-word-at
+add-word-at c = search needs
+
+word-at-requires : tie.Need-word-at-requires
+word-at-requires c κs = search needs
+
+cast-at : tie.Need-cast-at
+cast-at c = search needs
+
+line-of-requires : tie.Need-line-of-requires
+line-of-requires c κs = search needs
+
+returned-requires : tie.Need-returned-requires
+returned-requires c κs = search needs
+
+slice-aggregate-expect : tie.Need-slice-aggregate-expect
+slice-aggregate-expect c = search needs
+
+expect-requires : tie.Need-expect-requires
+expect-requires c κs = omega (arith, (c .before .before .before .before .before .before .before .arity .ensures .1))
+
+is-typed-requires : tie.Need-is-typed-requires
+is-typed-requires c κs = search needs
+
+returns : tie.Need-returns
+returns c = function-fits _ _ _ _ _ _ _ (c .before .before .before .before .before .before .before .before .before .before .arity .ensures) _ (c .before .before .before .before .before .before .before .before .enter .ensures) (omega arith) (c .before .before .before .before .before .before .word-at .ensures) (c .before .before .before .before .before .line-of .ensures) (c .before .before .before .before .returned .ensures) (c .before .before .expect .ensures) (c .is-typed .ensures)
+
+pub function-agrees-spec : {M : Type 1} → statement M
+function-agrees-spec =
+    tie.close
+    (tie.spec
+    arity-requires
+    slice-aggregate-enter
+    enter-requires
+    mul-word-at
+    add-word-at
+    word-at-requires
+    cast-at
+    line-of-requires
+    returned-requires
+    slice-aggregate-expect
+    expect-requires
+    is-typed-requires
+    returns)

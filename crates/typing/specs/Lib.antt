@@ -1,0 +1,16 @@
+pub mod Agrees
+pub mod Words
+pub mod Asks
+pub mod MadePlaces
+pub mod Initials
+pub mod WordLaws
+pub mod EnterLaws
+pub mod ReadLaws
+pub mod PlainLaws
+pub mod FormLaws
+pub mod ListLaws
+pub mod ExprLaws
+pub mod InitialLaws
+pub mod Verdicts
+pub mod FrameLaws
+pub mod JudgeLaws

@@ -1,0 +1,371 @@
+-- The forms with lists of expressions, return by return: arguments, fields and branches one after the other.
+use Prim.Native.Nat.{ℕ, zero, suc, _+_, _-_, _*_, _%_, _<_}
+use mathlib.Core.List.{List, [], _∷_, _++_, map, head-eq-of-cons-eq, tail-eq-of-cons-eq}
+use mathlib.Core.Bool.{true}
+use mathlib.Core.Option.{Option, some}
+use mathlib.Core.Path.{_≡_, refl, sym, ap, ap₂, _∙_, subst}
+use native.Mathlib.Omega.{arith}
+use native.Mathlib.Nat.{zero-add, add-zero}
+use native.Mathlib.Numerals.{add-one}
+use lib.ListN.{length, getD, drop, length-map, length-drop}
+use lib.Seq.{drop-cons}
+use Rattle.language.specs.Result.{both, when}
+use Rattle.language.specs.Syntax.{Field, Constructor, TypeDef, owns, Plain, pnamed, Expr, Exprs, enil, econs, File, constructorsOf}
+use Rattle.language.specs.Format.{resultBytes, exprBytes, exprsBytes}
+use Rattle.language.specs.Scope.{Scope, wider}
+use Rattle.language.specs.Within.{All, all-nil, all-cons, WithinField, WithinType, WithinTypes, wt-nil, wt-cons, WithinExpr, WithinExprs, ws-nil, ws-cons, WithinBranches, wb-nil, wb-cons}
+use Rattle.language.specs.Layout.{tagStep}
+use Rattle.language.specs.PlainTypes.{plainField, plainFields, plainResult, isPlain, arePlain, plainOf, plainsOf, plainBranches}
+use Rattle.theory.specs.Alls.{all-at}
+use Rattle.theory.specs.Places.{look-at}
+use Rattle.text.specs.Bytes.{plainWord, fieldWord}
+use Rattle.index.specs.Tables.{typeWords, constructorWords, functionWords}
+use Rattle.spelling.specs.Spells.{Spells}
+use Rattle.spelling.specs.ExprLists.{first-of-exprs}
+use Rattle.spelling.specs.FrameSpells.{lineAt}
+use Rattle.skipping.specs.HeadLaws.{count-same}
+use Rattle.skipping.specs.PartLaws.{none-long, more-long}
+use Rattle.indexed.specs.Indexed.{framePart, Indexed}
+use Rattle.typing.specs.declared.words.Typed.{Typed}
+use Rattle.typing.specs.declared.words.Typing.{Typing}
+use Rattle.typing.specs.declared.words.Typing.the-variants.{Is, Wrong}
+use Rattle.typing.specs.declared.words.Want.the-variants.{Parameters, Fields}
+use Rattle.typing.specs.declared.exprs.Place.{Place}
+use Rattle.typing.specs.declared.exprs.Series.{Series}
+use Rattle.typing.specs.declared.exprs.BranchSeries.{BranchSeries}
+use Rattle.typing.specs.Words.{namedWord, ownOrOther, wantedWord, entered, ReadsResult, Returns}
+use Rattle.typing.specs.Agrees.{Agrees, typed-is, typed-there, agrees-as, wrong, answered, chain-some, when-true, when-false, both-first, both-not}
+use Rattle.typing.specs.Asks.{movedTo, widerBy, Kept, Stage, Part, AskSeveral, AskCase, AskBranches, TypesWant, TypesCall, TypesCon, TypesSeveral, TypesCase, TypesBranches}
+use Rattle.typing.specs.WordLaws.{named-is, field-plain}
+use Rattle.typing.specs.EnterLaws.{kept-same, kept-then, kept-below, entered-kept, stage-kept, stage-entered}
+use Rattle.typing.specs.PlainLaws.{are-none, are-more, branches-none, branches-more, plain-call, plain-con, plain-case}
+use Rattle.typing.specs.FormLaws.{few-variables, met, unmet}
+
+-- ---- fields of a constructor of a type
+type-at : {earlier : ℕ} {ds : List TypeDef} → WithinTypes earlier ds → (t : ℕ) → t < length ds → WithinType (earlier + t) (getD ds t [])
+type-at wt-nil t less = absurd (omega (arith, less))
+type-at {earlier} (wt-cons w ws) zero less = rw (add-zero earlier) w
+type-at {earlier} (wt-cons {ds} w ws) (suc t) less =
+    let same : suc earlier + t ≡ earlier + suc t = omega arith in
+    subst (λ n. WithinType n (getD ds t [])) same (type-at ws t (omega (arith, less)))
+
+fields-words : {types : ℕ} (t : ℕ) {fs : List Field} → t < tagStep → All (WithinField types) fs → (j : ℕ) → j < length fs → ownOrOther t (getD (map fieldWord fs) j 0) ≡ getD (map plainWord (plainFields t fs)) j 0
+fields-words t small all-nil j less = absurd (omega (arith, less))
+fields-words t small (all-cons w ws) zero less = field-plain t small w
+fields-words t small (all-cons w ws) (suc j) less = fields-words t small ws j (omega (arith, less))
+
+module _ {text frames types functions channels : List ℕ} {P : File} (h : Indexed text frames types functions channels P) (t c : ℕ) (less : t < length (P .types)) (less₂ : c < length (constructorsOf P t)) where
+  abbrev pub fieldsAt : List Field
+  fieldsAt = getD (constructorsOf P t) c []
+
+  pub small-type : t < tagStep
+  small-type = omega (arith, less, h .within .fewTypes)
+
+  pub field-count : {n : ℕ} → (n ≡ getD types (typeWords * t + 1 + constructorWords * c) 0 % 256) × (n < 256) → n ≡ length fieldsAt
+  field-count k = let tells = h .eachType t less .tells in count-same k (tells .fields c less₂) (omega (arith, tells .fewFields c less₂))
+
+  pub fields-wanted : (j : ℕ) → j < length fieldsAt → wantedWord types functions (Fields t c) j ≡ getD (map plainWord (plainFields t fieldsAt)) j 0
+  unfolding wantedWord
+  fields-wanted j there =
+      ap (ownOrOther t) (h .eachType t less .fields c less₂ j there)
+      ∙ fields-words t small-type (all-at (type-at (h .within .types) t less .constructors) c (look-at (constructorsOf P t) c [] less₂) .fields) j there
+
+-- ---- the first of several and the others
+record More (levels : ℕ) (S : Scope) (τs : List Plain) (es : Exprs) : Type 0 where
+  type : Plain
+  types : List Plain
+  expr : Expr
+  exprs : Exprs
+  wants : τs ≡ type ∷ types
+  list : es ≡ econs expr exprs
+  within : WithinExpr levels S expr
+  others : WithinExprs levels S (length types) exprs
+
+more-of : {levels : ℕ} {S : Scope} (τs : List Plain) (es : Exprs) → WithinExprs levels S (length τs) es → (length τs ≡ 0 → ⊥) → More levels S τs es
+more-of [] es w h = absurd (h refl)
+more-of (τ ∷ τs) (econs e es) (ws-cons w ws) h = record { type = τ; types = τs; expr = e; exprs = es; wants = refl; list = refl; within = w; others = ws }
+
+record None (τs : List Plain) (es : Exprs) : Type 0 where
+  wants : τs ≡ []
+  list : es ≡ enil
+
+none-of : {levels : ℕ} {S : Scope} (τs : List Plain) (es : Exprs) → WithinExprs levels S (length τs) es → length τs ≡ 0 → None τs es
+none-of [] enil ws-nil e = record { wants = refl; list = refl }
+none-of (τ ∷ τs) es w e = absurd (omega (arith, e))
+
+module _ (text frames types functions channels scope : List ℕ) (p : Place) (s : Series) where
+  pub several-none : {r : Typing} → s .count ≡ 0 → r ≡ Is (record { word = s .word; next = p .at }) → TypesSeveral text frames types functions channels scope p s r scope
+  several-none z q = record {
+    says = λ {P} {C} {S} {Γ} st ask.
+        let n = none-of (ask .wants) (ask .list) (ask .within) (sym (ask .counted) ∙ z) in
+        let all : arePlain (ask .wants) (plainsOf P C (ask .list) Γ) ≡ true = rw (n .wants, n .list) (are-none P C Γ) in
+        answered q (ask .answered) (omega (arith, ask .ends, ap (λ (es : Exprs). length (exprsBytes es)) (n .list), none-long)) (ask .is ∙ when-true (ask .answer) all);
+    kept = kept-same;
+  }
+
+  module _ (some-left : s .count ≡ 0 → ⊥) {one : ℕ} (wanted : one ≡ wantedWord types functions (s .of) (s .first)) {x : Typing} {scope₁ : List ℕ} (v : TypesWant text frames types functions channels scope p one x scope₁) where
+    first-of : {P : File} {C : List Plain} {S : Scope} {Γ : List Plain} {o : Option Plain} {end : ℕ} (ask : AskSeveral text p types functions s P C S Γ o end) → More (p .levels) S (ask .wants) (ask .list)
+    first-of ask = more-of (ask .wants) (ask .list) (ask .within) (λ z. some-left (ask .counted ∙ z))
+
+    module _ {P : File} {C : List Plain} {S : Scope} {Γ : List Plain} {o : Option Plain} {end : ℕ} (ask : AskSeveral text p types functions s P C S Γ o end) where
+      abbrev m : More (p .levels) S (ask .wants) (ask .list)
+      m = first-of ask
+
+      first-part : Part (lineAt text (p .line)) (p .levels) S (p .at .at) (m .expr) (p .at .at + length (exprBytes (m .expr)))
+      first-part = record { within = m .within; spelled = first-of-exprs (subst (Spells exprsBytes (lineAt text (p .line)) (p .at .at)) (m .list) (ask .spelled)) .spelled; ends = refl }
+
+      first-word : one ≡ plainWord (m .type)
+      first-word = wanted ∙ sym (ap (wantedWord types functions (s .of)) (add-zero (s .first))) ∙ ask .each 0 (rw (m .wants) (omega arith)) ∙ ap (λ (τs : List Plain). getD (map plainWord τs) 0 0) (m .wants)
+
+      all-fit : arePlain (ask .wants) (plainsOf P C (ask .list) Γ) ≡ both (isPlain (m .type) (plainOf P C (m .expr) Γ)) (arePlain (m .types) (plainsOf P C (m .exprs) Γ))
+      all-fit = ap₂ (λ (τs : List Plain) (es : Exprs). arePlain τs (plainsOf P C es Γ)) (m .wants) (m .list) ∙ are-more P C Γ (m .type) (m .types) (m .expr) (m .exprs)
+
+    pub several-wrong : x ≡ Wrong → TypesSeveral text frames types functions channels scope p s Wrong scope₁
+    several-wrong d = record {
+      says = λ {P} {C} {S} {Γ} st ask.
+          let f = first-of ask in
+          wrong (ask .is ∙ when-false (ask .answer) (all-fit ask ∙ both-not (arePlain (f .types) (plainsOf P C (f .exprs) Γ)) (unmet v st (first-part ask) (f .type) (first-word ask) d)));
+      kept = v .kept;
+    }
+
+    pub several-more : {k : Typed} {r : Typing} {scope₂ : List ℕ} → x ≡ Is k → TypesSeveral text frames types functions channels scope₁ (movedTo p (k .next)) (record { of = s .of; first = s .first + 1; count = s .count - 1; word = s .word }) r scope₂ →
+        TypesSeveral text frames types functions channels scope p s r scope₂
+    several-more {k} d u = record {
+      says = λ {P} {C} {S} {Γ} {o} {end} st ask.
+          let f = first-of ask in
+          let h = met v st (first-part ask) (f .type) (first-word ask) d in
+          let long : length (ask .wants) ≡ suc (length (f .types)) = ap length (f .wants) in
+          let spelled = subst (Spells exprsBytes (lineAt text (p .line)) (p .at .at)) (f .list) (ask .spelled) in
+          agrees-as (ask .is ∙ ap (λ b. when b (ask .answer)) (all-fit ask ∙ both-first (h .is)))
+          (u .says (stage-kept st (v .kept)) (record {
+            list = f .exprs;
+            wants = f .types;
+            answer = ask .answer;
+            counted = omega (arith, ask .counted, long);
+            each = λ j less.
+                ap (wantedWord types functions (s .of)) (let e : s .first + 1 + j ≡ s .first + suc j = omega arith in e)
+                ∙ ask .each (suc j) (omega (arith, long, less)) ∙ ap (λ (τs : List Plain). getD (map plainWord τs) (suc j) 0) (f .wants);
+            answered = ask .answered;
+            within = f .others;
+            spelled = subst (λ m. Spells exprsBytes (lineAt text (p .line)) m (f .exprs)) (sym (h .place)) (first-of-exprs spelled .next);
+            ends = omega (arith, h .place, ask .ends, ap (λ (es : Exprs). length (exprsBytes es)) (f .list), more-long (f .expr) (f .exprs));
+            is = refl;
+          }));
+      kept = kept-then (v .kept) (u .kept);
+    }
+
+module _ (text frames types functions channels scope : List ℕ) (p : Place) where
+  -- ---- `18`
+  pub call-done : {f n word : ℕ} {r : Typing} {scope₁ : List ℕ} → Returns text frames functions (p .types) f word → (n ≡ getD functions (functionWords * f) 0 % 256) × (n < 256) →
+      TypesSeveral text frames types functions channels scope p (record { of = Parameters f; first = 0; count = n; word = word }) r scope₁ → TypesCall text frames types functions channels scope p f r scope₁
+  unfolding wantedWord
+  call-done {f} {n} {word} ret k u = record {
+    says = λ {P} {C} {S} {Γ} st ask.
+        let takes = st .known .functions f (ask .less) in
+        let F = takes .function in
+        let told = st .indexed .eachFunction f (takes .is) .tells in
+        agrees-as (ask .is ∙ plain-call P C Γ f (ask .list) ∙ chain-some _ (takes .is))
+        (u .says st (record {
+          list = ask .list;
+          wants = F .parameters;
+          answer = plainResult (F .result);
+          counted = count-same k (told .count) (omega (arith, told .few));
+          each = λ j less. rw (zero-add j) (told .each j less);
+          answered = ret .says (st .indexed) (st .typeCount) (takes .is);
+          within = subst (λ m. WithinExprs (p .levels) S m (ask .list)) (takes .arity) (ask .within);
+          spelled = ask .spelled;
+          ends = ask .ends;
+          is = refl;
+        }));
+    kept = u .kept;
+  }
+
+  -- ---- `19`
+  pub con-done : {t c n word : ℕ} {r : Typing} {scope₁ : List ℕ} → word ≡ namedWord t → (n ≡ getD types (typeWords * t + 1 + constructorWords * c) 0 % 256) × (n < 256) →
+      TypesSeveral text frames types functions channels scope p (record { of = Fields t c; first = 0; count = n; word = word }) r scope₁ → TypesCon text frames types functions channels scope p t c r scope₁
+  con-done {t} {c} {n} {word} w k u = record {
+    says = λ {P} {C} {S} {Γ} st ask.
+        let same = st .known .types in
+        let less : t < length (P .types) = rw same at (ask .less) in
+        let less₂ : c < length (constructorsOf P t) = rw same at (ask .less₂) in
+        let fs = getD (constructorsOf P t) c [] in
+        let long : length (plainFields t fs) ≡ length fs = length-map fs (plainField t) in
+        agrees-as (ask .is ∙ plain-con P C Γ t c (ask .list) ∙ chain-some _ (look-at (constructorsOf P t) c [] less₂))
+        (u .says st (record {
+          list = ask .list;
+          wants = plainFields t fs;
+          answer = pnamed t;
+          counted = field-count (st .indexed) t c less less₂ k ∙ sym long;
+          each = λ j there. rw (zero-add j) (fields-wanted (st .indexed) t c less less₂ j (omega (arith, long, there)));
+          answered = w ∙ named-is t (small-type (st .indexed) t c less less₂);
+          within = subst (λ m. WithinExprs (p .levels) S m (ask .list)) (sym long) (subst (λ (ts : List TypeDef). WithinExprs (p .levels) S (length (getD (getD ts t []) c [])) (ask .list)) same (ask .within));
+          spelled = ask .spelled;
+          ends = ask .ends;
+          is = refl;
+        }));
+    kept = u .kept;
+  }
+
+-- ---- the first of the branches and the others
+record MoreBranches (levels : ℕ) (S : Scope) (cs : List Constructor) (bs : Exprs) : Type 0 where
+  fields : Constructor
+  constructors : List Constructor
+  branch : Expr
+  branches : Exprs
+  those : cs ≡ fields ∷ constructors
+  list : bs ≡ econs branch branches
+  within : WithinExpr levels (wider (length fields) (owns fields) S) branch
+  others : WithinBranches levels S constructors branches
+
+more-branches : {levels : ℕ} {S : Scope} (cs : List Constructor) (bs : Exprs) → WithinBranches levels S cs bs → (length cs ≡ 0 → ⊥) → MoreBranches levels S cs bs
+more-branches [] bs w h = absurd (h refl)
+more-branches (fs ∷ cs) (econs b bs) (wb-cons w ws) h = record { fields = fs; constructors = cs; branch = b; branches = bs; those = refl; list = refl; within = w; others = ws }
+
+record NoBranch (cs : List Constructor) (bs : Exprs) : Type 0 where
+  those : cs ≡ []
+  list : bs ≡ enil
+
+no-branch : {levels : ℕ} {S : Scope} (cs : List Constructor) (bs : Exprs) → WithinBranches levels S cs bs → length cs ≡ 0 → NoBranch cs bs
+no-branch [] enil wb-nil e = record { those = refl; list = refl }
+no-branch (fs ∷ cs) bs w e = absurd (omega (arith, e))
+
+-- the first of those from a number on
+dropped-less : {A : Type 0} (l : List A) (i : ℕ) {x : A} {xs : List A} → drop i l ≡ x ∷ xs → i < length l
+dropped-less l i e = omega (arith, length-drop i l, ap length e)
+
+dropped-first : {A : Type 0} (l : List A) (i : ℕ) (d : A) {x : A} {xs : List A} → drop i l ≡ x ∷ xs → (getD l i d ≡ x) × (drop (i + 1) l ≡ xs)
+dropped-first l i d e = let same = sym (drop-cons l i d (dropped-less l i e)) ∙ e in (head-eq-of-cons-eq same, rw (add-one i) (tail-eq-of-cons-eq same))
+
+module _ (text frames types functions channels scope : List ℕ) (p : Place) (s : BranchSeries) where
+  pub branches-all : {r : Typing} → s .count ≡ 0 → r ≡ Is (record { word = s .word; next = p .at }) → TypesBranches text frames types functions channels scope p s r scope
+  branches-all z q = record {
+    says = λ {P} {C} {S} {Γ} st ask.
+        let n = no-branch (ask .constructors) (ask .list) (ask .within) (sym (ask .counted) ∙ z) in
+        let all = ap₂ (λ (bs : Exprs) (cs : List Constructor). plainBranches P C bs cs (s .of) (ask .answer) Γ) (n .list) (n .those) ∙ branches-none P C Γ (s .of) (ask .answer) in
+        answered q (ask .answered) (omega (arith, ask .ends, ap (λ (es : Exprs). length (exprsBytes es)) (n .list), none-long)) (ask .is ∙ when-true (ask .answer) all);
+    kept = kept-same;
+  }
+
+  module _ (some-left : s .count ≡ 0 → ⊥) {n : ℕ} (k : (n ≡ getD types (typeWords * s .of + 1 + constructorWords * s .first) 0 % 256) × (n < 256)) {scope₁ : List ℕ} (enter : scope₁ ≡ entered types functions (Fields (s .of) (s .first)) scope (p .variables) n)
+      {x : Typing} {scope₂ : List ℕ} (v : TypesWant text frames types functions channels scope₁ (widerBy n p (p .at)) (s .word) x scope₂) where
+    branch-kept : Kept (p .variables) scope scope₂
+    branch-kept = kept-then (rw enter (entered-kept types functions (Fields (s .of) (s .first)) scope (p .variables) n)) (kept-below (p .variables) (omega arith) (v .kept))
+
+    module _ {P : File} {C : List Plain} {S : Scope} {Γ : List Plain} {o : Option Plain} {end : ℕ} (st : Stage text frames types functions channels scope (p .types) (p .line) (p .variables) P C S Γ) (ask : AskBranches text p s P C S Γ o end) where
+      abbrev b : MoreBranches (p .levels) S (ask .constructors) (ask .list)
+      b = more-branches (ask .constructors) (ask .list) (ask .within) (λ z. some-left (ask .counted ∙ z))
+
+      here : drop (s .first) (constructorsOf P (s .of)) ≡ b .fields ∷ b .constructors
+      here = ask .those ∙ b .those
+
+      less₂ : s .first < length (constructorsOf P (s .of))
+      less₂ = dropped-less (constructorsOf P (s .of)) (s .first) here
+
+      first-is : getD (constructorsOf P (s .of)) (s .first) [] ≡ b .fields
+      first-is = dropped-first (constructorsOf P (s .of)) (s .first) [] here .0
+
+      field-number : n ≡ length (b .fields)
+      field-number = field-count (st .indexed) (s .of) (s .first) (ask .less) less₂ k ∙ ap length first-is
+
+      branch-within : WithinExpr (p .levels) (wider n (owns (b .fields)) S) (b .branch)
+      branch-within = subst (λ m. WithinExpr (p .levels) (wider m (owns (b .fields)) S) (b .branch)) (sym field-number) (b .within)
+
+      branch-stage : Stage text frames types functions channels scope₁ (p .types) (p .line) (p .variables + n) P C (wider n (owns (b .fields)) S) (Γ ++ plainFields (s .of) (b .fields))
+      branch-stage = rw enter (stage-entered st (Fields (s .of) (s .first)) n (owns (b .fields)) (plainFields (s .of) (b .fields)) (length-map (b .fields) (plainField (s .of)) ∙ sym field-number) each (few-variables st n (owns (b .fields)) branch-within))
+        where
+          each : (j : ℕ) → j < n → wantedWord types functions (Fields (s .of) (s .first)) j ≡ getD (map plainWord (plainFields (s .of) (b .fields))) j 0
+          each j there =
+              fields-wanted (st .indexed) (s .of) (s .first) (ask .less) less₂ j (omega (arith, there, field-number, ap length first-is))
+              ∙ ap (λ (fs : Constructor). getD (map plainWord (plainFields (s .of) fs)) j 0) first-is
+
+      branch-part : Part (lineAt text (p .line)) (p .levels) (wider n (owns (b .fields)) S) (p .at .at) (b .branch) (p .at .at + length (exprBytes (b .branch)))
+      branch-part = record { within = branch-within; spelled = first-of-exprs (subst (Spells exprsBytes (lineAt text (p .line)) (p .at .at)) (b .list) (ask .spelled)) .spelled; ends = refl }
+
+      all-branches : plainBranches P C (ask .list) (ask .constructors) (s .of) (ask .answer) Γ ≡
+          both (isPlain (ask .answer) (plainOf P C (b .branch) (Γ ++ plainFields (s .of) (b .fields)))) (plainBranches P C (b .branches) (b .constructors) (s .of) (ask .answer) Γ)
+      all-branches = ap₂ (λ (bs : Exprs) (cs : List Constructor). plainBranches P C bs cs (s .of) (ask .answer) Γ) (b .list) (b .those) ∙ branches-more P C Γ (b .branch) (b .branches) (b .fields) (b .constructors) (s .of) (ask .answer)
+
+    pub branches-wrong : x ≡ Wrong → TypesBranches text frames types functions channels scope p s Wrong scope₂
+    branches-wrong d = record {
+      says = λ {P} {C} {S} {Γ} st ask.
+          let m = b st ask in
+          wrong (ask .is ∙ when-false (ask .answer) (all-branches st ask
+          ∙ both-not (plainBranches P C (m .branches) (m .constructors) (s .of) (ask .answer) Γ) (unmet v (branch-stage st ask) (branch-part st ask) (ask .answer) (ask .answered) d)));
+      kept = branch-kept;
+    }
+
+    pub branches-next : {j : Typed} {r : Typing} {scope₃ : List ℕ} → x ≡ Is j → TypesBranches text frames types functions channels scope₂ (movedTo p (j .next)) (record { of = s .of; first = s .first + 1; count = s .count - 1; word = s .word }) r scope₃ →
+        TypesBranches text frames types functions channels scope p s r scope₃
+    branches-next {j} d u = record {
+      says = λ {P} {C} {S} {Γ} st ask.
+          let m = b st ask in
+          let h = met v (branch-stage st ask) (branch-part st ask) (ask .answer) (ask .answered) d in
+          let spelled = subst (Spells exprsBytes (lineAt text (p .line)) (p .at .at)) (m .list) (ask .spelled) in
+          agrees-as (ask .is ∙ ap (λ t. when t (ask .answer)) (all-branches st ask ∙ both-first (h .is)))
+          (u .says (stage-kept st branch-kept) (record {
+            list = m .branches;
+            constructors = m .constructors;
+            answer = ask .answer;
+            less = ask .less;
+            those = dropped-first (constructorsOf P (s .of)) (s .first) [] (here st ask) .1;
+            counted = omega (arith, ask .counted, ap length (m .those));
+            answered = ask .answered;
+            within = m .others;
+            spelled = subst (λ i. Spells exprsBytes (lineAt text (p .line)) i (m .branches)) (sym (h .place)) (first-of-exprs spelled .next);
+            ends = omega (arith, h .place, ask .ends, ap (λ (es : Exprs). length (exprsBytes es)) (m .list), more-long (m .branch) (m .branches));
+            is = refl;
+          }));
+      kept = kept-then branch-kept (u .kept);
+    }
+
+-- ---- `1A`
+module _ (text frames types functions channels scope : List ℕ) (p : Place) {t subject : ℕ} (is : subject ≡ namedWord t) {x : Typing} {scope₁ : List ℕ} (v : TypesWant text frames types functions channels scope p subject x scope₁) where
+  module _ {P : File} {C : List Plain} {S : Scope} {Γ : List Plain} {o : Option Plain} {end : ℕ} (st : Stage text frames types functions channels scope (p .types) (p .line) (p .variables) P C S Γ) (ask : AskCase text p t P C S Γ o end) where
+    case-less : t < length (P .types)
+    case-less = rw (st .known .types) at (ask .less)
+
+    subject-word : subject ≡ plainWord (pnamed t)
+    subject-word = is ∙ named-is t (omega (arith, case-less, st .indexed .within .fewTypes))
+
+  pub case-wrong : x ≡ Wrong → TypesCase text frames types functions channels scope p t Wrong scope₁
+  case-wrong d = record {
+    says = λ {P} {C} {S} {Γ} st ask. wrong (ask .is ∙ plain-case P C Γ t (ask .first) (ask .result) (ask .branches)
+        ∙ when-false (plainResult (ask .result)) (both-not (plainBranches P C (ask .branches) (constructorsOf P t) t (plainResult (ask .result)) Γ) (unmet v st (ask .part) (pnamed t) (subject-word st ask) d)));
+    kept = v .kept;
+  }
+
+  module _ {k : Typed} (d : x ≡ Is k) {line : List ℕ} (part : line ≡ framePart text frames (p .line)) {y : Typing} (w : ReadsResult line (k .next) y) where
+    result-read : {P : File} {C : List Plain} {S : Scope} {Γ : List Plain} {o : Option Plain} {end : ℕ} → Stage text frames types functions channels scope (p .types) (p .line) (p .variables) P C S Γ → (ask : AskCase text p t P C S Γ o end) →
+        Agrees y (k .next .at + length (resultBytes (ask .result))) (some (plainResult (ask .result)))
+    result-read st ask =
+        let h = met v st (ask .part) (pnamed t) (subject-word st ask) d in
+        let is : line ≡ lineAt text (p .line) = part ∙ st .indexed .eachFrame (p .line) (st .less) .line in
+        w .says (omega (arith, st .indexed .within .fewTypes, ap length (st .known .types))) (ask .few) (ask .within)
+        (subst (λ m. Spells resultBytes line m (ask .result)) (sym (h .place)) (subst (λ l. Spells resultBytes l (ask .middle) (ask .result)) (sym is) (ask .spelled)))
+
+    pub case-none : y ≡ Wrong → TypesCase text frames types functions channels scope p t Wrong scope₁
+    case-none e = record { says = λ st ask. absurd (typed-there (result-read st ask) e); kept = v .kept }
+
+    pub case-done : {j : Typed} {n : ℕ} {r : Typing} {scope₂ : List ℕ} → y ≡ Is j → (n ≡ getD types (typeWords * t) 0 % 256) × (n < 256) →
+        TypesBranches text frames types functions channels scope₁ (movedTo p (j .next)) (record { of = t; first = 0; count = n; word = j .word }) r scope₂ → TypesCase text frames types functions channels scope p t r scope₂
+    case-done {j} {n} e c u = record {
+      says = λ {P} {C} {S} {Γ} st ask.
+          let h = met v st (ask .part) (pnamed t) (subject-word st ask) d in
+          let found = typed-is (result-read st ask) e in
+          let told = st .indexed .eachType t (case-less st ask) .tells in
+          agrees-as (ask .is ∙ plain-case P C Γ t (ask .first) (ask .result) (ask .branches) ∙ ap (λ a. when a (plainResult (ask .result))) (both-first (h .is)))
+          (u .says (stage-kept st (v .kept)) (record {
+            list = ask .branches;
+            constructors = constructorsOf P t;
+            answer = plainResult (ask .result);
+            less = case-less st ask;
+            those = refl;
+            counted = count-same c (told .constructors) (omega (arith, told .few));
+            answered = found .0;
+            within = subst (λ (ts : List TypeDef). WithinBranches (p .levels) S (getD ts t []) (ask .branches)) (st .known .types) (ask .within₂);
+            spelled = subst (λ m. Spells exprsBytes (lineAt text (p .line)) m (ask .branches)) (let q : ask .middle + length (resultBytes (ask .result)) ≡ j .next .at = omega (arith, found .1, h .place) in q) (ask .spelled₂);
+            ends = omega (arith, found .1, h .place, ask .ends);
+            is = refl;
+          }));
+      kept = kept-then (v .kept) (u .kept);
+    }
