@@ -1,6 +1,6 @@
 -- What the numbers that the code holds stand for: the exact numbers of figure 7, stopped at 65,535; and what the functions on them
 -- promise.
-use Prim.Native.Nat.{ℕ, _≤_}
+use Prim.Native.Nat.{_≤_}
 use mathlib.Core.Path.{_≡_}
 use Rattle.language.specs.Limits.{numberMost}
 use Rattle.language.specs.Estimate.{Estimate as Exact, stop}

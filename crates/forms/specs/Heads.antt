@@ -1,9 +1,9 @@
 -- What reading the head of an expression promises, on any bytes: a form that is read has its code at the place and its operands
 -- behind the code, and the parts start behind those; where none is read, the line ends too early or the code is of no form.
-use Prim.Native.Nat.{ℕ, _+_, _≤_, _<_, _^_}
+use Prim.Native.Nat.{ℕ, _+_, _≤_, _<_}
 use mathlib.Core.List.{List}
 use mathlib.Core.Bool.{Bool, true, false}
-use mathlib.Core.Path.{_≡_, refl, subst}
+use mathlib.Core.Path.{_≡_, subst}
 use native.Mathlib.Omega.{arith}
 use lib.ListN.{length}
 use Rattle.language.specs.Limits.{byteRange}

@@ -11,10 +11,9 @@ use Rattle.language.specs.ReadExpr.{int}
 use Rattle.text.specs.declared.Found.{Found}
 use Rattle.text.specs.declared.Number.{Number}
 use Rattle.text.specs.declared.Number.the-variants.{Is, Refused}
-use Rattle.text.specs.Bytes.{bytesOf, bytesFrom, ReadsNumber, Below}
+use Rattle.text.specs.Bytes.{bytesOf, bytesFrom, ReadsNumber}
 use Rattle.text.specs.StepLaws.{number-got, number-bad, number-moved, number-below, ends-within}
 use Rattle.text.specs.IntLaws.{ByteAt}
-use Rattle.spelling.specs.Spells.{byteAt}
 use Rattle.spelling.specs.Forms.{fourAt}
 use Rattle.spelling.specs.CursorSpells.{byte-is}
 use Rattle.forms.specs.Heads.{OperandAt}

@@ -25,7 +25,7 @@ use Rattle.reader.specs.declared.Reading.the-variants.{Done}
 use Rattle.reader.specs.Held.{Held}
 use Rattle.reader.specs.Texts.{TextRead, done, fault}
 use Rattle.indexed.specs.Indexed.{resultAt, conditionsAt, measureAt, bodyAt, initialAt, updateAt, functionLine, channelLine, TypeIndexed, FunctionIndexed, ChannelIndexed, NodeIndexed, Indexed, Counted, ReadIndexed}
-use Rattle.indexed.specs.WithinParts.{function-within}
+use Rattle.scopes.specs.WithinParts.{function-within}
 use Rattle.indexed.specs.FrameLines.{frame-indexed}
 use Rattle.indexed.specs.TableWords.{tells-field, parameters-told, place-told, input-told, node-told}
 

@@ -1,5 +1,4 @@
 pub mod Indexed
-pub mod WithinParts
 pub mod FrameLines
 pub mod TableWords
 pub mod Indexes

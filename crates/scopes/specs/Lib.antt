@@ -1,1 +1,2 @@
+pub mod WithinParts
 pub mod Known

@@ -1,7 +1,7 @@
 -- When an answer of the code agrees with the definition's: the type, the numbers as they are reported, where the next part starts,
 -- and the instances in the list's words. Refusals 6 and 9 were judged before sizes are: of them nothing is said.
-use Prim.Native.Nat.{ℕ, suc, _+_, _*_, _-_, _≤_}
-use mathlib.Core.List.{List, [], _∷_, _++_, map}
+use Prim.Native.Nat.{ℕ, _+_, _*_, _-_, _≤_}
+use mathlib.Core.List.{List, _++_, map}
 use mathlib.Core.Bool.{Bool, true, false}
 use mathlib.Core.Option.{Option, none, some}
 use mathlib.Core.Path.{_≡_, refl, sym, _∙_, subst}

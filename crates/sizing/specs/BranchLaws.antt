@@ -9,7 +9,7 @@ use borrow.Author.Tests.{le-leb, lt-leb}
 use Rattle.language.specs.Limits.{sizeMost, sizeVariablesMost}
 use Rattle.language.specs.Result.{choose}
 use Rattle.language.specs.Syntax.{Constructor, owns, File, constructorsOf}
-use Rattle.language.specs.Scope.{Scope, wider}
+use Rattle.language.specs.Scope.{wider}
 use Rattle.language.specs.Within.{All, all-nil, all-cons}
 use Rattle.language.specs.Sizes.{sum}
 use Rattle.language.specs.Splits.{splits}
@@ -19,10 +19,11 @@ use Rattle.theory.specs.Alls.{all-map}
 use Rattle.text.specs.declared.Cursor.{Cursor}
 use Rattle.index.specs.FreeLaws.{owns-fewer}
 use Rattle.index.specs.Tables.{typeWords, constructorWords}
-use Rattle.skipping.specs.Skips.{Shapes, Skips}
+use Rattle.skipping.specs.Skips.{Skips}
+use Rattle.indexed.specs.ScopeShapes.{known-shapes}
 use Rattle.indexed.specs.Indexed.{framePart}
 use Rattle.indexed.specs.FramePartLaws.{part-is-line}
-use Rattle.scopes.specs.Known.{Known, wider-known}
+use Rattle.scopes.specs.Known.{wider-known}
 use Rattle.estimate.specs.declared.Estimate.{Estimate}
 use Rattle.estimate.specs.Stands.{Makes}
 use Rattle.splits.specs.Moves.{Starts}
@@ -37,15 +38,6 @@ use Rattle.sizing.specs.Promises.{Lent, Buffers, buffers, IndexedFile, U
 use Rattle.sizing.specs.Leaves.{leafOf}
 use Rattle.sizing.specs.HereLaws.{fits-of}
 use Rattle.sizing.specs.TurnLaws.{grown-is}
-
--- ---- the tables tell every scope of the file
-pub known-shapes : {t : Lent} {P : File} {S : Scope} → IndexedFile t P → Known P S → Shapes (t .types) (t .functions) S
-known-shapes {t} {P} {S} i k = record {
-  each = λ u less. rw (k .types) (i .eachType u (omega (arith, less, ap length (k .types))) .tells);
-  arities = λ f less. let g = k .functions f less in i .eachFunction f (g .is) .tells .count ∙ sym (g .arity);
-  few = λ f less. let g = k .functions f less in omega (arith, g .arity, i .eachFunction f (g .is) .tells .few);
-  fewTypes = omega (arith, ap length (k .types), i .within .fewTypes);
-}
 
 -- ---- how many fields of a constructor are of the type itself
 abbrev pub ownWord : Lent → ℕ → ℕ → ℕ

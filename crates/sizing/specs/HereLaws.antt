@@ -1,19 +1,19 @@
 -- What is known where an expression stands goes on: to the parts of a form, behind a part that was checked, under one more variable.
-use Prim.Native.Nat.{ℕ, suc, _+_, _-_, _≤_, _<_}
-use mathlib.Core.List.{List, [], _∷_, _++_, map, map-append}
+use Prim.Native.Nat.{ℕ, suc, _+_, _-_, _≤_}
+use mathlib.Core.List.{List, [], _∷_, _++_, map-append}
 use mathlib.Core.Bool.{true}
-use mathlib.Core.Path.{_≡_, refl, sym, ap, _∙_}
+use mathlib.Core.Path.{_≡_, sym, ap, _∙_}
 use native.Mathlib.Omega.{arith}
 use native.Mathlib.Nat.{add-zero}
 use native.Mathlib.Numerals.{add-one}
-use lib.ListN.{length, take, set, length-append}
+use lib.ListN.{length, set, length-append}
 use lib.Seq.{take-suc-set}
 use borrow.Author.Tests.{leb-true}
-use Rattle.language.specs.Limits.{variablesMost, sizeVariablesMost, instancesMost}
+use Rattle.language.specs.Limits.{variablesMost, sizeVariablesMost}
 use Rattle.language.specs.Syntax.{Ty, Expr, File}
 use Rattle.language.specs.Scope.{Scope, wider, roomIn}
 use Rattle.language.specs.Format.{exprBytes}
-use Rattle.language.specs.Within.{all-nil, all-cons, WithinExpr, w-bool, w-int, w-var, w-now, w-last, w-let, w-if, w-op, w-call, w-con, w-case, w-adj, w-fit}
+use Rattle.language.specs.Within.{WithinExpr, w-bool, w-int, w-var, w-now, w-last, w-let, w-if, w-op, w-call, w-con, w-case, w-adj, w-fit}
 use Rattle.language.specs.Typing.{Place as Stand}
 use Rattle.language.specs.Checker.{Instance}
 use Rattle.theory.specs.Alls.{all-snoc}
@@ -23,7 +23,7 @@ use Rattle.text.specs.Bytes.{declaredWord}
 use Rattle.spelling.specs.Spells.{Spells}
 use Rattle.scopes.specs.Known.{wider-known}
 use Rattle.sizing.specs.declared.Place.{Place}
-use Rattle.sizing.specs.Sites.{Bounded, movedTo, downTo, widened, Room, Site, Kept, site-kept, site-moved, site-down}
+use Rattle.sizing.specs.Sites.{Bounded, movedTo, downTo, widened, Kept, site-kept, site-moved, site-down}
 use Rattle.sizing.specs.Agreement.{Holds}
 use Rattle.sizing.specs.Promises.{Lent, Buffers, buffers, Here, ExprPart, FormPart}
 

@@ -25,7 +25,7 @@ use Rattle.text.specs.declared.Cursor.{Cursor}
 use Rattle.text.specs.Bytes.{declaredWord}
 use Rattle.spelling.specs.FrameSpells.{lineAt}
 use Rattle.indexed.specs.Indexed.{framePart, resultAt, conditionsAt, measureAt, functionLine, Indexed}
-use Rattle.scopes.specs.Known.{head-within}
+use Rattle.scopes.specs.WithinParts.{function-within}
 use Rattle.estimate.specs.declared.Estimate.{Estimate}
 use Rattle.estimate.specs.Stands.{Combines, Makes as Made}
 use Rattle.sizes.specs.declared.SizedType.{SizedType}
@@ -116,21 +116,21 @@ module _ (text frames functions sizes : List ℕ) {line : List ℕ} (p : Place) 
     conditions-are : {c : Cursor} {r : Bool} → c .at ≡ conditionsAt functions f → Hold line c sizes r → r ≡ conditionsHold ks (F .conditions)
     conditions-are {c} {r} here h =
         let g = i .eachFunction f is in
-        let w = head-within (i .within) f is in
+        let w = function-within (i .within) f is in
         subst (λ l. Hold l c sizes r) line-is h .says (namedCount (F .parameters)) (F .conditions) (rw here (g .conditionCount)) (w .conditions) (rw here (g .conditions))
         ∙ sym (conditions-in-scope sizes (w .conditions)) ∙ ap (λ l. conditionsHold l (F .conditions)) sizes-are
 
     weight-is : {c : Cursor} {r : ℕ} → c .at ≡ measureAt functions f → Weighs line c sizes r → r ≡ weight (F .measure) ks
     weight-is {c} {r} here h =
         let g = i .eachFunction f is in
-        let w = head-within (i .within) f is in
+        let w = function-within (i .within) f is in
         subst (λ l. Weighs l c sizes r) line-is h .says (F .measure) (rw here (g .measureCount)) (rw here (g .measure))
         ∙ sym (weight-in-scope sizes (w .measure)) ∙ ap (weight (F .measure)) sizes-are
 
     type-is-at : {c : Cursor} {r : TypeAt} → c .at ≡ resultAt functions f → TypeGiven line c sizes r → AgreesType (typeAt ks (F .result)) (c .at + length (resultBytes (F .result))) r
     type-is-at {c} {r} here h =
         let g = i .eachFunction f is in
-        let w = head-within (i .within) f is in
+        let w = function-within (i .within) f is in
         subst (λ o. AgreesType o (c .at + length (resultBytes (F .result))) r) (sym (type-in-scope sizes (w .result)) ∙ ap (λ l. typeAt l (F .result)) sizes-are)
         (subst (λ l. TypeGiven l c sizes r) line-is h .says (length (P .types)) (namedCount (F .parameters)) (F .result) (w .result) (rw here (g .result)))
 

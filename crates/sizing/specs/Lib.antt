@@ -33,3 +33,9 @@ pub mod CallLaws
 pub mod ConLaws
 pub mod LeafLaws
 pub mod FilePromises
+pub mod FileParts
+pub mod ChannelLaws
+pub mod SummedLaws
+pub mod ChannelsLaws
+pub mod LastingLaws
+pub mod FileLaws

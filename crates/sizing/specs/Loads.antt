@@ -2,9 +2,9 @@
 -- each call finds.
 use Prim.Native.Nat.{ℕ, suc, _+_, _*_, _-_, _≤_, _<_, _^_}
 use mathlib.Core.List.{List}
-use mathlib.Core.Path.{_≡_, sym, ap, _∙_}
+use mathlib.Core.Path.{_≡_, ap}
 use native.Mathlib.Omega.{arith}
-use Rattle.language.specs.Limits.{typesMost, variablesMost, sizeVariablesMost, nestingMost, instancesMost}
+use Rattle.language.specs.Limits.{typesMost, variablesMost, sizeVariablesMost, instancesMost}
 use Rattle.text.specs.declared.Cursor.{Cursor}
 use Rattle.sizing.specs.declared.Place.{Place}
 use Rattle.sizing.specs.declared.Checked.{Checked}

@@ -2,7 +2,6 @@
 -- spelled at the place, the answer is the definition's; and on any bytes the scope is kept and no instance is lost.
 use Prim.Native.Nat.{ℕ, suc, _+_, _-_, _≤_, _<_}
 use mathlib.Core.List.{List, _++_, map}
-use mathlib.Core.Bool.{Bool, true, false}
 use mathlib.Core.Option.{none, some}
 use mathlib.Core.Path.{_≡_}
 use lib.ListN.{length, take, drop, getElem? as look}
@@ -17,7 +16,7 @@ use Rattle.language.specs.Sizes.{weight, parameterTypes, fieldTypes, sameType}
 use Rattle.language.specs.Splits.{splits}
 use Rattle.language.specs.Estimate.{nothing, withSlots}
 use Rattle.language.specs.Typing.{Place as Stand, frameAt}
-use Rattle.language.specs.Checker.{Instance, Sized, Counted as CountedDef, Enter, atSplits, sized, sizeds, sizedBranches, find, enterAt}
+use Rattle.language.specs.Checker.{Instance, Counted as CountedDef, Enter, atSplits, sized, sizeds, sizedBranches, find, enterAt}
 use Rattle.text.specs.Bytes.{declaredWord}
 use Rattle.spelling.specs.Spells.{Spells}
 use Rattle.spelling.specs.FrameSpells.{lineAt}

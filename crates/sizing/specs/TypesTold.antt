@@ -17,7 +17,7 @@ use Rattle.theory.specs.Places.{Mapped, look-mapped}
 use Rattle.theory.specs.Alls.{all-at}
 use Rattle.text.specs.Bytes.{declaredWord}
 use Rattle.indexed.specs.Indexed.{declaredAt}
-use Rattle.indexed.specs.WithinParts.{input-within, node-within}
+use Rattle.scopes.specs.WithinParts.{input-within, node-within}
 use Rattle.sizing.specs.declared.Place.{Place}
 use Rattle.sizing.specs.Sites.{Bounded, bounded-bool, bounded-int, bounded-named, Site}
 use Rattle.sizing.specs.Promises.{Lent, IndexedFile}

@@ -20,9 +20,9 @@ use Rattle.spelling.specs.FrameSpells.{lineAt}
 use Rattle.scopes.specs.Known.{Known}
 use Rattle.indexed.specs.Indexed.{declaredAt, lineCount, Indexed}
 use Rattle.typing.specs.declared.words.Typing.{Typing}
-use Rattle.typing.specs.declared.exprs.Place.{Place}
-use Rattle.typing.specs.declared.exprs.Series.{Series}
-use Rattle.typing.specs.declared.exprs.BranchSeries.{BranchSeries}
+use Rattle.typing.specs.declared.places.Place.{Place}
+use Rattle.typing.specs.declared.places.Series.{Series}
+use Rattle.typing.specs.declared.places.BranchSeries.{BranchSeries}
 use Rattle.typing.specs.Words.{withoutSize, wantedWord}
 use Rattle.typing.specs.Agrees.{Agrees}
 

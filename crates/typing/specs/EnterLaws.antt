@@ -1,5 +1,5 @@
 -- Words entered into a scope: what was below stays, and behind it stand the words; a scope of a file that was read with more variables.
-use Prim.Native.Nat.{ℕ, zero, suc, _+_, _≤_, _<_}
+use Prim.Native.Nat.{ℕ, zero, suc, _+_, _-_, _≤_, _<_}
 use mathlib.Core.List.{List, [], _∷_, _++_, map, map-append, append-assoc, append-nil, nil≢cons, cons≢nil}
 use mathlib.Core.Bool.{true}
 use mathlib.Core.Path.{_≡_, refl, sym, ap, ap₂, _∙_}
@@ -20,6 +20,13 @@ use Rattle.scopes.specs.Known.{wider-known}
 use Rattle.typing.specs.declared.words.Want.{Want}
 use Rattle.typing.specs.Words.{wantedWord, entered}
 use Rattle.typing.specs.Asks.{Kept, Stage}
+
+-- ---- an expression has a level, its parts one less
+pub no-level : {S : Scope} {e : Expr} → WithinExpr zero S e → ⊥
+no-level w = elim w [ ]
+
+pub less-deep : {levels left : ℕ} → levels ≡ suc left → left ≡ levels - 1
+less-deep deep = omega (arith, deep)
 
 -- ---- a scope of an expression has room
 expr-room : {n : ℕ} {S : Scope} {e : Expr} → WithinExpr n S e → roomIn S ≡ true

@@ -1,5 +1,5 @@
 -- An expression by its form: what the function of the form promises of the parts, expr promises of the expression.
-use Prim.Native.Nat.{ℕ, zero, suc, _+_, _-_, _<_}
+use Prim.Native.Nat.{ℕ, suc, _+_, _-_, _<_}
 use mathlib.Core.List.{List, [], map}
 use mathlib.Core.Path.{_≡_, refl, sym, ap, _∙_, subst}
 use native.Mathlib.Omega.{arith}
@@ -22,15 +22,12 @@ use Rattle.forms.specs.HeadForms.{no-missing, bool-head, int-head, var-head, no
 use Rattle.indexed.specs.Indexed.{declaredAt, framePart}
 use Rattle.typing.specs.declared.words.Typing.{Typing}
 use Rattle.typing.specs.declared.words.Typing.the-variants.{Is}
-use Rattle.typing.specs.declared.exprs.Place.{Place}
+use Rattle.typing.specs.declared.places.Place.{Place}
 use Rattle.typing.specs.Words.{withoutSize}
 use Rattle.typing.specs.Agrees.{answered}
 use Rattle.typing.specs.Asks.{insideOf, Stage, Part, TypesExpr, TypesLet, TypesIf, TypesOp, TypesCall, TypesCon, TypesCase, TypesAdj, TypesFit}
-use Rattle.typing.specs.EnterLaws.{room-sizes, kept-same}
+use Rattle.typing.specs.EnterLaws.{no-level, less-deep, room-sizes, kept-same}
 use Rattle.typing.specs.PlainLaws.{bool-word, int-word, plain-bool, plain-int, plain-var, plain-now, plain-last}
-
-no-level : {S : Scope} {e : Expr} → WithinExpr zero S e → ⊥
-no-level w = elim w [ ]
 
 -- a word of a scope is that of the variable's type
 scope-word : (scope : List ℕ) (variables : ℕ) (Γ : List Plain) (v : ℕ) → take variables scope ≡ map plainWord Γ → v < variables → v < length Γ → getD scope v 0 ≡ plainWord (getD Γ v pbool)
@@ -47,9 +44,6 @@ module _ (text frames types functions channels scope : List ℕ) (p : Place) whe
       heads-in = subst (λ l. Heads l (p .at .at) h) (part ∙ st .indexed .eachFrame (p .line) (st .less) .line) heads
 
     -- a part has a level less
-    less-deep : {left : ℕ} → p .levels ≡ suc left → left ≡ p .levels - 1
-    less-deep deep = omega (arith, deep)
-
     part-of : {left at end : ℕ} {S : Scope} {e : Expr} → p .levels ≡ suc left → WithinExpr left S e → Spells exprBytes (lineAt text (p .line)) at e → at + length (exprBytes e) ≡ end → Part (lineAt text (p .line)) (p .levels - 1) S at e end
     part-of {S} {e} deep w s q = record { within = subst (λ m. WithinExpr m S e) (less-deep deep) w; spelled = s; ends = q }
 

@@ -26,7 +26,7 @@ use Rattle.indexed.specs.Indexed.{framePart}
 use Rattle.typing.specs.declared.words.Typed.{Typed}
 use Rattle.typing.specs.declared.words.Typing.{Typing}
 use Rattle.typing.specs.declared.words.Typing.the-variants.{Is, Wrong}
-use Rattle.typing.specs.declared.exprs.Place.{Place}
+use Rattle.typing.specs.declared.places.Place.{Place}
 use Rattle.typing.specs.Words.{operandWord, outcomeWord}
 use Rattle.typing.specs.Agrees.{TypeFound, typed, untyped, agrees-as, Holds, holds, fails, wrong, answered, chain-some, chain-none, chain-never, when-true, when-false, both-first, both-not, both-never}
 use Rattle.typing.specs.Asks.{movedTo, widerBy, Kept, Stage, Part, AskExpr, AskWant, AskOp, AskAdj, TypesExpr, TypesWant, TypesLet, TypesIf, TypesOp, TypesAdj, TypesFit}

@@ -25,13 +25,14 @@ use Rattle.index.specs.FunctionTable.{headWords}
 use Rattle.spelling.specs.Spells.{Spells}
 use Rattle.spelling.specs.FrameSpells.{lineAt}
 use Rattle.skipping.specs.HeadLaws.{count-same}
-use Rattle.scopes.specs.Known.{outer-known, body-known, node-within}
+use Rattle.scopes.specs.Known.{outer-known, body-known}
+use Rattle.scopes.specs.WithinParts.{node-within}
 use Rattle.indexed.specs.Indexed.{bodyAt, declaredAt, initialAt, updateAt, framePart, functionLine, channelLine, lineCount, Indexed}
 use Rattle.typing.specs.declared.words.Typed.{Typed}
 use Rattle.typing.specs.declared.words.Typing.{Typing}
 use Rattle.typing.specs.declared.words.Typing.the-variants.{Is, Wrong}
 use Rattle.typing.specs.declared.words.Want.the-variants.{Parameters}
-use Rattle.typing.specs.declared.exprs.Place.{Place}
+use Rattle.typing.specs.declared.places.Place.{Place}
 use Rattle.typing.specs.Words.{withoutSize, lineOf, wantedWord, entered, Returns}
 use Rattle.typing.specs.Agrees.{Agrees, is-some, is-none, holds, fails, both-first, both-not}
 use Rattle.typing.specs.Asks.{Stage, Part, TypesWant}

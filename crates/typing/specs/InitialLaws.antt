@@ -1,5 +1,5 @@
 -- Initial values, return by return: the forms that document 01 allows, and every other one.
-use Prim.Native.Nat.{ℕ, zero, suc, _+_, _-_, _*_, _%_, _<_}
+use Prim.Native.Nat.{ℕ, suc, _+_, _-_, _*_, _%_, _<_}
 use mathlib.Core.List.{List, []}
 use mathlib.Core.Bool.{Bool, true, false}
 use mathlib.Core.Option.{Option}
@@ -34,12 +34,9 @@ use Rattle.typing.specs.declared.words.Typing.{Typing}
 use Rattle.typing.specs.declared.words.Typing.the-variants.{Is, Wrong}
 use Rattle.typing.specs.Agrees.{Agrees, agrees-as, holds, fails, wrong, answered, when-true, when-false, both-first, both-not}
 use Rattle.typing.specs.Initials.{TestsInitial, TestsInitials}
-use Rattle.typing.specs.EnterLaws.{room-sizes}
+use Rattle.typing.specs.EnterLaws.{no-level, less-deep, room-sizes}
 use Rattle.typing.specs.ReadLaws.{size-passed}
 use Rattle.typing.specs.PlainLaws.{bool-word}
-
-no-level : {S : Scope} {e : Expr} → WithinExpr zero S e → ⊥
-no-level w = elim w [ ]
 
 agrees-at : {r : Typing} {o : Option Plain} {m n : ℕ} → m ≡ n → Agrees r m o → Agrees r n o
 agrees-at {r} {o} e a = subst (λ i. Agrees r i o) e a
@@ -102,9 +99,6 @@ module _ {line : List ℕ} {at n : ℕ} {h : Head} {S : Scope} {e : Expr} (heads
   int-initial : {i : ℕ} → h .form ≡ Int i → isInitial e ≡ true
   unfolding isInitial
   int-initial q = ap isInitial (int-head heads s w q .is)
-
-less-deep : {levels left : ℕ} → levels ≡ suc left → left ≡ levels - 1
-less-deep deep = omega (arith, deep)
 
 module _ (line types : List ℕ) (c : Cursor) (levels : ℕ) where
   pub initial-cut : {r : Typing} → levels ≡ 0 → TestsInitial line types c levels r

@@ -15,7 +15,7 @@ use Rattle.theory.specs.Places.{below-or-not}
 use Rattle.theory.specs.Alls.{all-at}
 use Rattle.spelling.specs.FrameSpells.{lineAt}
 use Rattle.reader.specs.declared.Counts.{Counts}
-use Rattle.scopes.specs.Known.{node-within}
+use Rattle.scopes.specs.WithinParts.{node-within}
 use Rattle.indexed.specs.Indexed.{channelLine, NodeIndexed, Indexed, Counted}
 use Rattle.typing.specs.Words.{lineOf}
 use Rattle.typing.specs.Verdicts.{FunctionFits, InitialFits, NodeFits, frameTests, firstRefused, refusedFrame, verdict, FrameFits, JudgesAll}

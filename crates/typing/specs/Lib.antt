@@ -9,6 +9,7 @@ pub mod ReadLaws
 pub mod PlainLaws
 pub mod FormLaws
 pub mod ListLaws
+pub mod CaseLaws
 pub mod ExprLaws
 pub mod InitialLaws
 pub mod Verdicts

@@ -3,9 +3,9 @@ use Prim.Native.Nat.{ℕ}
 use mathlib.Core.List.{List}
 use mathlib.Core.Path.{_≡_, ap, subst}
 use Rattle.typing.specs.declared.words.Typing.{Typing}
-use Rattle.typing.specs.declared.exprs.Place.{Place}
-use Rattle.typing.specs.declared.exprs.Series.{Series}
-use Rattle.typing.specs.declared.exprs.BranchSeries.{BranchSeries}
+use Rattle.typing.specs.declared.places.Place.{Place}
+use Rattle.typing.specs.declared.places.Series.{Series}
+use Rattle.typing.specs.declared.places.BranchSeries.{BranchSeries}
 use Rattle.typing.specs.Asks.{TypesExpr, TypesWant, TypesLet, TypesIf, TypesOp, TypesCall, TypesCon, TypesSeveral, TypesCase, TypesBranches, TypesAdj, TypesFit}
 
 pub same-levels : {p q : Place} → p ≡ q → p .levels ≡ q .levels

@@ -30,7 +30,7 @@ use Rattle.spelling.specs.FrameSpells.{lineAt}
 use Rattle.spelling.specs.CursorSpells.{passed-over}
 use Rattle.skipping.specs.HeadLaws.{byte-found, byte-there, next-at, next-there}
 use Rattle.skipping.specs.PartLaws.{size-wider}
-use Rattle.scopes.specs.Known.{head-within}
+use Rattle.scopes.specs.WithinParts.{function-within}
 use Rattle.indexed.specs.Indexed.{fieldAt, resultAt, framePart, functionLine, Indexed}
 use Rattle.typing.specs.declared.words.Typed.{Typed}
 use Rattle.typing.specs.declared.words.Typing.{Typing}
@@ -146,7 +146,7 @@ module _ (text frames functions : List ℕ) (count f : ℕ) {line : List ℕ} {i
       let w = h .within in
       let number′ : i ≡ functionLine P f = omega (arith, number, c, less, w .fewTypes, w .fewFunctions) in
       let is : line ≡ lineAt text (functionLine P f) = part ∙ ap (framePart text frames) number′ ∙ h .eachFrame (functionLine P f) (omega (arith, less)) .line in
-      let r = head-within w f e in
+      let r = function-within w f e in
       v .says (omega (arith, w .fewTypes)) (omega (arith, r .fewParameters, named-few (F .parameters))) (r .result) (subst (λ l. Spells resultBytes l (resultAt functions f) (F .result)) (sym is) (h .eachFunction f e .result))
 
   pub returned-none : {r : ℕ} → x ≡ Wrong → Returns text frames functions count f r

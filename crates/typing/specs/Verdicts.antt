@@ -18,7 +18,7 @@ use Rattle.scopes.specs.Known.{Known}
 use Rattle.indexed.specs.Indexed.{declaredAt, channelLine, lineCount, ChannelIndexed, NodeIndexed, Indexed, Counted}
 use Rattle.typing.specs.declared.words.Typing.{Typing}
 use Rattle.typing.specs.declared.words.Typing.the-variants.{Is, Wrong}
-use Rattle.typing.specs.declared.exprs.Place.{Place}
+use Rattle.typing.specs.declared.places.Place.{Place}
 use Rattle.typing.specs.Words.{withoutSize}
 use Rattle.typing.specs.Asks.{Part}
 

@@ -2,9 +2,9 @@
 ghost use mathlib.Core.Path.{_≡_};
 ghost use Rattle.typing.specs.Asks.{Room};
 ghost use Rattle.typing.specs.Verdicts.{fits, ValueFits, FunctionFits, InitialFits, NodeFits, FrameFits};
-use super::exprs::Place;
 use super::exprs::expect;
 use super::initials::initial;
+use super::places::Place;
 use super::words::Typing;
 use super::words::Want;
 use super::words::enter;

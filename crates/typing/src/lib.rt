@@ -1,10 +1,11 @@
 // Plain types in every frame of a file that was read: refusal 9. The definition stands in language/specs/PlainTypes.
-pub mod exprs;
-pub mod frames;
-pub mod initials;
-pub mod words;
+mod exprs;
+mod frames;
+mod initials;
+mod lists;
+mod places;
+mod words;
 
-ghost use mathlib.Core.Path.{_≡_};
 ghost use Rattle.typing.specs.Verdicts.{JudgesAll};
 use frames::frame_agrees;
 use language::limits::CHANNELS_MOST;

@@ -164,51 +164,6 @@ pub fn doubling(functions: usize) -> File {
     }
 }
 
-/// As many bodies inside one another as there may be instances, each nested as
-/// deep as an expression may be, in calls one in the argument of the other:
-/// what the checker needs most stack for.
-pub fn deepest_bodies() -> File {
-    let deep_functions = INSTANCES / LARGEST_SIZE;
-    let identity = int_function(vec![PlainType::Int], vec![], variable(0));
-    let mut functions = vec![identity];
-    functions.extend((1..=deep_functions).map(deep_function));
-    // One size less leaves an instance for the identity.
-    let update = deep_call(deep_functions, LARGEST_SIZE - 1);
-    File {
-        // Cons first, so that a list is shortened before the next function
-        // begins.
-        types: vec![definition(&[&[Field::Int, Field::Own], &[]])],
-        functions,
-        nodes: vec![int_node(update)],
-        ..File::default()
-    }
-}
-
-const IDENTITY: usize = 0;
-
-fn deep_call(function: usize, size: usize) -> Expression {
-    let nil = construction(LIST, 1, vec![]);
-    call(function, vec![adjust(constant(size as u8), nil)])
-}
-
-fn deep_function(at: usize) -> Function {
-    // The case, the innermost call and its argument are levels too.
-    let calls_of_shorter = NESTING - 3;
-    let calls_of_next = calls_of_shorter - 1;
-    let shorter = deep_calls(calls_of_shorter, call(at, vec![variable(2)]));
-    let next = match at - 1 {
-        IDENTITY => int(0),
-        before => deep_calls(calls_of_next, deep_call(before, LARGEST_SIZE)),
-    };
-    let body = case(LIST, variable(0), WrittenType::Int, vec![shorter, next]);
-    int_function(vec![PlainType::Named(LIST)], vec![0], body)
-}
-
-/// Calls of the identity, one in the argument of the other.
-fn deep_calls(count: usize, innermost: Expression) -> Expression {
-    (0..count).fold(innermost, |inner, _| call(IDENTITY, vec![inner]))
-}
-
 /// One file at each limit and one just over it, as texts.
 pub fn all() -> Vec<Vec<u8>> {
     let square = 32;

@@ -19,5 +19,7 @@ pub mod values;
 
 pub mod case;
 pub mod damage;
+pub mod depths;
 pub mod edges;
+pub mod growth;
 pub mod mixture;

@@ -13,6 +13,7 @@ use generator::build::{
     adjust, call, case, constant, construction, declared, definition, difference, fit, int,
     size_variable, sum, variable, written,
 };
+use generator::depths::{deepest_bodies, Level};
 use generator::{edges, writer};
 use support::Lent;
 
@@ -292,12 +293,19 @@ fn a_1025th_instance_is_one_too_many() {
 
 #[test]
 fn as_many_bodies_as_instances_can_stand_inside_one_another() {
-    let text = writer::text(&edges::deepest_bodies());
-    let checked = with_deep_stack(move || Lent::new(Board::LARGEST, 0).check(&text));
-    let answer = checked.expect("an answer");
-    // Refused by the board alone: the last body calls nothing.
-    assert!((15..=17).contains(&answer.number));
-    assert_eq!(answer.bounds.stack as usize, INSTANCES - 1);
+    for level in Level::ALL {
+        let text = writer::text(&deepest_bodies(level));
+        let checked = with_deep_stack(move || Lent::new(Board::LARGEST, 0).check(&text));
+        let answer = checked.expect("an answer");
+        // Refused by the board alone.
+        assert!((15..=17).contains(&answer.number), "{level:?}: {answer:?}");
+        // The identity is an instance too, but its body is not the last.
+        let bodies = match level {
+            Level::Argument => INSTANCES - 1,
+            _ => INSTANCES,
+        };
+        assert_eq!(answer.bounds.stack as usize, bodies, "{level:?}");
+    }
 }
 
 #[test]

@@ -3,6 +3,7 @@
 //! ```text
 //! replay --rust < cases > answers
 //! replay --read < cases > answers
+//! replay --check < cases > answers
 //! replay --generate <count> <seed> > cases
 //! ```
 
@@ -11,18 +12,20 @@ use generator::case::Case;
 use generator::mixture::Mixture;
 use replay::engine::Reference;
 use replay::run::run;
-use replay::{format, reading};
+use replay::{checking, format, reading};
 
 use std::io::{self, BufRead, BufWriter, Write};
 use std::process::ExitCode;
 
-const USAGE: &str = "usage: replay --rust | --read < cases, or replay --generate <count> <seed>";
+const USAGE: &str =
+    "usage: replay --rust | --read | --check < cases, or replay --generate <count> <seed>";
 
 /// What the arguments ask for.
 enum Task {
     AnswerByReference,
     AnswerByLibrary,
     ReadByLibrary,
+    CheckByLibrary,
     Generate { count: usize, seed: u64 },
 }
 
@@ -48,6 +51,7 @@ fn task(arguments: &[String]) -> Option<Task> {
         [] => Some(Task::AnswerByLibrary),
         ["--rust"] => Some(Task::AnswerByReference),
         ["--read"] => Some(Task::ReadByLibrary),
+        ["--check"] => Some(Task::CheckByLibrary),
         ["--generate", count, seed] => Some(Task::Generate {
             count: count.parse().ok()?,
             seed: seed.parse().ok()?,
@@ -65,14 +69,17 @@ fn perform(task: Task) -> io::Result<()> {
         Task::ReadByLibrary => {
             answer(|case| reading::report(reading::by_library(reading::text(case))))
         }
+        Task::CheckByLibrary => answer(checking::report_by_library),
         Task::Generate { count, seed } => generate(count, seed),
         Task::AnswerByLibrary => Ok(()),
     }
 }
 
-/// Without a flag the proved library answers; it is not part of this delivery.
+/// Without a flag the proved library answers all; its start and iteration are not part of this delivery.
 fn library_is_absent() -> ExitCode {
-    eprintln!("replay: the proved library comes with a later delivery, use --rust");
+    eprintln!(
+        "replay: the proved start and iteration come with a later delivery, use --rust or --check"
+    );
     ExitCode::from(2)
 }
 

@@ -1,8 +1,8 @@
-use Prim.Native.Nat.{ℕ, suc, _+_, _-_, _*_, _<_, _≤_, _^_}
-use mathlib.Core.Path.{_≡_, refl, sym, ap, _∙_, subst}
+use Prim.Native.Nat.{ℕ, _+_, _-_, _<_, _≤_}
+use mathlib.Core.Path.{_≡_, refl, ap, _∙_, subst}
 use native.Mathlib.Omega.{arith}
 use lib.ListN.{length, take, drop}
-use Rattle.sizing.specs.Loads.{load, load-same, load-moved, load-wide, load-down, load-body, room-same, room-moved, room-wide, room-down, room-widens, scope-long, sizes-long, room-behind, room-rest, room-kept, room-body, room-inner, prepares, grows-behind, grows-wide}
+use Rattle.sizing.specs.Loads.{load, load-same, load-moved, load-wide, load-down, load-body, room-same, room-wide, room-down, room-widens, scope-long, sizes-long, room-behind, room-rest, room-kept, room-body, room-inner, prepares, grows-behind, grows-wide}
 use Rattle.sizing.specs.TurnLaws.{put-is}
 use Rattle.sizing.specs.Agreement.{grows-to, grows-all-to}
 use mathlib.Core.Bool.{false}
@@ -336,7 +336,6 @@ several-at t = and 9 several-kinds.ps (is 9 several-kinds.ps μ-several t) sever
 abbrev several-below : ℕ → In 9 several-kinds.ps
 several-below t = and 9 several-kinds.ps (falls 9 several-kinds.ps _<_ μ-several t) several.Pre
 
--- src/cycle.rt:555:9
 adjust-frame-line-requires : (t : ℕ) → adjust-lts.Need-frame-line-requires (
   frame-line-reads.Asked,
   frame-line-reads.Learnt,
@@ -351,7 +350,6 @@ adjust-frame-line-requires : (t : ℕ) → adjust-lts.Need-frame-line-requires (
 ) (adjust-at t) adjust.Post
 adjust-frame-line-requires t c κs = tt
 
--- src/cycle.rt:556:9
 adjust-size-at-requires : (t : ℕ) → adjust-lts.Need-size-at-requires (
   frame-line-reads.Asked,
   frame-line-reads.Learnt,
@@ -366,7 +364,6 @@ adjust-size-at-requires : (t : ℕ) → adjust-lts.Need-size-at-requires (
 ) (adjust-at t) adjust.Post
 adjust-size-at-requires t c κs = tt
 
--- src/cycle.rt:557:20
 adjust-enum-known-s : (t : ℕ) → adjust-lts.Need-enum-known-s (
   frame-line-reads.Asked,
   frame-line-reads.Learnt,
@@ -381,7 +378,6 @@ adjust-enum-known-s : (t : ℕ) → adjust-lts.Need-enum-known-s (
 ) (adjust-at t) adjust.Post
 adjust-enum-known-s t c = (c .match .keys1)
 
--- src/cycle.rt:558:36
 adjust-enum-told : (t : ℕ) → adjust-lts.Need-enum-told (
   frame-line-reads.Asked,
   frame-line-reads.Learnt,
@@ -396,7 +392,6 @@ adjust-enum-told : (t : ℕ) → adjust-lts.Need-enum-told (
 ) (adjust-at t) adjust.Post
 adjust-enum-told t c = (c .match .keys2)
 
--- src/cycle.rt:558:36
 adjust-add-t23 : (t : ℕ) → adjust-lts.Need-add-t23 (
   frame-line-reads.Asked,
   frame-line-reads.Learnt,
@@ -411,7 +406,6 @@ adjust-add-t23 : (t : ℕ) → adjust-lts.Need-add-t23 (
 ) (adjust-at t) adjust.Post
 adjust-add-t23 t c = omega (arith, (c .before .before .before .before .before .before .before .before .before .before .before .before .before .before .before .pre .1 .line))
 
--- src/cycle.rt:558:9
 adjust-same-length : (t : ℕ) → adjust-lts.Need-same-length (
   frame-line-reads.Asked,
   frame-line-reads.Learnt,
@@ -426,7 +420,6 @@ adjust-same-length : (t : ℕ) → adjust-lts.Need-same-length (
 ) (adjust-at t) adjust.Post
 adjust-same-length t c = refl
 
--- src/cycle.rt:558:9
 adjust-returns : (t : ℕ) → adjust-lts.Need-returns (
   frame-line-reads.Asked,
   frame-line-reads.Learnt,
@@ -441,7 +434,6 @@ adjust-returns : (t : ℕ) → adjust-lts.Need-returns (
 ) (adjust-at t) adjust.Post
 adjust-returns t c = adj-outside (c .before .before .before .size-at .ensures) (c .before .before .before .before .before .frame-line .ensures) (c .before .enum-told .given .1)
 
--- src/cycle.rt:560:9
 adjust-moved-requires : (t : ℕ) → adjust-lts.Need-moved-requires (
   frame-line-reads.Asked,
   frame-line-reads.Learnt,
@@ -456,7 +448,6 @@ adjust-moved-requires : (t : ℕ) → adjust-lts.Need-moved-requires (
 ) (adjust-at t) adjust.Post
 adjust-moved-requires t c κs = tt
 
--- src/cycle.rt:561:9
 adjust-expr-requires : (t : ℕ) → adjust-lts.Need-expr-requires (
   frame-line-reads.Asked,
   frame-line-reads.Learnt,
@@ -471,7 +462,6 @@ adjust-expr-requires : (t : ℕ) → adjust-lts.Need-expr-requires (
 ) (adjust-at t) adjust.Post
 adjust-expr-requires t c κs = (load-moved _ 900 (c .before .before .before .before .before .before .before .before .before .before .before .before .before .before .before .before .before .before .before .pre .0) _ 0 (c .before .before .before .moved .ensures) (omega arith) (omega arith), room-behind (c .before .before .before .before .before .before .before .before .before .before .before .before .before .before .before .before .before .before .before .pre .1) (c .before .before .before .moved .ensures) (refl) (refl))
 
--- src/cycle.rt:562:20
 adjust-enum-known-x : (t : ℕ) → adjust-lts.Need-enum-known-x (
   frame-line-reads.Asked,
   frame-line-reads.Learnt,
@@ -486,7 +476,6 @@ adjust-enum-known-x : (t : ℕ) → adjust-lts.Need-enum-known-x (
 ) (adjust-at t) adjust.Post
 adjust-enum-known-x t c = (c .match2 .keys1)
 
--- src/cycle.rt:563:9
 adjust-enum-told-2 : (t : ℕ) → adjust-lts.Need-enum-told-2 (
   frame-line-reads.Asked,
   frame-line-reads.Learnt,
@@ -501,7 +490,6 @@ adjust-enum-told-2 : (t : ℕ) → adjust-lts.Need-enum-told-2 (
 ) (adjust-at t) adjust.Post
 adjust-enum-told-2 t c = (c .match2 .keys2)
 
--- src/cycle.rt:563:9
 adjust-same-length-2 : (t : ℕ) → adjust-lts.Need-same-length-2 (
   frame-line-reads.Asked,
   frame-line-reads.Learnt,
@@ -516,7 +504,6 @@ adjust-same-length-2 : (t : ℕ) → adjust-lts.Need-same-length-2 (
 ) (adjust-at t) adjust.Post
 adjust-same-length-2 t c = (c .before .before .before .before .before .before .before .before .expr .kept .1 .1 .1 .1 .1 .0)
 
--- src/cycle.rt:563:9
 adjust-same-length-3 : (t : ℕ) → adjust-lts.Need-same-length-3 (
   frame-line-reads.Asked,
   frame-line-reads.Learnt,
@@ -531,7 +518,6 @@ adjust-same-length-3 : (t : ℕ) → adjust-lts.Need-same-length-3 (
 ) (adjust-at t) adjust.Post
 adjust-same-length-3 t c = (c .before .before .before .before .before .before .before .before .expr .kept .1 .1 .1 .1 .1 .1 .0)
 
--- src/cycle.rt:563:9
 adjust-same-length-4 : (t : ℕ) → adjust-lts.Need-same-length-4 (
   frame-line-reads.Asked,
   frame-line-reads.Learnt,
@@ -546,7 +532,6 @@ adjust-same-length-4 : (t : ℕ) → adjust-lts.Need-same-length-4 (
 ) (adjust-at t) adjust.Post
 adjust-same-length-4 t c = (c .before .before .before .before .before .before .before .before .expr .kept .1 .1 .1 .1 .1 .1 .1 .0)
 
--- src/cycle.rt:563:9
 adjust-returns-2 : (t : ℕ) → adjust-lts.Need-returns-2 (
   frame-line-reads.Asked,
   frame-line-reads.Learnt,
@@ -561,7 +546,6 @@ adjust-returns-2 : (t : ℕ) → adjust-lts.Need-returns-2 (
 ) (adjust-at t) adjust.Post
 adjust-returns-2 t c = adj-refused (c .before .before .before .before .before .before .before .before .before .before .before .before .before .before .before .before .size-at .ensures) (c .before .before .before .before .before .before .before .before .before .before .before .before .before .before .before .before .before .before .frame-line .ensures) (c .before .before .before .before .before .before .before .before .before .before .before .before .before .before .s .given .1) (c .before .before .before .before .before .before .before .before .before .before .before .before .moved .ensures) (c .before .before .before .before .before .before .before .before .expr .ensures) (c .enum-told2 .given .1)
 
--- src/cycle.rt:566:26
 adjust-enum-known-kind : (t : ℕ) → adjust-lts.Need-enum-known-kind (
   frame-line-reads.Asked,
   frame-line-reads.Learnt,
@@ -576,7 +560,6 @@ adjust-enum-known-kind : (t : ℕ) → adjust-lts.Need-enum-known-kind (
 ) (adjust-at t) adjust.Post
 adjust-enum-known-kind t c = (c .match3 .keys1)
 
--- src/cycle.rt:567:35
 adjust-add-t30 : (t : ℕ) → adjust-lts.Need-add-t30 (
   frame-line-reads.Asked,
   frame-line-reads.Learnt,
@@ -591,7 +574,6 @@ adjust-add-t30 : (t : ℕ) → adjust-lts.Need-add-t30 (
 ) (adjust-at t) adjust.Post
 adjust-add-t30 t c = omega (arith, (c .before .before .before .before .before .before .before .before .before .before .before .before .before .before .before .before .before .before .before .before .before .before .before .before .before .before .before .before .before .before .before .pre .1 .line))
 
--- src/cycle.rt:567:9
 adjust-same-length-5 : (t : ℕ) → adjust-lts.Need-same-length-5 (
   frame-line-reads.Asked,
   frame-line-reads.Learnt,
@@ -606,7 +588,6 @@ adjust-same-length-5 : (t : ℕ) → adjust-lts.Need-same-length-5 (
 ) (adjust-at t) adjust.Post
 adjust-same-length-5 t c = (c .before .before .before .before .before .before .before .before .before .before .before .expr .kept .1 .1 .1 .1 .1 .0)
 
--- src/cycle.rt:567:9
 adjust-same-length-6 : (t : ℕ) → adjust-lts.Need-same-length-6 (
   frame-line-reads.Asked,
   frame-line-reads.Learnt,
@@ -621,7 +602,6 @@ adjust-same-length-6 : (t : ℕ) → adjust-lts.Need-same-length-6 (
 ) (adjust-at t) adjust.Post
 adjust-same-length-6 t c = (c .before .before .before .before .before .before .before .before .before .before .before .expr .kept .1 .1 .1 .1 .1 .1 .0)
 
--- src/cycle.rt:567:9
 adjust-same-length-7 : (t : ℕ) → adjust-lts.Need-same-length-7 (
   frame-line-reads.Asked,
   frame-line-reads.Learnt,
@@ -636,7 +616,6 @@ adjust-same-length-7 : (t : ℕ) → adjust-lts.Need-same-length-7 (
 ) (adjust-at t) adjust.Post
 adjust-same-length-7 t c = (c .before .before .before .before .before .before .before .before .before .before .before .expr .kept .1 .1 .1 .1 .1 .1 .1 .0)
 
--- src/cycle.rt:567:9
 adjust-returns-3 : (t : ℕ) → adjust-lts.Need-returns-3 (
   frame-line-reads.Asked,
   frame-line-reads.Learnt,
@@ -651,7 +630,6 @@ adjust-returns-3 : (t : ℕ) → adjust-lts.Need-returns-3 (
 ) (adjust-at t) adjust.Post
 adjust-returns-3 t c = adj-plain (c .before .before .before .before .before .before .before .before .before .before .before .before .before .before .before .before .before .before .before .size-at .ensures) (c .before .before .before .before .before .before .before .before .before .before .before .before .before .before .before .before .before .before .before .before .before .frame-line .ensures) (c .before .before .before .before .before .before .before .before .before .before .before .before .before .before .before .before .before .s .given .1) (c .before .before .before .before .before .before .before .before .before .before .before .before .before .before .before .moved .ensures) (c .before .before .before .before .before .before .before .before .before .before .before .expr .ensures) (c .before .before .before .x .given .1) (not-named _ (c .before .match3 .keys2))
 
--- src/cycle.rt:570:36
 adjust-add-t32 : (t : ℕ) → adjust-lts.Need-add-t32 (
   frame-line-reads.Asked,
   frame-line-reads.Learnt,
@@ -666,7 +644,6 @@ adjust-add-t32 : (t : ℕ) → adjust-lts.Need-add-t32 (
 ) (adjust-at t) adjust.Post
 adjust-add-t32 t c = omega (arith, (c .before .before .before .before .before .before .before .before .before .before .before .before .before .before .before .before .before .before .before .before .before .before .before .before .before .before .before .before .before .before .before .before .before .before .pre .1 .line))
 
--- src/cycle.rt:570:9
 adjust-same-length-8 : (t : ℕ) → adjust-lts.Need-same-length-8 (
   frame-line-reads.Asked,
   frame-line-reads.Learnt,
@@ -681,7 +658,6 @@ adjust-same-length-8 : (t : ℕ) → adjust-lts.Need-same-length-8 (
 ) (adjust-at t) adjust.Post
 adjust-same-length-8 t c = (c .before .before .before .before .before .before .before .before .before .before .before .before .before .before .expr .kept .1 .1 .1 .1 .1 .0)
 
--- src/cycle.rt:570:9
 adjust-same-length-9 : (t : ℕ) → adjust-lts.Need-same-length-9 (
   frame-line-reads.Asked,
   frame-line-reads.Learnt,
@@ -696,7 +672,6 @@ adjust-same-length-9 : (t : ℕ) → adjust-lts.Need-same-length-9 (
 ) (adjust-at t) adjust.Post
 adjust-same-length-9 t c = (c .before .before .before .before .before .before .before .before .before .before .before .before .before .before .expr .kept .1 .1 .1 .1 .1 .1 .0)
 
--- src/cycle.rt:570:9
 adjust-same-length-10 : (t : ℕ) → adjust-lts.Need-same-length-10 (
   frame-line-reads.Asked,
   frame-line-reads.Learnt,
@@ -711,7 +686,6 @@ adjust-same-length-10 : (t : ℕ) → adjust-lts.Need-same-length-10 (
 ) (adjust-at t) adjust.Post
 adjust-same-length-10 t c = (c .before .before .before .before .before .before .before .before .before .before .before .before .before .before .expr .kept .1 .1 .1 .1 .1 .1 .1 .0)
 
--- src/cycle.rt:570:9
 adjust-returns-4 : (t : ℕ) → adjust-lts.Need-returns-4 (
   frame-line-reads.Asked,
   frame-line-reads.Learnt,
@@ -726,7 +700,6 @@ adjust-returns-4 : (t : ℕ) → adjust-lts.Need-returns-4 (
 ) (adjust-at t) adjust.Post
 adjust-returns-4 t c = adj-lowered (c .before .before .before .before .before .before .before .before .before .before .before .before .before .before .before .before .before .before .before .before .before .before .size-at .ensures) (c .before .before .before .before .before .before .before .before .before .before .before .before .before .before .before .before .before .before .before .before .before .before .before .before .frame-line .ensures) (c .before .before .before .before .before .before .before .before .before .before .before .before .before .before .before .before .before .before .before .before .s .given .1) (c .before .before .before .before .before .before .before .before .before .before .before .before .before .before .before .before .before .before .moved .ensures) (c .before .before .before .before .before .before .before .before .before .before .before .before .before .before .expr .ensures) (c .before .before .before .before .before .before .x .given .1) (c .before .before .before .kind .given .1) (c .before .if1 .taken)
 
--- src/cycle.rt:572:5
 adjust-adjusted-requires : (t : ℕ) → adjust-lts.Need-adjusted-requires (
   frame-line-reads.Asked,
   frame-line-reads.Learnt,
@@ -741,7 +714,6 @@ adjust-adjusted-requires : (t : ℕ) → adjust-lts.Need-adjusted-requires (
 ) (adjust-at t) adjust.Post
 adjust-adjusted-requires t c κs = tt
 
--- src/cycle.rt:540:1
 adjust-same-length-11 : (t : ℕ) → adjust-lts.Need-same-length-11 (
   frame-line-reads.Asked,
   frame-line-reads.Learnt,
@@ -756,7 +728,6 @@ adjust-same-length-11 : (t : ℕ) → adjust-lts.Need-same-length-11 (
 ) (adjust-at t) adjust.Post
 adjust-same-length-11 t c = (c .before .before .before .before .before .before .before .before .before .before .before .before .before .before .expr .kept .1 .1 .1 .1 .1 .0)
 
--- src/cycle.rt:540:1
 adjust-same-length-12 : (t : ℕ) → adjust-lts.Need-same-length-12 (
   frame-line-reads.Asked,
   frame-line-reads.Learnt,
@@ -771,7 +742,6 @@ adjust-same-length-12 : (t : ℕ) → adjust-lts.Need-same-length-12 (
 ) (adjust-at t) adjust.Post
 adjust-same-length-12 t c = (c .before .before .before .before .before .before .before .before .before .before .before .before .before .before .expr .kept .1 .1 .1 .1 .1 .1 .0)
 
--- src/cycle.rt:540:1
 adjust-same-length-13 : (t : ℕ) → adjust-lts.Need-same-length-13 (
   frame-line-reads.Asked,
   frame-line-reads.Learnt,
@@ -786,7 +756,6 @@ adjust-same-length-13 : (t : ℕ) → adjust-lts.Need-same-length-13 (
 ) (adjust-at t) adjust.Post
 adjust-same-length-13 t c = (c .before .before .before .before .before .before .before .before .before .before .before .before .before .before .expr .kept .1 .1 .1 .1 .1 .1 .1 .0)
 
--- src/cycle.rt:540:1
 adjust-returns-5 : (t : ℕ) → adjust-lts.Need-returns-5 (
   frame-line-reads.Asked,
   frame-line-reads.Learnt,
@@ -809,7 +778,6 @@ abbrev at-splits-μ-loop : at-splits-lts.MeasureT-loop
 at-splits-μ-loop text frames types functions channels list₀ scope₀ sizes₀ p s k n own at kind all₀ more₀ list scope sizes all more =
     walkLeft more (take own (drop (p .sizes) sizes))
 
--- src/cycle.rt:512:9
 at-splits-fields-requires : (t : ℕ) → at-splits-lts.Need-fields-requires (
   fields-reads.Asked,
   fields-reads.Learnt,
@@ -836,7 +804,6 @@ at-splits-fields-requires : (t : ℕ) → at-splits-lts.Need-fields-requires (
 ) (at-splits-at t) at-splits.Post at-splits-Inv-loop at-splits-μ-loop
 at-splits-fields-requires t c κs = tt
 
--- src/cycle.rt:513:9
 at-splits-own-fields-requires : (t : ℕ) → at-splits-lts.Need-own-fields-requires (
   fields-reads.Asked,
   fields-reads.Learnt,
@@ -863,7 +830,6 @@ at-splits-own-fields-requires : (t : ℕ) → at-splits-lts.Need-own-fields-requ
 ) (at-splits-at t) at-splits.Post at-splits-Inv-loop at-splits-μ-loop
 at-splits-own-fields-requires t c κs = tt
 
--- src/cycle.rt:518:18
 at-splits-nothing-requires : (t : ℕ) → at-splits-lts.Need-nothing-requires (
   fields-reads.Asked,
   fields-reads.Learnt,
@@ -890,7 +856,6 @@ at-splits-nothing-requires : (t : ℕ) → at-splits-lts.Need-nothing-requires (
 ) (at-splits-at t) at-splits.Post at-splits-Inv-loop at-splits-μ-loop
 at-splits-nothing-requires t c κs = tt
 
--- src/cycle.rt:523:5
 at-splits-loop-holds : (t : ℕ) → at-splits-lts.Need-loop-holds (
   fields-reads.Asked,
   fields-reads.Learnt,
@@ -917,7 +882,6 @@ at-splits-loop-holds : (t : ℕ) → at-splits-lts.Need-loop-holds (
 ) (at-splits-at t) at-splits.Post at-splits-Inv-loop at-splits-μ-loop
 at-splits-loop-holds t c = (walks-start (c .nothing .ensures) refl, (refl, (refl, refl)))
 
--- src/cycle.rt:524:9
 at-splits-bind-fields-requires : (t : ℕ) → at-splits-lts.Need-bind-fields-requires (
   fields-reads.Asked,
   fields-reads.Learnt,
@@ -944,7 +908,6 @@ at-splits-bind-fields-requires : (t : ℕ) → at-splits-lts.Need-bind-fields-re
 ) (at-splits-at t) at-splits.Post at-splits-Inv-loop at-splits-μ-loop
 at-splits-bind-fields-requires t c κs = tt
 
--- src/cycle.rt:525:23
 at-splits-moved-requires : (t : ℕ) → at-splits-lts.Need-moved-requires (
   fields-reads.Asked,
   fields-reads.Learnt,
@@ -971,7 +934,6 @@ at-splits-moved-requires : (t : ℕ) → at-splits-lts.Need-moved-requires (
 ) (at-splits-at t) at-splits.Post at-splits-Inv-loop at-splits-μ-loop
 at-splits-moved-requires t c κs = tt
 
--- src/cycle.rt:525:13
 at-splits-widen-requires : (t : ℕ) → at-splits-lts.Need-widen-requires (
   fields-reads.Asked,
   fields-reads.Learnt,
@@ -998,7 +960,6 @@ at-splits-widen-requires : (t : ℕ) → at-splits-lts.Need-widen-requires (
 ) (at-splits-at t) at-splits.Post at-splits-Inv-loop at-splits-μ-loop
 at-splits-widen-requires t c κs = room-widens (c .before .before .before .before .before .before .before .before .before .before .before .before .before .before .before .before .before .before .before .before .pre .1 .0) (c .moved .ensures) (omega (arith, (c .before .before .before .before .before .before .before .before .before .before .before .fields .ensures .1))) (omega (arith, (c .before .before .before .before .before .before .before .before .before .before .own-fields .ensures .1)))
 
--- src/cycle.rt:526:13
 at-splits-expr-requires : (t : ℕ) → at-splits-lts.Need-expr-requires (
   fields-reads.Asked,
   fields-reads.Learnt,
@@ -1025,7 +986,6 @@ at-splits-expr-requires : (t : ℕ) → at-splits-lts.Need-expr-requires (
 ) (at-splits-at t) at-splits.Post at-splits-Inv-loop at-splits-μ-loop
 at-splits-expr-requires t c κs = (load-wide _ 100 (c .before .before .before .before .before .before .before .before .before .before .before .before .before .before .before .before .before .before .before .before .before .before .before .before .pre .0) _ _ _ _ 0 (c .before .before .before .before .moved .ensures) (c .before .before .before .widen .ensures) (c .before .before .before .before .before .before .before .before .before .before .before .loop .inv .0 .grown) (omega arith), room-wide (c .before .before .before .before .before .before .before .before .before .before .before .before .before .before .before .before .before .before .before .before .before .before .before .before .pre .1 .0) (c .before .before .before .before .moved .ensures) (c .before .before .before .widen .ensures) ((c .before .before .before .before .before .before .before .bind-fields .kept .1 .0) ∙ (c .before .before .before .before .before .before .before .before .before .before .before .loop .inv .1 .1 .0)) (c .before .before .before .before .before .before .before .before .before .before .before .loop .inv .1 .1 .1) (omega (arith, (c .before .before .before .before .before .before .before .before .before .before .before .before .before .before .before .fields .ensures .1))) (omega (arith, (c .before .before .before .before .before .before .before .before .before .before .before .before .before .before .own-fields .ensures .1))))
 
--- src/cycle.rt:527:24
 at-splits-enum-known-x : (t : ℕ) → at-splits-lts.Need-enum-known-x (
   fields-reads.Asked,
   fields-reads.Learnt,
@@ -1052,7 +1012,6 @@ at-splits-enum-known-x : (t : ℕ) → at-splits-lts.Need-enum-known-x (
 ) (at-splits-at t) at-splits.Post at-splits-Inv-loop at-splits-μ-loop
 at-splits-enum-known-x t c = (c .match .keys1)
 
--- src/cycle.rt:528:13
 at-splits-enum-told : (t : ℕ) → at-splits-lts.Need-enum-told (
   fields-reads.Asked,
   fields-reads.Learnt,
@@ -1079,7 +1038,6 @@ at-splits-enum-told : (t : ℕ) → at-splits-lts.Need-enum-told (
 ) (at-splits-at t) at-splits.Post at-splits-Inv-loop at-splits-μ-loop
 at-splits-enum-told t c = (c .match .keys2)
 
--- src/cycle.rt:528:13
 at-splits-same-length : (t : ℕ) → at-splits-lts.Need-same-length (
   fields-reads.Asked,
   fields-reads.Learnt,
@@ -1106,7 +1064,6 @@ at-splits-same-length : (t : ℕ) → at-splits-lts.Need-same-length (
 ) (at-splits-at t) at-splits.Post at-splits-Inv-loop at-splits-μ-loop
 at-splits-same-length t c = ((c .before .before .before .before .before .before .before .before .expr .kept .1 .1 .1 .1 .1 .0) ∙ (c .before .before .before .before .before .before .before .before .before .before .before .before .before .before .before .before .before .before .before .before .loop .inv .1 .0))
 
--- src/cycle.rt:528:13
 at-splits-same-length-2 : (t : ℕ) → at-splits-lts.Need-same-length-2 (
   fields-reads.Asked,
   fields-reads.Learnt,
@@ -1133,7 +1090,6 @@ at-splits-same-length-2 : (t : ℕ) → at-splits-lts.Need-same-length-2 (
 ) (at-splits-at t) at-splits.Post at-splits-Inv-loop at-splits-μ-loop
 at-splits-same-length-2 t c = ((c .before .before .before .before .before .before .before .before .expr .kept .1 .1 .1 .1 .1 .1 .0) ∙ (c .before .before .before .before .before .before .before .before .before .before .before .before .before .before .before .before .bind-fields .kept .1 .0) ∙ (c .before .before .before .before .before .before .before .before .before .before .before .before .before .before .before .before .before .before .before .before .loop .inv .1 .1 .0))
 
--- src/cycle.rt:528:13
 at-splits-same-length-3 : (t : ℕ) → at-splits-lts.Need-same-length-3 (
   fields-reads.Asked,
   fields-reads.Learnt,
@@ -1160,7 +1116,6 @@ at-splits-same-length-3 : (t : ℕ) → at-splits-lts.Need-same-length-3 (
 ) (at-splits-at t) at-splits.Post at-splits-Inv-loop at-splits-μ-loop
 at-splits-same-length-3 t c = ((c .before .before .before .before .before .before .before .before .expr .kept .1 .1 .1 .1 .1 .1 .1 .0) ∙ (c .before .before .before .before .before .before .before .before .before .before .before .before .before .before .before .before .before .before .before .before .loop .inv .1 .1 .1))
 
--- src/cycle.rt:528:13
 at-splits-returns : (t : ℕ) → at-splits-lts.Need-returns (
   fields-reads.Asked,
   fields-reads.Learnt,
@@ -1187,7 +1142,6 @@ at-splits-returns : (t : ℕ) → at-splits-lts.Need-returns (
 ) (at-splits-at t) at-splits.Post at-splits-Inv-loop at-splits-μ-loop
 at-splits-returns t c = splits-part (walks-are (c .before .before .before .before .before .before .before .before .before .before .before .before .before .before .before .before .before .before .before .loop-test .taken) (c .before .before .before .before .before .before .before .before .before .before .before .before .before .before .before .before .before .before .before .before .loop .inv .0)) (c .before .before .before .before .before .before .before .before .before .before .before .before .before .before .before .before .before .before .before .before .before .before .before .before .fields .ensures) (c .before .before .before .before .before .before .before .before .before .before .before .before .before .before .before .before .before .before .before .before .before .before .before .own-fields .ensures) (scope-long (c .before .before .before .before .before .before .before .before .before .before .before .before .before .before .before .before .before .before .before .before .before .before .before .before .before .before .before .before .before .before .before .before .before .pre .1 .0) ((c .before .before .before .before .before .before .before .before .before .before .before .before .before .before .before .before .before .before .before .before .loop .inv .1 .1 .0))) (sizes-long (c .before .before .before .before .before .before .before .before .before .before .before .before .before .before .before .before .before .before .before .before .before .before .before .before .before .before .before .before .before .before .before .before .before .pre .1 .0) ((c .before .before .before .before .before .before .before .before .before .before .before .before .before .before .before .before .before .before .before .before .loop .inv .1 .1 .1))) (c .before .before .before .before .before .before .before .before .before .before .before .before .before .before .before .before .bind-fields .ensures) (c .before .before .before .before .before .before .before .before .before .before .before .before .before .moved .ensures) (c .before .before .before .before .before .before .before .before .before .before .before .before .widen .ensures) (c .before .before .before .before .before .before .before .before .expr .ensures) (c .enum-told .given .1)
 
--- src/cycle.rt:530:13
 at-splits-is-kind-requires : (t : ℕ) → at-splits-lts.Need-is-kind-requires (
   fields-reads.Asked,
   fields-reads.Learnt,
@@ -1214,7 +1168,6 @@ at-splits-is-kind-requires : (t : ℕ) → at-splits-lts.Need-is-kind-requires (
 ) (at-splits-at t) at-splits.Post at-splits-Inv-loop at-splits-μ-loop
 at-splits-is-kind-requires t c κs = tt
 
--- src/cycle.rt:531:40
 at-splits-add-t36 : (t : ℕ) → at-splits-lts.Need-add-t36 (
   fields-reads.Asked,
   fields-reads.Learnt,
@@ -1241,7 +1194,6 @@ at-splits-add-t36 : (t : ℕ) → at-splits-lts.Need-add-t36 (
 ) (at-splits-at t) at-splits.Post at-splits-Inv-loop at-splits-μ-loop
 at-splits-add-t36 t c = omega (arith, (c .before .before .before .before .before .before .before .before .before .before .before .before .before .before .before .before .before .before .before .before .before .before .before .before .before .before .before .before .before .before .before .before .before .before .before .before .before .pre .1 .0 .line))
 
--- src/cycle.rt:531:13
 at-splits-same-length-4 : (t : ℕ) → at-splits-lts.Need-same-length-4 (
   fields-reads.Asked,
   fields-reads.Learnt,
@@ -1268,7 +1220,6 @@ at-splits-same-length-4 : (t : ℕ) → at-splits-lts.Need-same-length-4 (
 ) (at-splits-at t) at-splits.Post at-splits-Inv-loop at-splits-μ-loop
 at-splits-same-length-4 t c = ((c .before .before .before .before .before .before .before .before .before .before .before .before .expr .kept .1 .1 .1 .1 .1 .0) ∙ (c .before .before .before .before .before .before .before .before .before .before .before .before .before .before .before .before .before .before .before .before .before .before .before .before .loop .inv .1 .0))
 
--- src/cycle.rt:531:13
 at-splits-same-length-5 : (t : ℕ) → at-splits-lts.Need-same-length-5 (
   fields-reads.Asked,
   fields-reads.Learnt,
@@ -1295,7 +1246,6 @@ at-splits-same-length-5 : (t : ℕ) → at-splits-lts.Need-same-length-5 (
 ) (at-splits-at t) at-splits.Post at-splits-Inv-loop at-splits-μ-loop
 at-splits-same-length-5 t c = ((c .before .before .before .before .before .before .before .before .before .before .before .before .expr .kept .1 .1 .1 .1 .1 .1 .0) ∙ (c .before .before .before .before .before .before .before .before .before .before .before .before .before .before .before .before .before .before .before .before .bind-fields .kept .1 .0) ∙ (c .before .before .before .before .before .before .before .before .before .before .before .before .before .before .before .before .before .before .before .before .before .before .before .before .loop .inv .1 .1 .0))
 
--- src/cycle.rt:531:13
 at-splits-same-length-6 : (t : ℕ) → at-splits-lts.Need-same-length-6 (
   fields-reads.Asked,
   fields-reads.Learnt,
@@ -1322,7 +1272,6 @@ at-splits-same-length-6 : (t : ℕ) → at-splits-lts.Need-same-length-6 (
 ) (at-splits-at t) at-splits.Post at-splits-Inv-loop at-splits-μ-loop
 at-splits-same-length-6 t c = ((c .before .before .before .before .before .before .before .before .before .before .before .before .expr .kept .1 .1 .1 .1 .1 .1 .1 .0) ∙ (c .before .before .before .before .before .before .before .before .before .before .before .before .before .before .before .before .before .before .before .before .before .before .before .before .loop .inv .1 .1 .1))
 
--- src/cycle.rt:531:13
 at-splits-returns-2 : (t : ℕ) → at-splits-lts.Need-returns-2 (
   fields-reads.Asked,
   fields-reads.Learnt,
@@ -1349,7 +1298,6 @@ at-splits-returns-2 : (t : ℕ) → at-splits-lts.Need-returns-2 (
 ) (at-splits-at t) at-splits.Post at-splits-Inv-loop at-splits-μ-loop
 at-splits-returns-2 t c = splits-differ (walks-are (c .before .before .before .before .before .before .before .before .before .before .before .before .before .before .before .before .before .before .before .before .before .before .before .loop-test .taken) (c .before .before .before .before .before .before .before .before .before .before .before .before .before .before .before .before .before .before .before .before .before .before .before .before .loop .inv .0)) (c .before .before .before .before .before .before .before .before .before .before .before .before .before .before .before .before .before .before .before .before .before .before .before .before .before .before .before .before .fields .ensures) (c .before .before .before .before .before .before .before .before .before .before .before .before .before .before .before .before .before .before .before .before .before .before .before .before .before .before .before .own-fields .ensures) (scope-long (c .before .before .before .before .before .before .before .before .before .before .before .before .before .before .before .before .before .before .before .before .before .before .before .before .before .before .before .before .before .before .before .before .before .before .before .before .before .pre .1 .0) ((c .before .before .before .before .before .before .before .before .before .before .before .before .before .before .before .before .before .before .before .before .before .before .before .before .loop .inv .1 .1 .0))) (sizes-long (c .before .before .before .before .before .before .before .before .before .before .before .before .before .before .before .before .before .before .before .before .before .before .before .before .before .before .before .before .before .before .before .before .before .before .before .before .before .pre .1 .0) ((c .before .before .before .before .before .before .before .before .before .before .before .before .before .before .before .before .before .before .before .before .before .before .before .before .loop .inv .1 .1 .1))) (c .before .before .before .before .before .before .before .before .before .before .before .before .before .before .before .before .before .before .before .before .bind-fields .ensures) (c .before .before .before .before .before .before .before .before .before .before .before .before .before .before .before .before .before .moved .ensures) (c .before .before .before .before .before .before .before .before .before .before .before .before .before .before .before .before .widen .ensures) (c .before .before .before .before .before .before .before .before .before .before .before .before .expr .ensures) (c .before .before .before .before .x .given .1) (c .before .before .is-kind .ensures) (negated _ (c .before .if1 .taken))
 
--- src/cycle.rt:533:9
 at-splits-larger-requires : (t : ℕ) → at-splits-lts.Need-larger-requires (
   fields-reads.Asked,
   fields-reads.Learnt,
@@ -1376,7 +1324,6 @@ at-splits-larger-requires : (t : ℕ) → at-splits-lts.Need-larger-requires (
 ) (at-splits-at t) at-splits.Post at-splits-Inv-loop at-splits-μ-loop
 at-splits-larger-requires t c κs = tt
 
--- src/cycle.rt:534:34
 at-splits-cast-next-split : (t : ℕ) → at-splits-lts.Need-cast-next-split (
   fields-reads.Asked,
   fields-reads.Learnt,
@@ -1403,7 +1350,6 @@ at-splits-cast-next-split : (t : ℕ) → at-splits-lts.Need-cast-next-split (
 ) (at-splits-at t) at-splits.Post at-splits-Inv-loop at-splits-μ-loop
 at-splits-cast-next-split t c = omega arith
 
--- src/cycle.rt:534:9
 at-splits-next-split-requires : (t : ℕ) → at-splits-lts.Need-next-split-requires (
   fields-reads.Asked,
   fields-reads.Learnt,
@@ -1430,7 +1376,6 @@ at-splits-next-split-requires : (t : ℕ) → at-splits-lts.Need-next-split-requ
 ) (at-splits-at t) at-splits.Post at-splits-Inv-loop at-splits-μ-loop
 at-splits-next-split-requires t c κs = tt
 
--- src/cycle.rt:523:5
 at-splits-loop-less : (t : ℕ) → at-splits-lts.Need-loop-less (
   fields-reads.Asked,
   fields-reads.Learnt,
@@ -1457,7 +1402,6 @@ at-splits-loop-less : (t : ℕ) → at-splits-lts.Need-loop-less (
 ) (at-splits-at t) at-splits.Post at-splits-Inv-loop at-splits-μ-loop
 at-splits-loop-less t c = less-as _ (c .before .before .before .before .before .before .before .before .before .before .before .before .before .before .before .before .before .before .before .before .before .before .before .before .before .before .before .before .loop-test .taken) (turn-falls (c .before .before .before .before .before .before .before .before .before .before .before .before .before .before .before .before .before .before .before .before .before .before .before .before .before .before .before .before .before .before .before .before .before .before .before .before .before .before .before .before .before .before .args .p) _ _ (c .before .before .before .before .before .before .before .before .before .before .before .before .before .before .before .before .before .before .before .before .before .before .moved .ensures) (c .before .before .before .before .before .before .before .before .before .before .before .before .before .before .before .before .before .before .before .before .before .widen .ensures) (c .before .before .before .before .before .before .before .before .before .before .before .before .before .before .before .before .before .expr .ensures .kept) (c .before .before .next-split .ensures))
 
--- src/cycle.rt:523:5
 at-splits-loop-again : (t : ℕ) → at-splits-lts.Need-loop-again (
   fields-reads.Asked,
   fields-reads.Learnt,
@@ -1484,7 +1428,6 @@ at-splits-loop-again : (t : ℕ) → at-splits-lts.Need-loop-again (
 ) (at-splits-at t) at-splits.Post at-splits-Inv-loop at-splits-μ-loop
 at-splits-loop-again t c = (splits-turn (walks-are (c .before .before .before .before .before .before .before .before .before .before .before .before .before .before .before .before .before .before .before .before .before .before .before .before .before .before .before .before .loop-test .taken) (c .before .before .before .before .before .before .before .before .before .before .before .before .before .before .before .before .before .before .before .before .before .before .before .before .before .before .before .before .before .loop .inv .0)) (c .before .before .before .before .before .before .before .before .before .before .before .before .before .before .before .before .before .before .before .before .before .before .before .before .before .before .before .before .before .before .before .before .before .fields .ensures) (c .before .before .before .before .before .before .before .before .before .before .before .before .before .before .before .before .before .before .before .before .before .before .before .before .before .before .before .before .before .before .before .before .own-fields .ensures) (scope-long (c .before .before .before .before .before .before .before .before .before .before .before .before .before .before .before .before .before .before .before .before .before .before .before .before .before .before .before .before .before .before .before .before .before .before .before .before .before .before .before .before .before .before .pre .1 .0) ((c .before .before .before .before .before .before .before .before .before .before .before .before .before .before .before .before .before .before .before .before .before .before .before .before .before .before .before .before .before .loop .inv .1 .1 .0))) (sizes-long (c .before .before .before .before .before .before .before .before .before .before .before .before .before .before .before .before .before .before .before .before .before .before .before .before .before .before .before .before .before .before .before .before .before .before .before .before .before .before .before .before .before .before .pre .1 .0) ((c .before .before .before .before .before .before .before .before .before .before .before .before .before .before .before .before .before .before .before .before .before .before .before .before .before .before .before .before .before .loop .inv .1 .1 .1))) (c .before .before .before .before .before .before .before .before .before .before .before .before .before .before .before .before .before .before .before .before .before .before .before .before .before .bind-fields .ensures) (c .before .before .before .before .before .before .before .before .before .before .before .before .before .before .before .before .before .before .before .before .before .before .moved .ensures) (c .before .before .before .before .before .before .before .before .before .before .before .before .before .before .before .before .before .before .before .before .before .widen .ensures) (c .before .before .before .before .before .before .before .before .before .before .before .before .before .before .before .before .before .expr .ensures) (c .before .before .before .before .before .before .before .before .before .x .given .1) (c .before .before .before .before .before .before .before .is-kind .ensures) (affirmed _ (c .before .before .before .before .before .before .if1 .left)) (sizes-long (c .before .before .before .before .before .before .before .before .before .before .before .before .before .before .before .before .before .before .before .before .before .before .before .before .before .before .before .before .before .before .before .before .before .before .before .before .before .before .before .before .before .before .pre .1 .0) ((c .before .before .before .before .before .before .before .before .before .before .before .before .before .before .before .before .before .expr .kept .1 .1 .1 .1 .1 .1 .1 .0) ∙ (c .before .before .before .before .before .before .before .before .before .before .before .before .before .before .before .before .before .before .before .before .before .before .before .before .before .before .before .before .before .loop .inv .1 .1 .1))) (c .before .before .before .before .before .larger .ensures .both) (c .before .before .before .before .before .larger .ensures .is) (c .before .before .next-split .ensures), (((c .before .before .before .before .before .before .before .before .before .before .before .before .before .before .before .before .before .expr .kept .1 .1 .1 .1 .1 .0) ∙ (c .before .before .before .before .before .before .before .before .before .before .before .before .before .before .before .before .before .before .before .before .before .before .before .before .before .before .before .before .before .loop .inv .1 .0)), (((c .before .before .before .before .before .before .before .before .before .before .before .before .before .before .before .before .before .expr .kept .1 .1 .1 .1 .1 .1 .0) ∙ (c .before .before .before .before .before .before .before .before .before .before .before .before .before .before .before .before .before .before .before .before .before .before .before .before .before .bind-fields .kept .1 .0) ∙ (c .before .before .before .before .before .before .before .before .before .before .before .before .before .before .before .before .before .before .before .before .before .before .before .before .before .before .before .before .before .loop .inv .1 .1 .0)), (c .before .before .next-split .kept .0) ∙ ((c .before .before .before .before .before .before .before .before .before .before .before .before .before .before .before .before .before .expr .kept .1 .1 .1 .1 .1 .1 .1 .0) ∙ (c .before .before .before .before .before .before .before .before .before .before .before .before .before .before .before .before .before .before .before .before .before .before .before .before .before .before .before .before .before .loop .inv .1 .1 .1)))))
 
--- src/cycle.rt:536:5
 at-splits-slotted-requires : (t : ℕ) → at-splits-lts.Need-slotted-requires (
   fields-reads.Asked,
   fields-reads.Learnt,
@@ -1511,7 +1454,6 @@ at-splits-slotted-requires : (t : ℕ) → at-splits-lts.Need-slotted-requires (
 ) (at-splits-at t) at-splits.Post at-splits-Inv-loop at-splits-μ-loop
 at-splits-slotted-requires t c κs = tt
 
--- src/cycle.rt:495:1
 at-splits-same-length-7 : (t : ℕ) → at-splits-lts.Need-same-length-7 (
   fields-reads.Asked,
   fields-reads.Learnt,
@@ -1538,7 +1480,6 @@ at-splits-same-length-7 : (t : ℕ) → at-splits-lts.Need-same-length-7 (
 ) (at-splits-at t) at-splits.Post at-splits-Inv-loop at-splits-μ-loop
 at-splits-same-length-7 t c = (c .before .before .loop .inv .1 .0)
 
--- src/cycle.rt:495:1
 at-splits-same-length-8 : (t : ℕ) → at-splits-lts.Need-same-length-8 (
   fields-reads.Asked,
   fields-reads.Learnt,
@@ -1565,7 +1506,6 @@ at-splits-same-length-8 : (t : ℕ) → at-splits-lts.Need-same-length-8 (
 ) (at-splits-at t) at-splits.Post at-splits-Inv-loop at-splits-μ-loop
 at-splits-same-length-8 t c = (c .before .before .loop .inv .1 .1 .0)
 
--- src/cycle.rt:495:1
 at-splits-same-length-9 : (t : ℕ) → at-splits-lts.Need-same-length-9 (
   fields-reads.Asked,
   fields-reads.Learnt,
@@ -1592,7 +1532,6 @@ at-splits-same-length-9 : (t : ℕ) → at-splits-lts.Need-same-length-9 (
 ) (at-splits-at t) at-splits.Post at-splits-Inv-loop at-splits-μ-loop
 at-splits-same-length-9 t c = (c .before .before .loop .inv .1 .1 .1)
 
--- src/cycle.rt:495:1
 at-splits-returns-3 : (t : ℕ) → at-splits-lts.Need-returns-3 (
   fields-reads.Asked,
   fields-reads.Learnt,
@@ -1619,7 +1558,6 @@ at-splits-returns-3 : (t : ℕ) → at-splits-lts.Need-returns-3 (
 ) (at-splits-at t) at-splits.Post at-splits-Inv-loop at-splits-μ-loop
 at-splits-returns-3 t c = splits-done (walks-are (c .before .loop-test .left) (c .before .before .loop .inv .0)) (c .before .before .before .before .before .before .fields .ensures) (c .slotted .ensures .held) (c .slotted .ensures .is)
 
--- src/cycle.rt:151:9
 binding-expr-requires : (t : ℕ) → binding-lts.Need-expr-requires (
   expr-below t,
   expr.Post,
@@ -1636,7 +1574,6 @@ binding-expr-requires : (t : ℕ) → binding-lts.Need-expr-requires (
 ) (binding-at t) binding.Post
 binding-expr-requires t c κs = (load-same _ 900 (c .before .before .before .before .before .before .before .before .before .before .before .pre .0) 0 (omega arith), room-same (c .before .before .before .before .before .before .before .before .before .before .before .pre .1) (omega arith))
 
--- src/cycle.rt:152:20
 binding-enum-known-x : (t : ℕ) → binding-lts.Need-enum-known-x (
   expr-below t,
   expr.Post,
@@ -1653,7 +1590,6 @@ binding-enum-known-x : (t : ℕ) → binding-lts.Need-enum-known-x (
 ) (binding-at t) binding.Post
 binding-enum-known-x t c = (c .match .keys1)
 
--- src/cycle.rt:153:9
 binding-enum-told : (t : ℕ) → binding-lts.Need-enum-told (
   expr-below t,
   expr.Post,
@@ -1670,7 +1606,6 @@ binding-enum-told : (t : ℕ) → binding-lts.Need-enum-told (
 ) (binding-at t) binding.Post
 binding-enum-told t c = (c .match .keys2)
 
--- src/cycle.rt:153:9
 binding-same-length : (t : ℕ) → binding-lts.Need-same-length (
   expr-below t,
   expr.Post,
@@ -1687,7 +1622,6 @@ binding-same-length : (t : ℕ) → binding-lts.Need-same-length (
 ) (binding-at t) binding.Post
 binding-same-length t c = (c .before .before .before .before .before .before .before .before .expr .kept .1 .1 .1 .1 .1 .0)
 
--- src/cycle.rt:153:9
 binding-same-length-2 : (t : ℕ) → binding-lts.Need-same-length-2 (
   expr-below t,
   expr.Post,
@@ -1704,7 +1638,6 @@ binding-same-length-2 : (t : ℕ) → binding-lts.Need-same-length-2 (
 ) (binding-at t) binding.Post
 binding-same-length-2 t c = (c .before .before .before .before .before .before .before .before .expr .kept .1 .1 .1 .1 .1 .1 .0)
 
--- src/cycle.rt:153:9
 binding-same-length-3 : (t : ℕ) → binding-lts.Need-same-length-3 (
   expr-below t,
   expr.Post,
@@ -1721,7 +1654,6 @@ binding-same-length-3 : (t : ℕ) → binding-lts.Need-same-length-3 (
 ) (binding-at t) binding.Post
 binding-same-length-3 t c = (c .before .before .before .before .before .before .before .before .expr .kept .1 .1 .1 .1 .1 .1 .1 .0)
 
--- src/cycle.rt:153:9
 binding-returns : (t : ℕ) → binding-lts.Need-returns (
   expr-below t,
   expr.Post,
@@ -1738,7 +1670,6 @@ binding-returns : (t : ℕ) → binding-lts.Need-returns (
 ) (binding-at t) binding.Post
 binding-returns t c = let-first (c .before .before .before .before .before .before .before .before .expr .ensures) (c .enum-told .given .1)
 
--- src/cycle.rt:155:16
 binding-cast-put : (t : ℕ) → binding-lts.Need-cast-put (
   expr-below t,
   expr.Post,
@@ -1755,7 +1686,6 @@ binding-cast-put : (t : ℕ) → binding-lts.Need-cast-put (
 ) (binding-at t) binding.Post
 binding-cast-put t c = omega arith
 
--- src/cycle.rt:155:38
 binding-kind-word-requires : (t : ℕ) → binding-lts.Need-kind-word-requires (
   expr-below t,
   expr.Post,
@@ -1772,7 +1702,6 @@ binding-kind-word-requires : (t : ℕ) → binding-lts.Need-kind-word-requires (
 ) (binding-at t) binding.Post
 binding-kind-word-requires t c κs = tt
 
--- src/cycle.rt:155:5
 binding-put-requires : (t : ℕ) → binding-lts.Need-put-requires (
   expr-below t,
   expr.Post,
@@ -1789,7 +1718,6 @@ binding-put-requires : (t : ℕ) → binding-lts.Need-put-requires (
 ) (binding-at t) binding.Post
 binding-put-requires t c κs = tt
 
--- src/cycle.rt:156:19
 binding-behind-requires : (t : ℕ) → binding-lts.Need-behind-requires (
   expr-below t,
   expr.Post,
@@ -1806,7 +1734,6 @@ binding-behind-requires : (t : ℕ) → binding-lts.Need-behind-requires (
 ) (binding-at t) binding.Post
 binding-behind-requires t c κs = tt
 
--- src/cycle.rt:156:9
 binding-widen-requires : (t : ℕ) → binding-lts.Need-widen-requires (
   expr-below t,
   expr.Post,
@@ -1823,7 +1750,6 @@ binding-widen-requires : (t : ℕ) → binding-lts.Need-widen-requires (
 ) (binding-at t) binding.Post
 binding-widen-requires t c κs = room-widens (c .before .before .before .before .before .before .before .before .before .before .before .before .before .before .before .before .before .before .before .before .before .before .before .before .before .before .before .before .pre .1) (c .behind .ensures) (omega arith) (omega arith)
 
--- src/cycle.rt:157:9
 binding-expr-requires-2 : (t : ℕ) → binding-lts.Need-expr-requires-2 (
   expr-below t,
   expr.Post,
@@ -1840,7 +1766,6 @@ binding-expr-requires-2 : (t : ℕ) → binding-lts.Need-expr-requires-2 (
 ) (binding-at t) binding.Post
 binding-expr-requires-2 t c κs = (load-wide _ 900 (c .before .before .before .before .before .before .before .before .before .before .before .before .before .before .before .before .before .before .before .before .before .before .before .before .before .before .before .before .before .before .before .before .pre .0) _ _ 1 0 0 (c .before .before .before .before .behind .ensures) (c .before .before .before .widen .ensures) (grows-to (c .before .before .before .before .before .before .before .before .before .before .before .before .before .before .before .before .before .before .before .before .expr .ensures .grows) (c .before .before .before .before .before .before .before .before .before .before .before .before .x .given .1)) (omega arith), room-wide (c .before .before .before .before .before .before .before .before .before .before .before .before .before .before .before .before .before .before .before .before .before .before .before .before .before .before .before .before .before .before .before .before .pre .1) (c .before .before .before .before .behind .ensures) (c .before .before .before .widen .ensures) ((c .before .before .before .before .before .before .before .put .kept .0) ∙ (c .before .before .before .before .before .before .before .before .before .before .before .before .before .before .before .before .before .before .before .before .expr .kept .1 .1 .1 .1 .1 .1 .0)) ((c .before .before .before .before .before .before .before .before .before .before .before .before .before .before .before .before .before .before .before .before .expr .kept .1 .1 .1 .1 .1 .1 .1 .0)) (omega arith) (omega arith))
 
--- src/cycle.rt:158:20
 binding-enum-known-y : (t : ℕ) → binding-lts.Need-enum-known-y (
   expr-below t,
   expr.Post,
@@ -1857,7 +1782,6 @@ binding-enum-known-y : (t : ℕ) → binding-lts.Need-enum-known-y (
 ) (binding-at t) binding.Post
 binding-enum-known-y t c = (c .match2 .keys1)
 
--- src/cycle.rt:159:9
 binding-enum-told-2 : (t : ℕ) → binding-lts.Need-enum-told-2 (
   expr-below t,
   expr.Post,
@@ -1874,7 +1798,6 @@ binding-enum-told-2 : (t : ℕ) → binding-lts.Need-enum-told-2 (
 ) (binding-at t) binding.Post
 binding-enum-told-2 t c = (c .match2 .keys2)
 
--- src/cycle.rt:159:9
 binding-same-length-4 : (t : ℕ) → binding-lts.Need-same-length-4 (
   expr-below t,
   expr.Post,
@@ -1891,7 +1814,6 @@ binding-same-length-4 : (t : ℕ) → binding-lts.Need-same-length-4 (
 ) (binding-at t) binding.Post
 binding-same-length-4 t c = (c .before .before .before .before .before .before .before .before .expr2 .kept .1 .1 .1 .1 .1 .0) ∙ (c .before .before .before .before .before .before .before .before .before .before .before .before .before .before .before .before .before .before .before .before .before .before .before .before .before .before .before .before .before .expr .kept .1 .1 .1 .1 .1 .0)
 
--- src/cycle.rt:159:9
 binding-same-length-5 : (t : ℕ) → binding-lts.Need-same-length-5 (
   expr-below t,
   expr.Post,
@@ -1908,7 +1830,6 @@ binding-same-length-5 : (t : ℕ) → binding-lts.Need-same-length-5 (
 ) (binding-at t) binding.Post
 binding-same-length-5 t c = (c .before .before .before .before .before .before .before .before .expr2 .kept .1 .1 .1 .1 .1 .1 .0) ∙ (c .before .before .before .before .before .before .before .before .before .before .before .before .before .before .before .before .put .kept .0) ∙ (c .before .before .before .before .before .before .before .before .before .before .before .before .before .before .before .before .before .before .before .before .before .before .before .before .before .before .before .before .before .expr .kept .1 .1 .1 .1 .1 .1 .0)
 
--- src/cycle.rt:159:9
 binding-same-length-6 : (t : ℕ) → binding-lts.Need-same-length-6 (
   expr-below t,
   expr.Post,
@@ -1925,7 +1846,6 @@ binding-same-length-6 : (t : ℕ) → binding-lts.Need-same-length-6 (
 ) (binding-at t) binding.Post
 binding-same-length-6 t c = (c .before .before .before .before .before .before .before .before .expr2 .kept .1 .1 .1 .1 .1 .1 .1 .0) ∙ (c .before .before .before .before .before .before .before .before .before .before .before .before .before .before .before .before .before .before .before .before .before .before .before .before .before .before .before .before .before .expr .kept .1 .1 .1 .1 .1 .1 .1 .0)
 
--- src/cycle.rt:159:9
 binding-returns-2 : (t : ℕ) → binding-lts.Need-returns-2 (
   expr-below t,
   expr.Post,
@@ -1942,7 +1862,6 @@ binding-returns-2 : (t : ℕ) → binding-lts.Need-returns-2 (
 ) (binding-at t) binding.Post
 binding-returns-2 t c = let-second (c .before .before .before .before .before .before .before .before .before .before .before .before .before .before .before .before .before .before .before .before .before .before .before .before .before .before .before .before .before .expr .ensures) (scope-long (c .before .before .before .before .before .before .before .before .before .before .before .before .before .before .before .before .before .before .before .before .before .before .before .before .before .before .before .before .before .before .before .before .before .before .before .before .before .before .before .before .before .pre .1) ((c .before .before .before .before .before .before .before .before .before .before .before .before .before .before .before .before .before .before .before .before .before .before .before .before .before .before .before .before .before .expr .kept .1 .1 .1 .1 .1 .1 .0))) (c .before .before .before .before .before .before .before .before .before .before .before .before .before .before .before .before .before .before .before .before .before .x .given .1) (c .before .before .before .before .before .before .before .before .before .before .before .before .before .before .before .before .before .kind-word .ensures .is) (c .before .before .before .before .before .before .before .before .before .before .before .before .before .behind .ensures) (c .before .before .before .before .before .before .before .before .before .before .before .before .widen .ensures) (put-is (c .before .before .before .before .before .before .before .before .before .before .before .before .before .before .before .before .put .ensures) (c .before .before .before .before .before .before .before .before .expr2 .ensures)) (c .enum-told2 .given .1)
 
--- src/cycle.rt:161:5
 binding-with-let-requires : (t : ℕ) → binding-lts.Need-with-let-requires (
   expr-below t,
   expr.Post,
@@ -1959,7 +1878,6 @@ binding-with-let-requires : (t : ℕ) → binding-lts.Need-with-let-requires (
 ) (binding-at t) binding.Post
 binding-with-let-requires t c κs = tt
 
--- src/cycle.rt:137:1
 binding-same-length-7 : (t : ℕ) → binding-lts.Need-same-length-7 (
   expr-below t,
   expr.Post,
@@ -1976,7 +1894,6 @@ binding-same-length-7 : (t : ℕ) → binding-lts.Need-same-length-7 (
 ) (binding-at t) binding.Post
 binding-same-length-7 t c = (c .before .before .before .before .before .before .before .before .before .before .expr2 .kept .1 .1 .1 .1 .1 .0) ∙ (c .before .before .before .before .before .before .before .before .before .before .before .before .before .before .before .before .before .before .before .before .before .before .before .before .before .before .before .before .before .before .before .expr .kept .1 .1 .1 .1 .1 .0)
 
--- src/cycle.rt:137:1
 binding-same-length-8 : (t : ℕ) → binding-lts.Need-same-length-8 (
   expr-below t,
   expr.Post,
@@ -1993,7 +1910,6 @@ binding-same-length-8 : (t : ℕ) → binding-lts.Need-same-length-8 (
 ) (binding-at t) binding.Post
 binding-same-length-8 t c = (c .before .before .before .before .before .before .before .before .before .before .expr2 .kept .1 .1 .1 .1 .1 .1 .0) ∙ (c .before .before .before .before .before .before .before .before .before .before .before .before .before .before .before .before .before .before .put .kept .0) ∙ (c .before .before .before .before .before .before .before .before .before .before .before .before .before .before .before .before .before .before .before .before .before .before .before .before .before .before .before .before .before .before .before .expr .kept .1 .1 .1 .1 .1 .1 .0)
 
--- src/cycle.rt:137:1
 binding-same-length-9 : (t : ℕ) → binding-lts.Need-same-length-9 (
   expr-below t,
   expr.Post,
@@ -2010,7 +1926,6 @@ binding-same-length-9 : (t : ℕ) → binding-lts.Need-same-length-9 (
 ) (binding-at t) binding.Post
 binding-same-length-9 t c = (c .before .before .before .before .before .before .before .before .before .before .expr2 .kept .1 .1 .1 .1 .1 .1 .1 .0) ∙ (c .before .before .before .before .before .before .before .before .before .before .before .before .before .before .before .before .before .before .before .before .before .before .before .before .before .before .before .before .before .before .before .expr .kept .1 .1 .1 .1 .1 .1 .1 .0)
 
--- src/cycle.rt:137:1
 binding-returns-3 : (t : ℕ) → binding-lts.Need-returns-3 (
   expr-below t,
   expr.Post,
@@ -2027,7 +1942,6 @@ binding-returns-3 : (t : ℕ) → binding-lts.Need-returns-3 (
 ) (binding-at t) binding.Post
 binding-returns-3 t c = let-done (c .before .before .before .before .before .before .before .before .before .before .before .before .before .before .before .before .before .before .before .before .before .before .before .before .before .before .before .before .before .before .before .expr .ensures) (scope-long (c .before .before .before .before .before .before .before .before .before .before .before .before .before .before .before .before .before .before .before .before .before .before .before .before .before .before .before .before .before .before .before .before .before .before .before .before .before .before .before .before .before .before .before .pre .1) ((c .before .before .before .before .before .before .before .before .before .before .before .before .before .before .before .before .before .before .before .before .before .before .before .before .before .before .before .before .before .before .before .expr .kept .1 .1 .1 .1 .1 .1 .0))) (c .before .before .before .before .before .before .before .before .before .before .before .before .before .before .before .before .before .before .before .before .before .before .before .x .given .1) (c .before .before .before .before .before .before .before .before .before .before .before .before .before .before .before .before .before .before .before .kind-word .ensures .is) (c .before .before .before .before .before .before .before .before .before .before .before .before .before .before .before .behind .ensures) (c .before .before .before .before .before .before .before .before .before .before .before .before .before .before .widen .ensures) (put-is (c .before .before .before .before .before .before .before .before .before .before .before .before .before .before .before .before .before .before .put .ensures) (c .before .before .before .before .before .before .before .before .before .before .expr2 .ensures)) (c .before .before .y .given .1) (c .with-let .ensures .held) (c .with-let .ensures .all) (c .with-let .ensures .is)
 
--- src/cycle.rt:340:26
 body-cast-if1 : (t : ℕ) → body-lts.Need-cast-if1 (
   add-reads.Asked,
   add-reads.Learnt,
@@ -2046,7 +1960,6 @@ body-cast-if1 : (t : ℕ) → body-lts.Need-cast-if1 (
 ) (body-at t) body.Post
 body-cast-if1 t c = omega arith
 
--- src/cycle.rt:341:36
 body-add-t19 : (t : ℕ) → body-lts.Need-add-t19 (
   add-reads.Asked,
   add-reads.Learnt,
@@ -2065,7 +1978,6 @@ body-add-t19 : (t : ℕ) → body-lts.Need-add-t19 (
 ) (body-at t) body.Post
 body-add-t19 t c = omega (arith, (c .before .before .before .before .before .before .before .before .before .before .before .pre .1 .0 .line))
 
--- src/cycle.rt:341:9
 body-returns : (t : ℕ) → body-lts.Need-returns (
   add-reads.Asked,
   add-reads.Learnt,
@@ -2084,7 +1996,6 @@ body-returns : (t : ℕ) → body-lts.Need-returns (
 ) (body-at t) body.Post
 body-returns t c = body-full _ _ (c .before .if1 .taken)
 
--- src/cycle.rt:343:5
 body-add-requires : (t : ℕ) → body-lts.Need-add-requires (
   add-reads.Asked,
   add-reads.Learnt,
@@ -2103,7 +2014,6 @@ body-add-requires : (t : ℕ) → body-lts.Need-add-requires (
 ) (body-at t) body.Post
 body-add-requires t c κs = tt
 
--- src/cycle.rt:344:9
 body-body-place-requires : (t : ℕ) → body-lts.Need-body-place-requires (
   add-reads.Asked,
   add-reads.Learnt,
@@ -2122,7 +2032,6 @@ body-body-place-requires : (t : ℕ) → body-lts.Need-body-place-requires (
 ) (body-at t) body.Post
 body-body-place-requires t c κs = ((c .before .before .before .before .before .before .before .before .before .before .before .before .before .before .before .pre .1 .0 .types), (omega (arith, (c .before .before .before .before .before .if1 .left)), (c .before .before .before .before .before .before .before .before .before .before .before .before .before .before .before .pre .1 .1 .function)))
 
--- src/cycle.rt:345:9
 body-expr-requires : (t : ℕ) → body-lts.Need-expr-requires (
   add-reads.Asked,
   add-reads.Learnt,
@@ -2141,7 +2050,6 @@ body-expr-requires : (t : ℕ) → body-lts.Need-expr-requires (
 ) (body-at t) body.Post
 body-expr-requires t c κs = (load-body _ 80 (c .before .before .before .before .before .before .before .before .before .before .before .before .before .before .before .before .before .before .before .pre .0) (now (c .before .before .before .before .before .before .before .before .before .before .before .before .before .before .before .before .before .before .before .args .functions)) (c .before .before .before .before .before .before .before .before .before .before .before .before .before .before .before .before .before .before .before .args .e) _ (c .before .before .before .body-place .ensures) (omega (arith, (c .before .before .before .before .before .before .before .before .before .if1 .left))), room-body (now (c .before .before .before .before .before .before .before .before .before .before .before .before .before .before .before .before .before .before .before .args .functions)) (c .before .before .before .before .before .before .before .before .before .before .before .before .before .before .before .before .before .before .before .pre .1 .0) (c .before .before .before .before .before .before .before .before .before .before .before .before .before .before .before .before .before .before .before .pre .1 .1) (c .before .before .before .body-place .ensures))
 
--- src/cycle.rt:346:20
 body-enum-known-x : (t : ℕ) → body-lts.Need-enum-known-x (
   add-reads.Asked,
   add-reads.Learnt,
@@ -2160,7 +2068,6 @@ body-enum-known-x : (t : ℕ) → body-lts.Need-enum-known-x (
 ) (body-at t) body.Post
 body-enum-known-x t c = (c .match .keys1)
 
--- src/cycle.rt:347:9
 body-enum-told : (t : ℕ) → body-lts.Need-enum-told (
   add-reads.Asked,
   add-reads.Learnt,
@@ -2179,7 +2086,6 @@ body-enum-told : (t : ℕ) → body-lts.Need-enum-told (
 ) (body-at t) body.Post
 body-enum-told t c = (c .match .keys2)
 
--- src/cycle.rt:347:9
 body-same-length : (t : ℕ) → body-lts.Need-same-length (
   add-reads.Asked,
   add-reads.Learnt,
@@ -2198,7 +2104,6 @@ body-same-length : (t : ℕ) → body-lts.Need-same-length (
 ) (body-at t) body.Post
 body-same-length t c = (c .before .before .before .before .before .before .before .before .expr .kept .1 .1 .1 .1 .1 .0) ∙ (c .before .before .before .before .before .before .before .before .before .before .before .before .before .before .before .add .kept .0)
 
--- src/cycle.rt:347:9
 body-same-length-2 : (t : ℕ) → body-lts.Need-same-length-2 (
   add-reads.Asked,
   add-reads.Learnt,
@@ -2217,7 +2122,6 @@ body-same-length-2 : (t : ℕ) → body-lts.Need-same-length-2 (
 ) (body-at t) body.Post
 body-same-length-2 t c = (c .before .before .before .before .before .before .before .before .expr .kept .1 .1 .1 .1 .1 .1 .0)
 
--- src/cycle.rt:347:9
 body-same-length-3 : (t : ℕ) → body-lts.Need-same-length-3 (
   add-reads.Asked,
   add-reads.Learnt,
@@ -2236,7 +2140,6 @@ body-same-length-3 : (t : ℕ) → body-lts.Need-same-length-3 (
 ) (body-at t) body.Post
 body-same-length-3 t c = (c .before .before .before .before .before .before .before .before .expr .kept .1 .1 .1 .1 .1 .1 .1 .0)
 
--- src/cycle.rt:347:9
 body-returns-2 : (t : ℕ) → body-lts.Need-returns-2 (
   add-reads.Asked,
   add-reads.Learnt,
@@ -2255,7 +2158,6 @@ body-returns-2 : (t : ℕ) → body-lts.Need-returns-2 (
 ) (body-at t) body.Post
 body-returns-2 t c = body-refused _ _ (omega (arith, (c .before .before .before .before .before .before .before .before .before .before .before .before .before .before .before .before .before .before .if1 .left))) (c .before .before .before .before .before .before .before .before .before .before .before .before .before .before .before .add .ensures) (c .before .before .before .before .before .before .before .before .before .before .before .before .body-place .ensures) (c .before .before .before .before .before .before .before .before .expr .ensures) (c .enum-told .given .1)
 
--- src/cycle.rt:350:9
 body-is-kind-requires : (t : ℕ) → body-lts.Need-is-kind-requires (
   add-reads.Asked,
   add-reads.Learnt,
@@ -2274,7 +2176,6 @@ body-is-kind-requires : (t : ℕ) → body-lts.Need-is-kind-requires (
 ) (body-at t) body.Post
 body-is-kind-requires t c κs = tt
 
--- src/cycle.rt:351:36
 body-add-t32 : (t : ℕ) → body-lts.Need-add-t32 (
   add-reads.Asked,
   add-reads.Learnt,
@@ -2293,7 +2194,6 @@ body-add-t32 : (t : ℕ) → body-lts.Need-add-t32 (
 ) (body-at t) body.Post
 body-add-t32 t c = omega (arith, ap (λ z. z .line) (c .before .before .before .before .before .before .before .before .before .before .before .before .before .before .before .before .body-place .ensures), (c .before .before .before .before .before .before .before .before .before .before .before .before .before .before .before .before .before .before .before .before .before .before .before .before .before .before .before .before .before .before .before .before .pre .1 .0 .types), (c .before .before .before .before .before .before .before .before .before .before .before .before .before .before .before .before .before .before .before .before .before .before .before .before .before .before .before .before .before .before .before .before .pre .1 .1 .function))
 
--- src/cycle.rt:351:9
 body-same-length-4 : (t : ℕ) → body-lts.Need-same-length-4 (
   add-reads.Asked,
   add-reads.Learnt,
@@ -2312,7 +2212,6 @@ body-same-length-4 : (t : ℕ) → body-lts.Need-same-length-4 (
 ) (body-at t) body.Post
 body-same-length-4 t c = (c .before .before .before .before .before .before .before .before .before .before .before .before .expr .kept .1 .1 .1 .1 .1 .0) ∙ (c .before .before .before .before .before .before .before .before .before .before .before .before .before .before .before .before .before .before .before .add .kept .0)
 
--- src/cycle.rt:351:9
 body-same-length-5 : (t : ℕ) → body-lts.Need-same-length-5 (
   add-reads.Asked,
   add-reads.Learnt,
@@ -2331,7 +2230,6 @@ body-same-length-5 : (t : ℕ) → body-lts.Need-same-length-5 (
 ) (body-at t) body.Post
 body-same-length-5 t c = (c .before .before .before .before .before .before .before .before .before .before .before .before .expr .kept .1 .1 .1 .1 .1 .1 .0)
 
--- src/cycle.rt:351:9
 body-same-length-6 : (t : ℕ) → body-lts.Need-same-length-6 (
   add-reads.Asked,
   add-reads.Learnt,
@@ -2350,7 +2248,6 @@ body-same-length-6 : (t : ℕ) → body-lts.Need-same-length-6 (
 ) (body-at t) body.Post
 body-same-length-6 t c = (c .before .before .before .before .before .before .before .before .before .before .before .before .expr .kept .1 .1 .1 .1 .1 .1 .1 .0)
 
--- src/cycle.rt:351:9
 body-returns-3 : (t : ℕ) → body-lts.Need-returns-3 (
   add-reads.Asked,
   add-reads.Learnt,
@@ -2369,7 +2266,6 @@ body-returns-3 : (t : ℕ) → body-lts.Need-returns-3 (
 ) (body-at t) body.Post
 body-returns-3 t c = body-differs _ _ (omega (arith, (c .before .before .before .before .before .before .before .before .before .before .before .before .before .before .before .before .before .before .before .before .before .before .if1 .left))) (c .before .before .before .before .before .before .before .before .before .before .before .before .before .before .before .before .before .before .before .add .ensures) (c .before .before .before .before .before .before .before .before .before .before .before .before .before .before .before .before .body-place .ensures) (c .before .before .before .before .before .before .before .before .before .before .before .before .expr .ensures) (c .before .before .before .before .x .given .1) (c .before .before .is-kind .ensures) (negated _ (c .before .if2 .taken))
 
--- src/cycle.rt:354:5
 body-finish-requires : (t : ℕ) → body-lts.Need-finish-requires (
   add-reads.Asked,
   add-reads.Learnt,
@@ -2388,7 +2284,6 @@ body-finish-requires : (t : ℕ) → body-lts.Need-finish-requires (
 ) (body-at t) body.Post
 body-finish-requires t c κs = tt
 
--- src/cycle.rt:356:25
 body-moved-requires : (t : ℕ) → body-lts.Need-moved-requires (
   add-reads.Asked,
   add-reads.Learnt,
@@ -2407,7 +2302,6 @@ body-moved-requires : (t : ℕ) → body-lts.Need-moved-requires (
 ) (body-at t) body.Post
 body-moved-requires t c κs = tt
 
--- src/cycle.rt:356:5
 body-leaf-requires : (t : ℕ) → body-lts.Need-leaf-requires (
   add-reads.Asked,
   add-reads.Learnt,
@@ -2426,7 +2320,6 @@ body-leaf-requires : (t : ℕ) → body-lts.Need-leaf-requires (
 ) (body-at t) body.Post
 body-leaf-requires t c κs = tt
 
--- src/cycle.rt:324:1
 body-same-length-7 : (t : ℕ) → body-lts.Need-same-length-7 (
   add-reads.Asked,
   add-reads.Learnt,
@@ -2445,7 +2338,6 @@ body-same-length-7 : (t : ℕ) → body-lts.Need-same-length-7 (
 ) (body-at t) body.Post
 body-same-length-7 t c = (c .before .before .before .before .before .finish .kept .0) ∙ (c .before .before .before .before .before .before .before .before .before .before .before .before .before .before .before .before .before .before .before .expr .kept .1 .1 .1 .1 .1 .0) ∙ (c .before .before .before .before .before .before .before .before .before .before .before .before .before .before .before .before .before .before .before .before .before .before .before .before .before .before .add .kept .0)
 
--- src/cycle.rt:324:1
 body-same-length-8 : (t : ℕ) → body-lts.Need-same-length-8 (
   add-reads.Asked,
   add-reads.Learnt,
@@ -2464,7 +2356,6 @@ body-same-length-8 : (t : ℕ) → body-lts.Need-same-length-8 (
 ) (body-at t) body.Post
 body-same-length-8 t c = (c .before .before .before .before .before .before .before .before .before .before .before .before .before .before .before .before .before .before .before .expr .kept .1 .1 .1 .1 .1 .1 .0)
 
--- src/cycle.rt:324:1
 body-same-length-9 : (t : ℕ) → body-lts.Need-same-length-9 (
   add-reads.Asked,
   add-reads.Learnt,
@@ -2483,7 +2374,6 @@ body-same-length-9 : (t : ℕ) → body-lts.Need-same-length-9 (
 ) (body-at t) body.Post
 body-same-length-9 t c = (c .before .before .before .before .before .before .before .before .before .before .before .before .before .before .before .before .before .before .before .expr .kept .1 .1 .1 .1 .1 .1 .1 .0)
 
--- src/cycle.rt:324:1
 body-returns-4 : (t : ℕ) → body-lts.Need-returns-4 (
   add-reads.Asked,
   add-reads.Learnt,
@@ -2502,7 +2392,6 @@ body-returns-4 : (t : ℕ) → body-lts.Need-returns-4 (
 ) (body-at t) body.Post
 body-returns-4 t c = body-done _ _ (omega (arith, (c .before .before .before .before .before .before .before .before .before .before .before .before .before .before .before .before .before .before .before .before .before .before .before .before .before .before .before .before .before .if1 .left))) (c .before .before .before .before .before .before .before .before .before .before .before .before .before .before .before .before .before .before .before .before .before .before .before .before .before .before .add .ensures) (c .before .before .before .before .before .before .before .before .before .before .before .before .before .before .before .before .before .before .before .before .before .before .before .body-place .ensures) (c .before .before .before .before .before .before .before .before .before .before .before .before .before .before .before .before .before .before .before .expr .ensures) (c .before .before .before .before .before .before .before .before .before .before .before .x .given .1) (c .before .before .before .before .before .before .before .before .before .is-kind .ensures) (affirmed _ (c .before .before .before .before .before .before .before .before .if2 .left)) (c .before .before .before .before .before .finish .ensures) (c .before .moved .ensures) (c .leaf .ensures)
 
--- src/cycle.rt:481:9
 branch-own-fields-requires : (t : ℕ) → branch-lts.Need-own-fields-requires (
   own-fields-reads.Asked,
   own-fields-reads.Learnt,
@@ -2523,7 +2412,6 @@ branch-own-fields-requires : (t : ℕ) → branch-lts.Need-own-fields-requires (
 ) (branch-at t) branch.Post
 branch-own-fields-requires t c κs = tt
 
--- src/cycle.rt:483:9
 branch-cast-if1 : (t : ℕ) → branch-lts.Need-cast-if1 (
   own-fields-reads.Asked,
   own-fields-reads.Learnt,
@@ -2544,7 +2432,6 @@ branch-cast-if1 : (t : ℕ) → branch-lts.Need-cast-if1 (
 ) (branch-at t) branch.Post
 branch-cast-if1 t c = omega arith
 
--- src/cycle.rt:486:13
 branch-frame-line-requires : (t : ℕ) → branch-lts.Need-frame-line-requires (
   own-fields-reads.Asked,
   own-fields-reads.Learnt,
@@ -2565,7 +2452,6 @@ branch-frame-line-requires : (t : ℕ) → branch-lts.Need-frame-line-requires (
 ) (branch-at t) branch.Post
 branch-frame-line-requires t c κs = tt
 
--- src/cycle.rt:487:13
 branch-skip-requires : (t : ℕ) → branch-lts.Need-skip-requires (
   own-fields-reads.Asked,
   own-fields-reads.Learnt,
@@ -2586,7 +2472,6 @@ branch-skip-requires : (t : ℕ) → branch-lts.Need-skip-requires (
 ) (branch-at t) branch.Post
 branch-skip-requires t c κs = tt
 
--- src/cycle.rt:488:27
 branch-nothing-requires : (t : ℕ) → branch-lts.Need-nothing-requires (
   own-fields-reads.Asked,
   own-fields-reads.Learnt,
@@ -2607,7 +2492,6 @@ branch-nothing-requires : (t : ℕ) → branch-lts.Need-nothing-requires (
 ) (branch-at t) branch.Post
 branch-nothing-requires t c κs = tt
 
--- src/cycle.rt:488:38
 branch-moved-requires : (t : ℕ) → branch-lts.Need-moved-requires (
   own-fields-reads.Asked,
   own-fields-reads.Learnt,
@@ -2628,7 +2512,6 @@ branch-moved-requires : (t : ℕ) → branch-lts.Need-moved-requires (
 ) (branch-at t) branch.Post
 branch-moved-requires t c κs = tt
 
--- src/cycle.rt:488:9
 branch-leaf-requires : (t : ℕ) → branch-lts.Need-leaf-requires (
   own-fields-reads.Asked,
   own-fields-reads.Learnt,
@@ -2649,7 +2532,6 @@ branch-leaf-requires : (t : ℕ) → branch-lts.Need-leaf-requires (
 ) (branch-at t) branch.Post
 branch-leaf-requires t c κs = tt
 
--- src/cycle.rt:488:9
 branch-returns : (t : ℕ) → branch-lts.Need-returns (
   own-fields-reads.Asked,
   own-fields-reads.Learnt,
@@ -2670,7 +2552,6 @@ branch-returns : (t : ℕ) → branch-lts.Need-returns (
 ) (branch-at t) branch.Post
 branch-returns t c = branch-skipped (c .before .before .before .before .before .before .before .own-fields .ensures) (c .before .before .before .before .before .before .if1 .taken) (c .before .before .before .before .frame-line .ensures) (c .before .before .before .skip .ensures) (c .before .moved .ensures) (c .before .before .nothing .ensures) (c .leaf .ensures)
 
--- src/cycle.rt:490:24
 branch-cast-first-split : (t : ℕ) → branch-lts.Need-cast-first-split (
   own-fields-reads.Asked,
   own-fields-reads.Learnt,
@@ -2691,7 +2572,6 @@ branch-cast-first-split : (t : ℕ) → branch-lts.Need-cast-first-split (
 ) (branch-at t) branch.Post
 branch-cast-first-split t c = omega arith
 
--- src/cycle.rt:490:47
 branch-sub-first-split : (t : ℕ) → branch-lts.Need-sub-first-split (
   own-fields-reads.Asked,
   own-fields-reads.Learnt,
@@ -2712,7 +2592,6 @@ branch-sub-first-split : (t : ℕ) → branch-lts.Need-sub-first-split (
 ) (branch-at t) branch.Post
 branch-sub-first-split t c = omega (arith, (c .before .before .if1 .left))
 
--- src/cycle.rt:490:5
 branch-first-split-requires : (t : ℕ) → branch-lts.Need-first-split-requires (
   own-fields-reads.Asked,
   own-fields-reads.Learnt,
@@ -2733,7 +2612,6 @@ branch-first-split-requires : (t : ℕ) → branch-lts.Need-first-split-requires
 ) (branch-at t) branch.Post
 branch-first-split-requires t c κs = tt
 
--- src/cycle.rt:491:5
 branch-at-splits-requires : (t : ℕ) → branch-lts.Need-at-splits-requires (
   own-fields-reads.Asked,
   own-fields-reads.Learnt,
@@ -2754,7 +2632,6 @@ branch-at-splits-requires : (t : ℕ) → branch-lts.Need-at-splits-requires (
 ) (branch-at t) branch.Post
 branch-at-splits-requires t c κs = (load-same _ 200 (c .before .before .before .before .before .before .before .before .before .before .before .before .before .before .before .before .before .before .pre .0) 100 (omega arith), (room-kept (c .before .before .before .before .before .before .before .before .before .before .before .before .before .before .before .before .before .before .pre .1 .0) (refl) ((c .before .before .before .before .before .first-split .kept .0)), (c .before .before .before .before .before .before .before .before .before .before .before .before .before .before .before .before .before .before .pre .1 .1)))
 
--- src/cycle.rt:464:1
 branch-same-length : (t : ℕ) → branch-lts.Need-same-length (
   own-fields-reads.Asked,
   own-fields-reads.Learnt,
@@ -2775,7 +2652,6 @@ branch-same-length : (t : ℕ) → branch-lts.Need-same-length (
 ) (branch-at t) branch.Post
 branch-same-length t c = (c .before .before .before .before .before .before .at-splits .kept .1 .1 .1 .1 .1 .0)
 
--- src/cycle.rt:464:1
 branch-same-length-2 : (t : ℕ) → branch-lts.Need-same-length-2 (
   own-fields-reads.Asked,
   own-fields-reads.Learnt,
@@ -2796,7 +2672,6 @@ branch-same-length-2 : (t : ℕ) → branch-lts.Need-same-length-2 (
 ) (branch-at t) branch.Post
 branch-same-length-2 t c = (c .before .before .before .before .before .before .at-splits .kept .1 .1 .1 .1 .1 .1 .0)
 
--- src/cycle.rt:464:1
 branch-same-length-3 : (t : ℕ) → branch-lts.Need-same-length-3 (
   own-fields-reads.Asked,
   own-fields-reads.Learnt,
@@ -2817,7 +2692,6 @@ branch-same-length-3 : (t : ℕ) → branch-lts.Need-same-length-3 (
 ) (branch-at t) branch.Post
 branch-same-length-3 t c = (c .before .before .before .before .before .before .at-splits .kept .1 .1 .1 .1 .1 .1 .1 .0) ∙ (c .before .before .before .before .before .before .before .before .before .before .before .before .first-split .kept .0)
 
--- src/cycle.rt:464:1
 branch-returns-2 : (t : ℕ) → branch-lts.Need-returns-2 (
   own-fields-reads.Asked,
   own-fields-reads.Learnt,
@@ -2838,7 +2712,6 @@ branch-returns-2 : (t : ℕ) → branch-lts.Need-returns-2 (
 ) (branch-at t) branch.Post
 branch-returns-2 t c = branch-split (c .before .before .before .before .before .before .before .before .before .before .before .before .before .before .before .before .own-fields .ensures) (c .before .before .before .before .before .before .before .before .before .before .before .before .before .before .before .if1 .left) (sizes-long (c .before .before .before .before .before .before .before .before .before .before .before .before .before .before .before .before .before .before .before .before .before .before .before .before .before .pre .1 .0) refl) (c .before .before .before .before .before .before .before .before .before .before .before .before .first-split .ensures) (c .before .before .before .before .before .before .at-splits .ensures)
 
--- src/cycle.rt:448:8
 branches-constructors-requires : (t : ℕ) → branches-lts.Need-constructors-requires (
   constructors-reads.Asked,
   constructors-reads.Learnt,
@@ -2857,7 +2730,6 @@ branches-constructors-requires : (t : ℕ) → branches-lts.Need-constructors-re
 ) (branches-at t) branches.Post
 branches-constructors-requires t c κs = tt
 
--- src/cycle.rt:450:27
 branches-nothing-requires : (t : ℕ) → branches-lts.Need-nothing-requires (
   constructors-reads.Asked,
   constructors-reads.Learnt,
@@ -2876,7 +2748,6 @@ branches-nothing-requires : (t : ℕ) → branches-lts.Need-nothing-requires (
 ) (branches-at t) branches.Post
 branches-nothing-requires t c κs = tt
 
--- src/cycle.rt:450:9
 branches-leaf-requires : (t : ℕ) → branches-lts.Need-leaf-requires (
   constructors-reads.Asked,
   constructors-reads.Learnt,
@@ -2895,7 +2766,6 @@ branches-leaf-requires : (t : ℕ) → branches-lts.Need-leaf-requires (
 ) (branches-at t) branches.Post
 branches-leaf-requires t c κs = tt
 
--- src/cycle.rt:450:9
 branches-returns : (t : ℕ) → branches-lts.Need-returns (
   constructors-reads.Asked,
   constructors-reads.Learnt,
@@ -2914,7 +2784,6 @@ branches-returns : (t : ℕ) → branches-lts.Need-returns (
 ) (branches-at t) branches.Post
 branches-returns t c = branches-none (c .before .before .before .constructors .ensures) (c .before .before .if1 .taken) (c .before .nothing .ensures) (c .leaf .ensures)
 
--- src/cycle.rt:452:9
 branches-branch-requires : (t : ℕ) → branches-lts.Need-branch-requires (
   constructors-reads.Asked,
   constructors-reads.Learnt,
@@ -2933,7 +2802,6 @@ branches-branch-requires : (t : ℕ) → branches-lts.Need-branch-requires (
 ) (branches-at t) branches.Post
 branches-branch-requires t c κs = (load-same _ _ (c .before .before .before .before .before .before .before .before .before .before .before .before .before .pre .0) 200 (omega arith), ((c .before .before .before .before .before .before .before .before .before .before .before .before .before .pre .1 .0), ((c .before .before .before .before .before .before .before .before .before .before .before .before .before .pre .1 .1 .0), omega (arith, (c .before .before .before .if1 .left), (c .before .before .before .before .constructors .ensures .1)))))
 
--- src/cycle.rt:453:20
 branches-enum-known-x : (t : ℕ) → branches-lts.Need-enum-known-x (
   constructors-reads.Asked,
   constructors-reads.Learnt,
@@ -2952,7 +2820,6 @@ branches-enum-known-x : (t : ℕ) → branches-lts.Need-enum-known-x (
 ) (branches-at t) branches.Post
 branches-enum-known-x t c = (c .match .keys1)
 
--- src/cycle.rt:454:9
 branches-enum-told : (t : ℕ) → branches-lts.Need-enum-told (
   constructors-reads.Asked,
   constructors-reads.Learnt,
@@ -2971,7 +2838,6 @@ branches-enum-told : (t : ℕ) → branches-lts.Need-enum-told (
 ) (branches-at t) branches.Post
 branches-enum-told t c = (c .match .keys2)
 
--- src/cycle.rt:454:9
 branches-same-length : (t : ℕ) → branches-lts.Need-same-length (
   constructors-reads.Asked,
   constructors-reads.Learnt,
@@ -2990,7 +2856,6 @@ branches-same-length : (t : ℕ) → branches-lts.Need-same-length (
 ) (branches-at t) branches.Post
 branches-same-length t c = (c .before .before .before .before .before .before .before .before .branch .kept .1 .1 .1 .1 .1 .0)
 
--- src/cycle.rt:454:9
 branches-same-length-2 : (t : ℕ) → branches-lts.Need-same-length-2 (
   constructors-reads.Asked,
   constructors-reads.Learnt,
@@ -3009,7 +2874,6 @@ branches-same-length-2 : (t : ℕ) → branches-lts.Need-same-length-2 (
 ) (branches-at t) branches.Post
 branches-same-length-2 t c = (c .before .before .before .before .before .before .before .before .branch .kept .1 .1 .1 .1 .1 .1 .0)
 
--- src/cycle.rt:454:9
 branches-same-length-3 : (t : ℕ) → branches-lts.Need-same-length-3 (
   constructors-reads.Asked,
   constructors-reads.Learnt,
@@ -3028,7 +2892,6 @@ branches-same-length-3 : (t : ℕ) → branches-lts.Need-same-length-3 (
 ) (branches-at t) branches.Post
 branches-same-length-3 t c = (c .before .before .before .before .before .before .before .before .branch .kept .1 .1 .1 .1 .1 .1 .1 .0)
 
--- src/cycle.rt:454:9
 branches-returns-2 : (t : ℕ) → branches-lts.Need-returns-2 (
   constructors-reads.Asked,
   constructors-reads.Learnt,
@@ -3047,7 +2910,6 @@ branches-returns-2 : (t : ℕ) → branches-lts.Need-returns-2 (
 ) (branches-at t) branches.Post
 branches-returns-2 t c = branches-first (c .before .before .before .before .before .before .before .before .before .before .before .before .before .constructors .ensures) (c .before .before .before .before .before .before .before .before .before .before .before .before .if1 .left) (c .before .before .before .before .before .before .before .before .branch .ensures) (c .enum-told .given .1)
 
--- src/cycle.rt:456:84
 branches-behind-requires : (t : ℕ) → branches-lts.Need-behind-requires (
   constructors-reads.Asked,
   constructors-reads.Learnt,
@@ -3066,7 +2928,6 @@ branches-behind-requires : (t : ℕ) → branches-lts.Need-behind-requires (
 ) (branches-at t) branches.Post
 branches-behind-requires t c κs = tt
 
--- src/cycle.rt:456:101
 branches-add-branches : (t : ℕ) → branches-lts.Need-add-branches (
   constructors-reads.Asked,
   constructors-reads.Learnt,
@@ -3085,7 +2946,6 @@ branches-add-branches : (t : ℕ) → branches-lts.Need-add-branches (
 ) (branches-at t) branches.Post
 branches-add-branches t c = omega (arith, (c .before .before .before .before .before .before .before .before .before .before .before .before .before .before .before .before .before .if1 .left), (c .before .before .before .before .before .before .before .before .before .before .before .before .before .before .before .before .before .before .constructors .ensures .1))
 
--- src/cycle.rt:456:9
 branches-branches-requires : (t : ℕ) → branches-lts.Need-branches-requires (
   constructors-reads.Asked,
   constructors-reads.Learnt,
@@ -3104,7 +2964,6 @@ branches-branches-requires : (t : ℕ) → branches-lts.Need-branches-requires (
 ) (branches-at t) branches.Post
 branches-branches-requires t c κs = (load-moved _ _ (c .before .before .before .before .before .before .before .before .before .before .before .before .before .before .before .before .before .before .before .before .before .before .before .before .before .before .before .pre .0) _ _ (c .behind .ensures) (grows-to (c .before .before .before .before .before .before .before .before .before .before .before .before .before .branch .ensures .grows) (c .before .before .before .before .before .x .given .1)) (omega (arith, (c .before .before .before .before .before .before .before .before .before .before .before .before .before .before .before .before .before .if1 .left), (c .before .before .before .before .before .before .before .before .before .before .before .before .before .before .before .before .before .before .constructors .ensures .1))), (room-rest (c .before .before .before .before .before .before .before .before .before .before .before .before .before .before .before .before .before .before .before .before .before .before .before .before .before .before .before .pre .1 .0) (c .behind .ensures) ((c .before .before .before .before .before .before .before .before .before .before .before .before .before .branch .kept .1 .1 .1 .1 .1 .1 .0)) ((c .before .before .before .before .before .before .before .before .before .before .before .before .before .branch .kept .1 .1 .1 .1 .1 .1 .1 .0)), ((c .before .before .before .before .before .before .before .before .before .before .before .before .before .before .before .before .before .before .before .before .before .before .before .before .before .before .before .pre .1 .1 .0), omega (arith, (c .before .before .before .before .before .before .before .before .before .before .before .before .before .before .before .before .before .if1 .left), (c .before .before .before .before .before .before .before .before .before .before .before .before .before .before .before .before .before .before .constructors .ensures .1)))))
 
--- src/cycle.rt:457:20
 branches-enum-known-y : (t : ℕ) → branches-lts.Need-enum-known-y (
   constructors-reads.Asked,
   constructors-reads.Learnt,
@@ -3123,7 +2982,6 @@ branches-enum-known-y : (t : ℕ) → branches-lts.Need-enum-known-y (
 ) (branches-at t) branches.Post
 branches-enum-known-y t c = (c .match2 .keys1)
 
--- src/cycle.rt:458:9
 branches-enum-told-2 : (t : ℕ) → branches-lts.Need-enum-told-2 (
   constructors-reads.Asked,
   constructors-reads.Learnt,
@@ -3142,7 +3000,6 @@ branches-enum-told-2 : (t : ℕ) → branches-lts.Need-enum-told-2 (
 ) (branches-at t) branches.Post
 branches-enum-told-2 t c = (c .match2 .keys2)
 
--- src/cycle.rt:458:9
 branches-same-length-4 : (t : ℕ) → branches-lts.Need-same-length-4 (
   constructors-reads.Asked,
   constructors-reads.Learnt,
@@ -3161,7 +3018,6 @@ branches-same-length-4 : (t : ℕ) → branches-lts.Need-same-length-4 (
 ) (branches-at t) branches.Post
 branches-same-length-4 t c = (c .before .before .before .before .before .before .before .before .branches .kept .1 .1 .1 .1 .1 .0) ∙ (c .before .before .before .before .before .before .before .before .before .before .before .before .before .before .before .before .before .before .before .before .before .before .branch .kept .1 .1 .1 .1 .1 .0)
 
--- src/cycle.rt:458:9
 branches-same-length-5 : (t : ℕ) → branches-lts.Need-same-length-5 (
   constructors-reads.Asked,
   constructors-reads.Learnt,
@@ -3180,7 +3036,6 @@ branches-same-length-5 : (t : ℕ) → branches-lts.Need-same-length-5 (
 ) (branches-at t) branches.Post
 branches-same-length-5 t c = (c .before .before .before .before .before .before .before .before .branches .kept .1 .1 .1 .1 .1 .1 .0) ∙ (c .before .before .before .before .before .before .before .before .before .before .before .before .before .before .before .before .before .before .before .before .before .before .branch .kept .1 .1 .1 .1 .1 .1 .0)
 
--- src/cycle.rt:458:9
 branches-same-length-6 : (t : ℕ) → branches-lts.Need-same-length-6 (
   constructors-reads.Asked,
   constructors-reads.Learnt,
@@ -3199,7 +3054,6 @@ branches-same-length-6 : (t : ℕ) → branches-lts.Need-same-length-6 (
 ) (branches-at t) branches.Post
 branches-same-length-6 t c = (c .before .before .before .before .before .before .before .before .branches .kept .1 .1 .1 .1 .1 .1 .1 .0) ∙ (c .before .before .before .before .before .before .before .before .before .before .before .before .before .before .before .before .before .before .before .before .before .before .branch .kept .1 .1 .1 .1 .1 .1 .1 .0)
 
--- src/cycle.rt:458:9
 branches-returns-3 : (t : ℕ) → branches-lts.Need-returns-3 (
   constructors-reads.Asked,
   constructors-reads.Learnt,
@@ -3218,7 +3072,6 @@ branches-returns-3 : (t : ℕ) → branches-lts.Need-returns-3 (
 ) (branches-at t) branches.Post
 branches-returns-3 t c = branches-rest (c .before .before .before .before .before .before .before .before .before .before .before .before .before .before .before .before .before .before .before .before .before .before .before .before .before .before .before .constructors .ensures) (c .before .before .before .before .before .before .before .before .before .before .before .before .before .before .before .before .before .before .before .before .before .before .before .before .before .before .if1 .left) (c .before .before .before .before .before .before .before .before .before .before .before .before .before .before .before .before .before .before .before .before .before .before .branch .ensures) (c .before .before .before .before .before .before .before .before .before .before .before .before .before .before .x .given .1) (c .before .before .before .before .before .before .before .before .before .behind .ensures) (c .before .before .before .before .before .before .before .before .branches .ensures) (c .enum-told2 .given .1)
 
--- src/cycle.rt:460:5
 branches-branched-requires : (t : ℕ) → branches-lts.Need-branched-requires (
   constructors-reads.Asked,
   constructors-reads.Learnt,
@@ -3237,7 +3090,6 @@ branches-branched-requires : (t : ℕ) → branches-lts.Need-branched-requires (
 ) (branches-at t) branches.Post
 branches-branched-requires t c κs = tt
 
--- src/cycle.rt:431:1
 branches-same-length-7 : (t : ℕ) → branches-lts.Need-same-length-7 (
   constructors-reads.Asked,
   constructors-reads.Learnt,
@@ -3256,7 +3108,6 @@ branches-same-length-7 : (t : ℕ) → branches-lts.Need-same-length-7 (
 ) (branches-at t) branches.Post
 branches-same-length-7 t c = (c .before .before .before .before .before .before .before .before .before .before .branches .kept .1 .1 .1 .1 .1 .0) ∙ (c .before .before .before .before .before .before .before .before .before .before .before .before .before .before .before .before .before .before .before .before .before .before .before .before .branch .kept .1 .1 .1 .1 .1 .0)
 
--- src/cycle.rt:431:1
 branches-same-length-8 : (t : ℕ) → branches-lts.Need-same-length-8 (
   constructors-reads.Asked,
   constructors-reads.Learnt,
@@ -3275,7 +3126,6 @@ branches-same-length-8 : (t : ℕ) → branches-lts.Need-same-length-8 (
 ) (branches-at t) branches.Post
 branches-same-length-8 t c = (c .before .before .before .before .before .before .before .before .before .before .branches .kept .1 .1 .1 .1 .1 .1 .0) ∙ (c .before .before .before .before .before .before .before .before .before .before .before .before .before .before .before .before .before .before .before .before .before .before .before .before .branch .kept .1 .1 .1 .1 .1 .1 .0)
 
--- src/cycle.rt:431:1
 branches-same-length-9 : (t : ℕ) → branches-lts.Need-same-length-9 (
   constructors-reads.Asked,
   constructors-reads.Learnt,
@@ -3294,7 +3144,6 @@ branches-same-length-9 : (t : ℕ) → branches-lts.Need-same-length-9 (
 ) (branches-at t) branches.Post
 branches-same-length-9 t c = (c .before .before .before .before .before .before .before .before .before .before .branches .kept .1 .1 .1 .1 .1 .1 .1 .0) ∙ (c .before .before .before .before .before .before .before .before .before .before .before .before .before .before .before .before .before .before .before .before .before .before .before .before .branch .kept .1 .1 .1 .1 .1 .1 .1 .0)
 
--- src/cycle.rt:431:1
 branches-returns-4 : (t : ℕ) → branches-lts.Need-returns-4 (
   constructors-reads.Asked,
   constructors-reads.Learnt,
@@ -3313,7 +3162,6 @@ branches-returns-4 : (t : ℕ) → branches-lts.Need-returns-4 (
 ) (branches-at t) branches.Post
 branches-returns-4 t c = branches-done (c .before .before .before .before .before .before .before .before .before .before .before .before .before .before .before .before .before .before .before .before .before .before .before .before .before .before .before .before .before .constructors .ensures) (c .before .before .before .before .before .before .before .before .before .before .before .before .before .before .before .before .before .before .before .before .before .before .before .before .before .before .before .before .if1 .left) (c .before .before .before .before .before .before .before .before .before .before .before .before .before .before .before .before .before .before .before .before .before .before .before .before .branch .ensures) (c .before .before .before .before .before .before .before .before .before .before .before .before .before .before .before .before .x .given .1) (c .before .before .before .before .before .before .before .before .before .before .before .behind .ensures) (c .before .before .before .before .before .before .before .before .before .before .branches .ensures) (c .before .before .y .given .1) (c .branched .ensures .all) (c .branched .ensures .is)
 
--- src/cycle.rt:277:9
 call-arity-requires : (t : ℕ) → call-lts.Need-arity-requires (
   arity-reads.Asked,
   arity-reads.Learnt,
@@ -3336,7 +3184,6 @@ call-arity-requires : (t : ℕ) → call-lts.Need-arity-requires (
 ) (call-at t) call.Post
 call-arity-requires t c κs = tt
 
--- src/cycle.rt:280:86
 call-slice-aggregate-several : (t : ℕ) → call-lts.Need-slice-aggregate-several (
   arity-reads.Asked,
   arity-reads.Learnt,
@@ -3359,7 +3206,6 @@ call-slice-aggregate-several : (t : ℕ) → call-lts.Need-slice-aggregate-sever
 ) (call-at t) call.Post
 call-slice-aggregate-several t c = refl
 
--- src/cycle.rt:280:9
 call-several-requires : (t : ℕ) → call-lts.Need-several-requires (
   arity-reads.Asked,
   arity-reads.Learnt,
@@ -3382,7 +3228,6 @@ call-several-requires : (t : ℕ) → call-lts.Need-several-requires (
 ) (call-at t) call.Post
 call-several-requires t c κs = (load-same _ 900 (c .before .before .before .before .before .before .before .before .before .before .before .before .before .pre .0) _ (omega (arith, (c .before .before .before .before .arity .ensures .1))), ((c .before .before .before .before .before .before .before .before .before .before .before .before .before .pre .1 .0), (c .before .before .before .before .arity .ensures .1)))
 
--- src/cycle.rt:281:23
 call-enum-known-x : (t : ℕ) → call-lts.Need-enum-known-x (
   arity-reads.Asked,
   arity-reads.Learnt,
@@ -3405,7 +3250,6 @@ call-enum-known-x : (t : ℕ) → call-lts.Need-enum-known-x (
 ) (call-at t) call.Post
 call-enum-known-x t c = (c .match .keys1)
 
--- src/cycle.rt:282:9
 call-enum-told : (t : ℕ) → call-lts.Need-enum-told (
   arity-reads.Asked,
   arity-reads.Learnt,
@@ -3428,7 +3272,6 @@ call-enum-told : (t : ℕ) → call-lts.Need-enum-told (
 ) (call-at t) call.Post
 call-enum-told t c = (c .match .keys2)
 
--- src/cycle.rt:282:9
 call-refused-requires : (t : ℕ) → call-lts.Need-refused-requires (
   arity-reads.Asked,
   arity-reads.Learnt,
@@ -3451,7 +3294,6 @@ call-refused-requires : (t : ℕ) → call-lts.Need-refused-requires (
 ) (call-at t) call.Post
 call-refused-requires t c κs = tt
 
--- src/cycle.rt:282:9
 call-same-length : (t : ℕ) → call-lts.Need-same-length (
   arity-reads.Asked,
   arity-reads.Learnt,
@@ -3474,7 +3316,6 @@ call-same-length : (t : ℕ) → call-lts.Need-same-length (
 ) (call-at t) call.Post
 call-same-length t c = (c .before .before .before .before .before .before .before .before .before .before .several .kept .1 .1 .1 .1 .1 .0)
 
--- src/cycle.rt:282:9
 call-same-length-2 : (t : ℕ) → call-lts.Need-same-length-2 (
   arity-reads.Asked,
   arity-reads.Learnt,
@@ -3497,7 +3338,6 @@ call-same-length-2 : (t : ℕ) → call-lts.Need-same-length-2 (
 ) (call-at t) call.Post
 call-same-length-2 t c = (c .before .before .before .before .before .before .before .before .before .before .several .kept .1 .1 .1 .1 .1 .1 .0)
 
--- src/cycle.rt:282:9
 call-same-length-3 : (t : ℕ) → call-lts.Need-same-length-3 (
   arity-reads.Asked,
   arity-reads.Learnt,
@@ -3520,7 +3360,6 @@ call-same-length-3 : (t : ℕ) → call-lts.Need-same-length-3 (
 ) (call-at t) call.Post
 call-same-length-3 t c = (c .before .before .before .before .before .before .before .before .before .before .several .kept .1 .1 .1 .1 .1 .1 .1 .0)
 
--- src/cycle.rt:282:9
 call-returns : (t : ℕ) → call-lts.Need-returns (
   arity-reads.Asked,
   arity-reads.Learnt,
@@ -3543,7 +3382,6 @@ call-returns : (t : ℕ) → call-lts.Need-returns (
 ) (call-at t) call.Post
 call-returns t c = call-arguments (c .before .before .before .before .before .before .before .before .before .before .before .before .before .before .before .arity .ensures) (omega arith) (c .before .before .before .before .before .before .before .before .before .before .several .ensures) (c .before .enum-told .given .1) (c .refused .ensures)
 
--- src/cycle.rt:284:25
 call-slice-aggregate-named-sizes : (t : ℕ) → call-lts.Need-slice-aggregate-named-sizes (
   arity-reads.Asked,
   arity-reads.Learnt,
@@ -3566,7 +3404,6 @@ call-slice-aggregate-named-sizes : (t : ℕ) → call-lts.Need-slice-aggregate-n
 ) (call-at t) call.Post
 call-slice-aggregate-named-sizes t c = search needs
 
--- src/cycle.rt:284:36
 call-slice-aggregate-named-sizes-2 : (t : ℕ) → call-lts.Need-slice-aggregate-named-sizes-2 (
   arity-reads.Asked,
   arity-reads.Learnt,
@@ -3589,7 +3426,6 @@ call-slice-aggregate-named-sizes-2 : (t : ℕ) → call-lts.Need-slice-aggregate
 ) (call-at t) call.Post
 call-slice-aggregate-named-sizes-2 t c = search needs
 
--- src/cycle.rt:284:9
 call-named-sizes-requires : (t : ℕ) → call-lts.Need-named-sizes-requires (
   arity-reads.Asked,
   arity-reads.Learnt,
@@ -3612,7 +3448,6 @@ call-named-sizes-requires : (t : ℕ) → call-lts.Need-named-sizes-requires (
 ) (call-at t) call.Post
 call-named-sizes-requires t c κs = tt
 
--- src/cycle.rt:286:9
 call-moved-requires : (t : ℕ) → call-lts.Need-moved-requires (
   arity-reads.Asked,
   arity-reads.Learnt,
@@ -3635,7 +3470,6 @@ call-moved-requires : (t : ℕ) → call-lts.Need-moved-requires (
 ) (call-at t) call.Post
 call-moved-requires t c κs = tt
 
--- src/cycle.rt:287:46
 call-slice-aggregate-prepare : (t : ℕ) → call-lts.Need-slice-aggregate-prepare (
   arity-reads.Asked,
   arity-reads.Learnt,
@@ -3658,7 +3492,6 @@ call-slice-aggregate-prepare : (t : ℕ) → call-lts.Need-slice-aggregate-prepa
 ) (call-at t) call.Post
 call-slice-aggregate-prepare t c = search needs
 
--- src/cycle.rt:287:9
 call-prepare-requires : (t : ℕ) → call-lts.Need-prepare-requires (
   arity-reads.Asked,
   arity-reads.Learnt,
@@ -3681,7 +3514,6 @@ call-prepare-requires : (t : ℕ) → call-lts.Need-prepare-requires (
 ) (call-at t) call.Post
 call-prepare-requires t c κs = prepares (c .before .before .before .before .before .before .before .before .before .before .before .before .before .before .before .before .before .before .before .before .before .before .before .before .before .before .before .before .before .before .before .pre .1 .0) (c .before .moved .ensures) (c .before .before .before .before .before .before .before .before .before .before .before .before .before .before .before .before .before .before .before .before .before .before .before .before .before .before .before .before .before .before .before .pre .1 .1)
 
--- src/cycle.rt:288:25
 call-enum-known-y : (t : ℕ) → call-lts.Need-enum-known-y (
   arity-reads.Asked,
   arity-reads.Learnt,
@@ -3704,7 +3536,6 @@ call-enum-known-y : (t : ℕ) → call-lts.Need-enum-known-y (
 ) (call-at t) call.Post
 call-enum-known-y t c = (c .match2 .keys1)
 
--- src/cycle.rt:289:9
 call-enum-told-2 : (t : ℕ) → call-lts.Need-enum-told-2 (
   arity-reads.Asked,
   arity-reads.Learnt,
@@ -3727,7 +3558,6 @@ call-enum-told-2 : (t : ℕ) → call-lts.Need-enum-told-2 (
 ) (call-at t) call.Post
 call-enum-told-2 t c = (c .match2 .keys2)
 
--- src/cycle.rt:289:9
 call-not-entered-requires : (t : ℕ) → call-lts.Need-not-entered-requires (
   arity-reads.Asked,
   arity-reads.Learnt,
@@ -3750,7 +3580,6 @@ call-not-entered-requires : (t : ℕ) → call-lts.Need-not-entered-requires (
 ) (call-at t) call.Post
 call-not-entered-requires t c κs = tt
 
--- src/cycle.rt:289:9
 call-same-length-4 : (t : ℕ) → call-lts.Need-same-length-4 (
   arity-reads.Asked,
   arity-reads.Learnt,
@@ -3773,7 +3602,6 @@ call-same-length-4 : (t : ℕ) → call-lts.Need-same-length-4 (
 ) (call-at t) call.Post
 call-same-length-4 t c = (c .before .before .before .before .before .before .before .before .before .before .before .before .before .before .before .before .before .before .before .before .before .several .kept .1 .1 .1 .1 .1 .0)
 
--- src/cycle.rt:289:9
 call-same-length-5 : (t : ℕ) → call-lts.Need-same-length-5 (
   arity-reads.Asked,
   arity-reads.Learnt,
@@ -3796,7 +3624,6 @@ call-same-length-5 : (t : ℕ) → call-lts.Need-same-length-5 (
 ) (call-at t) call.Post
 call-same-length-5 t c = (c .before .before .before .before .before .before .before .before .before .before .before .before .before .before .before .before .before .before .before .before .before .several .kept .1 .1 .1 .1 .1 .1 .0)
 
--- src/cycle.rt:289:9
 call-same-length-6 : (t : ℕ) → call-lts.Need-same-length-6 (
   arity-reads.Asked,
   arity-reads.Learnt,
@@ -3819,7 +3646,6 @@ call-same-length-6 : (t : ℕ) → call-lts.Need-same-length-6 (
 ) (call-at t) call.Post
 call-same-length-6 t c = (c .before .before .before .before .before .before .before .before .before .before .before .before .before .before .before .before .before .before .before .before .before .several .kept .1 .1 .1 .1 .1 .1 .1 .0)
 
--- src/cycle.rt:289:9
 call-returns-2 : (t : ℕ) → call-lts.Need-returns-2 (
   arity-reads.Asked,
   arity-reads.Learnt,
@@ -3842,7 +3668,6 @@ call-returns-2 : (t : ℕ) → call-lts.Need-returns-2 (
 ) (call-at t) call.Post
 call-returns-2 t c = call-not-entered (c .before .before .before .before .before .before .before .before .before .before .before .before .before .before .before .before .before .before .before .before .before .before .before .before .before .before .arity .ensures) (omega arith) (c .before .before .before .before .before .before .before .before .before .before .before .before .before .before .before .before .before .before .before .before .before .several .ensures) (c .before .before .before .before .before .before .before .before .before .before .before .before .x .given .1) refl (c .before .before .before .before .before .before .before .before .named-sizes .ensures) (c .before .before .before .before .before .moved .ensures) (c .before .before .before .prepare .ensures) (c .before .enum-told2 .given .1) (c .not-entered .ensures)
 
--- src/cycle.rt:291:67
 call-slice-aggregate-enter : (t : ℕ) → call-lts.Need-slice-aggregate-enter (
   arity-reads.Asked,
   arity-reads.Learnt,
@@ -3865,7 +3690,6 @@ call-slice-aggregate-enter : (t : ℕ) → call-lts.Need-slice-aggregate-enter (
 ) (call-at t) call.Post
 call-slice-aggregate-enter t c = search needs
 
--- src/cycle.rt:291:79
 call-slice-aggregate-enter-2 : (t : ℕ) → call-lts.Need-slice-aggregate-enter-2 (
   arity-reads.Asked,
   arity-reads.Learnt,
@@ -3888,7 +3712,6 @@ call-slice-aggregate-enter-2 : (t : ℕ) → call-lts.Need-slice-aggregate-enter
 ) (call-at t) call.Post
 call-slice-aggregate-enter-2 t c = search needs
 
--- src/cycle.rt:291:9
 call-enter-requires : (t : ℕ) → call-lts.Need-enter-requires (
   arity-reads.Asked,
   arity-reads.Learnt,
@@ -3911,7 +3734,6 @@ call-enter-requires : (t : ℕ) → call-lts.Need-enter-requires (
 ) (call-at t) call.Post
 call-enter-requires t c κs = (load-moved _ 900 (c .before .before .before .before .before .before .before .before .before .before .before .before .before .before .before .before .before .before .before .before .before .before .before .before .before .before .before .before .before .before .before .before .before .before .before .before .before .before .pre .0) _ 90 (c .before .before .before .before .before .before .before .before .moved .ensures) (grows-all-to (c .before .before .before .before .before .before .before .before .before .before .before .before .before .before .before .before .before .before .before .before .before .before .before .before .several .ensures .grows) (c .before .before .before .before .before .before .before .before .before .before .before .before .before .before .before .x .given .1)) (omega arith), (room-inner (c .before .before .before .before .before .before .before .before .before .before .before .before .before .before .before .before .before .before .before .before .before .before .before .before .before .before .before .before .before .before .before .before .before .before .before .before .before .before .pre .1 .0) (c .before .before .before .before .before .before .before .before .moved .ensures) (omega (arith, (c .before .before .before .before .before .before .before .before .before .before .before .before .before .before .before .before .before .before .before .before .before .before .before .before .several .kept .1 .1 .1 .1 .1 .1 .1 .1 .1 .0))) (omega (arith, (c .before .before .before .before .before .before .before .before .before .before .before .named-sizes .kept .1 .1 .0))), entry-numbers (c .before .before .before .before .before .before .prepare .ensures .of) (c .before .before .before .before .y .given .1) (c .before .before .before .before .before .before .before .before .before .before .before .before .before .before .before .before .before .before .before .before .before .before .before .before .before .before .before .before .before .before .before .before .before .before .before .before .before .before .pre .1 .1) (c .before .before .before .before .before .before .before .before .before .before .before .before .before .before .before .before .before .before .before .before .before .before .before .before .before .before .before .before .before .arity .ensures .1) (c .before .before .before .before .before .before .before .before .before .before .before .named-sizes .ensures .few)))
 
--- src/cycle.rt:292:20
 call-enum-known-z : (t : ℕ) → call-lts.Need-enum-known-z (
   arity-reads.Asked,
   arity-reads.Learnt,
@@ -3934,7 +3756,6 @@ call-enum-known-z : (t : ℕ) → call-lts.Need-enum-known-z (
 ) (call-at t) call.Post
 call-enum-known-z t c = (c .match3 .keys1)
 
--- src/cycle.rt:293:9
 call-enum-told-3 : (t : ℕ) → call-lts.Need-enum-told-3 (
   arity-reads.Asked,
   arity-reads.Learnt,
@@ -3957,7 +3778,6 @@ call-enum-told-3 : (t : ℕ) → call-lts.Need-enum-told-3 (
 ) (call-at t) call.Post
 call-enum-told-3 t c = (c .match3 .keys2)
 
--- src/cycle.rt:293:9
 call-same-length-7 : (t : ℕ) → call-lts.Need-same-length-7 (
   arity-reads.Asked,
   arity-reads.Learnt,
@@ -3980,7 +3800,6 @@ call-same-length-7 : (t : ℕ) → call-lts.Need-same-length-7 (
 ) (call-at t) call.Post
 call-same-length-7 t c = (c .before .before .before .before .before .before .enter .kept .1 .1 .1 .1 .1 .0) ∙ (c .before .before .before .before .before .before .before .before .before .before .before .before .before .before .before .before .before .before .before .before .before .before .before .before .before .before .before .before .before .before .before .several .kept .1 .1 .1 .1 .1 .0)
 
--- src/cycle.rt:293:9
 call-same-length-8 : (t : ℕ) → call-lts.Need-same-length-8 (
   arity-reads.Asked,
   arity-reads.Learnt,
@@ -4003,7 +3822,6 @@ call-same-length-8 : (t : ℕ) → call-lts.Need-same-length-8 (
 ) (call-at t) call.Post
 call-same-length-8 t c = (c .before .before .before .before .before .before .before .before .before .before .before .before .before .before .before .before .before .before .before .before .before .before .before .before .before .before .before .before .before .before .before .several .kept .1 .1 .1 .1 .1 .1 .0)
 
--- src/cycle.rt:293:9
 call-same-length-9 : (t : ℕ) → call-lts.Need-same-length-9 (
   arity-reads.Asked,
   arity-reads.Learnt,
@@ -4026,7 +3844,6 @@ call-same-length-9 : (t : ℕ) → call-lts.Need-same-length-9 (
 ) (call-at t) call.Post
 call-same-length-9 t c = (c .before .before .before .before .before .before .before .before .before .before .before .before .before .before .before .before .before .before .before .before .before .before .before .before .before .before .before .before .before .before .before .several .kept .1 .1 .1 .1 .1 .1 .1 .0)
 
--- src/cycle.rt:293:9
 call-returns-3 : (t : ℕ) → call-lts.Need-returns-3 (
   arity-reads.Asked,
   arity-reads.Learnt,
@@ -4049,7 +3866,6 @@ call-returns-3 : (t : ℕ) → call-lts.Need-returns-3 (
 ) (call-at t) call.Post
 call-returns-3 t c = call-body (c .before .before .before .before .before .before .before .before .before .before .before .before .before .before .before .before .before .before .before .before .before .before .before .before .before .before .before .before .before .before .before .before .before .before .before .before .arity .ensures) (omega arith) (c .before .before .before .before .before .before .before .before .before .before .before .before .before .before .before .before .before .before .before .before .before .before .before .before .before .before .before .before .before .before .before .several .ensures) (c .before .before .before .before .before .before .before .before .before .before .before .before .before .before .before .before .before .before .before .before .before .before .x .given .1) refl (c .before .before .before .before .before .before .before .before .before .before .before .before .before .before .before .before .before .before .named-sizes .ensures) (c .before .before .before .before .before .before .before .before .before .before .before .before .before .before .before .moved .ensures) (c .before .before .before .before .before .before .before .before .before .before .before .before .before .prepare .ensures) (c .before .before .before .before .before .before .before .before .before .before .before .y .given .1) (c .before .before .before .before .before .before .enter .ensures) (c .enum-told3 .given .1)
 
--- src/cycle.rt:295:5
 call-called-requires : (t : ℕ) → call-lts.Need-called-requires (
   arity-reads.Asked,
   arity-reads.Learnt,
@@ -4072,7 +3888,6 @@ call-called-requires : (t : ℕ) → call-lts.Need-called-requires (
 ) (call-at t) call.Post
 call-called-requires t c κs = tt
 
--- src/cycle.rt:261:1
 call-same-length-10 : (t : ℕ) → call-lts.Need-same-length-10 (
   arity-reads.Asked,
   arity-reads.Learnt,
@@ -4095,7 +3910,6 @@ call-same-length-10 : (t : ℕ) → call-lts.Need-same-length-10 (
 ) (call-at t) call.Post
 call-same-length-10 t c = (c .before .before .before .before .before .before .before .before .enter .kept .1 .1 .1 .1 .1 .0) ∙ (c .before .before .before .before .before .before .before .before .before .before .before .before .before .before .before .before .before .before .before .before .before .before .before .before .before .before .before .before .before .before .before .before .before .several .kept .1 .1 .1 .1 .1 .0)
 
--- src/cycle.rt:261:1
 call-same-length-11 : (t : ℕ) → call-lts.Need-same-length-11 (
   arity-reads.Asked,
   arity-reads.Learnt,
@@ -4118,7 +3932,6 @@ call-same-length-11 : (t : ℕ) → call-lts.Need-same-length-11 (
 ) (call-at t) call.Post
 call-same-length-11 t c = (c .before .before .before .before .before .before .before .before .before .before .before .before .before .before .before .before .before .before .before .before .before .before .before .before .before .before .before .before .before .before .before .before .before .several .kept .1 .1 .1 .1 .1 .1 .0)
 
--- src/cycle.rt:261:1
 call-same-length-12 : (t : ℕ) → call-lts.Need-same-length-12 (
   arity-reads.Asked,
   arity-reads.Learnt,
@@ -4141,7 +3954,6 @@ call-same-length-12 : (t : ℕ) → call-lts.Need-same-length-12 (
 ) (call-at t) call.Post
 call-same-length-12 t c = (c .before .before .before .before .before .before .before .before .before .before .before .before .before .before .before .before .before .before .before .before .before .before .before .before .before .before .before .before .before .before .before .before .before .several .kept .1 .1 .1 .1 .1 .1 .1 .0)
 
--- src/cycle.rt:261:1
 call-returns-4 : (t : ℕ) → call-lts.Need-returns-4 (
   arity-reads.Asked,
   arity-reads.Learnt,
@@ -4164,7 +3976,6 @@ call-returns-4 : (t : ℕ) → call-lts.Need-returns-4 (
 ) (call-at t) call.Post
 call-returns-4 t c = call-done (c .before .before .before .before .before .before .before .before .before .before .before .before .before .before .before .before .before .before .before .before .before .before .before .before .before .before .before .before .before .before .before .before .before .before .before .before .before .before .arity .ensures) (omega arith) (c .before .before .before .before .before .before .before .before .before .before .before .before .before .before .before .before .before .before .before .before .before .before .before .before .before .before .before .before .before .before .before .before .before .several .ensures) (c .before .before .before .before .before .before .before .before .before .before .before .before .before .before .before .before .before .before .before .before .before .before .before .before .x .given .1) refl (c .before .before .before .before .before .before .before .before .before .before .before .before .before .before .before .before .before .before .before .before .named-sizes .ensures) (c .before .before .before .before .before .before .before .before .before .before .before .before .before .before .before .before .before .moved .ensures) (c .before .before .before .before .before .before .before .before .before .before .before .before .before .before .before .prepare .ensures) (c .before .before .before .before .before .before .before .before .before .before .before .before .before .y .given .1) (c .before .before .before .before .before .before .before .before .enter .ensures) (c .before .before .z .given .1) (c .called .ensures .body) (c .called .ensures .both) (c .called .ensures .all) (c .called .ensures .is)
 
--- src/cycle.rt:403:9
 case-of-expr-requires : (t : ℕ) → case-of-lts.Need-expr-requires (
   expr-below t,
   expr.Post,
@@ -4181,7 +3992,6 @@ case-of-expr-requires : (t : ℕ) → case-of-lts.Need-expr-requires (
 ) (case-of-at t) case-of.Post
 case-of-expr-requires t c κs = (load-same _ 900 (c .before .before .before .before .before .before .before .before .before .before .before .pre .0) 0 (omega arith), room-same (c .before .before .before .before .before .before .before .before .before .before .before .pre .1 .0) (omega arith))
 
--- src/cycle.rt:404:20
 case-of-enum-known-x : (t : ℕ) → case-of-lts.Need-enum-known-x (
   expr-below t,
   expr.Post,
@@ -4198,7 +4008,6 @@ case-of-enum-known-x : (t : ℕ) → case-of-lts.Need-enum-known-x (
 ) (case-of-at t) case-of.Post
 case-of-enum-known-x t c = (c .match .keys1)
 
--- src/cycle.rt:405:9
 case-of-enum-told : (t : ℕ) → case-of-lts.Need-enum-told (
   expr-below t,
   expr.Post,
@@ -4215,7 +4024,6 @@ case-of-enum-told : (t : ℕ) → case-of-lts.Need-enum-told (
 ) (case-of-at t) case-of.Post
 case-of-enum-told t c = (c .match .keys2)
 
--- src/cycle.rt:405:9
 case-of-same-length : (t : ℕ) → case-of-lts.Need-same-length (
   expr-below t,
   expr.Post,
@@ -4232,7 +4040,6 @@ case-of-same-length : (t : ℕ) → case-of-lts.Need-same-length (
 ) (case-of-at t) case-of.Post
 case-of-same-length t c = (c .before .before .before .before .before .before .before .before .expr .kept .1 .1 .1 .1 .1 .0)
 
--- src/cycle.rt:405:9
 case-of-same-length-2 : (t : ℕ) → case-of-lts.Need-same-length-2 (
   expr-below t,
   expr.Post,
@@ -4249,7 +4056,6 @@ case-of-same-length-2 : (t : ℕ) → case-of-lts.Need-same-length-2 (
 ) (case-of-at t) case-of.Post
 case-of-same-length-2 t c = (c .before .before .before .before .before .before .before .before .expr .kept .1 .1 .1 .1 .1 .1 .0)
 
--- src/cycle.rt:405:9
 case-of-same-length-3 : (t : ℕ) → case-of-lts.Need-same-length-3 (
   expr-below t,
   expr.Post,
@@ -4266,7 +4072,6 @@ case-of-same-length-3 : (t : ℕ) → case-of-lts.Need-same-length-3 (
 ) (case-of-at t) case-of.Post
 case-of-same-length-3 t c = (c .before .before .before .before .before .before .before .before .expr .kept .1 .1 .1 .1 .1 .1 .1 .0)
 
--- src/cycle.rt:405:9
 case-of-returns : (t : ℕ) → case-of-lts.Need-returns (
   expr-below t,
   expr.Post,
@@ -4283,7 +4088,6 @@ case-of-returns : (t : ℕ) → case-of-lts.Need-returns (
 ) (case-of-at t) case-of.Post
 case-of-returns t c = case-first (c .before .before .before .before .before .before .before .before .expr .ensures) (c .enum-told .given .1)
 
--- src/cycle.rt:408:29
 case-of-enum-known-kind : (t : ℕ) → case-of-lts.Need-enum-known-kind (
   expr-below t,
   expr.Post,
@@ -4300,7 +4104,6 @@ case-of-enum-known-kind : (t : ℕ) → case-of-lts.Need-enum-known-kind (
 ) (case-of-at t) case-of.Post
 case-of-enum-known-kind t c = (c .match2 .keys1)
 
--- src/cycle.rt:409:35
 case-of-add-t30 : (t : ℕ) → case-of-lts.Need-add-t30 (
   expr-below t,
   expr.Post,
@@ -4317,7 +4120,6 @@ case-of-add-t30 : (t : ℕ) → case-of-lts.Need-add-t30 (
 ) (case-of-at t) case-of.Post
 case-of-add-t30 t c = omega (arith, (c .before .before .before .before .before .before .before .before .before .before .before .before .before .before .before .before .before .before .before .before .before .before .before .pre .1 .0 .line))
 
--- src/cycle.rt:409:9
 case-of-same-length-4 : (t : ℕ) → case-of-lts.Need-same-length-4 (
   expr-below t,
   expr.Post,
@@ -4334,7 +4136,6 @@ case-of-same-length-4 : (t : ℕ) → case-of-lts.Need-same-length-4 (
 ) (case-of-at t) case-of.Post
 case-of-same-length-4 t c = (c .before .before .before .before .before .before .before .before .before .before .before .expr .kept .1 .1 .1 .1 .1 .0)
 
--- src/cycle.rt:409:9
 case-of-same-length-5 : (t : ℕ) → case-of-lts.Need-same-length-5 (
   expr-below t,
   expr.Post,
@@ -4351,7 +4152,6 @@ case-of-same-length-5 : (t : ℕ) → case-of-lts.Need-same-length-5 (
 ) (case-of-at t) case-of.Post
 case-of-same-length-5 t c = (c .before .before .before .before .before .before .before .before .before .before .before .expr .kept .1 .1 .1 .1 .1 .1 .0)
 
--- src/cycle.rt:409:9
 case-of-same-length-6 : (t : ℕ) → case-of-lts.Need-same-length-6 (
   expr-below t,
   expr.Post,
@@ -4368,7 +4168,6 @@ case-of-same-length-6 : (t : ℕ) → case-of-lts.Need-same-length-6 (
 ) (case-of-at t) case-of.Post
 case-of-same-length-6 t c = (c .before .before .before .before .before .before .before .before .before .before .before .expr .kept .1 .1 .1 .1 .1 .1 .1 .0)
 
--- src/cycle.rt:409:9
 case-of-returns-2 : (t : ℕ) → case-of-lts.Need-returns-2 (
   expr-below t,
   expr.Post,
@@ -4385,7 +4184,6 @@ case-of-returns-2 : (t : ℕ) → case-of-lts.Need-returns-2 (
 ) (case-of-at t) case-of.Post
 case-of-returns-2 t c = case-plain (c .before .before .before .before .before .before .before .before .before .before .before .expr .ensures) (c .before .before .before .x .given .1) (not-named _ (c .before .match2 .keys2))
 
--- src/cycle.rt:412:9
 case-of-frame-line-requires : (t : ℕ) → case-of-lts.Need-frame-line-requires (
   expr-below t,
   expr.Post,
@@ -4402,7 +4200,6 @@ case-of-frame-line-requires : (t : ℕ) → case-of-lts.Need-frame-line-requires
 ) (case-of-at t) case-of.Post
 case-of-frame-line-requires t c κs = tt
 
--- src/cycle.rt:413:9
 case-of-type-at-requires : (t : ℕ) → case-of-lts.Need-type-at-requires (
   expr-below t,
   expr.Post,
@@ -4419,7 +4216,6 @@ case-of-type-at-requires : (t : ℕ) → case-of-lts.Need-type-at-requires (
 ) (case-of-at t) case-of.Post
 case-of-type-at-requires t c κs = tt
 
--- src/cycle.rt:414:20
 case-of-enum-known-y : (t : ℕ) → case-of-lts.Need-enum-known-y (
   expr-below t,
   expr.Post,
@@ -4436,7 +4232,6 @@ case-of-enum-known-y : (t : ℕ) → case-of-lts.Need-enum-known-y (
 ) (case-of-at t) case-of.Post
 case-of-enum-known-y t c = (c .match3 .keys1)
 
--- src/cycle.rt:415:36
 case-of-enum-told-2 : (t : ℕ) → case-of-lts.Need-enum-told-2 (
   expr-below t,
   expr.Post,
@@ -4453,7 +4248,6 @@ case-of-enum-told-2 : (t : ℕ) → case-of-lts.Need-enum-told-2 (
 ) (case-of-at t) case-of.Post
 case-of-enum-told-2 t c = (c .match3 .keys2)
 
--- src/cycle.rt:415:36
 case-of-add-t33 : (t : ℕ) → case-of-lts.Need-add-t33 (
   expr-below t,
   expr.Post,
@@ -4470,7 +4264,6 @@ case-of-add-t33 : (t : ℕ) → case-of-lts.Need-add-t33 (
 ) (case-of-at t) case-of.Post
 case-of-add-t33 t c = omega (arith, (c .before .before .before .before .before .before .before .before .before .before .before .before .before .before .before .before .before .before .before .before .before .before .before .before .before .before .before .before .before .before .before .pre .1 .0 .line))
 
--- src/cycle.rt:415:9
 case-of-same-length-7 : (t : ℕ) → case-of-lts.Need-same-length-7 (
   expr-below t,
   expr.Post,
@@ -4487,7 +4280,6 @@ case-of-same-length-7 : (t : ℕ) → case-of-lts.Need-same-length-7 (
 ) (case-of-at t) case-of.Post
 case-of-same-length-7 t c = (c .before .before .before .before .before .before .before .before .before .before .before .before .before .before .before .before .before .before .before .expr .kept .1 .1 .1 .1 .1 .0)
 
--- src/cycle.rt:415:9
 case-of-same-length-8 : (t : ℕ) → case-of-lts.Need-same-length-8 (
   expr-below t,
   expr.Post,
@@ -4504,7 +4296,6 @@ case-of-same-length-8 : (t : ℕ) → case-of-lts.Need-same-length-8 (
 ) (case-of-at t) case-of.Post
 case-of-same-length-8 t c = (c .before .before .before .before .before .before .before .before .before .before .before .before .before .before .before .before .before .before .before .expr .kept .1 .1 .1 .1 .1 .1 .0)
 
--- src/cycle.rt:415:9
 case-of-same-length-9 : (t : ℕ) → case-of-lts.Need-same-length-9 (
   expr-below t,
   expr.Post,
@@ -4521,7 +4312,6 @@ case-of-same-length-9 : (t : ℕ) → case-of-lts.Need-same-length-9 (
 ) (case-of-at t) case-of.Post
 case-of-same-length-9 t c = (c .before .before .before .before .before .before .before .before .before .before .before .before .before .before .before .before .before .before .before .expr .kept .1 .1 .1 .1 .1 .1 .1 .0)
 
--- src/cycle.rt:415:9
 case-of-returns-3 : (t : ℕ) → case-of-lts.Need-returns-3 (
   expr-below t,
   expr.Post,
@@ -4538,7 +4328,6 @@ case-of-returns-3 : (t : ℕ) → case-of-lts.Need-returns-3 (
 ) (case-of-at t) case-of.Post
 case-of-returns-3 t c = case-outside (c .before .before .before .before .before .before .before .before .before .before .before .before .before .before .before .before .before .before .before .expr .ensures) (c .before .before .before .before .before .before .before .before .before .before .before .x .given .1) (c .before .before .before .before .before .before .before .before .kind .given .1) (c .before .before .before .before .before .frame-line .ensures) (c .before .before .before .type-at .ensures) (c .before .enum-told2 .given .1)
 
--- src/cycle.rt:422:9
 case-of-moved-requires : (t : ℕ) → case-of-lts.Need-moved-requires (
   expr-below t,
   expr.Post,
@@ -4555,7 +4344,6 @@ case-of-moved-requires : (t : ℕ) → case-of-lts.Need-moved-requires (
 ) (case-of-at t) case-of.Post
 case-of-moved-requires t c κs = tt
 
--- src/cycle.rt:423:9
 case-of-branches-requires : (t : ℕ) → case-of-lts.Need-branches-requires (
   expr-below t,
   expr.Post,
@@ -4572,7 +4360,6 @@ case-of-branches-requires : (t : ℕ) → case-of-lts.Need-branches-requires (
 ) (case-of-at t) case-of.Post
 case-of-branches-requires t c κs = (load-moved _ 900 (c .before .before .before .before .before .before .before .before .before .before .before .before .before .before .before .before .before .before .before .before .before .before .before .before .before .before .before .before .before .before .before .before .before .before .before .pre .0) _ _ (c .before .before .before .moved .ensures) (grows-to (c .before .before .before .before .before .before .before .before .before .before .before .before .before .before .before .before .before .before .before .before .before .before .before .expr .ensures .grows) (c .before .before .before .before .before .before .before .before .before .before .before .before .before .before .before .x .given .1)) (omega arith), (room-rest (c .before .before .before .before .before .before .before .before .before .before .before .before .before .before .before .before .before .before .before .before .before .before .before .before .before .before .before .before .before .before .before .before .before .before .before .pre .1 .0) (c .before .before .before .moved .ensures) ((c .before .before .before .before .before .before .before .before .before .before .before .before .before .before .before .before .before .before .before .before .before .before .before .expr .kept .1 .1 .1 .1 .1 .1 .0)) ((c .before .before .before .before .before .before .before .before .before .before .before .before .before .before .before .before .before .before .before .before .before .before .before .expr .kept .1 .1 .1 .1 .1 .1 .1 .0)), ((c .before .before .before .before .before .before .before .before .before .before .before .before .before .before .before .before .before .before .before .before .before .before .before .before .before .before .before .before .before .before .before .before .before .before .before .pre .1 .1), omega arith)))
 
--- src/cycle.rt:424:20
 case-of-enum-known-z : (t : ℕ) → case-of-lts.Need-enum-known-z (
   expr-below t,
   expr.Post,
@@ -4589,7 +4376,6 @@ case-of-enum-known-z : (t : ℕ) → case-of-lts.Need-enum-known-z (
 ) (case-of-at t) case-of.Post
 case-of-enum-known-z t c = (c .match4 .keys1)
 
--- src/cycle.rt:425:9
 case-of-enum-told-3 : (t : ℕ) → case-of-lts.Need-enum-told-3 (
   expr-below t,
   expr.Post,
@@ -4606,7 +4392,6 @@ case-of-enum-told-3 : (t : ℕ) → case-of-lts.Need-enum-told-3 (
 ) (case-of-at t) case-of.Post
 case-of-enum-told-3 t c = (c .match4 .keys2)
 
--- src/cycle.rt:425:9
 case-of-same-length-10 : (t : ℕ) → case-of-lts.Need-same-length-10 (
   expr-below t,
   expr.Post,
@@ -4623,7 +4408,6 @@ case-of-same-length-10 : (t : ℕ) → case-of-lts.Need-same-length-10 (
 ) (case-of-at t) case-of.Post
 case-of-same-length-10 t c = (c .before .before .before .before .before .before .before .before .branches .kept .1 .1 .1 .1 .1 .0) ∙ (c .before .before .before .before .before .before .before .before .before .before .before .before .before .before .before .before .before .before .before .before .before .before .before .before .before .before .before .before .before .before .before .before .expr .kept .1 .1 .1 .1 .1 .0)
 
--- src/cycle.rt:425:9
 case-of-same-length-11 : (t : ℕ) → case-of-lts.Need-same-length-11 (
   expr-below t,
   expr.Post,
@@ -4640,7 +4424,6 @@ case-of-same-length-11 : (t : ℕ) → case-of-lts.Need-same-length-11 (
 ) (case-of-at t) case-of.Post
 case-of-same-length-11 t c = (c .before .before .before .before .before .before .before .before .branches .kept .1 .1 .1 .1 .1 .1 .0) ∙ (c .before .before .before .before .before .before .before .before .before .before .before .before .before .before .before .before .before .before .before .before .before .before .before .before .before .before .before .before .before .before .before .before .expr .kept .1 .1 .1 .1 .1 .1 .0)
 
--- src/cycle.rt:425:9
 case-of-same-length-12 : (t : ℕ) → case-of-lts.Need-same-length-12 (
   expr-below t,
   expr.Post,
@@ -4657,7 +4440,6 @@ case-of-same-length-12 : (t : ℕ) → case-of-lts.Need-same-length-12 (
 ) (case-of-at t) case-of.Post
 case-of-same-length-12 t c = (c .before .before .before .before .before .before .before .before .branches .kept .1 .1 .1 .1 .1 .1 .1 .0) ∙ (c .before .before .before .before .before .before .before .before .before .before .before .before .before .before .before .before .before .before .before .before .before .before .before .before .before .before .before .before .before .before .before .before .expr .kept .1 .1 .1 .1 .1 .1 .1 .0)
 
--- src/cycle.rt:425:9
 case-of-returns-4 : (t : ℕ) → case-of-lts.Need-returns-4 (
   expr-below t,
   expr.Post,
@@ -4674,7 +4456,6 @@ case-of-returns-4 : (t : ℕ) → case-of-lts.Need-returns-4 (
 ) (case-of-at t) case-of.Post
 case-of-returns-4 t c = case-branches (c .before .before .before .before .before .before .before .before .before .before .before .before .before .before .before .before .before .before .before .before .before .before .before .before .before .before .before .before .before .before .before .before .expr .ensures) (c .before .before .before .before .before .before .before .before .before .before .before .before .before .before .before .before .before .before .before .before .before .before .before .before .x .given .1) (c .before .before .before .before .before .before .before .before .before .before .before .before .before .before .before .before .before .before .before .before .before .kind .given .1) (c .before .before .before .before .before .before .before .before .before .before .before .before .before .before .before .before .before .before .frame-line .ensures) (c .before .before .before .before .before .before .before .before .before .before .before .before .before .before .before .before .type-at .ensures) (c .before .before .before .before .before .before .before .before .before .before .before .before .before .before .y .given .1) (c .before .before .before .before .before .before .before .before .before .before .before .before .moved .ensures) (c .before .before .before .before .before .before .before .before .branches .ensures) (c .enum-told3 .given .1)
 
--- src/cycle.rt:427:5
 case-of-cased-requires : (t : ℕ) → case-of-lts.Need-cased-requires (
   expr-below t,
   expr.Post,
@@ -4691,7 +4472,6 @@ case-of-cased-requires : (t : ℕ) → case-of-lts.Need-cased-requires (
 ) (case-of-at t) case-of.Post
 case-of-cased-requires t c κs = tt
 
--- src/cycle.rt:387:1
 case-of-same-length-13 : (t : ℕ) → case-of-lts.Need-same-length-13 (
   expr-below t,
   expr.Post,
@@ -4708,7 +4488,6 @@ case-of-same-length-13 : (t : ℕ) → case-of-lts.Need-same-length-13 (
 ) (case-of-at t) case-of.Post
 case-of-same-length-13 t c = (c .before .before .before .before .before .before .before .before .before .before .branches .kept .1 .1 .1 .1 .1 .0) ∙ (c .before .before .before .before .before .before .before .before .before .before .before .before .before .before .before .before .before .before .before .before .before .before .before .before .before .before .before .before .before .before .before .before .before .before .expr .kept .1 .1 .1 .1 .1 .0)
 
--- src/cycle.rt:387:1
 case-of-same-length-14 : (t : ℕ) → case-of-lts.Need-same-length-14 (
   expr-below t,
   expr.Post,
@@ -4725,7 +4504,6 @@ case-of-same-length-14 : (t : ℕ) → case-of-lts.Need-same-length-14 (
 ) (case-of-at t) case-of.Post
 case-of-same-length-14 t c = (c .before .before .before .before .before .before .before .before .before .before .branches .kept .1 .1 .1 .1 .1 .1 .0) ∙ (c .before .before .before .before .before .before .before .before .before .before .before .before .before .before .before .before .before .before .before .before .before .before .before .before .before .before .before .before .before .before .before .before .before .before .expr .kept .1 .1 .1 .1 .1 .1 .0)
 
--- src/cycle.rt:387:1
 case-of-same-length-15 : (t : ℕ) → case-of-lts.Need-same-length-15 (
   expr-below t,
   expr.Post,
@@ -4742,7 +4520,6 @@ case-of-same-length-15 : (t : ℕ) → case-of-lts.Need-same-length-15 (
 ) (case-of-at t) case-of.Post
 case-of-same-length-15 t c = (c .before .before .before .before .before .before .before .before .before .before .branches .kept .1 .1 .1 .1 .1 .1 .1 .0) ∙ (c .before .before .before .before .before .before .before .before .before .before .before .before .before .before .before .before .before .before .before .before .before .before .before .before .before .before .before .before .before .before .before .before .before .before .expr .kept .1 .1 .1 .1 .1 .1 .1 .0)
 
--- src/cycle.rt:387:1
 case-of-returns-5 : (t : ℕ) → case-of-lts.Need-returns-5 (
   expr-below t,
   expr.Post,
@@ -4759,7 +4536,6 @@ case-of-returns-5 : (t : ℕ) → case-of-lts.Need-returns-5 (
 ) (case-of-at t) case-of.Post
 case-of-returns-5 t c = case-done (c .before .before .before .before .before .before .before .before .before .before .before .before .before .before .before .before .before .before .before .before .before .before .before .before .before .before .before .before .before .before .before .before .before .before .expr .ensures) (c .before .before .before .before .before .before .before .before .before .before .before .before .before .before .before .before .before .before .before .before .before .before .before .before .before .before .x .given .1) (c .before .before .before .before .before .before .before .before .before .before .before .before .before .before .before .before .before .before .before .before .before .before .before .kind .given .1) (c .before .before .before .before .before .before .before .before .before .before .before .before .before .before .before .before .before .before .before .before .frame-line .ensures) (c .before .before .before .before .before .before .before .before .before .before .before .before .before .before .before .before .before .before .type-at .ensures) (c .before .before .before .before .before .before .before .before .before .before .before .before .before .before .before .before .y .given .1) (c .before .before .before .before .before .before .before .before .before .before .before .before .before .before .moved .ensures) (c .before .before .before .before .before .before .before .before .before .before .branches .ensures) (c .before .before .z .given .1) (c .cased .ensures .all) (c .cased .ensures .is)
 
--- src/cycle.rt:179:9
 choice-expr-requires : (t : ℕ) → choice-lts.Need-expr-requires (
   expr-below t,
   expr.Post,
@@ -4772,7 +4548,6 @@ choice-expr-requires : (t : ℕ) → choice-lts.Need-expr-requires (
 ) (choice-at t) choice.Post
 choice-expr-requires t c κs = (load-same _ 900 (c .before .before .before .before .before .before .before .before .before .before .before .pre .0) 0 (omega arith), room-same (c .before .before .before .before .before .before .before .before .before .before .before .pre .1) (omega arith))
 
--- src/cycle.rt:180:20
 choice-enum-known-x : (t : ℕ) → choice-lts.Need-enum-known-x (
   expr-below t,
   expr.Post,
@@ -4785,7 +4560,6 @@ choice-enum-known-x : (t : ℕ) → choice-lts.Need-enum-known-x (
 ) (choice-at t) choice.Post
 choice-enum-known-x t c = (c .match .keys1)
 
--- src/cycle.rt:181:9
 choice-enum-told : (t : ℕ) → choice-lts.Need-enum-told (
   expr-below t,
   expr.Post,
@@ -4798,7 +4572,6 @@ choice-enum-told : (t : ℕ) → choice-lts.Need-enum-told (
 ) (choice-at t) choice.Post
 choice-enum-told t c = (c .match .keys2)
 
--- src/cycle.rt:181:9
 choice-same-length : (t : ℕ) → choice-lts.Need-same-length (
   expr-below t,
   expr.Post,
@@ -4811,7 +4584,6 @@ choice-same-length : (t : ℕ) → choice-lts.Need-same-length (
 ) (choice-at t) choice.Post
 choice-same-length t c = (c .before .before .before .before .before .before .before .before .expr .kept .1 .1 .1 .1 .1 .0)
 
--- src/cycle.rt:181:9
 choice-same-length-2 : (t : ℕ) → choice-lts.Need-same-length-2 (
   expr-below t,
   expr.Post,
@@ -4824,7 +4596,6 @@ choice-same-length-2 : (t : ℕ) → choice-lts.Need-same-length-2 (
 ) (choice-at t) choice.Post
 choice-same-length-2 t c = (c .before .before .before .before .before .before .before .before .expr .kept .1 .1 .1 .1 .1 .1 .0)
 
--- src/cycle.rt:181:9
 choice-same-length-3 : (t : ℕ) → choice-lts.Need-same-length-3 (
   expr-below t,
   expr.Post,
@@ -4837,7 +4608,6 @@ choice-same-length-3 : (t : ℕ) → choice-lts.Need-same-length-3 (
 ) (choice-at t) choice.Post
 choice-same-length-3 t c = (c .before .before .before .before .before .before .before .before .expr .kept .1 .1 .1 .1 .1 .1 .1 .0)
 
--- src/cycle.rt:181:9
 choice-returns : (t : ℕ) → choice-lts.Need-returns (
   expr-below t,
   expr.Post,
@@ -4850,7 +4620,6 @@ choice-returns : (t : ℕ) → choice-lts.Need-returns (
 ) (choice-at t) choice.Post
 choice-returns t c = if-first (c .before .before .before .before .before .before .before .before .expr .ensures) (c .enum-told .given .1)
 
--- src/cycle.rt:183:80
 choice-behind-requires : (t : ℕ) → choice-lts.Need-behind-requires (
   expr-below t,
   expr.Post,
@@ -4863,7 +4632,6 @@ choice-behind-requires : (t : ℕ) → choice-lts.Need-behind-requires (
 ) (choice-at t) choice.Post
 choice-behind-requires t c κs = tt
 
--- src/cycle.rt:183:9
 choice-expr-requires-2 : (t : ℕ) → choice-lts.Need-expr-requires-2 (
   expr-below t,
   expr.Post,
@@ -4876,7 +4644,6 @@ choice-expr-requires-2 : (t : ℕ) → choice-lts.Need-expr-requires-2 (
 ) (choice-at t) choice.Post
 choice-expr-requires-2 t c κs = (load-moved _ 900 (c .before .before .before .before .before .before .before .before .before .before .before .before .before .before .before .before .before .before .before .before .before .before .before .before .before .pre .0) _ 0 (c .behind .ensures) (grows-to (c .before .before .before .before .before .before .before .before .before .before .before .before .before .expr .ensures .grows) (c .before .before .before .before .before .x .given .1)) (omega arith), room-behind (c .before .before .before .before .before .before .before .before .before .before .before .before .before .before .before .before .before .before .before .before .before .before .before .before .before .pre .1) (c .behind .ensures) ((c .before .before .before .before .before .before .before .before .before .before .before .before .before .expr .kept .1 .1 .1 .1 .1 .1 .0)) ((c .before .before .before .before .before .before .before .before .before .before .before .before .before .expr .kept .1 .1 .1 .1 .1 .1 .1 .0)))
 
--- src/cycle.rt:184:20
 choice-enum-known-y : (t : ℕ) → choice-lts.Need-enum-known-y (
   expr-below t,
   expr.Post,
@@ -4889,7 +4656,6 @@ choice-enum-known-y : (t : ℕ) → choice-lts.Need-enum-known-y (
 ) (choice-at t) choice.Post
 choice-enum-known-y t c = (c .match2 .keys1)
 
--- src/cycle.rt:185:9
 choice-enum-told-2 : (t : ℕ) → choice-lts.Need-enum-told-2 (
   expr-below t,
   expr.Post,
@@ -4902,7 +4668,6 @@ choice-enum-told-2 : (t : ℕ) → choice-lts.Need-enum-told-2 (
 ) (choice-at t) choice.Post
 choice-enum-told-2 t c = (c .match2 .keys2)
 
--- src/cycle.rt:185:9
 choice-same-length-4 : (t : ℕ) → choice-lts.Need-same-length-4 (
   expr-below t,
   expr.Post,
@@ -4915,7 +4680,6 @@ choice-same-length-4 : (t : ℕ) → choice-lts.Need-same-length-4 (
 ) (choice-at t) choice.Post
 choice-same-length-4 t c = (c .before .before .before .before .before .before .before .before .expr2 .kept .1 .1 .1 .1 .1 .0) ∙ (c .before .before .before .before .before .before .before .before .before .before .before .before .before .before .before .before .before .before .before .before .before .before .expr .kept .1 .1 .1 .1 .1 .0)
 
--- src/cycle.rt:185:9
 choice-same-length-5 : (t : ℕ) → choice-lts.Need-same-length-5 (
   expr-below t,
   expr.Post,
@@ -4928,7 +4692,6 @@ choice-same-length-5 : (t : ℕ) → choice-lts.Need-same-length-5 (
 ) (choice-at t) choice.Post
 choice-same-length-5 t c = (c .before .before .before .before .before .before .before .before .expr2 .kept .1 .1 .1 .1 .1 .1 .0) ∙ (c .before .before .before .before .before .before .before .before .before .before .before .before .before .before .before .before .before .before .before .before .before .before .expr .kept .1 .1 .1 .1 .1 .1 .0)
 
--- src/cycle.rt:185:9
 choice-same-length-6 : (t : ℕ) → choice-lts.Need-same-length-6 (
   expr-below t,
   expr.Post,
@@ -4941,7 +4704,6 @@ choice-same-length-6 : (t : ℕ) → choice-lts.Need-same-length-6 (
 ) (choice-at t) choice.Post
 choice-same-length-6 t c = (c .before .before .before .before .before .before .before .before .expr2 .kept .1 .1 .1 .1 .1 .1 .1 .0) ∙ (c .before .before .before .before .before .before .before .before .before .before .before .before .before .before .before .before .before .before .before .before .before .before .expr .kept .1 .1 .1 .1 .1 .1 .1 .0)
 
--- src/cycle.rt:185:9
 choice-returns-2 : (t : ℕ) → choice-lts.Need-returns-2 (
   expr-below t,
   expr.Post,
@@ -4954,7 +4716,6 @@ choice-returns-2 : (t : ℕ) → choice-lts.Need-returns-2 (
 ) (choice-at t) choice.Post
 choice-returns-2 t c = if-second (c .before .before .before .before .before .before .before .before .before .before .before .before .before .before .before .before .before .before .before .before .before .before .expr .ensures) (c .before .before .before .before .before .before .before .before .before .before .before .before .before .before .x .given .1) (c .before .before .before .before .before .before .before .before .before .behind .ensures) (c .before .before .before .before .before .before .before .before .expr2 .ensures) (c .enum-told2 .given .1)
 
--- src/cycle.rt:187:80
 choice-behind-requires-2 : (t : ℕ) → choice-lts.Need-behind-requires-2 (
   expr-below t,
   expr.Post,
@@ -4967,7 +4728,6 @@ choice-behind-requires-2 : (t : ℕ) → choice-lts.Need-behind-requires-2 (
 ) (choice-at t) choice.Post
 choice-behind-requires-2 t c κs = tt
 
--- src/cycle.rt:187:9
 choice-expr-requires-3 : (t : ℕ) → choice-lts.Need-expr-requires-3 (
   expr-below t,
   expr.Post,
@@ -4980,7 +4740,6 @@ choice-expr-requires-3 : (t : ℕ) → choice-lts.Need-expr-requires-3 (
 ) (choice-at t) choice.Post
 choice-expr-requires-3 t c κs = (load-moved _ 900 (c .before .before .before .before .before .before .before .before .before .before .before .before .before .before .before .before .before .before .before .before .before .before .before .before .before .before .before .before .before .before .before .before .before .before .before .before .before .before .before .pre .0) _ 0 (c .behind2 .ensures) (grows-behind (c .before .before .before .before .before .before .before .before .before .before .before .before .before .before .before .before .before .before .before .before .before .before .before .before .before .before .before .before .before .before .before .before .before .before .before .before .before .before .before .args .p) (grows-to (c .before .before .before .before .before .before .before .before .before .before .before .before .before .before .before .before .before .before .before .before .before .before .before .before .before .before .before .expr .ensures .grows) (c .before .before .before .before .before .before .before .before .before .before .before .before .before .before .before .before .before .before .before .x .given .1)) (c .before .before .before .before .before .before .before .before .before .before .before .before .before .before .behind .ensures) (c .before .before .before .before .before .before .before .before .before .before .before .before .before .expr2 .ensures .grows) (c .before .before .before .before .before .y .given .1)) (omega arith), room-behind (c .before .before .before .before .before .before .before .before .before .before .before .before .before .before .before .before .before .before .before .before .before .before .before .before .before .before .before .before .before .before .before .before .before .before .before .before .before .before .before .pre .1) (c .behind2 .ensures) ((c .before .before .before .before .before .before .before .before .before .before .before .before .before .expr2 .kept .1 .1 .1 .1 .1 .1 .0) ∙ (c .before .before .before .before .before .before .before .before .before .before .before .before .before .before .before .before .before .before .before .before .before .before .before .before .before .before .before .expr .kept .1 .1 .1 .1 .1 .1 .0)) ((c .before .before .before .before .before .before .before .before .before .before .before .before .before .expr2 .kept .1 .1 .1 .1 .1 .1 .1 .0) ∙ (c .before .before .before .before .before .before .before .before .before .before .before .before .before .before .before .before .before .before .before .before .before .before .before .before .before .before .before .expr .kept .1 .1 .1 .1 .1 .1 .1 .0)))
 
--- src/cycle.rt:188:20
 choice-enum-known-z : (t : ℕ) → choice-lts.Need-enum-known-z (
   expr-below t,
   expr.Post,
@@ -4993,7 +4752,6 @@ choice-enum-known-z : (t : ℕ) → choice-lts.Need-enum-known-z (
 ) (choice-at t) choice.Post
 choice-enum-known-z t c = (c .match3 .keys1)
 
--- src/cycle.rt:189:9
 choice-enum-told-3 : (t : ℕ) → choice-lts.Need-enum-told-3 (
   expr-below t,
   expr.Post,
@@ -5006,7 +4764,6 @@ choice-enum-told-3 : (t : ℕ) → choice-lts.Need-enum-told-3 (
 ) (choice-at t) choice.Post
 choice-enum-told-3 t c = (c .match3 .keys2)
 
--- src/cycle.rt:189:9
 choice-same-length-7 : (t : ℕ) → choice-lts.Need-same-length-7 (
   expr-below t,
   expr.Post,
@@ -5019,7 +4776,6 @@ choice-same-length-7 : (t : ℕ) → choice-lts.Need-same-length-7 (
 ) (choice-at t) choice.Post
 choice-same-length-7 t c = (c .before .before .before .before .before .before .before .before .expr3 .kept .1 .1 .1 .1 .1 .0) ∙ (c .before .before .before .before .before .before .before .before .before .before .before .before .before .before .before .before .before .before .before .before .before .before .expr2 .kept .1 .1 .1 .1 .1 .0) ∙ (c .before .before .before .before .before .before .before .before .before .before .before .before .before .before .before .before .before .before .before .before .before .before .before .before .before .before .before .before .before .before .before .before .before .before .before .before .expr .kept .1 .1 .1 .1 .1 .0)
 
--- src/cycle.rt:189:9
 choice-same-length-8 : (t : ℕ) → choice-lts.Need-same-length-8 (
   expr-below t,
   expr.Post,
@@ -5032,7 +4788,6 @@ choice-same-length-8 : (t : ℕ) → choice-lts.Need-same-length-8 (
 ) (choice-at t) choice.Post
 choice-same-length-8 t c = (c .before .before .before .before .before .before .before .before .expr3 .kept .1 .1 .1 .1 .1 .1 .0) ∙ (c .before .before .before .before .before .before .before .before .before .before .before .before .before .before .before .before .before .before .before .before .before .before .expr2 .kept .1 .1 .1 .1 .1 .1 .0) ∙ (c .before .before .before .before .before .before .before .before .before .before .before .before .before .before .before .before .before .before .before .before .before .before .before .before .before .before .before .before .before .before .before .before .before .before .before .before .expr .kept .1 .1 .1 .1 .1 .1 .0)
 
--- src/cycle.rt:189:9
 choice-same-length-9 : (t : ℕ) → choice-lts.Need-same-length-9 (
   expr-below t,
   expr.Post,
@@ -5045,7 +4800,6 @@ choice-same-length-9 : (t : ℕ) → choice-lts.Need-same-length-9 (
 ) (choice-at t) choice.Post
 choice-same-length-9 t c = (c .before .before .before .before .before .before .before .before .expr3 .kept .1 .1 .1 .1 .1 .1 .1 .0) ∙ (c .before .before .before .before .before .before .before .before .before .before .before .before .before .before .before .before .before .before .before .before .before .before .expr2 .kept .1 .1 .1 .1 .1 .1 .1 .0) ∙ (c .before .before .before .before .before .before .before .before .before .before .before .before .before .before .before .before .before .before .before .before .before .before .before .before .before .before .before .before .before .before .before .before .before .before .before .before .expr .kept .1 .1 .1 .1 .1 .1 .1 .0)
 
--- src/cycle.rt:189:9
 choice-returns-3 : (t : ℕ) → choice-lts.Need-returns-3 (
   expr-below t,
   expr.Post,
@@ -5058,7 +4812,6 @@ choice-returns-3 : (t : ℕ) → choice-lts.Need-returns-3 (
 ) (choice-at t) choice.Post
 choice-returns-3 t c = if-third (c .before .before .before .before .before .before .before .before .before .before .before .before .before .before .before .before .before .before .before .before .before .before .before .before .before .before .before .before .before .before .before .before .before .before .before .before .expr .ensures) (c .before .before .before .before .before .before .before .before .before .before .before .before .before .before .before .before .before .before .before .before .before .before .before .before .before .before .before .before .x .given .1) (c .before .before .before .before .before .before .before .before .before .before .before .before .before .before .before .before .before .before .before .before .before .before .before .behind .ensures) (c .before .before .before .before .before .before .before .before .before .before .before .before .before .before .before .before .before .before .before .before .before .before .expr2 .ensures) (c .before .before .before .before .before .before .before .before .before .before .before .before .before .before .y .given .1) (c .before .before .before .before .before .before .before .before .before .behind2 .ensures) (c .before .before .before .before .before .before .before .before .expr3 .ensures) (c .enum-told3 .given .1)
 
--- src/cycle.rt:191:9
 choice-agree-requires : (t : ℕ) → choice-lts.Need-agree-requires (
   expr-below t,
   expr.Post,
@@ -5071,7 +4824,6 @@ choice-agree-requires : (t : ℕ) → choice-lts.Need-agree-requires (
 ) (choice-at t) choice.Post
 choice-agree-requires t c κs = tt
 
--- src/cycle.rt:192:36
 choice-add-t37 : (t : ℕ) → choice-lts.Need-add-t37 (
   expr-below t,
   expr.Post,
@@ -5084,7 +4836,6 @@ choice-add-t37 : (t : ℕ) → choice-lts.Need-add-t37 (
 ) (choice-at t) choice.Post
 choice-add-t37 t c = omega (arith, (c .before .before .before .before .before .before .before .before .before .before .before .before .before .before .before .before .before .before .before .before .before .before .before .before .before .before .before .before .before .before .before .before .before .before .before .before .before .before .before .before .before .before .before .before .before .before .before .before .before .before .before .before .pre .1 .line))
 
--- src/cycle.rt:192:9
 choice-same-length-10 : (t : ℕ) → choice-lts.Need-same-length-10 (
   expr-below t,
   expr.Post,
@@ -5097,7 +4848,6 @@ choice-same-length-10 : (t : ℕ) → choice-lts.Need-same-length-10 (
 ) (choice-at t) choice.Post
 choice-same-length-10 t c = (c .before .before .before .before .before .before .before .before .before .before .before .before .expr3 .kept .1 .1 .1 .1 .1 .0) ∙ (c .before .before .before .before .before .before .before .before .before .before .before .before .before .before .before .before .before .before .before .before .before .before .before .before .before .before .expr2 .kept .1 .1 .1 .1 .1 .0) ∙ (c .before .before .before .before .before .before .before .before .before .before .before .before .before .before .before .before .before .before .before .before .before .before .before .before .before .before .before .before .before .before .before .before .before .before .before .before .before .before .before .before .expr .kept .1 .1 .1 .1 .1 .0)
 
--- src/cycle.rt:192:9
 choice-same-length-11 : (t : ℕ) → choice-lts.Need-same-length-11 (
   expr-below t,
   expr.Post,
@@ -5110,7 +4860,6 @@ choice-same-length-11 : (t : ℕ) → choice-lts.Need-same-length-11 (
 ) (choice-at t) choice.Post
 choice-same-length-11 t c = (c .before .before .before .before .before .before .before .before .before .before .before .before .expr3 .kept .1 .1 .1 .1 .1 .1 .0) ∙ (c .before .before .before .before .before .before .before .before .before .before .before .before .before .before .before .before .before .before .before .before .before .before .before .before .before .before .expr2 .kept .1 .1 .1 .1 .1 .1 .0) ∙ (c .before .before .before .before .before .before .before .before .before .before .before .before .before .before .before .before .before .before .before .before .before .before .before .before .before .before .before .before .before .before .before .before .before .before .before .before .before .before .before .before .expr .kept .1 .1 .1 .1 .1 .1 .0)
 
--- src/cycle.rt:192:9
 choice-same-length-12 : (t : ℕ) → choice-lts.Need-same-length-12 (
   expr-below t,
   expr.Post,
@@ -5123,7 +4872,6 @@ choice-same-length-12 : (t : ℕ) → choice-lts.Need-same-length-12 (
 ) (choice-at t) choice.Post
 choice-same-length-12 t c = (c .before .before .before .before .before .before .before .before .before .before .before .before .expr3 .kept .1 .1 .1 .1 .1 .1 .1 .0) ∙ (c .before .before .before .before .before .before .before .before .before .before .before .before .before .before .before .before .before .before .before .before .before .before .before .before .before .before .expr2 .kept .1 .1 .1 .1 .1 .1 .1 .0) ∙ (c .before .before .before .before .before .before .before .before .before .before .before .before .before .before .before .before .before .before .before .before .before .before .before .before .before .before .before .before .before .before .before .before .before .before .before .before .before .before .before .before .expr .kept .1 .1 .1 .1 .1 .1 .1 .0)
 
--- src/cycle.rt:192:9
 choice-returns-4 : (t : ℕ) → choice-lts.Need-returns-4 (
   expr-below t,
   expr.Post,
@@ -5136,7 +4884,6 @@ choice-returns-4 : (t : ℕ) → choice-lts.Need-returns-4 (
 ) (choice-at t) choice.Post
 choice-returns-4 t c = if-differ (c .before .before .before .before .before .before .before .before .before .before .before .before .before .before .before .before .before .before .before .before .before .before .before .before .before .before .before .before .before .before .before .before .before .before .before .before .before .before .before .before .expr .ensures) (c .before .before .before .before .before .before .before .before .before .before .before .before .before .before .before .before .before .before .before .before .before .before .before .before .before .before .before .before .before .before .before .before .x .given .1) (c .before .before .before .before .before .before .before .before .before .before .before .before .before .before .before .before .before .before .before .before .before .before .before .before .before .before .before .behind .ensures) (c .before .before .before .before .before .before .before .before .before .before .before .before .before .before .before .before .before .before .before .before .before .before .before .before .before .before .expr2 .ensures) (c .before .before .before .before .before .before .before .before .before .before .before .before .before .before .before .before .before .before .y .given .1) (c .before .before .before .before .before .before .before .before .before .before .before .before .before .behind2 .ensures) (c .before .before .before .before .before .before .before .before .before .before .before .before .expr3 .ensures) (c .before .before .before .before .z .given .1) (c .before .before .agree .ensures) (negated _ (c .before .if1 .taken))
 
--- src/cycle.rt:194:5
 choice-chosen-requires : (t : ℕ) → choice-lts.Need-chosen-requires (
   expr-below t,
   expr.Post,
@@ -5149,7 +4896,6 @@ choice-chosen-requires : (t : ℕ) → choice-lts.Need-chosen-requires (
 ) (choice-at t) choice.Post
 choice-chosen-requires t c κs = tt
 
--- src/cycle.rt:165:1
 choice-same-length-13 : (t : ℕ) → choice-lts.Need-same-length-13 (
   expr-below t,
   expr.Post,
@@ -5162,7 +4908,6 @@ choice-same-length-13 : (t : ℕ) → choice-lts.Need-same-length-13 (
 ) (choice-at t) choice.Post
 choice-same-length-13 t c = (c .before .before .before .before .before .before .before .before .before .before .before .before .expr3 .kept .1 .1 .1 .1 .1 .0) ∙ (c .before .before .before .before .before .before .before .before .before .before .before .before .before .before .before .before .before .before .before .before .before .before .before .before .before .before .expr2 .kept .1 .1 .1 .1 .1 .0) ∙ (c .before .before .before .before .before .before .before .before .before .before .before .before .before .before .before .before .before .before .before .before .before .before .before .before .before .before .before .before .before .before .before .before .before .before .before .before .before .before .before .before .expr .kept .1 .1 .1 .1 .1 .0)
 
--- src/cycle.rt:165:1
 choice-same-length-14 : (t : ℕ) → choice-lts.Need-same-length-14 (
   expr-below t,
   expr.Post,
@@ -5175,7 +4920,6 @@ choice-same-length-14 : (t : ℕ) → choice-lts.Need-same-length-14 (
 ) (choice-at t) choice.Post
 choice-same-length-14 t c = (c .before .before .before .before .before .before .before .before .before .before .before .before .expr3 .kept .1 .1 .1 .1 .1 .1 .0) ∙ (c .before .before .before .before .before .before .before .before .before .before .before .before .before .before .before .before .before .before .before .before .before .before .before .before .before .before .expr2 .kept .1 .1 .1 .1 .1 .1 .0) ∙ (c .before .before .before .before .before .before .before .before .before .before .before .before .before .before .before .before .before .before .before .before .before .before .before .before .before .before .before .before .before .before .before .before .before .before .before .before .before .before .before .before .expr .kept .1 .1 .1 .1 .1 .1 .0)
 
--- src/cycle.rt:165:1
 choice-same-length-15 : (t : ℕ) → choice-lts.Need-same-length-15 (
   expr-below t,
   expr.Post,
@@ -5188,7 +4932,6 @@ choice-same-length-15 : (t : ℕ) → choice-lts.Need-same-length-15 (
 ) (choice-at t) choice.Post
 choice-same-length-15 t c = (c .before .before .before .before .before .before .before .before .before .before .before .before .expr3 .kept .1 .1 .1 .1 .1 .1 .1 .0) ∙ (c .before .before .before .before .before .before .before .before .before .before .before .before .before .before .before .before .before .before .before .before .before .before .before .before .before .before .expr2 .kept .1 .1 .1 .1 .1 .1 .1 .0) ∙ (c .before .before .before .before .before .before .before .before .before .before .before .before .before .before .before .before .before .before .before .before .before .before .before .before .before .before .before .before .before .before .before .before .before .before .before .before .before .before .before .before .expr .kept .1 .1 .1 .1 .1 .1 .1 .0)
 
--- src/cycle.rt:165:1
 choice-returns-5 : (t : ℕ) → choice-lts.Need-returns-5 (
   expr-below t,
   expr.Post,
@@ -5201,7 +4944,6 @@ choice-returns-5 : (t : ℕ) → choice-lts.Need-returns-5 (
 ) (choice-at t) choice.Post
 choice-returns-5 t c = if-done (c .before .before .before .before .before .before .before .before .before .before .before .before .before .before .before .before .before .before .before .before .before .before .before .before .before .before .before .before .before .before .before .before .before .before .before .before .before .before .before .before .expr .ensures) (c .before .before .before .before .before .before .before .before .before .before .before .before .before .before .before .before .before .before .before .before .before .before .before .before .before .before .before .before .before .before .before .before .x .given .1) (c .before .before .before .before .before .before .before .before .before .before .before .before .before .before .before .before .before .before .before .before .before .before .before .before .before .before .before .behind .ensures) (c .before .before .before .before .before .before .before .before .before .before .before .before .before .before .before .before .before .before .before .before .before .before .before .before .before .before .expr2 .ensures) (c .before .before .before .before .before .before .before .before .before .before .before .before .before .before .before .before .before .before .y .given .1) (c .before .before .before .before .before .before .before .before .before .before .before .before .before .behind2 .ensures) (c .before .before .before .before .before .before .before .before .before .before .before .before .expr3 .ensures) (c .before .before .before .before .z .given .1) (c .before .before .agree .ensures) (affirmed _ (c .before .if1 .left)) (c .chosen .ensures .both) (c .chosen .ensures .all) (c .chosen .ensures .is)
 
--- src/cycle.rt:124:72
 compound-enum-told : (t : ℕ) → compound-lts.Need-enum-told (
   binding-below t,
   binding.Post,
@@ -5222,7 +4964,6 @@ compound-enum-told : (t : ℕ) → compound-lts.Need-enum-told (
 ) (compound-at t) compound.Post
 compound-enum-told t c = (c .match .keys1)
 
--- src/cycle.rt:124:22
 compound-binding-requires : (t : ℕ) → compound-lts.Need-binding-requires (
   binding-below t,
   binding.Post,
@@ -5243,7 +4984,6 @@ compound-binding-requires : (t : ℕ) → compound-lts.Need-binding-requires (
 ) (compound-at t) compound.Post
 compound-binding-requires t c κs = (load-same _ 1000 (c .before .before .before .before .before .before .before .before .before .before .before .before .before .pre .0) 900 (omega arith), (c .before .before .before .before .before .before .before .before .before .before .before .before .before .pre .1 .0))
 
--- src/cycle.rt:125:70
 compound-enum-told-2 : (t : ℕ) → compound-lts.Need-enum-told-2 (
   binding-below t,
   binding.Post,
@@ -5264,7 +5004,6 @@ compound-enum-told-2 : (t : ℕ) → compound-lts.Need-enum-told-2 (
 ) (compound-at t) compound.Post
 compound-enum-told-2 t c = (c .match .keys2)
 
--- src/cycle.rt:125:21
 compound-choice-requires : (t : ℕ) → compound-lts.Need-choice-requires (
   binding-below t,
   binding.Post,
@@ -5285,7 +5024,6 @@ compound-choice-requires : (t : ℕ) → compound-lts.Need-choice-requires (
 ) (compound-at t) compound.Post
 compound-choice-requires t c κs = (load-same _ 1000 (c .before .before .before .before .before .before .before .before .before .before .before .before .before .pre .0) 900 (omega arith), (c .before .before .before .before .before .before .before .before .before .before .before .before .before .pre .1 .0))
 
--- src/cycle.rt:126:24
 compound-enum-known-form : (t : ℕ) → compound-lts.Need-enum-known-form (
   binding-below t,
   binding.Post,
@@ -5306,7 +5044,6 @@ compound-enum-known-form : (t : ℕ) → compound-lts.Need-enum-known-form (
 ) (compound-at t) compound.Post
 compound-enum-known-form t c = (c .match .keys3)
 
--- src/cycle.rt:126:30
 compound-operation-requires : (t : ℕ) → compound-lts.Need-operation-requires (
   binding-below t,
   binding.Post,
@@ -5327,7 +5064,6 @@ compound-operation-requires : (t : ℕ) → compound-lts.Need-operation-requires
 ) (compound-at t) compound.Post
 compound-operation-requires t c κs = (load-same _ 1000 (c .before .before .before .before .before .before .before .before .before .before .before .before .before .before .pre .0) 900 (omega arith), (c .before .before .before .before .before .before .before .before .before .before .before .before .before .before .pre .1 .0))
 
--- src/cycle.rt:127:20
 compound-enum-known-form-2 : (t : ℕ) → compound-lts.Need-enum-known-form-2 (
   binding-below t,
   binding.Post,
@@ -5348,7 +5084,6 @@ compound-enum-known-form-2 : (t : ℕ) → compound-lts.Need-enum-known-form-2 (
 ) (compound-at t) compound.Post
 compound-enum-known-form-2 t c = (c .match .keys4)
 
--- src/cycle.rt:127:26
 compound-call-requires : (t : ℕ) → compound-lts.Need-call-requires (
   binding-below t,
   binding.Post,
@@ -5369,7 +5104,6 @@ compound-call-requires : (t : ℕ) → compound-lts.Need-call-requires (
 ) (compound-at t) compound.Post
 compound-call-requires t c κs = (load-same _ 1000 (c .before .before .before .before .before .before .before .before .before .before .before .before .before .before .pre .0) 900 (omega arith), ((c .before .before .before .before .before .before .before .before .before .before .before .before .before .before .pre .1 .0), subst Operands (c .before .before .before .before .form2 .given .1) (c .before .before .before .before .before .before .before .before .before .before .before .before .before .before .pre .1 .1)))
 
--- src/cycle.rt:128:25
 compound-enum-known-form-3 : (t : ℕ) → compound-lts.Need-enum-known-form-3 (
   binding-below t,
   binding.Post,
@@ -5390,7 +5124,6 @@ compound-enum-known-form-3 : (t : ℕ) → compound-lts.Need-enum-known-form-3 (
 ) (compound-at t) compound.Post
 compound-enum-known-form-3 t c = (c .match .keys5)
 
--- src/cycle.rt:128:34
 compound-construct-requires : (t : ℕ) → compound-lts.Need-construct-requires (
   binding-below t,
   binding.Post,
@@ -5411,7 +5144,6 @@ compound-construct-requires : (t : ℕ) → compound-lts.Need-construct-requires
 ) (compound-at t) compound.Post
 compound-construct-requires t c κs = (load-same _ 1000 (c .before .before .before .before .before .before .before .before .before .before .before .before .before .before .pre .0) 900 (omega arith), ((c .before .before .before .before .before .before .before .before .before .before .before .before .before .before .pre .1 .0), subst Operands (c .before .before .before .before .form3 .given .1) (c .before .before .before .before .before .before .before .before .before .before .before .before .before .before .pre .1 .1)))
 
--- src/cycle.rt:129:20
 compound-enum-known-form-4 : (t : ℕ) → compound-lts.Need-enum-known-form-4 (
   binding-below t,
   binding.Post,
@@ -5432,7 +5164,6 @@ compound-enum-known-form-4 : (t : ℕ) → compound-lts.Need-enum-known-form-4 (
 ) (compound-at t) compound.Post
 compound-enum-known-form-4 t c = (c .match .keys6)
 
--- src/cycle.rt:129:26
 compound-case-of-requires : (t : ℕ) → compound-lts.Need-case-of-requires (
   binding-below t,
   binding.Post,
@@ -5453,7 +5184,6 @@ compound-case-of-requires : (t : ℕ) → compound-lts.Need-case-of-requires (
 ) (compound-at t) compound.Post
 compound-case-of-requires t c κs = (load-same _ 1000 (c .before .before .before .before .before .before .before .before .before .before .before .before .before .before .pre .0) 900 (omega arith), ((c .before .before .before .before .before .before .before .before .before .before .before .before .before .before .pre .1 .0), subst Operands (c .before .before .before .before .form4 .given .1) (c .before .before .before .before .before .before .before .before .before .before .before .before .before .before .pre .1 .1)))
 
--- src/cycle.rt:130:74
 compound-enum-told-3 : (t : ℕ) → compound-lts.Need-enum-told-3 (
   binding-below t,
   binding.Post,
@@ -5474,7 +5204,6 @@ compound-enum-told-3 : (t : ℕ) → compound-lts.Need-enum-told-3 (
 ) (compound-at t) compound.Post
 compound-enum-told-3 t c = (c .match .keys7)
 
--- src/cycle.rt:130:25
 compound-adjust-requires : (t : ℕ) → compound-lts.Need-adjust-requires (
   binding-below t,
   binding.Post,
@@ -5495,7 +5224,6 @@ compound-adjust-requires : (t : ℕ) → compound-lts.Need-adjust-requires (
 ) (compound-at t) compound.Post
 compound-adjust-requires t c κs = (load-same _ 1000 (c .before .before .before .before .before .before .before .before .before .before .before .before .before .pre .0) 900 (omega arith), (c .before .before .before .before .before .before .before .before .before .before .before .before .before .pre .1 .0))
 
--- src/cycle.rt:131:19
 compound-enum-known-form-5 : (t : ℕ) → compound-lts.Need-enum-known-form-5 (
   binding-below t,
   binding.Post,
@@ -5516,7 +5244,6 @@ compound-enum-known-form-5 : (t : ℕ) → compound-lts.Need-enum-known-form-5 (
 ) (compound-at t) compound.Post
 compound-enum-known-form-5 t c = (c .match .keys8)
 
--- src/cycle.rt:131:25
 compound-fit-requires : (t : ℕ) → compound-lts.Need-fit-requires (
   binding-below t,
   binding.Post,
@@ -5537,7 +5264,6 @@ compound-fit-requires : (t : ℕ) → compound-lts.Need-fit-requires (
 ) (compound-at t) compound.Post
 compound-fit-requires t c κs = (load-same _ 1000 (c .before .before .before .before .before .before .before .before .before .before .before .before .before .before .pre .0) 900 (omega arith), ((c .before .before .before .before .before .before .before .before .before .before .before .before .before .before .pre .1 .0), subst Operands (c .before .before .before .before .form5 .given .1) (c .before .before .before .before .before .before .before .before .before .before .before .before .before .before .pre .1 .1)))
 
--- src/cycle.rt:132:33
 compound-add-t66 : (t : ℕ) → compound-lts.Need-add-t66 (
   binding-below t,
   binding.Post,
@@ -5558,7 +5284,6 @@ compound-add-t66 : (t : ℕ) → compound-lts.Need-add-t66 (
 ) (compound-at t) compound.Post
 compound-add-t66 t c = omega (arith, (c .before .before .before .before .before .before .before .before .before .before .pre .1 .0 .line))
 
--- src/cycle.rt:107:1
 compound-same-length : (t : ℕ) → compound-lts.Need-same-length (
   binding-below t,
   binding.Post,
@@ -5579,7 +5304,6 @@ compound-same-length : (t : ℕ) → compound-lts.Need-same-length (
 ) (compound-at t) compound.Post
 compound-same-length t c = (c .before .before .before .before .before .before .binding .kept .1 .1 .1 .1 .1 .0)
 
--- src/cycle.rt:107:1
 compound-same-length-2 : (t : ℕ) → compound-lts.Need-same-length-2 (
   binding-below t,
   binding.Post,
@@ -5600,7 +5324,6 @@ compound-same-length-2 : (t : ℕ) → compound-lts.Need-same-length-2 (
 ) (compound-at t) compound.Post
 compound-same-length-2 t c = (c .before .before .before .before .before .before .binding .kept .1 .1 .1 .1 .1 .1 .0)
 
--- src/cycle.rt:107:1
 compound-same-length-3 : (t : ℕ) → compound-lts.Need-same-length-3 (
   binding-below t,
   binding.Post,
@@ -5621,7 +5344,6 @@ compound-same-length-3 : (t : ℕ) → compound-lts.Need-same-length-3 (
 ) (compound-at t) compound.Post
 compound-same-length-3 t c = (c .before .before .before .before .before .before .binding .kept .1 .1 .1 .1 .1 .1 .1 .0)
 
--- src/cycle.rt:107:1
 compound-returns : (t : ℕ) → compound-lts.Need-returns (
   binding-below t,
   binding.Post,
@@ -5642,7 +5364,6 @@ compound-returns : (t : ℕ) → compound-lts.Need-returns (
 ) (compound-at t) compound.Post
 compound-returns t c = compound-is (c .before .before .before .before .before .before .before .before .before .before .enum-told .given .1) (c .before .before .before .before .before .before .binding .ensures)
 
--- src/cycle.rt:107:1
 compound-same-length-4 : (t : ℕ) → compound-lts.Need-same-length-4 (
   binding-below t,
   binding.Post,
@@ -5663,7 +5384,6 @@ compound-same-length-4 : (t : ℕ) → compound-lts.Need-same-length-4 (
 ) (compound-at t) compound.Post
 compound-same-length-4 t c = (c .before .before .before .before .before .before .choice .kept .1 .1 .1 .1 .1 .0)
 
--- src/cycle.rt:107:1
 compound-same-length-5 : (t : ℕ) → compound-lts.Need-same-length-5 (
   binding-below t,
   binding.Post,
@@ -5684,7 +5404,6 @@ compound-same-length-5 : (t : ℕ) → compound-lts.Need-same-length-5 (
 ) (compound-at t) compound.Post
 compound-same-length-5 t c = (c .before .before .before .before .before .before .choice .kept .1 .1 .1 .1 .1 .1 .0)
 
--- src/cycle.rt:107:1
 compound-same-length-6 : (t : ℕ) → compound-lts.Need-same-length-6 (
   binding-below t,
   binding.Post,
@@ -5705,7 +5424,6 @@ compound-same-length-6 : (t : ℕ) → compound-lts.Need-same-length-6 (
 ) (compound-at t) compound.Post
 compound-same-length-6 t c = (c .before .before .before .before .before .before .choice .kept .1 .1 .1 .1 .1 .1 .1 .0)
 
--- src/cycle.rt:107:1
 compound-returns-2 : (t : ℕ) → compound-lts.Need-returns-2 (
   binding-below t,
   binding.Post,
@@ -5726,7 +5444,6 @@ compound-returns-2 : (t : ℕ) → compound-lts.Need-returns-2 (
 ) (compound-at t) compound.Post
 compound-returns-2 t c = compound-is (c .before .before .before .before .before .before .before .before .before .before .enum-told2 .given .1) (c .before .before .before .before .before .before .choice .ensures)
 
--- src/cycle.rt:107:1
 compound-same-length-7 : (t : ℕ) → compound-lts.Need-same-length-7 (
   binding-below t,
   binding.Post,
@@ -5747,7 +5464,6 @@ compound-same-length-7 : (t : ℕ) → compound-lts.Need-same-length-7 (
 ) (compound-at t) compound.Post
 compound-same-length-7 t c = (c .before .before .before .before .before .before .operation .kept .1 .1 .1 .1 .1 .0)
 
--- src/cycle.rt:107:1
 compound-same-length-8 : (t : ℕ) → compound-lts.Need-same-length-8 (
   binding-below t,
   binding.Post,
@@ -5768,7 +5484,6 @@ compound-same-length-8 : (t : ℕ) → compound-lts.Need-same-length-8 (
 ) (compound-at t) compound.Post
 compound-same-length-8 t c = (c .before .before .before .before .before .before .operation .kept .1 .1 .1 .1 .1 .1 .0)
 
--- src/cycle.rt:107:1
 compound-same-length-9 : (t : ℕ) → compound-lts.Need-same-length-9 (
   binding-below t,
   binding.Post,
@@ -5789,7 +5504,6 @@ compound-same-length-9 : (t : ℕ) → compound-lts.Need-same-length-9 (
 ) (compound-at t) compound.Post
 compound-same-length-9 t c = (c .before .before .before .before .before .before .operation .kept .1 .1 .1 .1 .1 .1 .1 .0)
 
--- src/cycle.rt:107:1
 compound-returns-3 : (t : ℕ) → compound-lts.Need-returns-3 (
   binding-below t,
   binding.Post,
@@ -5810,7 +5524,6 @@ compound-returns-3 : (t : ℕ) → compound-lts.Need-returns-3 (
 ) (compound-at t) compound.Post
 compound-returns-3 t c = compound-is (c .before .before .before .before .before .before .before .before .before .before .before .form .given .1) (c .before .before .before .before .before .before .operation .ensures)
 
--- src/cycle.rt:107:1
 compound-same-length-10 : (t : ℕ) → compound-lts.Need-same-length-10 (
   binding-below t,
   binding.Post,
@@ -5831,7 +5544,6 @@ compound-same-length-10 : (t : ℕ) → compound-lts.Need-same-length-10 (
 ) (compound-at t) compound.Post
 compound-same-length-10 t c = (c .before .before .before .before .before .before .call .kept .1 .1 .1 .1 .1 .0)
 
--- src/cycle.rt:107:1
 compound-same-length-11 : (t : ℕ) → compound-lts.Need-same-length-11 (
   binding-below t,
   binding.Post,
@@ -5852,7 +5564,6 @@ compound-same-length-11 : (t : ℕ) → compound-lts.Need-same-length-11 (
 ) (compound-at t) compound.Post
 compound-same-length-11 t c = (c .before .before .before .before .before .before .call .kept .1 .1 .1 .1 .1 .1 .0)
 
--- src/cycle.rt:107:1
 compound-same-length-12 : (t : ℕ) → compound-lts.Need-same-length-12 (
   binding-below t,
   binding.Post,
@@ -5873,7 +5584,6 @@ compound-same-length-12 : (t : ℕ) → compound-lts.Need-same-length-12 (
 ) (compound-at t) compound.Post
 compound-same-length-12 t c = (c .before .before .before .before .before .before .call .kept .1 .1 .1 .1 .1 .1 .1 .0)
 
--- src/cycle.rt:107:1
 compound-returns-4 : (t : ℕ) → compound-lts.Need-returns-4 (
   binding-below t,
   binding.Post,
@@ -5894,7 +5604,6 @@ compound-returns-4 : (t : ℕ) → compound-lts.Need-returns-4 (
 ) (compound-at t) compound.Post
 compound-returns-4 t c = compound-is (c .before .before .before .before .before .before .before .before .before .before .before .form2 .given .1) (c .before .before .before .before .before .before .call .ensures)
 
--- src/cycle.rt:107:1
 compound-same-length-13 : (t : ℕ) → compound-lts.Need-same-length-13 (
   binding-below t,
   binding.Post,
@@ -5915,7 +5624,6 @@ compound-same-length-13 : (t : ℕ) → compound-lts.Need-same-length-13 (
 ) (compound-at t) compound.Post
 compound-same-length-13 t c = (c .before .before .before .before .before .before .construct .kept .1 .1 .1 .1 .1 .0)
 
--- src/cycle.rt:107:1
 compound-same-length-14 : (t : ℕ) → compound-lts.Need-same-length-14 (
   binding-below t,
   binding.Post,
@@ -5936,7 +5644,6 @@ compound-same-length-14 : (t : ℕ) → compound-lts.Need-same-length-14 (
 ) (compound-at t) compound.Post
 compound-same-length-14 t c = (c .before .before .before .before .before .before .construct .kept .1 .1 .1 .1 .1 .1 .0)
 
--- src/cycle.rt:107:1
 compound-same-length-15 : (t : ℕ) → compound-lts.Need-same-length-15 (
   binding-below t,
   binding.Post,
@@ -5957,7 +5664,6 @@ compound-same-length-15 : (t : ℕ) → compound-lts.Need-same-length-15 (
 ) (compound-at t) compound.Post
 compound-same-length-15 t c = (c .before .before .before .before .before .before .construct .kept .1 .1 .1 .1 .1 .1 .1 .0)
 
--- src/cycle.rt:107:1
 compound-returns-5 : (t : ℕ) → compound-lts.Need-returns-5 (
   binding-below t,
   binding.Post,
@@ -5978,7 +5684,6 @@ compound-returns-5 : (t : ℕ) → compound-lts.Need-returns-5 (
 ) (compound-at t) compound.Post
 compound-returns-5 t c = compound-is (c .before .before .before .before .before .before .before .before .before .before .before .form3 .given .1) (c .before .before .before .before .before .before .construct .ensures)
 
--- src/cycle.rt:107:1
 compound-same-length-16 : (t : ℕ) → compound-lts.Need-same-length-16 (
   binding-below t,
   binding.Post,
@@ -5999,7 +5704,6 @@ compound-same-length-16 : (t : ℕ) → compound-lts.Need-same-length-16 (
 ) (compound-at t) compound.Post
 compound-same-length-16 t c = (c .before .before .before .before .before .before .case-of .kept .1 .1 .1 .1 .1 .0)
 
--- src/cycle.rt:107:1
 compound-same-length-17 : (t : ℕ) → compound-lts.Need-same-length-17 (
   binding-below t,
   binding.Post,
@@ -6020,7 +5724,6 @@ compound-same-length-17 : (t : ℕ) → compound-lts.Need-same-length-17 (
 ) (compound-at t) compound.Post
 compound-same-length-17 t c = (c .before .before .before .before .before .before .case-of .kept .1 .1 .1 .1 .1 .1 .0)
 
--- src/cycle.rt:107:1
 compound-same-length-18 : (t : ℕ) → compound-lts.Need-same-length-18 (
   binding-below t,
   binding.Post,
@@ -6041,7 +5744,6 @@ compound-same-length-18 : (t : ℕ) → compound-lts.Need-same-length-18 (
 ) (compound-at t) compound.Post
 compound-same-length-18 t c = (c .before .before .before .before .before .before .case-of .kept .1 .1 .1 .1 .1 .1 .1 .0)
 
--- src/cycle.rt:107:1
 compound-returns-6 : (t : ℕ) → compound-lts.Need-returns-6 (
   binding-below t,
   binding.Post,
@@ -6062,7 +5764,6 @@ compound-returns-6 : (t : ℕ) → compound-lts.Need-returns-6 (
 ) (compound-at t) compound.Post
 compound-returns-6 t c = compound-is (c .before .before .before .before .before .before .before .before .before .before .before .form4 .given .1) (c .before .before .before .before .before .before .case-of .ensures)
 
--- src/cycle.rt:107:1
 compound-same-length-19 : (t : ℕ) → compound-lts.Need-same-length-19 (
   binding-below t,
   binding.Post,
@@ -6083,7 +5784,6 @@ compound-same-length-19 : (t : ℕ) → compound-lts.Need-same-length-19 (
 ) (compound-at t) compound.Post
 compound-same-length-19 t c = (c .before .before .before .before .before .before .adjust .kept .1 .1 .1 .1 .1 .0)
 
--- src/cycle.rt:107:1
 compound-same-length-20 : (t : ℕ) → compound-lts.Need-same-length-20 (
   binding-below t,
   binding.Post,
@@ -6104,7 +5804,6 @@ compound-same-length-20 : (t : ℕ) → compound-lts.Need-same-length-20 (
 ) (compound-at t) compound.Post
 compound-same-length-20 t c = (c .before .before .before .before .before .before .adjust .kept .1 .1 .1 .1 .1 .1 .0)
 
--- src/cycle.rt:107:1
 compound-same-length-21 : (t : ℕ) → compound-lts.Need-same-length-21 (
   binding-below t,
   binding.Post,
@@ -6125,7 +5824,6 @@ compound-same-length-21 : (t : ℕ) → compound-lts.Need-same-length-21 (
 ) (compound-at t) compound.Post
 compound-same-length-21 t c = (c .before .before .before .before .before .before .adjust .kept .1 .1 .1 .1 .1 .1 .1 .0)
 
--- src/cycle.rt:107:1
 compound-returns-7 : (t : ℕ) → compound-lts.Need-returns-7 (
   binding-below t,
   binding.Post,
@@ -6146,7 +5844,6 @@ compound-returns-7 : (t : ℕ) → compound-lts.Need-returns-7 (
 ) (compound-at t) compound.Post
 compound-returns-7 t c = compound-is (c .before .before .before .before .before .before .before .before .before .before .enum-told3 .given .1) (c .before .before .before .before .before .before .adjust .ensures)
 
--- src/cycle.rt:107:1
 compound-same-length-22 : (t : ℕ) → compound-lts.Need-same-length-22 (
   binding-below t,
   binding.Post,
@@ -6167,7 +5864,6 @@ compound-same-length-22 : (t : ℕ) → compound-lts.Need-same-length-22 (
 ) (compound-at t) compound.Post
 compound-same-length-22 t c = (c .before .before .before .before .before .before .fit .kept .1 .1 .1 .1 .1 .0)
 
--- src/cycle.rt:107:1
 compound-same-length-23 : (t : ℕ) → compound-lts.Need-same-length-23 (
   binding-below t,
   binding.Post,
@@ -6188,7 +5884,6 @@ compound-same-length-23 : (t : ℕ) → compound-lts.Need-same-length-23 (
 ) (compound-at t) compound.Post
 compound-same-length-23 t c = (c .before .before .before .before .before .before .fit .kept .1 .1 .1 .1 .1 .1 .0)
 
--- src/cycle.rt:107:1
 compound-same-length-24 : (t : ℕ) → compound-lts.Need-same-length-24 (
   binding-below t,
   binding.Post,
@@ -6209,7 +5904,6 @@ compound-same-length-24 : (t : ℕ) → compound-lts.Need-same-length-24 (
 ) (compound-at t) compound.Post
 compound-same-length-24 t c = (c .before .before .before .before .before .before .fit .kept .1 .1 .1 .1 .1 .1 .1 .0)
 
--- src/cycle.rt:107:1
 compound-returns-8 : (t : ℕ) → compound-lts.Need-returns-8 (
   binding-below t,
   binding.Post,
@@ -6230,7 +5924,6 @@ compound-returns-8 : (t : ℕ) → compound-lts.Need-returns-8 (
 ) (compound-at t) compound.Post
 compound-returns-8 t c = compound-is (c .before .before .before .before .before .before .before .before .before .before .before .form5 .given .1) (c .before .before .before .before .before .before .fit .ensures)
 
--- src/cycle.rt:107:1
 compound-returns-9 : (t : ℕ) → compound-lts.Need-returns-9 (
   binding-below t,
   binding.Post,
@@ -6251,7 +5944,6 @@ compound-returns-9 : (t : ℕ) → compound-lts.Need-returns-9 (
 ) (compound-at t) compound.Post
 compound-returns-9 t c = compound-none (c .before .before .before .before .before .before .before .before .before .before .args .form) (no-parts (c .before .before .before .before .before .before .before .before .before .before .args .form) (leaf-or-missing _ (c .before .match .keys9)))
 
--- src/cycle.rt:377:9
 construct-fields-requires : (t : ℕ) → construct-lts.Need-fields-requires (
   fields-reads.Asked,
   fields-reads.Learnt,
@@ -6264,7 +5956,6 @@ construct-fields-requires : (t : ℕ) → construct-lts.Need-fields-requires (
 ) (construct-at t) construct.Post
 construct-fields-requires t c κs = tt
 
--- src/cycle.rt:379:86
 construct-slice-aggregate-several : (t : ℕ) → construct-lts.Need-slice-aggregate-several (
   fields-reads.Asked,
   fields-reads.Learnt,
@@ -6277,7 +5968,6 @@ construct-slice-aggregate-several : (t : ℕ) → construct-lts.Need-slice-aggre
 ) (construct-at t) construct.Post
 construct-slice-aggregate-several t c = refl
 
--- src/cycle.rt:379:9
 construct-several-requires : (t : ℕ) → construct-lts.Need-several-requires (
   fields-reads.Asked,
   fields-reads.Learnt,
@@ -6290,7 +5980,6 @@ construct-several-requires : (t : ℕ) → construct-lts.Need-several-requires (
 ) (construct-at t) construct.Post
 construct-several-requires t c κs = (load-same _ 900 (c .before .before .before .before .before .before .before .before .before .before .before .before .before .pre .0) _ (omega (arith, (c .before .before .before .before .fields .ensures .1))), ((c .before .before .before .before .before .before .before .before .before .before .before .before .before .pre .1 .0), (c .before .before .before .before .fields .ensures .1)))
 
--- src/cycle.rt:380:23
 construct-enum-known-x : (t : ℕ) → construct-lts.Need-enum-known-x (
   fields-reads.Asked,
   fields-reads.Learnt,
@@ -6303,7 +5992,6 @@ construct-enum-known-x : (t : ℕ) → construct-lts.Need-enum-known-x (
 ) (construct-at t) construct.Post
 construct-enum-known-x t c = (c .match .keys1)
 
--- src/cycle.rt:381:9
 construct-enum-told : (t : ℕ) → construct-lts.Need-enum-told (
   fields-reads.Asked,
   fields-reads.Learnt,
@@ -6316,7 +6004,6 @@ construct-enum-told : (t : ℕ) → construct-lts.Need-enum-told (
 ) (construct-at t) construct.Post
 construct-enum-told t c = (c .match .keys2)
 
--- src/cycle.rt:381:9
 construct-refused-requires : (t : ℕ) → construct-lts.Need-refused-requires (
   fields-reads.Asked,
   fields-reads.Learnt,
@@ -6329,7 +6016,6 @@ construct-refused-requires : (t : ℕ) → construct-lts.Need-refused-requires (
 ) (construct-at t) construct.Post
 construct-refused-requires t c κs = tt
 
--- src/cycle.rt:381:9
 construct-same-length : (t : ℕ) → construct-lts.Need-same-length (
   fields-reads.Asked,
   fields-reads.Learnt,
@@ -6342,7 +6028,6 @@ construct-same-length : (t : ℕ) → construct-lts.Need-same-length (
 ) (construct-at t) construct.Post
 construct-same-length t c = (c .before .before .before .before .before .before .before .before .before .before .several .kept .1 .1 .1 .1 .1 .0)
 
--- src/cycle.rt:381:9
 construct-same-length-2 : (t : ℕ) → construct-lts.Need-same-length-2 (
   fields-reads.Asked,
   fields-reads.Learnt,
@@ -6355,7 +6040,6 @@ construct-same-length-2 : (t : ℕ) → construct-lts.Need-same-length-2 (
 ) (construct-at t) construct.Post
 construct-same-length-2 t c = (c .before .before .before .before .before .before .before .before .before .before .several .kept .1 .1 .1 .1 .1 .1 .0)
 
--- src/cycle.rt:381:9
 construct-same-length-3 : (t : ℕ) → construct-lts.Need-same-length-3 (
   fields-reads.Asked,
   fields-reads.Learnt,
@@ -6368,7 +6052,6 @@ construct-same-length-3 : (t : ℕ) → construct-lts.Need-same-length-3 (
 ) (construct-at t) construct.Post
 construct-same-length-3 t c = (c .before .before .before .before .before .before .before .before .before .before .several .kept .1 .1 .1 .1 .1 .1 .1 .0)
 
--- src/cycle.rt:381:9
 construct-returns : (t : ℕ) → construct-lts.Need-returns (
   fields-reads.Asked,
   fields-reads.Learnt,
@@ -6381,7 +6064,6 @@ construct-returns : (t : ℕ) → construct-lts.Need-returns (
 ) (construct-at t) construct.Post
 construct-returns t c = con-fields (c .before .before .before .before .before .before .before .before .before .before .before .before .before .before .before .fields .ensures) (omega arith) (c .before .before .before .before .before .before .before .before .before .before .several .ensures) (c .before .enum-told .given .1) (c .refused .ensures)
 
--- src/cycle.rt:383:17
 construct-slice-aggregate-made : (t : ℕ) → construct-lts.Need-slice-aggregate-made (
   fields-reads.Asked,
   fields-reads.Learnt,
@@ -6394,7 +6076,6 @@ construct-slice-aggregate-made : (t : ℕ) → construct-lts.Need-slice-aggregat
 ) (construct-at t) construct.Post
 construct-slice-aggregate-made t c = search needs
 
--- src/cycle.rt:383:5
 construct-made-requires : (t : ℕ) → construct-lts.Need-made-requires (
   fields-reads.Asked,
   fields-reads.Learnt,
@@ -6407,7 +6088,6 @@ construct-made-requires : (t : ℕ) → construct-lts.Need-made-requires (
 ) (construct-at t) construct.Post
 construct-made-requires t c κs = ((c .before .before .before .before .before .before .before .before .before .before .before .before .before .before .before .before .before .before .before .before .before .before .before .before .before .pre .1 .0 .line), (c .before .before .before .before .before .before .before .before .before .before .before .before .before .before .before .before .before .before .before .before .before .before .before .before .before .pre .1 .1 .0))
 
--- src/cycle.rt:360:1
 construct-same-length-4 : (t : ℕ) → construct-lts.Need-same-length-4 (
   fields-reads.Asked,
   fields-reads.Learnt,
@@ -6420,7 +6100,6 @@ construct-same-length-4 : (t : ℕ) → construct-lts.Need-same-length-4 (
 ) (construct-at t) construct.Post
 construct-same-length-4 t c = (c .before .before .before .before .before .before .before .before .before .before .before .before .several .kept .1 .1 .1 .1 .1 .0)
 
--- src/cycle.rt:360:1
 construct-same-length-5 : (t : ℕ) → construct-lts.Need-same-length-5 (
   fields-reads.Asked,
   fields-reads.Learnt,
@@ -6433,7 +6112,6 @@ construct-same-length-5 : (t : ℕ) → construct-lts.Need-same-length-5 (
 ) (construct-at t) construct.Post
 construct-same-length-5 t c = (c .before .before .before .before .before .before .before .before .before .before .before .before .several .kept .1 .1 .1 .1 .1 .1 .0)
 
--- src/cycle.rt:360:1
 construct-same-length-6 : (t : ℕ) → construct-lts.Need-same-length-6 (
   fields-reads.Asked,
   fields-reads.Learnt,
@@ -6446,7 +6124,6 @@ construct-same-length-6 : (t : ℕ) → construct-lts.Need-same-length-6 (
 ) (construct-at t) construct.Post
 construct-same-length-6 t c = (c .before .before .before .before .before .before .before .before .before .before .before .before .several .kept .1 .1 .1 .1 .1 .1 .1 .0)
 
--- src/cycle.rt:360:1
 construct-returns-2 : (t : ℕ) → construct-lts.Need-returns-2 (
   fields-reads.Asked,
   fields-reads.Learnt,
@@ -6459,7 +6136,6 @@ construct-returns-2 : (t : ℕ) → construct-lts.Need-returns-2 (
 ) (construct-at t) construct.Post
 construct-returns-2 t c = con-made (c .before .before .before .before .before .before .before .before .before .before .before .before .before .before .before .before .before .fields .ensures) (omega arith) (c .before .before .before .before .before .before .before .before .before .before .before .before .several .ensures) (c .before .before .before .x .given .1) (c .made .ensures)
 
--- src/cycle.rt:315:9
 enter-find-requires : (t : ℕ) → enter-lts.Need-find-requires (
   find-reads.Asked,
   find-reads.Learnt,
@@ -6470,7 +6146,6 @@ enter-find-requires : (t : ℕ) → enter-lts.Need-find-requires (
 ) (enter-at t) enter.Post
 enter-find-requires t c κs = tt
 
--- src/cycle.rt:318:23
 enter-enum-known-x : (t : ℕ) → enter-lts.Need-enum-known-x (
   find-reads.Asked,
   find-reads.Learnt,
@@ -6481,7 +6156,6 @@ enter-enum-known-x : (t : ℕ) → enter-lts.Need-enum-known-x (
 ) (enter-at t) enter.Post
 enter-enum-known-x t c = (c .match .keys1)
 
--- src/cycle.rt:318:35
 enter-leaf-requires : (t : ℕ) → enter-lts.Need-leaf-requires (
   find-reads.Asked,
   find-reads.Learnt,
@@ -6492,7 +6166,6 @@ enter-leaf-requires : (t : ℕ) → enter-lts.Need-leaf-requires (
 ) (enter-at t) enter.Post
 enter-leaf-requires t c κs = tt
 
--- src/cycle.rt:319:74
 enter-enum-told : (t : ℕ) → enter-lts.Need-enum-told (
   find-reads.Asked,
   find-reads.Learnt,
@@ -6503,7 +6176,6 @@ enter-enum-told : (t : ℕ) → enter-lts.Need-enum-told (
 ) (enter-at t) enter.Post
 enter-enum-told t c = (c .match .keys2)
 
--- src/cycle.rt:319:27
 enter-body-requires : (t : ℕ) → enter-lts.Need-body-requires (
   find-reads.Asked,
   find-reads.Learnt,
@@ -6514,7 +6186,6 @@ enter-body-requires : (t : ℕ) → enter-lts.Need-body-requires (
 ) (enter-at t) enter.Post
 enter-body-requires t c κs = (load-same _ 90 (c .before .before .before .before .before .before .before .before .before .before .before .before .before .before .before .before .pre .0) 80 (omega arith), ((c .before .before .before .before .before .before .before .before .before .before .before .before .before .before .before .before .pre .1 .0), (c .before .before .before .before .before .before .before .before .before .before .before .before .before .before .before .before .pre .1 .1)))
 
--- src/cycle.rt:299:1
 enter-same-length : (t : ℕ) → enter-lts.Need-same-length (
   find-reads.Asked,
   find-reads.Learnt,
@@ -6525,7 +6196,6 @@ enter-same-length : (t : ℕ) → enter-lts.Need-same-length (
 ) (enter-at t) enter.Post
 enter-same-length t c = refl
 
--- src/cycle.rt:299:1
 enter-same-length-2 : (t : ℕ) → enter-lts.Need-same-length-2 (
   find-reads.Asked,
   find-reads.Learnt,
@@ -6536,7 +6206,6 @@ enter-same-length-2 : (t : ℕ) → enter-lts.Need-same-length-2 (
 ) (enter-at t) enter.Post
 enter-same-length-2 t c = refl
 
--- src/cycle.rt:299:1
 enter-returns : (t : ℕ) → enter-lts.Need-returns (
   find-reads.Asked,
   find-reads.Learnt,
@@ -6547,7 +6216,6 @@ enter-returns : (t : ℕ) → enter-lts.Need-returns (
 ) (enter-at t) enter.Post
 enter-returns t c = enter-found (c .before .before .before .before .find .ensures) (c .before .before .x .given .1) (c .leaf .ensures)
 
--- src/cycle.rt:299:1
 enter-same-length-3 : (t : ℕ) → enter-lts.Need-same-length-3 (
   find-reads.Asked,
   find-reads.Learnt,
@@ -6558,7 +6226,6 @@ enter-same-length-3 : (t : ℕ) → enter-lts.Need-same-length-3 (
 ) (enter-at t) enter.Post
 enter-same-length-3 t c = (c .before .before .before .before .before .before .body .kept .1 .1 .1 .1 .1 .0)
 
--- src/cycle.rt:299:1
 enter-same-length-4 : (t : ℕ) → enter-lts.Need-same-length-4 (
   find-reads.Asked,
   find-reads.Learnt,
@@ -6569,7 +6236,6 @@ enter-same-length-4 : (t : ℕ) → enter-lts.Need-same-length-4 (
 ) (enter-at t) enter.Post
 enter-same-length-4 t c = (c .before .before .before .before .before .before .body .kept .1 .1 .1 .1 .1 .1 .0)
 
--- src/cycle.rt:299:1
 enter-same-length-5 : (t : ℕ) → enter-lts.Need-same-length-5 (
   find-reads.Asked,
   find-reads.Learnt,
@@ -6580,7 +6246,6 @@ enter-same-length-5 : (t : ℕ) → enter-lts.Need-same-length-5 (
 ) (enter-at t) enter.Post
 enter-same-length-5 t c = (c .before .before .before .before .before .before .body .kept .1 .1 .1 .1 .1 .1 .1 .0)
 
--- src/cycle.rt:299:1
 enter-returns-2 : (t : ℕ) → enter-lts.Need-returns-2 (
   find-reads.Asked,
   find-reads.Learnt,
@@ -6591,7 +6256,6 @@ enter-returns-2 : (t : ℕ) → enter-lts.Need-returns-2 (
 ) (enter-at t) enter.Post
 enter-returns-2 t c = enter-absent (c .before .before .before .before .before .before .before .before .before .before .before .before .find .ensures) (c .before .before .before .before .before .before .before .before .before .before .enum-told .given .1) (c .before .before .before .before .before .before .body .ensures)
 
--- src/cycle.rt:88:35
 expr-add-t20 : (t : ℕ) → expr-lts.Need-add-t20 (
   frame-line-reads.Asked,
   frame-line-reads.Learnt,
@@ -6612,7 +6276,6 @@ expr-add-t20 : (t : ℕ) → expr-lts.Need-add-t20 (
 ) (expr-at t) expr.Post
 expr-add-t20 t c = omega (arith, (c .before .before .before .before .before .before .before .before .before .before .before .pre .1 .line))
 
--- src/cycle.rt:88:9
 expr-returns : (t : ℕ) → expr-lts.Need-returns (
   frame-line-reads.Asked,
   frame-line-reads.Learnt,
@@ -6633,7 +6296,6 @@ expr-returns : (t : ℕ) → expr-lts.Need-returns (
 ) (expr-at t) expr.Post
 expr-returns t c = expr-deep (c .before .if1 .taken)
 
--- src/cycle.rt:91:9
 expr-frame-line-requires : (t : ℕ) → expr-lts.Need-frame-line-requires (
   frame-line-reads.Asked,
   frame-line-reads.Learnt,
@@ -6654,7 +6316,6 @@ expr-frame-line-requires : (t : ℕ) → expr-lts.Need-frame-line-requires (
 ) (expr-at t) expr.Post
 expr-frame-line-requires t c κs = tt
 
--- src/cycle.rt:92:9
 expr-head-at-requires : (t : ℕ) → expr-lts.Need-head-at-requires (
   frame-line-reads.Asked,
   frame-line-reads.Learnt,
@@ -6675,7 +6336,6 @@ expr-head-at-requires : (t : ℕ) → expr-lts.Need-head-at-requires (
 ) (expr-at t) expr.Post
 expr-head-at-requires t c κs = tt
 
--- src/cycle.rt:95:9
 expr-down-requires : (t : ℕ) → expr-lts.Need-down-requires (
   frame-line-reads.Asked,
   frame-line-reads.Learnt,
@@ -6696,7 +6356,6 @@ expr-down-requires : (t : ℕ) → expr-lts.Need-down-requires (
 ) (expr-at t) expr.Post
 expr-down-requires t c κs = omega (arith, (c .before .before .before .before .if1 .left))
 
--- src/cycle.rt:97:31
 expr-enum-told : (t : ℕ) → expr-lts.Need-enum-told (
   frame-line-reads.Asked,
   frame-line-reads.Learnt,
@@ -6717,7 +6376,6 @@ expr-enum-told : (t : ℕ) → expr-lts.Need-enum-told (
 ) (expr-at t) expr.Post
 expr-enum-told t c = (c .match .keys1)
 
--- src/cycle.rt:97:48
 expr-one-cell-requires : (t : ℕ) → expr-lts.Need-one-cell-requires (
   frame-line-reads.Asked,
   frame-line-reads.Learnt,
@@ -6738,7 +6396,6 @@ expr-one-cell-requires : (t : ℕ) → expr-lts.Need-one-cell-requires (
 ) (expr-at t) expr.Post
 expr-one-cell-requires t c κs = tt
 
--- src/cycle.rt:97:26
 expr-leaf-requires : (t : ℕ) → expr-lts.Need-leaf-requires (
   frame-line-reads.Asked,
   frame-line-reads.Learnt,
@@ -6759,7 +6416,6 @@ expr-leaf-requires : (t : ℕ) → expr-lts.Need-leaf-requires (
 ) (expr-at t) expr.Post
 expr-leaf-requires t c κs = tt
 
--- src/cycle.rt:98:30
 expr-enum-told-2 : (t : ℕ) → expr-lts.Need-enum-told-2 (
   frame-line-reads.Asked,
   frame-line-reads.Learnt,
@@ -6780,7 +6436,6 @@ expr-enum-told-2 : (t : ℕ) → expr-lts.Need-enum-told-2 (
 ) (expr-at t) expr.Post
 expr-enum-told-2 t c = (c .match .keys2)
 
--- src/cycle.rt:98:46
 expr-one-cell-requires-2 : (t : ℕ) → expr-lts.Need-one-cell-requires-2 (
   frame-line-reads.Asked,
   frame-line-reads.Learnt,
@@ -6801,7 +6456,6 @@ expr-one-cell-requires-2 : (t : ℕ) → expr-lts.Need-one-cell-requires-2 (
 ) (expr-at t) expr.Post
 expr-one-cell-requires-2 t c κs = tt
 
--- src/cycle.rt:98:25
 expr-leaf-requires-2 : (t : ℕ) → expr-lts.Need-leaf-requires-2 (
   frame-line-reads.Asked,
   frame-line-reads.Learnt,
@@ -6822,7 +6476,6 @@ expr-leaf-requires-2 : (t : ℕ) → expr-lts.Need-leaf-requires-2 (
 ) (expr-at t) expr.Post
 expr-leaf-requires-2 t c κs = tt
 
--- src/cycle.rt:99:24
 expr-enum-known-form : (t : ℕ) → expr-lts.Need-enum-known-form (
   frame-line-reads.Asked,
   frame-line-reads.Learnt,
@@ -6843,7 +6496,6 @@ expr-enum-known-form : (t : ℕ) → expr-lts.Need-enum-known-form (
 ) (expr-at t) expr.Post
 expr-enum-known-form t c = (c .match .keys3)
 
--- src/cycle.rt:99:50
 expr-cast-type-in : (t : ℕ) → expr-lts.Need-cast-type-in (
   frame-line-reads.Asked,
   frame-line-reads.Learnt,
@@ -6864,7 +6516,6 @@ expr-cast-type-in : (t : ℕ) → expr-lts.Need-cast-type-in (
 ) (expr-at t) expr.Post
 expr-cast-type-in t c = omega arith
 
--- src/cycle.rt:99:35
 expr-type-in-requires : (t : ℕ) → expr-lts.Need-type-in-requires (
   frame-line-reads.Asked,
   frame-line-reads.Learnt,
@@ -6885,7 +6536,6 @@ expr-type-in-requires : (t : ℕ) → expr-lts.Need-type-in-requires (
 ) (expr-at t) expr.Post
 expr-type-in-requires t c κs = tt
 
--- src/cycle.rt:99:63
 expr-nothing-requires : (t : ℕ) → expr-lts.Need-nothing-requires (
   frame-line-reads.Asked,
   frame-line-reads.Learnt,
@@ -6906,7 +6556,6 @@ expr-nothing-requires : (t : ℕ) → expr-lts.Need-nothing-requires (
 ) (expr-at t) expr.Post
 expr-nothing-requires t c κs = tt
 
--- src/cycle.rt:99:30
 expr-leaf-requires-3 : (t : ℕ) → expr-lts.Need-leaf-requires-3 (
   frame-line-reads.Asked,
   frame-line-reads.Learnt,
@@ -6927,7 +6576,6 @@ expr-leaf-requires-3 : (t : ℕ) → expr-lts.Need-leaf-requires-3 (
 ) (expr-at t) expr.Post
 expr-leaf-requires-3 t c κs = tt
 
--- src/cycle.rt:100:19
 expr-enum-known-form-2 : (t : ℕ) → expr-lts.Need-enum-known-form-2 (
   frame-line-reads.Asked,
   frame-line-reads.Learnt,
@@ -6948,7 +6596,6 @@ expr-enum-known-form-2 : (t : ℕ) → expr-lts.Need-enum-known-form-2 (
 ) (expr-at t) expr.Post
 expr-enum-known-form-2 t c = (c .match .keys4)
 
--- src/cycle.rt:100:65
 expr-cast-type-in-2 : (t : ℕ) → expr-lts.Need-cast-type-in-2 (
   frame-line-reads.Asked,
   frame-line-reads.Learnt,
@@ -6969,7 +6616,6 @@ expr-cast-type-in-2 : (t : ℕ) → expr-lts.Need-cast-type-in-2 (
 ) (expr-at t) expr.Post
 expr-cast-type-in-2 t c = omega arith
 
--- src/cycle.rt:100:48
 expr-mul-type-in : (t : ℕ) → expr-lts.Need-mul-type-in (
   frame-line-reads.Asked,
   frame-line-reads.Learnt,
@@ -6990,7 +6636,6 @@ expr-mul-type-in : (t : ℕ) → expr-lts.Need-mul-type-in (
 ) (expr-at t) expr.Post
 expr-mul-type-in t c = omega arith
 
--- src/cycle.rt:100:30
 expr-type-in-requires-2 : (t : ℕ) → expr-lts.Need-type-in-requires-2 (
   frame-line-reads.Asked,
   frame-line-reads.Learnt,
@@ -7011,7 +6656,6 @@ expr-type-in-requires-2 : (t : ℕ) → expr-lts.Need-type-in-requires-2 (
 ) (expr-at t) expr.Post
 expr-type-in-requires-2 t c κs = tt
 
--- src/cycle.rt:100:79
 expr-nothing-requires-2 : (t : ℕ) → expr-lts.Need-nothing-requires-2 (
   frame-line-reads.Asked,
   frame-line-reads.Learnt,
@@ -7032,7 +6676,6 @@ expr-nothing-requires-2 : (t : ℕ) → expr-lts.Need-nothing-requires-2 (
 ) (expr-at t) expr.Post
 expr-nothing-requires-2 t c κs = tt
 
--- src/cycle.rt:100:25
 expr-leaf-requires-4 : (t : ℕ) → expr-lts.Need-leaf-requires-4 (
   frame-line-reads.Asked,
   frame-line-reads.Learnt,
@@ -7053,7 +6696,6 @@ expr-leaf-requires-4 : (t : ℕ) → expr-lts.Need-leaf-requires-4 (
 ) (expr-at t) expr.Post
 expr-leaf-requires-4 t c κs = tt
 
--- src/cycle.rt:101:20
 expr-enum-known-form-3 : (t : ℕ) → expr-lts.Need-enum-known-form-3 (
   frame-line-reads.Asked,
   frame-line-reads.Learnt,
@@ -7074,7 +6716,6 @@ expr-enum-known-form-3 : (t : ℕ) → expr-lts.Need-enum-known-form-3 (
 ) (expr-at t) expr.Post
 expr-enum-known-form-3 t c = (c .match .keys5)
 
--- src/cycle.rt:101:66
 expr-cast-type-in-3 : (t : ℕ) → expr-lts.Need-cast-type-in-3 (
   frame-line-reads.Asked,
   frame-line-reads.Learnt,
@@ -7095,7 +6736,6 @@ expr-cast-type-in-3 : (t : ℕ) → expr-lts.Need-cast-type-in-3 (
 ) (expr-at t) expr.Post
 expr-cast-type-in-3 t c = omega arith
 
--- src/cycle.rt:101:49
 expr-mul-type-in-2 : (t : ℕ) → expr-lts.Need-mul-type-in-2 (
   frame-line-reads.Asked,
   frame-line-reads.Learnt,
@@ -7116,7 +6756,6 @@ expr-mul-type-in-2 : (t : ℕ) → expr-lts.Need-mul-type-in-2 (
 ) (expr-at t) expr.Post
 expr-mul-type-in-2 t c = omega arith
 
--- src/cycle.rt:101:31
 expr-type-in-requires-3 : (t : ℕ) → expr-lts.Need-type-in-requires-3 (
   frame-line-reads.Asked,
   frame-line-reads.Learnt,
@@ -7137,7 +6776,6 @@ expr-type-in-requires-3 : (t : ℕ) → expr-lts.Need-type-in-requires-3 (
 ) (expr-at t) expr.Post
 expr-type-in-requires-3 t c κs = tt
 
--- src/cycle.rt:101:80
 expr-nothing-requires-3 : (t : ℕ) → expr-lts.Need-nothing-requires-3 (
   frame-line-reads.Asked,
   frame-line-reads.Learnt,
@@ -7158,7 +6796,6 @@ expr-nothing-requires-3 : (t : ℕ) → expr-lts.Need-nothing-requires-3 (
 ) (expr-at t) expr.Post
 expr-nothing-requires-3 t c κs = tt
 
--- src/cycle.rt:101:26
 expr-leaf-requires-5 : (t : ℕ) → expr-lts.Need-leaf-requires-5 (
   frame-line-reads.Asked,
   frame-line-reads.Learnt,
@@ -7179,7 +6816,6 @@ expr-leaf-requires-5 : (t : ℕ) → expr-lts.Need-leaf-requires-5 (
 ) (expr-at t) expr.Post
 expr-leaf-requires-5 t c κs = tt
 
--- src/cycle.rt:102:14
 expr-compound-requires : (t : ℕ) → expr-lts.Need-compound-requires (
   frame-line-reads.Asked,
   frame-line-reads.Learnt,
@@ -7200,7 +6836,6 @@ expr-compound-requires : (t : ℕ) → expr-lts.Need-compound-requires (
 ) (expr-at t) expr.Post
 expr-compound-requires t c κs = (load-down _ 0 (c .before .before .before .before .before .before .before .before .before .before .before .before .before .before .before .before .before .before .before .pre .0) _ 1000 (c .before .before .before .before .down .ensures) (omega (arith, (c .before .before .before .before .before .before .before .before .before .if1 .left))) (omega arith), (room-down (c .before .before .before .before .before .before .before .before .before .before .before .before .before .before .before .before .before .before .before .pre .1) (c .before .before .before .before .down .ensures) (omega (arith, (c .before .before .before .before .before .before .before .before .before .if1 .left))) refl, operands-of (c .before .before .before .before .before .before .head-at .ensures) _ refl))
 
--- src/cycle.rt:73:1
 expr-returns-2 : (t : ℕ) → expr-lts.Need-returns-2 (
   frame-line-reads.Asked,
   frame-line-reads.Learnt,
@@ -7221,7 +6856,6 @@ expr-returns-2 : (t : ℕ) → expr-lts.Need-returns-2 (
 ) (expr-at t) expr.Post
 expr-returns-2 t c = expr-bool (c .before .before .before .before .before .before .before .frame-line .ensures) (c .before .before .before .before .before .before .head-at .ensures) (c .before .before .before .before .down .ensures) (c .before .before .enum-told .given .1) (c .leaf .ensures) (c .before .one-cell .ensures)
 
--- src/cycle.rt:73:1
 expr-returns-3 : (t : ℕ) → expr-lts.Need-returns-3 (
   frame-line-reads.Asked,
   frame-line-reads.Learnt,
@@ -7242,7 +6876,6 @@ expr-returns-3 : (t : ℕ) → expr-lts.Need-returns-3 (
 ) (expr-at t) expr.Post
 expr-returns-3 t c = expr-int (c .before .before .before .before .before .before .before .frame-line .ensures) (c .before .before .before .before .before .before .head-at .ensures) (c .before .before .before .before .down .ensures) (c .before .before .enum-told2 .given .1) (c .leaf2 .ensures) (c .before .one-cell2 .ensures)
 
--- src/cycle.rt:73:1
 expr-same-length : (t : ℕ) → expr-lts.Need-same-length (
   frame-line-reads.Asked,
   frame-line-reads.Learnt,
@@ -7263,7 +6896,6 @@ expr-same-length : (t : ℕ) → expr-lts.Need-same-length (
 ) (expr-at t) expr.Post
 expr-same-length t c = refl
 
--- src/cycle.rt:73:1
 expr-returns-4 : (t : ℕ) → expr-lts.Need-returns-4 (
   frame-line-reads.Asked,
   frame-line-reads.Learnt,
@@ -7284,7 +6916,6 @@ expr-returns-4 : (t : ℕ) → expr-lts.Need-returns-4 (
 ) (expr-at t) expr.Post
 expr-returns-4 t c = expr-variable (c .before .before .before .before .before .before .before .before .before .before .frame-line .ensures) (c .before .before .before .before .before .before .before .before .before .head-at .ensures) (c .before .before .before .before .before .before .before .down .ensures) (c .before .before .before .before .before .form .given .1) (c .before .before .type-in .ensures) (c .leaf3 .ensures) (c .before .nothing .ensures)
 
--- src/cycle.rt:73:1
 expr-returns-5 : (t : ℕ) → expr-lts.Need-returns-5 (
   frame-line-reads.Asked,
   frame-line-reads.Learnt,
@@ -7305,7 +6936,6 @@ expr-returns-5 : (t : ℕ) → expr-lts.Need-returns-5 (
 ) (expr-at t) expr.Post
 expr-returns-5 t c = expr-now (c .before .before .before .before .before .before .before .before .before .frame-line .ensures) (c .before .before .before .before .before .before .before .before .head-at .ensures) (c .before .before .before .before .before .before .down .ensures) (c .before .before .before .before .form2 .given .1) (c .before .before .type-in2 .ensures) (c .leaf4 .ensures) (c .before .nothing2 .ensures)
 
--- src/cycle.rt:73:1
 expr-returns-6 : (t : ℕ) → expr-lts.Need-returns-6 (
   frame-line-reads.Asked,
   frame-line-reads.Learnt,
@@ -7326,7 +6956,6 @@ expr-returns-6 : (t : ℕ) → expr-lts.Need-returns-6 (
 ) (expr-at t) expr.Post
 expr-returns-6 t c = expr-last (c .before .before .before .before .before .before .before .before .before .frame-line .ensures) (c .before .before .before .before .before .before .before .before .head-at .ensures) (c .before .before .before .before .before .before .down .ensures) (c .before .before .before .before .form3 .given .1) (c .before .before .type-in3 .ensures) (c .leaf5 .ensures) (c .before .nothing3 .ensures)
 
--- src/cycle.rt:73:1
 expr-same-length-2 : (t : ℕ) → expr-lts.Need-same-length-2 (
   frame-line-reads.Asked,
   frame-line-reads.Learnt,
@@ -7347,7 +6976,6 @@ expr-same-length-2 : (t : ℕ) → expr-lts.Need-same-length-2 (
 ) (expr-at t) expr.Post
 expr-same-length-2 t c = (c .before .before .before .before .before .before .compound .kept .1 .1 .1 .1 .1 .0)
 
--- src/cycle.rt:73:1
 expr-same-length-3 : (t : ℕ) → expr-lts.Need-same-length-3 (
   frame-line-reads.Asked,
   frame-line-reads.Learnt,
@@ -7368,7 +6996,6 @@ expr-same-length-3 : (t : ℕ) → expr-lts.Need-same-length-3 (
 ) (expr-at t) expr.Post
 expr-same-length-3 t c = (c .before .before .before .before .before .before .compound .kept .1 .1 .1 .1 .1 .1 .0)
 
--- src/cycle.rt:73:1
 expr-same-length-4 : (t : ℕ) → expr-lts.Need-same-length-4 (
   frame-line-reads.Asked,
   frame-line-reads.Learnt,
@@ -7389,7 +7016,6 @@ expr-same-length-4 : (t : ℕ) → expr-lts.Need-same-length-4 (
 ) (expr-at t) expr.Post
 expr-same-length-4 t c = (c .before .before .before .before .before .before .compound .kept .1 .1 .1 .1 .1 .1 .1 .0)
 
--- src/cycle.rt:73:1
 expr-returns-7 : (t : ℕ) → expr-lts.Need-returns-7 (
   frame-line-reads.Asked,
   frame-line-reads.Learnt,
@@ -7410,7 +7036,6 @@ expr-returns-7 : (t : ℕ) → expr-lts.Need-returns-7 (
 ) (expr-at t) expr.Post
 expr-returns-7 t c = expr-compound (c .before .before .before .before .before .before .before .before .before .before .before .before .before .before .frame-line .ensures) (c .before .before .before .before .before .before .before .before .before .before .before .before .before .head-at .ensures) (c .before .before .before .before .before .before .before .before .before .before .before .down .ensures) (c .before .before .before .before .before .before .before .before .before .before .before .before .before .head-at .result .form) refl (no-leaf (c .before .before .before .before .before .before .before .before .before .before .before .before .before .head-at .result .form) (behind-leaves _ (c .before .before .before .before .before .before .before .before .before .before .match .keys6))) (c .before .before .before .before .before .before .compound .ensures)
 
--- src/cycle.rt:592:9
 fit-expr-requires : (t : ℕ) → fit-lts.Need-expr-requires (
   expr-below t,
   expr.Post,
@@ -7429,7 +7054,6 @@ fit-expr-requires : (t : ℕ) → fit-lts.Need-expr-requires (
 ) (fit-at t) fit.Post
 fit-expr-requires t c κs = (load-same _ 900 (c .before .before .before .before .before .before .before .before .before .before .before .pre .0) 0 (omega arith), room-same (c .before .before .before .before .before .before .before .before .before .before .before .pre .1 .0) (omega arith))
 
--- src/cycle.rt:593:20
 fit-enum-known-x : (t : ℕ) → fit-lts.Need-enum-known-x (
   expr-below t,
   expr.Post,
@@ -7448,7 +7072,6 @@ fit-enum-known-x : (t : ℕ) → fit-lts.Need-enum-known-x (
 ) (fit-at t) fit.Post
 fit-enum-known-x t c = (c .match .keys1)
 
--- src/cycle.rt:594:9
 fit-enum-told : (t : ℕ) → fit-lts.Need-enum-told (
   expr-below t,
   expr.Post,
@@ -7467,7 +7090,6 @@ fit-enum-told : (t : ℕ) → fit-lts.Need-enum-told (
 ) (fit-at t) fit.Post
 fit-enum-told t c = (c .match .keys2)
 
--- src/cycle.rt:594:9
 fit-same-length : (t : ℕ) → fit-lts.Need-same-length (
   expr-below t,
   expr.Post,
@@ -7486,7 +7108,6 @@ fit-same-length : (t : ℕ) → fit-lts.Need-same-length (
 ) (fit-at t) fit.Post
 fit-same-length t c = (c .before .before .before .before .before .before .before .before .expr .kept .1 .1 .1 .1 .1 .0)
 
--- src/cycle.rt:594:9
 fit-same-length-2 : (t : ℕ) → fit-lts.Need-same-length-2 (
   expr-below t,
   expr.Post,
@@ -7505,7 +7126,6 @@ fit-same-length-2 : (t : ℕ) → fit-lts.Need-same-length-2 (
 ) (fit-at t) fit.Post
 fit-same-length-2 t c = (c .before .before .before .before .before .before .before .before .expr .kept .1 .1 .1 .1 .1 .1 .0)
 
--- src/cycle.rt:594:9
 fit-same-length-3 : (t : ℕ) → fit-lts.Need-same-length-3 (
   expr-below t,
   expr.Post,
@@ -7524,7 +7144,6 @@ fit-same-length-3 : (t : ℕ) → fit-lts.Need-same-length-3 (
 ) (fit-at t) fit.Post
 fit-same-length-3 t c = (c .before .before .before .before .before .before .before .before .expr .kept .1 .1 .1 .1 .1 .1 .1 .0)
 
--- src/cycle.rt:594:9
 fit-returns : (t : ℕ) → fit-lts.Need-returns (
   expr-below t,
   expr.Post,
@@ -7543,7 +7162,6 @@ fit-returns : (t : ℕ) → fit-lts.Need-returns (
 ) (fit-at t) fit.Post
 fit-returns t c = fit-subject _ (c .before .before .before .before .before .before .before .before .expr .ensures) (c .enum-told .given .1)
 
--- src/cycle.rt:597:26
 fit-enum-known-kind : (t : ℕ) → fit-lts.Need-enum-known-kind (
   expr-below t,
   expr.Post,
@@ -7562,7 +7180,6 @@ fit-enum-known-kind : (t : ℕ) → fit-lts.Need-enum-known-kind (
 ) (fit-at t) fit.Post
 fit-enum-known-kind t c = (c .match2 .keys1)
 
--- src/cycle.rt:598:35
 fit-add-t26 : (t : ℕ) → fit-lts.Need-add-t26 (
   expr-below t,
   expr.Post,
@@ -7581,7 +7198,6 @@ fit-add-t26 : (t : ℕ) → fit-lts.Need-add-t26 (
 ) (fit-at t) fit.Post
 fit-add-t26 t c = omega (arith, (c .before .before .before .before .before .before .before .before .before .before .before .before .before .before .before .before .before .before .before .before .before .before .before .pre .1 .0 .line))
 
--- src/cycle.rt:598:9
 fit-same-length-4 : (t : ℕ) → fit-lts.Need-same-length-4 (
   expr-below t,
   expr.Post,
@@ -7600,7 +7216,6 @@ fit-same-length-4 : (t : ℕ) → fit-lts.Need-same-length-4 (
 ) (fit-at t) fit.Post
 fit-same-length-4 t c = (c .before .before .before .before .before .before .before .before .before .before .before .expr .kept .1 .1 .1 .1 .1 .0)
 
--- src/cycle.rt:598:9
 fit-same-length-5 : (t : ℕ) → fit-lts.Need-same-length-5 (
   expr-below t,
   expr.Post,
@@ -7619,7 +7234,6 @@ fit-same-length-5 : (t : ℕ) → fit-lts.Need-same-length-5 (
 ) (fit-at t) fit.Post
 fit-same-length-5 t c = (c .before .before .before .before .before .before .before .before .before .before .before .expr .kept .1 .1 .1 .1 .1 .1 .0)
 
--- src/cycle.rt:598:9
 fit-same-length-6 : (t : ℕ) → fit-lts.Need-same-length-6 (
   expr-below t,
   expr.Post,
@@ -7638,7 +7252,6 @@ fit-same-length-6 : (t : ℕ) → fit-lts.Need-same-length-6 (
 ) (fit-at t) fit.Post
 fit-same-length-6 t c = (c .before .before .before .before .before .before .before .before .before .before .before .expr .kept .1 .1 .1 .1 .1 .1 .1 .0)
 
--- src/cycle.rt:598:9
 fit-returns-2 : (t : ℕ) → fit-lts.Need-returns-2 (
   expr-below t,
   expr.Post,
@@ -7657,7 +7270,6 @@ fit-returns-2 : (t : ℕ) → fit-lts.Need-returns-2 (
 ) (fit-at t) fit.Post
 fit-returns-2 t c = fit-plain _ (c .before .before .before .before .before .before .before .before .before .before .before .expr .ensures) (c .before .before .before .x .given .1) (not-named _ (c .before .match2 .keys2))
 
--- src/cycle.rt:600:16
 fit-cast-put : (t : ℕ) → fit-lts.Need-cast-put (
   expr-below t,
   expr.Post,
@@ -7676,7 +7288,6 @@ fit-cast-put : (t : ℕ) → fit-lts.Need-cast-put (
 ) (fit-at t) fit.Post
 fit-cast-put t c = omega arith
 
--- src/cycle.rt:600:66
 fit-cast-t32 : (t : ℕ) → fit-lts.Need-cast-t32 (
   expr-below t,
   expr.Post,
@@ -7695,7 +7306,6 @@ fit-cast-t32 : (t : ℕ) → fit-lts.Need-cast-t32 (
 ) (fit-at t) fit.Post
 fit-cast-t32 t c = omega (arith, (c .before .before .before .before .before .before .before .before .before .before .before .before .before .before .before .before .before .before .before .before .before .before .before .before .before .before .pre .1 .1))
 
--- src/cycle.rt:600:38
 fit-word-of-requires : (t : ℕ) → fit-lts.Need-word-of-requires (
   expr-below t,
   expr.Post,
@@ -7714,7 +7324,6 @@ fit-word-of-requires : (t : ℕ) → fit-lts.Need-word-of-requires (
 ) (fit-at t) fit.Post
 fit-word-of-requires t c κs = tt
 
--- src/cycle.rt:600:5
 fit-put-requires : (t : ℕ) → fit-lts.Need-put-requires (
   expr-below t,
   expr.Post,
@@ -7733,7 +7342,6 @@ fit-put-requires : (t : ℕ) → fit-lts.Need-put-requires (
 ) (fit-at t) fit.Post
 fit-put-requires t c κs = tt
 
--- src/cycle.rt:601:19
 fit-behind-requires : (t : ℕ) → fit-lts.Need-behind-requires (
   expr-below t,
   expr.Post,
@@ -7752,7 +7360,6 @@ fit-behind-requires : (t : ℕ) → fit-lts.Need-behind-requires (
 ) (fit-at t) fit.Post
 fit-behind-requires t c κs = tt
 
--- src/cycle.rt:601:9
 fit-widen-requires : (t : ℕ) → fit-lts.Need-widen-requires (
   expr-below t,
   expr.Post,
@@ -7771,7 +7378,6 @@ fit-widen-requires : (t : ℕ) → fit-lts.Need-widen-requires (
 ) (fit-at t) fit.Post
 fit-widen-requires t c κs = room-widens (c .before .before .before .before .before .before .before .before .before .before .before .before .before .before .before .before .before .before .before .before .before .before .before .before .before .before .before .before .before .before .before .pre .1 .0) (c .behind .ensures) (omega arith) (omega arith)
 
--- src/cycle.rt:602:9
 fit-expr-requires-2 : (t : ℕ) → fit-lts.Need-expr-requires-2 (
   expr-below t,
   expr.Post,
@@ -7790,7 +7396,6 @@ fit-expr-requires-2 : (t : ℕ) → fit-lts.Need-expr-requires-2 (
 ) (fit-at t) fit.Post
 fit-expr-requires-2 t c κs = (load-wide _ 900 (c .before .before .before .before .before .before .before .before .before .before .before .before .before .before .before .before .before .before .before .before .before .before .before .before .before .before .before .before .before .before .before .before .before .before .before .pre .0) _ _ 1 0 0 (c .before .before .before .before .behind .ensures) (c .before .before .before .widen .ensures) (grows-to (c .before .before .before .before .before .before .before .before .before .before .before .before .before .before .before .before .before .before .before .before .before .before .before .expr .ensures .grows) (c .before .before .before .before .before .before .before .before .before .before .before .before .before .before .before .x .given .1)) (omega arith), room-wide (c .before .before .before .before .before .before .before .before .before .before .before .before .before .before .before .before .before .before .before .before .before .before .before .before .before .before .before .before .before .before .before .before .before .before .before .pre .1 .0) (c .before .before .before .before .behind .ensures) (c .before .before .before .widen .ensures) ((c .before .before .before .before .before .before .before .put .kept .0) ∙ (c .before .before .before .before .before .before .before .before .before .before .before .before .before .before .before .before .before .before .before .before .before .before .before .expr .kept .1 .1 .1 .1 .1 .1 .0)) ((c .before .before .before .before .before .before .before .before .before .before .before .before .before .before .before .before .before .before .before .before .before .before .before .expr .kept .1 .1 .1 .1 .1 .1 .1 .0)) (omega arith) (omega arith))
 
--- src/cycle.rt:603:20
 fit-enum-known-y : (t : ℕ) → fit-lts.Need-enum-known-y (
   expr-below t,
   expr.Post,
@@ -7809,7 +7414,6 @@ fit-enum-known-y : (t : ℕ) → fit-lts.Need-enum-known-y (
 ) (fit-at t) fit.Post
 fit-enum-known-y t c = (c .match3 .keys1)
 
--- src/cycle.rt:604:9
 fit-enum-told-2 : (t : ℕ) → fit-lts.Need-enum-told-2 (
   expr-below t,
   expr.Post,
@@ -7828,7 +7432,6 @@ fit-enum-told-2 : (t : ℕ) → fit-lts.Need-enum-told-2 (
 ) (fit-at t) fit.Post
 fit-enum-told-2 t c = (c .match3 .keys2)
 
--- src/cycle.rt:604:9
 fit-same-length-7 : (t : ℕ) → fit-lts.Need-same-length-7 (
   expr-below t,
   expr.Post,
@@ -7847,7 +7450,6 @@ fit-same-length-7 : (t : ℕ) → fit-lts.Need-same-length-7 (
 ) (fit-at t) fit.Post
 fit-same-length-7 t c = (c .before .before .before .before .before .before .before .before .expr2 .kept .1 .1 .1 .1 .1 .0) ∙ (c .before .before .before .before .before .before .before .before .before .before .before .before .before .before .before .before .before .before .before .before .before .before .before .before .before .before .before .before .before .before .before .before .expr .kept .1 .1 .1 .1 .1 .0)
 
--- src/cycle.rt:604:9
 fit-same-length-8 : (t : ℕ) → fit-lts.Need-same-length-8 (
   expr-below t,
   expr.Post,
@@ -7866,7 +7468,6 @@ fit-same-length-8 : (t : ℕ) → fit-lts.Need-same-length-8 (
 ) (fit-at t) fit.Post
 fit-same-length-8 t c = (c .before .before .before .before .before .before .before .before .expr2 .kept .1 .1 .1 .1 .1 .1 .0) ∙ (c .before .before .before .before .before .before .before .before .before .before .before .before .before .before .before .before .put .kept .0) ∙ (c .before .before .before .before .before .before .before .before .before .before .before .before .before .before .before .before .before .before .before .before .before .before .before .before .before .before .before .before .before .before .before .before .expr .kept .1 .1 .1 .1 .1 .1 .0)
 
--- src/cycle.rt:604:9
 fit-same-length-9 : (t : ℕ) → fit-lts.Need-same-length-9 (
   expr-below t,
   expr.Post,
@@ -7885,7 +7486,6 @@ fit-same-length-9 : (t : ℕ) → fit-lts.Need-same-length-9 (
 ) (fit-at t) fit.Post
 fit-same-length-9 t c = (c .before .before .before .before .before .before .before .before .expr2 .kept .1 .1 .1 .1 .1 .1 .1 .0) ∙ (c .before .before .before .before .before .before .before .before .before .before .before .before .before .before .before .before .before .before .before .before .before .before .before .before .before .before .before .before .before .before .before .before .expr .kept .1 .1 .1 .1 .1 .1 .1 .0)
 
--- src/cycle.rt:604:9
 fit-returns-3 : (t : ℕ) → fit-lts.Need-returns-3 (
   expr-below t,
   expr.Post,
@@ -7904,7 +7504,6 @@ fit-returns-3 : (t : ℕ) → fit-lts.Need-returns-3 (
 ) (fit-at t) fit.Post
 fit-returns-3 t c = fit-first _ (c .before .before .before .before .before .before .before .before .before .before .before .before .before .before .before .before .before .before .before .before .before .before .before .before .before .before .before .before .before .before .before .before .expr .ensures) (scope-long (c .before .before .before .before .before .before .before .before .before .before .before .before .before .before .before .before .before .before .before .before .before .before .before .before .before .before .before .before .before .before .before .before .before .before .before .before .before .before .before .before .before .before .before .before .pre .1 .0) ((c .before .before .before .before .before .before .before .before .before .before .before .before .before .before .before .before .before .before .before .before .before .before .before .before .before .before .before .before .before .before .before .before .expr .kept .1 .1 .1 .1 .1 .1 .0))) (c .before .before .before .before .before .before .before .before .before .before .before .before .before .before .before .before .before .before .before .before .before .before .before .before .x .given .1) (c .before .before .before .before .before .before .before .before .before .before .before .before .before .before .before .before .before .before .before .before .before .kind .given .1) (c .before .before .before .before .before .before .before .before .before .before .before .before .before .before .before .before .before .word-of .ensures .is) (c .before .before .before .before .before .before .before .before .before .before .before .before .before .behind .ensures) (c .before .before .before .before .before .before .before .before .before .before .before .before .widen .ensures) (put-is (c .before .before .before .before .before .before .before .before .before .before .before .before .before .before .before .before .put .ensures) (c .before .before .before .before .before .before .before .before .expr2 .ensures)) (c .enum-told2 .given .1)
 
--- src/cycle.rt:606:80
 fit-behind-requires-2 : (t : ℕ) → fit-lts.Need-behind-requires-2 (
   expr-below t,
   expr.Post,
@@ -7923,7 +7522,6 @@ fit-behind-requires-2 : (t : ℕ) → fit-lts.Need-behind-requires-2 (
 ) (fit-at t) fit.Post
 fit-behind-requires-2 t c κs = tt
 
--- src/cycle.rt:606:9
 fit-expr-requires-3 : (t : ℕ) → fit-lts.Need-expr-requires-3 (
   expr-below t,
   expr.Post,
@@ -7942,7 +7540,6 @@ fit-expr-requires-3 : (t : ℕ) → fit-lts.Need-expr-requires-3 (
 ) (fit-at t) fit.Post
 fit-expr-requires-3 t c κs = (load-moved _ 900 (c .before .before .before .before .before .before .before .before .before .before .before .before .before .before .before .before .before .before .before .before .before .before .before .before .before .before .before .before .before .before .before .before .before .before .before .before .before .before .before .before .before .before .before .before .before .before .before .before .before .pre .0) _ 0 (c .behind2 .ensures) (grows-wide (c .before .before .before .before .before .before .before .before .before .before .before .before .before .before .before .before .before .before .before .before .before .before .before .before .before .before .before .before .before .before .before .before .before .before .before .before .before .before .before .before .before .before .before .before .before .before .before .before .before .args .p) 1 0 (grows-to (c .before .before .before .before .before .before .before .before .before .before .before .before .before .before .before .before .before .before .before .before .before .before .before .before .before .before .before .before .before .before .before .before .before .before .before .before .before .expr .ensures .grows) (c .before .before .before .before .before .before .before .before .before .before .before .before .before .before .before .before .before .before .before .before .before .before .before .before .before .before .before .before .before .x .given .1)) (c .before .before .before .before .before .before .before .before .before .before .before .before .before .before .before .before .before .before .behind .ensures) (c .before .before .before .before .before .before .before .before .before .before .before .before .before .before .before .before .before .widen .ensures) (c .before .before .before .before .before .before .before .before .before .before .before .before .before .expr2 .ensures .grows) (c .before .before .before .before .before .y .given .1)) (omega arith), room-behind (c .before .before .before .before .before .before .before .before .before .before .before .before .before .before .before .before .before .before .before .before .before .before .before .before .before .before .before .before .before .before .before .before .before .before .before .before .before .before .before .before .before .before .before .before .before .before .before .before .before .pre .1 .0) (c .behind2 .ensures) ((c .before .before .before .before .before .before .before .before .before .before .before .before .before .expr2 .kept .1 .1 .1 .1 .1 .1 .0) ∙ (c .before .before .before .before .before .before .before .before .before .before .before .before .before .before .before .before .before .before .before .before .before .put .kept .0) ∙ (c .before .before .before .before .before .before .before .before .before .before .before .before .before .before .before .before .before .before .before .before .before .before .before .before .before .before .before .before .before .before .before .before .before .before .before .before .before .expr .kept .1 .1 .1 .1 .1 .1 .0)) ((c .before .before .before .before .before .before .before .before .before .before .before .before .before .expr2 .kept .1 .1 .1 .1 .1 .1 .1 .0) ∙ (c .before .before .before .before .before .before .before .before .before .before .before .before .before .before .before .before .before .before .before .before .before .before .before .before .before .before .before .before .before .before .before .before .before .before .before .before .before .expr .kept .1 .1 .1 .1 .1 .1 .1 .0)))
 
--- src/cycle.rt:607:20
 fit-enum-known-z : (t : ℕ) → fit-lts.Need-enum-known-z (
   expr-below t,
   expr.Post,
@@ -7961,7 +7558,6 @@ fit-enum-known-z : (t : ℕ) → fit-lts.Need-enum-known-z (
 ) (fit-at t) fit.Post
 fit-enum-known-z t c = (c .match4 .keys1)
 
--- src/cycle.rt:608:9
 fit-enum-told-3 : (t : ℕ) → fit-lts.Need-enum-told-3 (
   expr-below t,
   expr.Post,
@@ -7980,7 +7576,6 @@ fit-enum-told-3 : (t : ℕ) → fit-lts.Need-enum-told-3 (
 ) (fit-at t) fit.Post
 fit-enum-told-3 t c = (c .match4 .keys2)
 
--- src/cycle.rt:608:9
 fit-same-length-10 : (t : ℕ) → fit-lts.Need-same-length-10 (
   expr-below t,
   expr.Post,
@@ -7999,7 +7594,6 @@ fit-same-length-10 : (t : ℕ) → fit-lts.Need-same-length-10 (
 ) (fit-at t) fit.Post
 fit-same-length-10 t c = (c .before .before .before .before .before .before .before .before .expr3 .kept .1 .1 .1 .1 .1 .0) ∙ (c .before .before .before .before .before .before .before .before .before .before .before .before .before .before .before .before .before .before .before .before .before .before .expr2 .kept .1 .1 .1 .1 .1 .0) ∙ (c .before .before .before .before .before .before .before .before .before .before .before .before .before .before .before .before .before .before .before .before .before .before .before .before .before .before .before .before .before .before .before .before .before .before .before .before .before .before .before .before .before .before .before .before .before .before .expr .kept .1 .1 .1 .1 .1 .0)
 
--- src/cycle.rt:608:9
 fit-same-length-11 : (t : ℕ) → fit-lts.Need-same-length-11 (
   expr-below t,
   expr.Post,
@@ -8018,7 +7612,6 @@ fit-same-length-11 : (t : ℕ) → fit-lts.Need-same-length-11 (
 ) (fit-at t) fit.Post
 fit-same-length-11 t c = (c .before .before .before .before .before .before .before .before .expr3 .kept .1 .1 .1 .1 .1 .1 .0) ∙ (c .before .before .before .before .before .before .before .before .before .before .before .before .before .before .before .before .before .before .before .before .before .before .expr2 .kept .1 .1 .1 .1 .1 .1 .0) ∙ (c .before .before .before .before .before .before .before .before .before .before .before .before .before .before .before .before .before .before .before .before .before .before .before .before .before .before .before .before .before .before .put .kept .0) ∙ (c .before .before .before .before .before .before .before .before .before .before .before .before .before .before .before .before .before .before .before .before .before .before .before .before .before .before .before .before .before .before .before .before .before .before .before .before .before .before .before .before .before .before .before .before .before .before .expr .kept .1 .1 .1 .1 .1 .1 .0)
 
--- src/cycle.rt:608:9
 fit-same-length-12 : (t : ℕ) → fit-lts.Need-same-length-12 (
   expr-below t,
   expr.Post,
@@ -8037,7 +7630,6 @@ fit-same-length-12 : (t : ℕ) → fit-lts.Need-same-length-12 (
 ) (fit-at t) fit.Post
 fit-same-length-12 t c = (c .before .before .before .before .before .before .before .before .expr3 .kept .1 .1 .1 .1 .1 .1 .1 .0) ∙ (c .before .before .before .before .before .before .before .before .before .before .before .before .before .before .before .before .before .before .before .before .before .before .expr2 .kept .1 .1 .1 .1 .1 .1 .1 .0) ∙ (c .before .before .before .before .before .before .before .before .before .before .before .before .before .before .before .before .before .before .before .before .before .before .before .before .before .before .before .before .before .before .before .before .before .before .before .before .before .before .before .before .before .before .before .before .before .before .expr .kept .1 .1 .1 .1 .1 .1 .1 .0)
 
--- src/cycle.rt:608:9
 fit-returns-4 : (t : ℕ) → fit-lts.Need-returns-4 (
   expr-below t,
   expr.Post,
@@ -8056,7 +7648,6 @@ fit-returns-4 : (t : ℕ) → fit-lts.Need-returns-4 (
 ) (fit-at t) fit.Post
 fit-returns-4 t c = fit-other _ (c .before .before .before .before .before .before .before .before .before .before .before .before .before .before .before .before .before .before .before .before .before .before .before .before .before .before .before .before .before .before .before .before .before .before .before .before .before .before .before .before .before .before .before .before .before .before .expr .ensures) (scope-long (c .before .before .before .before .before .before .before .before .before .before .before .before .before .before .before .before .before .before .before .before .before .before .before .before .before .before .before .before .before .before .before .before .before .before .before .before .before .before .before .before .before .before .before .before .before .before .before .before .before .before .before .before .before .before .before .before .before .before .pre .1 .0) ((c .before .before .before .before .before .before .before .before .before .before .before .before .before .before .before .before .before .before .before .before .before .before .before .before .before .before .before .before .before .before .before .before .before .before .before .before .before .before .before .before .before .before .before .before .before .before .expr .kept .1 .1 .1 .1 .1 .1 .0))) (c .before .before .before .before .before .before .before .before .before .before .before .before .before .before .before .before .before .before .before .before .before .before .before .before .before .before .before .before .before .before .before .before .before .before .before .before .before .before .x .given .1) (c .before .before .before .before .before .before .before .before .before .before .before .before .before .before .before .before .before .before .before .before .before .before .before .before .before .before .before .before .before .before .before .before .before .before .before .kind .given .1) (c .before .before .before .before .before .before .before .before .before .before .before .before .before .before .before .before .before .before .before .before .before .before .before .before .before .before .before .before .before .before .before .word-of .ensures .is) (c .before .before .before .before .before .before .before .before .before .before .before .before .before .before .before .before .before .before .before .before .before .before .before .before .before .before .before .behind .ensures) (c .before .before .before .before .before .before .before .before .before .before .before .before .before .before .before .before .before .before .before .before .before .before .before .before .before .before .widen .ensures) (put-is (c .before .before .before .before .before .before .before .before .before .before .before .before .before .before .before .before .before .before .before .before .before .before .before .before .before .before .before .before .before .before .put .ensures) (c .before .before .before .before .before .before .before .before .before .before .before .before .before .before .before .before .before .before .before .before .before .before .expr2 .ensures)) (c .before .before .before .before .before .before .before .before .before .before .before .before .before .before .y .given .1) (c .before .before .before .before .before .before .before .before .before .behind2 .ensures) (c .before .before .before .before .before .before .before .before .expr3 .ensures) (c .enum-told3 .given .1)
 
--- src/cycle.rt:610:9
 fit-agree-requires : (t : ℕ) → fit-lts.Need-agree-requires (
   expr-below t,
   expr.Post,
@@ -8075,7 +7666,6 @@ fit-agree-requires : (t : ℕ) → fit-lts.Need-agree-requires (
 ) (fit-at t) fit.Post
 fit-agree-requires t c κs = tt
 
--- src/cycle.rt:611:36
 fit-add-t49 : (t : ℕ) → fit-lts.Need-add-t49 (
   expr-below t,
   expr.Post,
@@ -8094,7 +7684,6 @@ fit-add-t49 : (t : ℕ) → fit-lts.Need-add-t49 (
 ) (fit-at t) fit.Post
 fit-add-t49 t c = omega (arith, (c .before .before .before .before .before .before .before .before .before .before .before .before .before .before .before .before .before .before .before .before .before .before .before .before .before .before .before .before .before .before .before .before .before .before .before .before .before .before .before .before .before .before .before .before .before .before .before .before .before .before .before .before .before .before .before .before .before .before .before .before .before .before .pre .1 .0 .line))
 
--- src/cycle.rt:611:9
 fit-same-length-13 : (t : ℕ) → fit-lts.Need-same-length-13 (
   expr-below t,
   expr.Post,
@@ -8113,7 +7702,6 @@ fit-same-length-13 : (t : ℕ) → fit-lts.Need-same-length-13 (
 ) (fit-at t) fit.Post
 fit-same-length-13 t c = (c .before .before .before .before .before .before .before .before .before .before .before .before .expr3 .kept .1 .1 .1 .1 .1 .0) ∙ (c .before .before .before .before .before .before .before .before .before .before .before .before .before .before .before .before .before .before .before .before .before .before .before .before .before .before .expr2 .kept .1 .1 .1 .1 .1 .0) ∙ (c .before .before .before .before .before .before .before .before .before .before .before .before .before .before .before .before .before .before .before .before .before .before .before .before .before .before .before .before .before .before .before .before .before .before .before .before .before .before .before .before .before .before .before .before .before .before .before .before .before .before .expr .kept .1 .1 .1 .1 .1 .0)
 
--- src/cycle.rt:611:9
 fit-same-length-14 : (t : ℕ) → fit-lts.Need-same-length-14 (
   expr-below t,
   expr.Post,
@@ -8132,7 +7720,6 @@ fit-same-length-14 : (t : ℕ) → fit-lts.Need-same-length-14 (
 ) (fit-at t) fit.Post
 fit-same-length-14 t c = (c .before .before .before .before .before .before .before .before .before .before .before .before .expr3 .kept .1 .1 .1 .1 .1 .1 .0) ∙ (c .before .before .before .before .before .before .before .before .before .before .before .before .before .before .before .before .before .before .before .before .before .before .before .before .before .before .expr2 .kept .1 .1 .1 .1 .1 .1 .0) ∙ (c .before .before .before .before .before .before .before .before .before .before .before .before .before .before .before .before .before .before .before .before .before .before .before .before .before .before .before .before .before .before .before .before .before .before .put .kept .0) ∙ (c .before .before .before .before .before .before .before .before .before .before .before .before .before .before .before .before .before .before .before .before .before .before .before .before .before .before .before .before .before .before .before .before .before .before .before .before .before .before .before .before .before .before .before .before .before .before .before .before .before .before .expr .kept .1 .1 .1 .1 .1 .1 .0)
 
--- src/cycle.rt:611:9
 fit-same-length-15 : (t : ℕ) → fit-lts.Need-same-length-15 (
   expr-below t,
   expr.Post,
@@ -8151,7 +7738,6 @@ fit-same-length-15 : (t : ℕ) → fit-lts.Need-same-length-15 (
 ) (fit-at t) fit.Post
 fit-same-length-15 t c = (c .before .before .before .before .before .before .before .before .before .before .before .before .expr3 .kept .1 .1 .1 .1 .1 .1 .1 .0) ∙ (c .before .before .before .before .before .before .before .before .before .before .before .before .before .before .before .before .before .before .before .before .before .before .before .before .before .before .expr2 .kept .1 .1 .1 .1 .1 .1 .1 .0) ∙ (c .before .before .before .before .before .before .before .before .before .before .before .before .before .before .before .before .before .before .before .before .before .before .before .before .before .before .before .before .before .before .before .before .before .before .before .before .before .before .before .before .before .before .before .before .before .before .before .before .before .before .expr .kept .1 .1 .1 .1 .1 .1 .1 .0)
 
--- src/cycle.rt:611:9
 fit-returns-5 : (t : ℕ) → fit-lts.Need-returns-5 (
   expr-below t,
   expr.Post,
@@ -8170,7 +7756,6 @@ fit-returns-5 : (t : ℕ) → fit-lts.Need-returns-5 (
 ) (fit-at t) fit.Post
 fit-returns-5 t c = fit-differ _ (c .before .before .before .before .before .before .before .before .before .before .before .before .before .before .before .before .before .before .before .before .before .before .before .before .before .before .before .before .before .before .before .before .before .before .before .before .before .before .before .before .before .before .before .before .before .before .before .before .before .before .expr .ensures) (scope-long (c .before .before .before .before .before .before .before .before .before .before .before .before .before .before .before .before .before .before .before .before .before .before .before .before .before .before .before .before .before .before .before .before .before .before .before .before .before .before .before .before .before .before .before .before .before .before .before .before .before .before .before .before .before .before .before .before .before .before .before .before .before .before .pre .1 .0) ((c .before .before .before .before .before .before .before .before .before .before .before .before .before .before .before .before .before .before .before .before .before .before .before .before .before .before .before .before .before .before .before .before .before .before .before .before .before .before .before .before .before .before .before .before .before .before .before .before .before .before .expr .kept .1 .1 .1 .1 .1 .1 .0))) (c .before .before .before .before .before .before .before .before .before .before .before .before .before .before .before .before .before .before .before .before .before .before .before .before .before .before .before .before .before .before .before .before .before .before .before .before .before .before .before .before .before .before .x .given .1) (c .before .before .before .before .before .before .before .before .before .before .before .before .before .before .before .before .before .before .before .before .before .before .before .before .before .before .before .before .before .before .before .before .before .before .before .before .before .before .before .kind .given .1) (c .before .before .before .before .before .before .before .before .before .before .before .before .before .before .before .before .before .before .before .before .before .before .before .before .before .before .before .before .before .before .before .before .before .before .before .word-of .ensures .is) (c .before .before .before .before .before .before .before .before .before .before .before .before .before .before .before .before .before .before .before .before .before .before .before .before .before .before .before .before .before .before .before .behind .ensures) (c .before .before .before .before .before .before .before .before .before .before .before .before .before .before .before .before .before .before .before .before .before .before .before .before .before .before .before .before .before .before .widen .ensures) (put-is (c .before .before .before .before .before .before .before .before .before .before .before .before .before .before .before .before .before .before .before .before .before .before .before .before .before .before .before .before .before .before .before .before .before .before .put .ensures) (c .before .before .before .before .before .before .before .before .before .before .before .before .before .before .before .before .before .before .before .before .before .before .before .before .before .before .expr2 .ensures)) (c .before .before .before .before .before .before .before .before .before .before .before .before .before .before .before .before .before .before .y .given .1) (c .before .before .before .before .before .before .before .before .before .before .before .before .before .behind2 .ensures) (c .before .before .before .before .before .before .before .before .before .before .before .before .expr3 .ensures) (c .before .before .before .before .z .given .1) (c .before .before .agree .ensures) (negated _ (c .before .if1 .taken))
 
--- src/cycle.rt:613:5
 fit-fitted-requires : (t : ℕ) → fit-lts.Need-fitted-requires (
   expr-below t,
   expr.Post,
@@ -8189,7 +7774,6 @@ fit-fitted-requires : (t : ℕ) → fit-lts.Need-fitted-requires (
 ) (fit-at t) fit.Post
 fit-fitted-requires t c κs = tt
 
--- src/cycle.rt:576:1
 fit-same-length-16 : (t : ℕ) → fit-lts.Need-same-length-16 (
   expr-below t,
   expr.Post,
@@ -8208,7 +7792,6 @@ fit-same-length-16 : (t : ℕ) → fit-lts.Need-same-length-16 (
 ) (fit-at t) fit.Post
 fit-same-length-16 t c = (c .before .before .before .before .before .before .before .before .before .before .before .before .expr3 .kept .1 .1 .1 .1 .1 .0) ∙ (c .before .before .before .before .before .before .before .before .before .before .before .before .before .before .before .before .before .before .before .before .before .before .before .before .before .before .expr2 .kept .1 .1 .1 .1 .1 .0) ∙ (c .before .before .before .before .before .before .before .before .before .before .before .before .before .before .before .before .before .before .before .before .before .before .before .before .before .before .before .before .before .before .before .before .before .before .before .before .before .before .before .before .before .before .before .before .before .before .before .before .before .before .expr .kept .1 .1 .1 .1 .1 .0)
 
--- src/cycle.rt:576:1
 fit-same-length-17 : (t : ℕ) → fit-lts.Need-same-length-17 (
   expr-below t,
   expr.Post,
@@ -8227,7 +7810,6 @@ fit-same-length-17 : (t : ℕ) → fit-lts.Need-same-length-17 (
 ) (fit-at t) fit.Post
 fit-same-length-17 t c = (c .before .before .before .before .before .before .before .before .before .before .before .before .expr3 .kept .1 .1 .1 .1 .1 .1 .0) ∙ (c .before .before .before .before .before .before .before .before .before .before .before .before .before .before .before .before .before .before .before .before .before .before .before .before .before .before .expr2 .kept .1 .1 .1 .1 .1 .1 .0) ∙ (c .before .before .before .before .before .before .before .before .before .before .before .before .before .before .before .before .before .before .before .before .before .before .before .before .before .before .before .before .before .before .before .before .before .before .put .kept .0) ∙ (c .before .before .before .before .before .before .before .before .before .before .before .before .before .before .before .before .before .before .before .before .before .before .before .before .before .before .before .before .before .before .before .before .before .before .before .before .before .before .before .before .before .before .before .before .before .before .before .before .before .before .expr .kept .1 .1 .1 .1 .1 .1 .0)
 
--- src/cycle.rt:576:1
 fit-same-length-18 : (t : ℕ) → fit-lts.Need-same-length-18 (
   expr-below t,
   expr.Post,
@@ -8246,7 +7828,6 @@ fit-same-length-18 : (t : ℕ) → fit-lts.Need-same-length-18 (
 ) (fit-at t) fit.Post
 fit-same-length-18 t c = (c .before .before .before .before .before .before .before .before .before .before .before .before .expr3 .kept .1 .1 .1 .1 .1 .1 .1 .0) ∙ (c .before .before .before .before .before .before .before .before .before .before .before .before .before .before .before .before .before .before .before .before .before .before .before .before .before .before .expr2 .kept .1 .1 .1 .1 .1 .1 .1 .0) ∙ (c .before .before .before .before .before .before .before .before .before .before .before .before .before .before .before .before .before .before .before .before .before .before .before .before .before .before .before .before .before .before .before .before .before .before .before .before .before .before .before .before .before .before .before .before .before .before .before .before .before .before .expr .kept .1 .1 .1 .1 .1 .1 .1 .0)
 
--- src/cycle.rt:576:1
 fit-returns-6 : (t : ℕ) → fit-lts.Need-returns-6 (
   expr-below t,
   expr.Post,
@@ -8265,7 +7846,6 @@ fit-returns-6 : (t : ℕ) → fit-lts.Need-returns-6 (
 ) (fit-at t) fit.Post
 fit-returns-6 t c = fit-done _ (c .before .before .before .before .before .before .before .before .before .before .before .before .before .before .before .before .before .before .before .before .before .before .before .before .before .before .before .before .before .before .before .before .before .before .before .before .before .before .before .before .before .before .before .before .before .before .before .before .before .before .expr .ensures) (scope-long (c .before .before .before .before .before .before .before .before .before .before .before .before .before .before .before .before .before .before .before .before .before .before .before .before .before .before .before .before .before .before .before .before .before .before .before .before .before .before .before .before .before .before .before .before .before .before .before .before .before .before .before .before .before .before .before .before .before .before .before .before .before .before .pre .1 .0) ((c .before .before .before .before .before .before .before .before .before .before .before .before .before .before .before .before .before .before .before .before .before .before .before .before .before .before .before .before .before .before .before .before .before .before .before .before .before .before .before .before .before .before .before .before .before .before .before .before .before .before .expr .kept .1 .1 .1 .1 .1 .1 .0))) (c .before .before .before .before .before .before .before .before .before .before .before .before .before .before .before .before .before .before .before .before .before .before .before .before .before .before .before .before .before .before .before .before .before .before .before .before .before .before .before .before .before .before .x .given .1) (c .before .before .before .before .before .before .before .before .before .before .before .before .before .before .before .before .before .before .before .before .before .before .before .before .before .before .before .before .before .before .before .before .before .before .before .before .before .before .before .kind .given .1) (c .before .before .before .before .before .before .before .before .before .before .before .before .before .before .before .before .before .before .before .before .before .before .before .before .before .before .before .before .before .before .before .before .before .before .before .word-of .ensures .is) (c .before .before .before .before .before .before .before .before .before .before .before .before .before .before .before .before .before .before .before .before .before .before .before .before .before .before .before .before .before .before .before .behind .ensures) (c .before .before .before .before .before .before .before .before .before .before .before .before .before .before .before .before .before .before .before .before .before .before .before .before .before .before .before .before .before .before .widen .ensures) (put-is (c .before .before .before .before .before .before .before .before .before .before .before .before .before .before .before .before .before .before .before .before .before .before .before .before .before .before .before .before .before .before .before .before .before .before .put .ensures) (c .before .before .before .before .before .before .before .before .before .before .before .before .before .before .before .before .before .before .before .before .before .before .before .before .before .before .expr2 .ensures)) (c .before .before .before .before .before .before .before .before .before .before .before .before .before .before .before .before .before .before .y .given .1) (c .before .before .before .before .before .before .before .before .before .before .before .before .before .behind2 .ensures) (c .before .before .before .before .before .before .before .before .before .before .before .before .expr3 .ensures) (c .before .before .before .before .z .given .1) (c .before .before .agree .ensures) (affirmed _ (c .before .if1 .left)) (c .fitted .ensures .held) (c .fitted .ensures .both) (c .fitted .ensures .all) (c .fitted .ensures .is)
 
--- src/cycle.rt:213:9
 operation-expr-requires : (t : ℕ) → operation-lts.Need-expr-requires (
   expr-below t,
   expr.Post,
@@ -8276,7 +7856,6 @@ operation-expr-requires : (t : ℕ) → operation-lts.Need-expr-requires (
 ) (operation-at t) operation.Post
 operation-expr-requires t c κs = (load-same _ 900 (c .before .before .before .before .before .before .before .before .before .before .before .pre .0) 0 (omega arith), room-same (c .before .before .before .before .before .before .before .before .before .before .before .pre .1) (omega arith))
 
--- src/cycle.rt:214:20
 operation-enum-known-x : (t : ℕ) → operation-lts.Need-enum-known-x (
   expr-below t,
   expr.Post,
@@ -8287,7 +7866,6 @@ operation-enum-known-x : (t : ℕ) → operation-lts.Need-enum-known-x (
 ) (operation-at t) operation.Post
 operation-enum-known-x t c = (c .match .keys1)
 
--- src/cycle.rt:215:9
 operation-enum-told : (t : ℕ) → operation-lts.Need-enum-told (
   expr-below t,
   expr.Post,
@@ -8298,7 +7876,6 @@ operation-enum-told : (t : ℕ) → operation-lts.Need-enum-told (
 ) (operation-at t) operation.Post
 operation-enum-told t c = (c .match .keys2)
 
--- src/cycle.rt:215:9
 operation-same-length : (t : ℕ) → operation-lts.Need-same-length (
   expr-below t,
   expr.Post,
@@ -8309,7 +7886,6 @@ operation-same-length : (t : ℕ) → operation-lts.Need-same-length (
 ) (operation-at t) operation.Post
 operation-same-length t c = (c .before .before .before .before .before .before .before .before .expr .kept .1 .1 .1 .1 .1 .0)
 
--- src/cycle.rt:215:9
 operation-same-length-2 : (t : ℕ) → operation-lts.Need-same-length-2 (
   expr-below t,
   expr.Post,
@@ -8320,7 +7896,6 @@ operation-same-length-2 : (t : ℕ) → operation-lts.Need-same-length-2 (
 ) (operation-at t) operation.Post
 operation-same-length-2 t c = (c .before .before .before .before .before .before .before .before .expr .kept .1 .1 .1 .1 .1 .1 .0)
 
--- src/cycle.rt:215:9
 operation-same-length-3 : (t : ℕ) → operation-lts.Need-same-length-3 (
   expr-below t,
   expr.Post,
@@ -8331,7 +7906,6 @@ operation-same-length-3 : (t : ℕ) → operation-lts.Need-same-length-3 (
 ) (operation-at t) operation.Post
 operation-same-length-3 t c = (c .before .before .before .before .before .before .before .before .expr .kept .1 .1 .1 .1 .1 .1 .1 .0)
 
--- src/cycle.rt:215:9
 operation-returns : (t : ℕ) → operation-lts.Need-returns (
   expr-below t,
   expr.Post,
@@ -8342,7 +7916,6 @@ operation-returns : (t : ℕ) → operation-lts.Need-returns (
 ) (operation-at t) operation.Post
 operation-returns t c = op-first (c .before .before .before .before .before .before .before .before .expr .ensures) (c .enum-told .given .1)
 
--- src/cycle.rt:217:80
 operation-behind-requires : (t : ℕ) → operation-lts.Need-behind-requires (
   expr-below t,
   expr.Post,
@@ -8353,7 +7926,6 @@ operation-behind-requires : (t : ℕ) → operation-lts.Need-behind-requires (
 ) (operation-at t) operation.Post
 operation-behind-requires t c κs = tt
 
--- src/cycle.rt:217:9
 operation-expr-requires-2 : (t : ℕ) → operation-lts.Need-expr-requires-2 (
   expr-below t,
   expr.Post,
@@ -8364,7 +7936,6 @@ operation-expr-requires-2 : (t : ℕ) → operation-lts.Need-expr-requires-2 (
 ) (operation-at t) operation.Post
 operation-expr-requires-2 t c κs = (load-moved _ 900 (c .before .before .before .before .before .before .before .before .before .before .before .before .before .before .before .before .before .before .before .before .before .before .before .before .before .pre .0) _ 0 (c .behind .ensures) (grows-to (c .before .before .before .before .before .before .before .before .before .before .before .before .before .expr .ensures .grows) (c .before .before .before .before .before .x .given .1)) (omega arith), room-behind (c .before .before .before .before .before .before .before .before .before .before .before .before .before .before .before .before .before .before .before .before .before .before .before .before .before .pre .1) (c .behind .ensures) ((c .before .before .before .before .before .before .before .before .before .before .before .before .before .expr .kept .1 .1 .1 .1 .1 .1 .0)) ((c .before .before .before .before .before .before .before .before .before .before .before .before .before .expr .kept .1 .1 .1 .1 .1 .1 .1 .0)))
 
--- src/cycle.rt:218:20
 operation-enum-known-y : (t : ℕ) → operation-lts.Need-enum-known-y (
   expr-below t,
   expr.Post,
@@ -8375,7 +7946,6 @@ operation-enum-known-y : (t : ℕ) → operation-lts.Need-enum-known-y (
 ) (operation-at t) operation.Post
 operation-enum-known-y t c = (c .match2 .keys1)
 
--- src/cycle.rt:219:9
 operation-enum-told-2 : (t : ℕ) → operation-lts.Need-enum-told-2 (
   expr-below t,
   expr.Post,
@@ -8386,7 +7956,6 @@ operation-enum-told-2 : (t : ℕ) → operation-lts.Need-enum-told-2 (
 ) (operation-at t) operation.Post
 operation-enum-told-2 t c = (c .match2 .keys2)
 
--- src/cycle.rt:219:9
 operation-same-length-4 : (t : ℕ) → operation-lts.Need-same-length-4 (
   expr-below t,
   expr.Post,
@@ -8397,7 +7966,6 @@ operation-same-length-4 : (t : ℕ) → operation-lts.Need-same-length-4 (
 ) (operation-at t) operation.Post
 operation-same-length-4 t c = (c .before .before .before .before .before .before .before .before .expr2 .kept .1 .1 .1 .1 .1 .0) ∙ (c .before .before .before .before .before .before .before .before .before .before .before .before .before .before .before .before .before .before .before .before .before .before .expr .kept .1 .1 .1 .1 .1 .0)
 
--- src/cycle.rt:219:9
 operation-same-length-5 : (t : ℕ) → operation-lts.Need-same-length-5 (
   expr-below t,
   expr.Post,
@@ -8408,7 +7976,6 @@ operation-same-length-5 : (t : ℕ) → operation-lts.Need-same-length-5 (
 ) (operation-at t) operation.Post
 operation-same-length-5 t c = (c .before .before .before .before .before .before .before .before .expr2 .kept .1 .1 .1 .1 .1 .1 .0) ∙ (c .before .before .before .before .before .before .before .before .before .before .before .before .before .before .before .before .before .before .before .before .before .before .expr .kept .1 .1 .1 .1 .1 .1 .0)
 
--- src/cycle.rt:219:9
 operation-same-length-6 : (t : ℕ) → operation-lts.Need-same-length-6 (
   expr-below t,
   expr.Post,
@@ -8419,7 +7986,6 @@ operation-same-length-6 : (t : ℕ) → operation-lts.Need-same-length-6 (
 ) (operation-at t) operation.Post
 operation-same-length-6 t c = (c .before .before .before .before .before .before .before .before .expr2 .kept .1 .1 .1 .1 .1 .1 .1 .0) ∙ (c .before .before .before .before .before .before .before .before .before .before .before .before .before .before .before .before .before .before .before .before .before .before .expr .kept .1 .1 .1 .1 .1 .1 .1 .0)
 
--- src/cycle.rt:219:9
 operation-returns-2 : (t : ℕ) → operation-lts.Need-returns-2 (
   expr-below t,
   expr.Post,
@@ -8430,7 +7996,6 @@ operation-returns-2 : (t : ℕ) → operation-lts.Need-returns-2 (
 ) (operation-at t) operation.Post
 operation-returns-2 t c = op-second (c .before .before .before .before .before .before .before .before .before .before .before .before .before .before .before .before .before .before .before .before .before .before .expr .ensures) (c .before .before .before .before .before .before .before .before .before .before .before .before .before .before .x .given .1) (c .before .before .before .before .before .before .before .before .before .behind .ensures) (c .before .before .before .before .before .before .before .before .expr2 .ensures) (c .enum-told2 .given .1)
 
--- src/cycle.rt:221:5
 operation-operated-requires : (t : ℕ) → operation-lts.Need-operated-requires (
   expr-below t,
   expr.Post,
@@ -8441,7 +8006,6 @@ operation-operated-requires : (t : ℕ) → operation-lts.Need-operated-requires
 ) (operation-at t) operation.Post
 operation-operated-requires t c κs = tt
 
--- src/cycle.rt:198:1
 operation-same-length-7 : (t : ℕ) → operation-lts.Need-same-length-7 (
   expr-below t,
   expr.Post,
@@ -8452,7 +8016,6 @@ operation-same-length-7 : (t : ℕ) → operation-lts.Need-same-length-7 (
 ) (operation-at t) operation.Post
 operation-same-length-7 t c = (c .before .before .before .before .before .before .before .before .before .before .expr2 .kept .1 .1 .1 .1 .1 .0) ∙ (c .before .before .before .before .before .before .before .before .before .before .before .before .before .before .before .before .before .before .before .before .before .before .before .before .expr .kept .1 .1 .1 .1 .1 .0)
 
--- src/cycle.rt:198:1
 operation-same-length-8 : (t : ℕ) → operation-lts.Need-same-length-8 (
   expr-below t,
   expr.Post,
@@ -8463,7 +8026,6 @@ operation-same-length-8 : (t : ℕ) → operation-lts.Need-same-length-8 (
 ) (operation-at t) operation.Post
 operation-same-length-8 t c = (c .before .before .before .before .before .before .before .before .before .before .expr2 .kept .1 .1 .1 .1 .1 .1 .0) ∙ (c .before .before .before .before .before .before .before .before .before .before .before .before .before .before .before .before .before .before .before .before .before .before .before .before .expr .kept .1 .1 .1 .1 .1 .1 .0)
 
--- src/cycle.rt:198:1
 operation-same-length-9 : (t : ℕ) → operation-lts.Need-same-length-9 (
   expr-below t,
   expr.Post,
@@ -8474,7 +8036,6 @@ operation-same-length-9 : (t : ℕ) → operation-lts.Need-same-length-9 (
 ) (operation-at t) operation.Post
 operation-same-length-9 t c = (c .before .before .before .before .before .before .before .before .before .before .expr2 .kept .1 .1 .1 .1 .1 .1 .1 .0) ∙ (c .before .before .before .before .before .before .before .before .before .before .before .before .before .before .before .before .before .before .before .before .before .before .before .before .expr .kept .1 .1 .1 .1 .1 .1 .1 .0)
 
--- src/cycle.rt:198:1
 operation-returns-3 : (t : ℕ) → operation-lts.Need-returns-3 (
   expr-below t,
   expr.Post,
@@ -8485,7 +8046,6 @@ operation-returns-3 : (t : ℕ) → operation-lts.Need-returns-3 (
 ) (operation-at t) operation.Post
 operation-returns-3 t c = op-done (c .before .before .before .before .before .before .before .before .before .before .before .before .before .before .before .before .before .before .before .before .before .before .before .before .expr .ensures) (c .before .before .before .before .before .before .before .before .before .before .before .before .before .before .before .before .x .given .1) (c .before .before .before .before .before .before .before .before .before .before .before .behind .ensures) (c .before .before .before .before .before .before .before .before .before .before .expr2 .ensures) (c .before .before .y .given .1) (c .operated .ensures .typed) (c .operated .ensures .both) (c .operated .ensures .one) (c .operated .ensures .all) (c .operated .ensures .is)
 
--- src/cycle.rt:244:9
 several-none-requires : (t : ℕ) → several-lts.Need-none-requires (
   none-reads.Asked,
   none-reads.Learnt,
@@ -8504,7 +8064,6 @@ several-none-requires : (t : ℕ) → several-lts.Need-none-requires (
 ) (several-at t) several.Post
 several-none-requires t c κs = tt
 
--- src/cycle.rt:244:9
 several-returns : (t : ℕ) → several-lts.Need-returns (
   none-reads.Asked,
   none-reads.Learnt,
@@ -8523,7 +8082,6 @@ several-returns : (t : ℕ) → several-lts.Need-returns (
 ) (several-at t) several.Post
 several-returns t c = several-none _ (c .before .if1 .taken) (c .none .ensures .none) (c .none .ensures .is)
 
--- src/cycle.rt:246:9
 several-expr-requires : (t : ℕ) → several-lts.Need-expr-requires (
   none-reads.Asked,
   none-reads.Learnt,
@@ -8542,7 +8100,6 @@ several-expr-requires : (t : ℕ) → several-lts.Need-expr-requires (
 ) (several-at t) several.Post
 several-expr-requires t c κs = (load-same _ _ (c .before .before .before .before .before .before .before .before .before .before .before .before .before .pre .0) 0 (omega arith), room-same (c .before .before .before .before .before .before .before .before .before .before .before .before .before .pre .1 .0) (omega arith))
 
--- src/cycle.rt:248:25
 several-enum-known-x : (t : ℕ) → several-lts.Need-enum-known-x (
   none-reads.Asked,
   none-reads.Learnt,
@@ -8561,7 +8118,6 @@ several-enum-known-x : (t : ℕ) → several-lts.Need-enum-known-x (
 ) (several-at t) several.Post
 several-enum-known-x t c = (c .match .keys1)
 
--- src/cycle.rt:249:20
 several-enum-known-x-2 : (t : ℕ) → several-lts.Need-enum-known-x-2 (
   none-reads.Asked,
   none-reads.Learnt,
@@ -8580,7 +8136,6 @@ several-enum-known-x-2 : (t : ℕ) → several-lts.Need-enum-known-x-2 (
 ) (several-at t) several.Post
 several-enum-known-x-2 t c = (c .match .keys2)
 
--- src/cycle.rt:250:34
 several-kind-word-requires : (t : ℕ) → several-lts.Need-kind-word-requires (
   none-reads.Asked,
   none-reads.Learnt,
@@ -8599,7 +8154,6 @@ several-kind-word-requires : (t : ℕ) → several-lts.Need-kind-word-requires (
 ) (several-at t) several.Post
 several-kind-word-requires t c κs = tt
 
--- src/cycle.rt:250:13
 several-put-requires : (t : ℕ) → several-lts.Need-put-requires (
   none-reads.Asked,
   none-reads.Learnt,
@@ -8618,7 +8172,6 @@ several-put-requires : (t : ℕ) → several-lts.Need-put-requires (
 ) (several-at t) several.Post
 several-put-requires t c κs = tt
 
--- src/cycle.rt:251:91
 several-behind-requires : (t : ℕ) → several-lts.Need-behind-requires (
   none-reads.Asked,
   none-reads.Learnt,
@@ -8637,7 +8190,6 @@ several-behind-requires : (t : ℕ) → several-lts.Need-behind-requires (
 ) (several-at t) several.Post
 several-behind-requires t c κs = tt
 
--- src/cycle.rt:251:110
 several-add-several : (t : ℕ) → several-lts.Need-add-several (
   none-reads.Asked,
   none-reads.Learnt,
@@ -8656,7 +8208,6 @@ several-add-several : (t : ℕ) → several-lts.Need-add-several (
 ) (several-at t) several.Post
 several-add-several t c = omega (arith, (c .before .before .before .before .before .before .before .before .before .before .before .before .before .before .before .before .before .before .before .before .before .before .before .if1 .left), (c .before .before .before .before .before .before .before .before .before .before .before .before .before .before .before .before .before .before .before .before .before .before .before .before .before .before .before .before .before .before .before .before .before .pre .1 .1))
 
--- src/cycle.rt:251:17
 several-several-requires : (t : ℕ) → several-lts.Need-several-requires (
   none-reads.Asked,
   none-reads.Learnt,
@@ -8675,7 +8226,6 @@ several-several-requires : (t : ℕ) → several-lts.Need-several-requires (
 ) (several-at t) several.Post
 several-several-requires t c κs = (load-moved _ _ (c .before .before .before .before .before .before .before .before .before .before .before .before .before .before .before .before .before .before .before .before .before .before .before .before .before .before .before .before .before .before .before .before .before .pre .0) _ _ (c .before .behind .ensures) (grows-to (c .before .before .before .before .before .before .before .before .before .before .before .before .before .before .before .before .before .before .before .expr .ensures .grows) (c .before .before .before .before .before .before .before .before .before .before .before .x2 .given .1)) (omega (arith, (c .before .before .before .before .before .before .before .before .before .before .before .before .before .before .before .before .before .before .before .before .before .before .before .if1 .left))), (room-rest (c .before .before .before .before .before .before .before .before .before .before .before .before .before .before .before .before .before .before .before .before .before .before .before .before .before .before .before .before .before .before .before .before .before .pre .1 .0) (c .before .behind .ensures) ((c .before .before .before .before .before .before .before .before .before .before .before .before .before .before .before .before .before .before .before .expr .kept .1 .1 .1 .1 .1 .1 .0)) ((c .before .before .before .before .before .before .before .before .before .before .before .before .before .before .before .before .before .before .before .expr .kept .1 .1 .1 .1 .1 .1 .1 .0)), (c .before .before .before .before .before .before .before .before .before .before .before .before .before .before .before .before .before .before .before .before .before .before .before .before .before .before .before .before .before .before .before .before .before .pre .1 .1)))
 
--- src/cycle.rt:252:31
 several-enum-known-y : (t : ℕ) → several-lts.Need-enum-known-y (
   none-reads.Asked,
   none-reads.Learnt,
@@ -8694,7 +8244,6 @@ several-enum-known-y : (t : ℕ) → several-lts.Need-enum-known-y (
 ) (several-at t) several.Post
 several-enum-known-y t c = (c .match2 .keys1)
 
--- src/cycle.rt:253:17
 several-enum-told : (t : ℕ) → several-lts.Need-enum-told (
   none-reads.Asked,
   none-reads.Learnt,
@@ -8713,7 +8262,6 @@ several-enum-told : (t : ℕ) → several-lts.Need-enum-told (
 ) (several-at t) several.Post
 several-enum-told t c = (c .match2 .keys2)
 
--- src/cycle.rt:253:17
 several-same-length : (t : ℕ) → several-lts.Need-same-length (
   none-reads.Asked,
   none-reads.Learnt,
@@ -8732,7 +8280,6 @@ several-same-length : (t : ℕ) → several-lts.Need-same-length (
 ) (several-at t) several.Post
 several-same-length t c = (c .before .before .before .before .before .before .before .before .before .before .several .kept .1 .1 .1 .1 .1 .0) ∙ (c .before .before .before .before .before .before .before .before .before .before .before .before .before .before .before .before .before .before .before .before .before .before .before .before .before .before .before .before .before .before .expr .kept .1 .1 .1 .1 .1 .0)
 
--- src/cycle.rt:253:17
 several-same-length-2 : (t : ℕ) → several-lts.Need-same-length-2 (
   none-reads.Asked,
   none-reads.Learnt,
@@ -8751,7 +8298,6 @@ several-same-length-2 : (t : ℕ) → several-lts.Need-same-length-2 (
 ) (several-at t) several.Post
 several-same-length-2 t c = (c .before .before .before .before .before .before .before .before .before .before .several .kept .1 .1 .1 .1 .1 .1 .0) ∙ (c .before .before .before .before .before .before .before .before .before .before .before .before .before .before .before .before .before .before .before .before .before .before .before .before .before .before .before .before .before .before .expr .kept .1 .1 .1 .1 .1 .1 .0)
 
--- src/cycle.rt:253:17
 several-same-length-3 : (t : ℕ) → several-lts.Need-same-length-3 (
   none-reads.Asked,
   none-reads.Learnt,
@@ -8770,7 +8316,6 @@ several-same-length-3 : (t : ℕ) → several-lts.Need-same-length-3 (
 ) (several-at t) several.Post
 several-same-length-3 t c = (c .before .before .before .before .before .before .before .before .before .before .several .kept .1 .1 .1 .1 .1 .1 .1 .0) ∙ (c .before .before .before .before .before .before .before .before .before .before .before .before .before .before .before .before .before .before .before .before .before .before .before .before .before .before .before .before .before .before .expr .kept .1 .1 .1 .1 .1 .1 .1 .0)
 
--- src/cycle.rt:253:17
 several-same-length-4 : (t : ℕ) → several-lts.Need-same-length-4 (
   none-reads.Asked,
   none-reads.Learnt,
@@ -8789,7 +8334,6 @@ several-same-length-4 : (t : ℕ) → several-lts.Need-same-length-4 (
 ) (several-at t) several.Post
 several-same-length-4 t c = (c .before .before .before .before .before .before .before .before .before .before .several .kept .1 .1 .1 .1 .1 .1 .1 .1 .1 .0) ∙ (c .before .before .before .before .before .before .before .before .before .before .before .before .before .before .before .before .before .before .put .kept .0)
 
--- src/cycle.rt:253:17
 several-returns-2 : (t : ℕ) → several-lts.Need-returns-2 (
   none-reads.Asked,
   none-reads.Learnt,
@@ -8808,7 +8352,6 @@ several-returns-2 : (t : ℕ) → several-lts.Need-returns-2 (
 ) (several-at t) several.Post
 several-returns-2 t c = several-rest _ (c .before .before .before .before .before .before .before .before .before .before .before .before .before .before .before .before .before .before .before .before .before .before .before .before .before .before .before .before .before .before .before .before .before .before .if1 .left) (c .before .before .before .before .before .before .before .before .before .before .before .before .before .before .before .before .before .before .before .before .before .before .before .before .before .before .before .before .before .before .expr .ensures) (c .before .before .before .before .before .before .before .before .before .before .before .before .before .before .before .before .before .before .before .before .before .before .x2 .given .1) (c .before .before .before .before .before .before .before .before .before .before .before .before .before .before .before .before .before .before .before .kind-word .ensures .is) (c .before .before .before .before .before .before .before .before .before .before .before .before .before .before .before .before .before .before .put .ensures) (c .before .before .before .before .before .before .before .before .before .before .before .before .behind .ensures) (c .before .before .before .before .before .before .before .before .before .before .several .ensures) (c .enum-told .given .1)
 
--- src/cycle.rt:255:13
 several-one-more-requires : (t : ℕ) → several-lts.Need-one-more-requires (
   none-reads.Asked,
   none-reads.Learnt,
@@ -8827,7 +8370,6 @@ several-one-more-requires : (t : ℕ) → several-lts.Need-one-more-requires (
 ) (several-at t) several.Post
 several-one-more-requires t c κs = tt
 
--- src/cycle.rt:225:1
 several-same-length-5 : (t : ℕ) → several-lts.Need-same-length-5 (
   none-reads.Asked,
   none-reads.Learnt,
@@ -8846,7 +8388,6 @@ several-same-length-5 : (t : ℕ) → several-lts.Need-same-length-5 (
 ) (several-at t) several.Post
 several-same-length-5 t c = (c .before .before .before .before .before .before .before .before .before .expr .kept .1 .1 .1 .1 .1 .0)
 
--- src/cycle.rt:225:1
 several-same-length-6 : (t : ℕ) → several-lts.Need-same-length-6 (
   none-reads.Asked,
   none-reads.Learnt,
@@ -8865,7 +8406,6 @@ several-same-length-6 : (t : ℕ) → several-lts.Need-same-length-6 (
 ) (several-at t) several.Post
 several-same-length-6 t c = (c .before .before .before .before .before .before .before .before .before .expr .kept .1 .1 .1 .1 .1 .1 .0)
 
--- src/cycle.rt:225:1
 several-same-length-7 : (t : ℕ) → several-lts.Need-same-length-7 (
   none-reads.Asked,
   none-reads.Learnt,
@@ -8884,7 +8424,6 @@ several-same-length-7 : (t : ℕ) → several-lts.Need-same-length-7 (
 ) (several-at t) several.Post
 several-same-length-7 t c = (c .before .before .before .before .before .before .before .before .before .expr .kept .1 .1 .1 .1 .1 .1 .1 .0)
 
--- src/cycle.rt:225:1
 several-returns-3 : (t : ℕ) → several-lts.Need-returns-3 (
   none-reads.Asked,
   none-reads.Learnt,
@@ -8903,7 +8442,6 @@ several-returns-3 : (t : ℕ) → several-lts.Need-returns-3 (
 ) (several-at t) several.Post
 several-returns-3 t c = several-first _ (c .before .before .before .before .before .before .before .before .before .before .before .before .before .if1 .left) (c .before .before .before .before .before .before .before .before .before .expr .ensures) (c .before .x .given .1)
 
--- src/cycle.rt:225:1
 several-same-length-8 : (t : ℕ) → several-lts.Need-same-length-8 (
   none-reads.Asked,
   none-reads.Learnt,
@@ -8922,7 +8460,6 @@ several-same-length-8 : (t : ℕ) → several-lts.Need-same-length-8 (
 ) (several-at t) several.Post
 several-same-length-8 t c = (c .before .before .before .before .before .before .before .before .before .before .before .before .several .kept .1 .1 .1 .1 .1 .0) ∙ (c .before .before .before .before .before .before .before .before .before .before .before .before .before .before .before .before .before .before .before .before .before .before .before .before .before .before .before .before .before .before .before .before .expr .kept .1 .1 .1 .1 .1 .0)
 
--- src/cycle.rt:225:1
 several-same-length-9 : (t : ℕ) → several-lts.Need-same-length-9 (
   none-reads.Asked,
   none-reads.Learnt,
@@ -8941,7 +8478,6 @@ several-same-length-9 : (t : ℕ) → several-lts.Need-same-length-9 (
 ) (several-at t) several.Post
 several-same-length-9 t c = (c .before .before .before .before .before .before .before .before .before .before .before .before .several .kept .1 .1 .1 .1 .1 .1 .0) ∙ (c .before .before .before .before .before .before .before .before .before .before .before .before .before .before .before .before .before .before .before .before .before .before .before .before .before .before .before .before .before .before .before .before .expr .kept .1 .1 .1 .1 .1 .1 .0)
 
--- src/cycle.rt:225:1
 several-same-length-10 : (t : ℕ) → several-lts.Need-same-length-10 (
   none-reads.Asked,
   none-reads.Learnt,
@@ -8960,7 +8496,6 @@ several-same-length-10 : (t : ℕ) → several-lts.Need-same-length-10 (
 ) (several-at t) several.Post
 several-same-length-10 t c = (c .before .before .before .before .before .before .before .before .before .before .before .before .several .kept .1 .1 .1 .1 .1 .1 .1 .0) ∙ (c .before .before .before .before .before .before .before .before .before .before .before .before .before .before .before .before .before .before .before .before .before .before .before .before .before .before .before .before .before .before .before .before .expr .kept .1 .1 .1 .1 .1 .1 .1 .0)
 
--- src/cycle.rt:225:1
 several-same-length-11 : (t : ℕ) → several-lts.Need-same-length-11 (
   none-reads.Asked,
   none-reads.Learnt,
@@ -8979,7 +8514,6 @@ several-same-length-11 : (t : ℕ) → several-lts.Need-same-length-11 (
 ) (several-at t) several.Post
 several-same-length-11 t c = (c .before .before .before .before .before .before .before .before .before .before .before .before .several .kept .1 .1 .1 .1 .1 .1 .1 .1 .1 .0) ∙ (c .before .before .before .before .before .before .before .before .before .before .before .before .before .before .before .before .before .before .before .before .put .kept .0)
 
--- src/cycle.rt:225:1
 several-returns-4 : (t : ℕ) → several-lts.Need-returns-4 (
   none-reads.Asked,
   none-reads.Learnt,

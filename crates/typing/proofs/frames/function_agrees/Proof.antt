@@ -6,31 +6,31 @@ use Rattle.typing.proofs.frames.function_agrees.Statement.{statement}
 use Rattle.typing.proofs.frames.function_agrees.Tie as tie
 
 arity-requires : tie.Need-arity-requires
-arity-requires c κs = search needs
+arity-requires c κs = tt
 
 slice-aggregate-enter : tie.Need-slice-aggregate-enter
 slice-aggregate-enter c = search needs
 
 enter-requires : tie.Need-enter-requires
-enter-requires c κs = search needs
+enter-requires c κs = tt
 
 mul-word-at : tie.Need-mul-word-at
-mul-word-at c = search needs
+mul-word-at c = omega arith
 
 add-word-at : tie.Need-add-word-at
-add-word-at c = search needs
+add-word-at c = omega arith
 
 word-at-requires : tie.Need-word-at-requires
-word-at-requires c κs = search needs
+word-at-requires c κs = tt
 
 cast-at : tie.Need-cast-at
-cast-at c = search needs
+cast-at c = omega arith
 
 line-of-requires : tie.Need-line-of-requires
-line-of-requires c κs = search needs
+line-of-requires c κs = tt
 
 returned-requires : tie.Need-returned-requires
-returned-requires c κs = search needs
+returned-requires c κs = tt
 
 slice-aggregate-expect : tie.Need-slice-aggregate-expect
 slice-aggregate-expect c = search needs
@@ -39,7 +39,7 @@ expect-requires : tie.Need-expect-requires
 expect-requires c κs = omega (arith, (c .before .before .before .before .before .before .before .arity .ensures .1))
 
 is-typed-requires : tie.Need-is-typed-requires
-is-typed-requires c κs = search needs
+is-typed-requires c κs = tt
 
 returns : tie.Need-returns
 returns c = function-fits _ _ _ _ _ _ _ (c .before .before .before .before .before .before .before .before .before .before .arity .ensures) _ (c .before .before .before .before .before .before .before .before .enter .ensures) (omega arith) (c .before .before .before .before .before .before .word-at .ensures) (c .before .before .before .before .before .line-of .ensures) (c .before .before .before .before .returned .ensures) (c .before .before .expect .ensures) (c .is-typed .ensures)

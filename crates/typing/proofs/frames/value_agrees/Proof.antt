@@ -6,13 +6,13 @@ use Rattle.typing.proofs.frames.value_agrees.Statement.{statement}
 use Rattle.typing.proofs.frames.value_agrees.Tie as tie
 
 mul-word-at : tie.Need-mul-word-at
-mul-word-at c = search needs
+mul-word-at c = omega arith
 
 word-at-requires : tie.Need-word-at-requires
-word-at-requires c κs = search needs
+word-at-requires c κs = tt
 
 without-size-requires : tie.Need-without-size-requires
-without-size-requires c κs = search needs
+without-size-requires c κs = tt
 
 slice-aggregate-expect : tie.Need-slice-aggregate-expect
 slice-aggregate-expect c = search needs
@@ -21,7 +21,7 @@ expect-requires : tie.Need-expect-requires
 expect-requires c κs = (c .before .before .before .before .before .before .before .before .pre)
 
 is-typed-requires : tie.Need-is-typed-requires
-is-typed-requires c κs = search needs
+is-typed-requires c κs = tt
 
 returns : tie.Need-returns
 returns c = value-fits _ _ _ _ _ _ (c .before .before .before .before .before .word-at .ensures) (c .before .before .before .before .without-size .ensures) (c .before .before .expect .ensures) (omega arith) (c .is-typed .ensures)

@@ -5,7 +5,7 @@ use Rattle.typing.proofs.words.result_type.Statement.{statement}
 use Rattle.typing.proofs.words.result_type.Tie as tie
 
 byte-requires : tie.Need-byte-requires
-byte-requires c κs = search needs
+byte-requires c κs = tt
 
 enum-known-x : tie.Need-enum-known-x
 enum-known-x c = (c .match .keys1)
@@ -20,7 +20,7 @@ returns-2 : tie.Need-returns-2
 returns-2 c = result-leaf _ _ (c .before .before .before .before .before .byte .ensures) (c .before .before .before .x .given .1) (c .if1 .taken)
 
 byte-requires-2 : tie.Need-byte-requires-2
-byte-requires-2 c κs = search needs
+byte-requires-2 c κs = tt
 
 enum-known-y : tie.Need-enum-known-y
 enum-known-y c = search needs
@@ -32,7 +32,7 @@ returns-3 : tie.Need-returns-3
 returns-3 c = result-cut _ _ (c .before .before .before .before .before .before .before .before .byte .ensures) (c .before .before .before .before .before .before .x .given .1) (c .before .before .before .if1 .left) (c .before .before .byte2 .ensures) (c .enum-told2 .given .1)
 
 size-requires : tie.Need-size-requires
-size-requires c κs = search needs
+size-requires c κs = tt
 
 enum-known-z : tie.Need-enum-known-z
 enum-known-z c = search needs
@@ -44,7 +44,7 @@ returns-4 : tie.Need-returns-4
 returns-4 c = result-open _ _ (c .before .before .before .before .before .before .before .before .before .before .before .before .before .byte .ensures) (c .before .before .before .before .before .before .before .before .before .before .before .x .given .1) (c .before .before .before .before .before .before .before .before .if1 .left) (c .before .before .before .before .before .before .before .byte2 .ensures) (c .before .before .before .before .before .y .given .1) (c .before .before .size .ensures) (c .enum-told3 .given .1)
 
 named-word-requires : tie.Need-named-word-requires
-named-word-requires c κs = search needs
+named-word-requires c κs = tt
 
 returns-5 : tie.Need-returns-5
 returns-5 c = result-named _ _ (c .before .before .before .before .before .before .before .before .before .before .before .before .before .before .before .byte .ensures) (c .before .before .before .before .before .before .before .before .before .before .before .before .before .x .given .1) (c .before .before .before .before .before .before .before .before .before .before .if1 .left) (c .before .before .before .before .before .before .before .before .before .byte2 .ensures) (c .before .before .before .before .before .before .before .y .given .1) (c .before .before .before .before .size .ensures) (c .before .before .z .given .1) (c .named-word .ensures)

@@ -1,0 +1,44 @@
+-- The cells of all channels, those of the inputs again, and the updates' heap, each sum stopped.
+use Rattle.cells.specs.Counts.{tableWords}
+use mathlib.Core.Path.{refl}
+use Rattle.checker.specs.NeedLaws.{needs-all}
+use borrow.Author.Needs.{needs}
+use Rattle.checker.proofs.needed.Statement.{statement}
+use Rattle.checker.proofs.needed.Tie as tie
+
+slice-aggregate-channels-cells : tie.Need-slice-aggregate-channels-cells
+slice-aggregate-channels-cells c = search needs
+
+add-channels-cells : tie.Need-add-channels-cells
+add-channels-cells c = search needs
+
+channels-cells-requires : tie.Need-channels-cells-requires
+channels-cells-requires c κs = tt
+
+slice-aggregate-channels-cells-2 : tie.Need-slice-aggregate-channels-cells-2
+slice-aggregate-channels-cells-2 c = search needs
+
+channels-cells-requires-2 : tie.Need-channels-cells-requires-2
+channels-cells-requires-2 c κs = tt
+
+capped-sum-requires : tie.Need-capped-sum-requires
+capped-sum-requires c κs = tt
+
+capped-sum-requires-2 : tie.Need-capped-sum-requires-2
+capped-sum-requires-2 c κs = tt
+
+returns : tie.Need-returns
+returns c = needs-all tableWords refl (c .before .before .before .before .before .before .channels-cells .ensures) (c .before .before .before .channels-cells2 .ensures) (c .before .capped-sum .ensures) (c .capped-sum2 .ensures)
+
+pub needed-spec : {M : Type 1} → statement M
+needed-spec =
+    tie.close
+    (tie.spec
+    slice-aggregate-channels-cells
+    add-channels-cells
+    channels-cells-requires
+    slice-aggregate-channels-cells-2
+    channels-cells-requires-2
+    capped-sum-requires
+    capped-sum-requires-2
+    returns)

@@ -1,0 +1,118 @@
+-- Each return behind the reader: what is known there gives the machine's answer and list.
+use Prim.Native.Nat.{ℕ, zero, suc}
+use mathlib.Core.List.{List}
+use mathlib.Core.Bool.{Bool, true, false}
+use mathlib.Core.Path.{_≡_, refl, sym, ap, subst, _∙_}
+use native.Mathlib.Omega.{arith}
+use lib.ListN.{length, replicate}
+use Rattle.language.specs.Result.{Result, ok, no, bind, need}
+use Rattle.language.specs.Syntax.{File}
+use Rattle.language.specs.PlainTypes.{plainTypes}
+use Rattle.language.specs.Estimate.{stopped}
+use Rattle.language.specs.Checker.{SizedFile, sizedFile}
+use Rattle.language.specs.Cells.{updatesNumbers, numbersNeeded}
+use Rattle.language.specs.Machine.{judged, checkFile}
+use Rattle.theory.specs.PlainTyping.{WellPlain}
+use Rattle.theory.specs.PlainTypesAgree.{well-plain}
+use Rattle.theory.specs.PlainFileSizes.{well-plain-refusals}
+use Rattle.reader.specs.declared.Counts.{Counts}
+use Rattle.estimate.specs.declared.Estimate.{Estimate as HeldNumbers}
+use Rattle.estimate.specs.Stands.{Stands}
+use Rattle.typing.specs.Verdicts.{verdict, JudgesAll}
+use Rattle.typing.specs.JudgeLaws.{plain-types-verdict}
+use Rattle.sizing.specs.declared.Counted.{Counted as CountedFile}
+use Rattle.sizing.specs.declared.Counting.{Counting}
+use Rattle.sizing.specs.declared.Counting.the-variants.{Are, Refused}
+use Rattle.sizing.specs.Agreement.{Holds, Before, before-6, before-9}
+use Rattle.sizing.specs.Promises.{lent}
+use Rattle.sizing.specs.FilePromises.{AgreesFile, file-agrees, file-refused, file-beyond, SizesFile}
+use Rattle.checker.specs.declared.Board.{Board}
+use Rattle.checker.specs.declared.Answer.{Answer}
+use Rattle.checker.specs.Checks.{numbersOf, Checks, refusalOf, sizingRefusal, ReadHeld, FewChannels, Lends, Needs, Judges}
+use Rattle.checker.specs.VerdictLaws.{list-room}
+use Rattle.checker.specs.Outcomes.{lends, sizesOf, outcome, refused, not-enough, enough-lent}
+
+-- the numbers and the instances of a file whose sizes agree
+record Agreed (text : List ℕ) (b : Board) (list : List ℕ) (P : File) (list₁ : List ℕ) (k : CountedFile) : Type 0 where
+  sizes : SizedFile
+  is : outcome text b list ≡ ok (record { file = P; sizes = sizes })
+  numbers : Stands (k .numbers) (updatesNumbers (sizes .updates))
+  holds : Holds P list₁ (k .used) (sizes .list)
+
+module _ {text frames types functions channels : List ℕ} {n : Counts} (z : ReadHeld text frames types functions channels n) where
+  pub few-channels : FewChannels n
+  few-channels = let w = z .held .indexed .within in let c = z .held .counted in record { few = omega (arith, w .fewInputs, w .fewNodes, c .inputCount, c .nodeCount) }
+
+  module _ (b : Board) (list : List ℕ) {frame : ℕ} (v : JudgesAll text frames types functions channels n frame) where
+    after-reading : outcome text b list ≡ verdict frame (need (lends b list) 18 0 (sizesOf (z .file)))
+    unfolding checkFile bind
+    after-reading = ap (λ u. bind u (λ Q. plainTypes Q (need (lends b list) 18 0 (sizesOf Q)))) (z .held .indexed .read) ∙ plain-types-verdict v (z .held .indexed) (z .held .counted) (need (lends b list) 18 0 (sizesOf (z .file)))
+
+    pub types-refused : {r : Answer} {list′ : List ℕ} → (frame ≡ 0 → ⊥) → r ≡ refusalOf 9 frame → list′ ≡ replicate (length list) 0 → Checks text b list r list′
+    unfolding verdict
+    types-refused some e c = refused text b list (after-reading ∙ go frame some) e c
+      where
+        go : (f : ℕ) → (f ≡ 0 → ⊥) → verdict f (need (lends b list) 18 0 (sizesOf (z .file))) ≡ no 9 f
+        go zero h = absurd (h refl)
+        go (suc f) h = refl
+
+    module _ (agree : frame ≡ 0) {given : Bool} (l : Lends b (length list) given) where
+      after-types : outcome text b list ≡ need given 18 0 (sizesOf (z .file))
+      unfolding verdict
+      after-types = after-reading ∙ ap (λ f. verdict f (need (lends b list) 18 0 (sizesOf (z .file)))) agree ∙ ap (λ d. need d 18 0 (sizesOf (z .file))) (sym (l .is))
+
+      pub lent-refused : {r : Answer} {list′ : List ℕ} → given ≡ false → r ≡ refusalOf 18 0 → list′ ≡ replicate (length list) 0 → Checks text b list r list′
+      unfolding need
+      lent-refused e f c = refused text b list (after-types ∙ ap (λ d. need d 18 0 (sizesOf (z .file))) e) f c
+
+      module _ (enough : given ≡ true) {x : Counting} {list₁ : List ℕ} (s : SizesFile (lent text frames types functions channels) list n x list₁) (kept : length list₁ ≡ length list) where
+        after-lent : outcome text b list ≡ sizesOf (z .file)
+        unfolding need
+        after-lent = after-types ∙ ap (λ d. need d 18 0 (sizesOf (z .file))) enough
+
+        agreement : AgreesFile (z .file) list₁ x (sizedFile (z .file))
+        agreement = s .says (z .file) (z .held .indexed) (z .held .counted) (list-room b list (subst (Lends b (length list)) enough l))
+
+        well : WellPlain (z .file)
+        unfolding verdict
+        well = well-plain (z .file) (ok (z .file)) (plain-types-verdict v (z .held .indexed) (z .held .counted) (ok (z .file)) ∙ ap (λ f. verdict f (ok (z .file))) agree)
+
+        -- 6 and 9 were judged before
+        not-before : {m f : ℕ} {A : Type 0} → sizedFile (z .file) ≡ no m f → Before m → A
+        not-before q before-6 = absurd (let w = well-plain-refusals well q in omega (arith, w .least))
+        not-before q before-9 = absurd (let w = well-plain-refusals well q in omega (arith, w .least))
+
+        pub sizes-refused : {r : Answer} {list′ : List ℕ} {m f : ℕ} → x ≡ Refused m f → r ≡ sizingRefusal x → list′ ≡ replicate (length list₁) 0 → Checks text b list r list′
+        unfolding bind sizingRefusal
+        sizes-refused {r} {list′} {m} {f} told e c = go (sizedFile (z .file)) refl agreement
+          where
+            go : (y : Result SizedFile) → sizedFile (z .file) ≡ y → AgreesFile (z .file) list₁ x y → Checks text b list r list′
+            go y q (file-agrees d _ _) = absurd (let u = sym d ∙ told in let w : _≡_ {A = ℕ} 0 1 = cc in omega arith)
+            go y q (file-refused d) = refused text b list (after-lent ∙ ap (λ u. bind u (λ w. ok (record { file = z .file; sizes = w }))) q) (e ∙ ap sizingRefusal d) (c ∙ ap (λ m. replicate m 0) kept)
+            go y q (file-beyond w) = not-before q w
+
+        agreed : {k : CountedFile} → x ≡ Are k → Agreed text b list (z .file) list₁ k
+        unfolding bind
+        agreed {k} e = go (sizedFile (z .file)) refl agreement
+          where
+            go : (y : Result SizedFile) → sizedFile (z .file) ≡ y → AgreesFile (z .file) list₁ x y → Agreed text b list (z .file) list₁ k
+            go y q (file-agrees {k = j} {x = f} d st h) =
+                let same : j ≡ k = (let u : Are j ≡ Are k = sym d ∙ e in cc) in
+                record {
+                  sizes = f;
+                  is = after-lent ∙ ap (λ u. bind u (λ w. ok (record { file = z .file; sizes = w }))) q;
+                  numbers = subst (λ (i : CountedFile). Stands (i .numbers) (updatesNumbers (f .updates))) same st;
+                  holds = subst (λ (i : CountedFile). Holds (z .file) list₁ (i .used) (f .list)) same h;
+                }
+            go y q (file-refused d) = absurd (let u = sym d ∙ e in let c : _≡_ {A = ℕ} 0 1 = cc in omega arith)
+            go y q (file-beyond w) = not-before q w
+
+        module _ {k : CountedFile} (e : x ≡ Are k) {y : HeldNumbers} (u : Needs types channels n (k .numbers) y) {r : Answer} (j : Judges b y r) where
+          numbers-are : numbersOf y ≡ stopped (numbersNeeded (z .file) (agreed e .sizes .updates))
+          numbers-are = u .says (z .file) (z .held .indexed .within) (z .held .typesAre) (z .held .channelsAre) (z .held .counted) (agreed e .sizes .updates) (agreed e .numbers)
+
+          pub board-refused : {list′ : List ℕ} → (r .number ≡ 0 → ⊥) → list′ ≡ replicate (length list₁) 0 → Checks text b list r list′
+          board-refused some c = not-enough text b list (agreed e .is) numbers-are j some (c ∙ ap (λ m. replicate m 0) kept)
+
+          pub board-accepts : r .number ≡ 0 → Checks text b list r list₁
+          board-accepts none = enough-lent text b list (agreed e .is) numbers-are j none (agreed e .holds) kept

@@ -1,0 +1,7 @@
+pub mod Checks
+pub mod FinalLists
+pub mod VerdictLaws
+pub mod NeedLaws
+pub mod Outcomes
+pub mod ReadLaws
+pub mod CheckLaws

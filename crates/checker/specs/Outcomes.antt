@@ -1,0 +1,68 @@
+-- From what the passes over a text say to the machine's answer and list.
+use Prim.Native.Nat.{ℕ, _/_}
+use mathlib.Core.List.{List}
+use mathlib.Core.Bool.{Bool}
+use mathlib.Core.Path.{_≡_, sym, ap, subst, _∙_}
+use lib.ListN.{length, replicate, length-replicate}
+use Rattle.language.specs.Result.{Result, ok, no, bind}
+use Rattle.language.specs.Syntax.{File}
+use Rattle.language.specs.Estimate.{stopped}
+use Rattle.language.specs.Checker.{sizedFile}
+use Rattle.language.specs.Cells.{numbersNeeded}
+use Rattle.language.specs.Machine.{Accepted, accepted, Verdict, answer, judge, judged, verdictOf, finalList, checkFile, listLent, check, emptyRecord}
+use Rattle.estimate.specs.declared.Estimate.{Estimate as Held}
+use Rattle.instances.specs.Listed.{instanceWordsCount}
+use Rattle.sizing.specs.Agreement.{Holds}
+use Rattle.checker.specs.declared.Board.{Board}
+use Rattle.checker.specs.declared.Answer.{Answer}
+use Rattle.checker.specs.Checks.{boardOf, numbersOf, said, recordsOf, wordsOf, Checks, refusalOf, Judges}
+use Rattle.checker.specs.FinalLists.{cleared, listed}
+use Rattle.checker.specs.VerdictLaws.{number-accepts, number-refuses}
+
+-- whether what is lent is enough, what the size checker says, and what all passes say
+abbrev pub lends : Board → List ℕ → Bool
+lends b list = listLent (boardOf b) (recordsOf (length list))
+
+abbrev pub sizesOf : File → Result Accepted
+sizesOf P = bind (sizedFile P) (λ q. ok (record { file = P; sizes = q }))
+
+abbrev pub outcome : List ℕ → Board → List ℕ → Result Accepted
+outcome text b list = checkFile text (lends b list)
+
+module _ (text : List ℕ) (b : Board) (list : List ℕ) where
+  abbrev finalWords : Verdict → Result Accepted → List ℕ
+  finalWords v x = wordsOf (length list) (finalList v x (length (recordsOf (length list))))
+
+  checks-as : {r : Answer} {list′ : List ℕ} {x : Result Accepted} → outcome text b list ≡ x → said r ≡ answer (verdictOf (boardOf b) x) → list′ ≡ finalWords (verdictOf (boardOf b) x) x → Checks text b list r list′
+  unfolding check
+  checks-as e f g = record { answer = f ∙ ap (λ y. answer (verdictOf (boardOf b) y)) (sym e); instances = g ∙ ap (λ y. finalWords (verdictOf (boardOf b) y) y) (sym e) }
+
+  -- no record is left of those lent
+  none-left : {list′ : List ℕ} → list′ ≡ replicate (length list) 0 → list′ ≡ wordsOf (length list) (replicate (length (recordsOf (length list))) emptyRecord)
+  none-left e = e ∙ cleared (length list) ∙ ap (λ m. wordsOf (length list) (replicate m emptyRecord)) (sym (length-replicate (length list / instanceWordsCount) emptyRecord))
+
+  pub refused : {r : Answer} {list′ : List ℕ} {n frame : ℕ} → outcome text b list ≡ no n frame → r ≡ refusalOf n frame → list′ ≡ replicate (length list) 0 → Checks text b list r list′
+  unfolding verdictOf answer finalList
+  refused e f g = checks-as e (ap (λ (y : Answer). said y) f) (none-left g)
+
+  -- the sizes agree: a is the file and its numbers
+  module _ {r : Answer} {a : Accepted} {x : Held} (e : outcome text b list ≡ ok a) (n : numbersOf x ≡ stopped (numbersNeeded (a .file) (a .sizes .updates))) (j : Judges b x r) where
+    judged-as : judge (boardOf b) (numbersOf x) ≡ verdictOf (boardOf b) (ok a)
+    unfolding verdictOf judged
+    judged-as = ap (judge (boardOf b)) n
+
+    number-is : r .number ≡ answer (judge (boardOf b) (numbersOf x)) .number
+    number-is = λ i. j .is i .number
+
+    by-verdict : {list′ : List ℕ} {v : Verdict} → judge (boardOf b) (numbersOf x) ≡ v → list′ ≡ finalWords v (ok a) → Checks text b list r list′
+    by-verdict s g = checks-as e (j .is ∙ ap answer judged-as) (g ∙ ap (λ v. finalWords v (ok a)) (sym s ∙ judged-as))
+
+    pub not-enough : {list′ : List ℕ} → (r .number ≡ 0 → ⊥) → list′ ≡ replicate (length list) 0 → Checks text b list r list′
+    unfolding finalList
+    not-enough some g = by-verdict (number-refuses (boardOf b) (numbersOf x) (λ z. some (number-is ∙ z)) .1) (none-left g)
+
+    pub enough-lent : {list′ : List ℕ} {P : File} {used : ℕ} → r .number ≡ 0 → Holds P list′ used (a .sizes .list) → length list′ ≡ length list → Checks text b list r list′
+    unfolding finalList
+    enough-lent {list′} none h long =
+        by-verdict (number-accepts (boardOf b) (numbersOf x) (sym number-is ∙ none))
+        (subst (λ m. list′ ≡ wordsOf m (finalList (accepted (numbersOf x)) (ok a) (length (recordsOf (length list))))) long (listed (a .sizes .list) (length (recordsOf (length list))) h))

@@ -1,0 +1,198 @@
+// The checker of rule files: refusals 1 to 18, the three bounds, and the list of instances.
+ghost use mathlib.Core.Path.{_≡_};
+ghost use Rattle.checker.specs.Checks.{refusalOf, boundsOf, readingRefusal, sizingRefusal, ReadHeld, FewChannels, Lends, Needs, Judges, Checks};
+use cells::CELLS_TABLE;
+use cells::channels_cells;
+use estimate::Estimate;
+use estimate::capped_sum;
+use instances::INSTANCE_WORDS;
+use instances::clear;
+use language::limits::CALLS_MOST;
+use language::limits::CELLS_MOST;
+use language::limits::INSTANCES_MOST;
+use language::limits::SLOTS_MOST;
+use reader::CHANNEL_TABLE;
+use reader::Counts;
+use reader::FRAME_TABLE;
+use reader::FUNCTION_TABLE;
+use reader::Reading;
+use reader::TYPE_TABLE;
+use reader::read;
+use sizing::Counting;
+use sizing::file::sized_file;
+use typing::plain_types;
+
+// The least words of a list of instances.
+const LIST_LEAST: usize = INSTANCES_MOST * INSTANCE_WORDS;
+
+// What a board has.
+pub struct Board {
+    pub cells: u32,
+    pub slots: u32,
+    pub calls: u32,
+}
+
+// A number (0 where all is well), a frame (from 1; 0 where none is named) and three bounds.
+pub struct Answer {
+    pub number: u32,
+    pub frame: u32,
+    pub heap: u32,
+    pub environment: u32,
+    pub stack: u32,
+}
+
+// A refusal without bounds.
+fn refusal(number: u32, frame: u32) -> Answer
+    ensures { λ r. ⌜ r ≡ refusalOf number frame ⌝ }
+{
+    Answer {
+        number: number,
+        frame: frame,
+        heap: 0,
+        environment: 0,
+        stack: 0,
+    }
+}
+
+// An answer with bounds; it names no frame.
+fn bounds(number: u32, x: Estimate) -> Answer
+    ensures { λ r. ⌜ r ≡ boundsOf number x ⌝ }
+{
+    Answer {
+        number: number,
+        frame: 0,
+        heap: x.heap,
+        environment: x.env,
+        stack: x.stack,
+    }
+}
+
+// The refusal of a text that was not read.
+fn reading_refusal(x: Reading) -> Answer
+    ensures { λ r. ⌜ r ≡ readingRefusal x ⌝ }
+{
+    match x {
+        Reading::Done(_) => refusal(0, 0),
+        Reading::Fault(n, f) => refusal(n, f),
+    }
+}
+
+// The refusal of a file whose sizes do not agree.
+fn sizing_refusal(x: Counting) -> Answer
+    ensures { λ r. ⌜ r ≡ sizingRefusal x ⌝ }
+{
+    match x {
+        Counting::Are(_) => refusal(0, 0),
+        Counting::Refused(n, f) => refusal(n, f),
+    }
+}
+
+// Whether the board is within its maximum and the list has so many records; else refusal 18.
+fn lent(b: Board, words: usize) -> bool
+    ensures { λ r. ⌜ Lends b words r ⌝ }
+{
+    if CELLS_MOST < b.cells {
+        return false;
+    }
+    if SLOTS_MOST < b.slots {
+        return false;
+    }
+    if CALLS_MOST < b.calls {
+        return false;
+    }
+    LIST_LEAST <= words
+}
+
+// The numbers that a file needs: to the heap numbers of its updates come the cells of all channels and those of the inputs again.
+fn needed(types: &[u32], channels: &[u32], counts: Counts, updates: Estimate) -> Estimate
+    requires { ⌜ FewChannels counts ⌝ }
+    ensures { λ r. ⌜ Needs (now (types .entry)) (now (channels .entry)) counts updates r ⌝ }
+{
+    let mut table = [0u32; CELLS_TABLE];
+    let all = channels_cells(types, channels, &mut table, counts.inputs + counts.nodes);
+    let inputs = channels_cells(types, channels, &mut table, counts.inputs);
+    let channel_cells = capped_sum(all, inputs);
+    let heap = capped_sum(channel_cells, updates.heap);
+    Estimate {
+        env: updates.env,
+        heap: heap,
+        stack: updates.stack,
+    }
+}
+
+// Whether the board has what is needed: refusals 15, 16, 17, or acceptance.
+fn judge(b: Board, x: Estimate) -> Answer
+    ensures { λ r. ⌜ Judges b x r ⌝ }
+{
+    if b.cells < x.heap {
+        return bounds(15, x);
+    }
+    if b.slots < x.env {
+        return bounds(16, x);
+    }
+    if b.calls < x.stack {
+        return bounds(17, x);
+    }
+    bounds(0, x)
+}
+
+// Checks a file that was read: plain types, what is lent, sizes, and what the board has.
+fn check_read(
+    text: &[u8],
+    frames: &[u32],
+    types: &[u32],
+    functions: &[u32],
+    channels: &[u32],
+    counts: Counts,
+    b: Board,
+    list: &mut [u32],
+) -> Answer
+    requires { ⌜ ReadHeld (now text) (now frames) (now types) (now functions) (now channels) counts ⌝ }
+    ensures { λ r. ⌜ Checks (now (text .entry)) b (now (list .entry)) r (now (list .exit)) ⌝ }
+{
+    let frame = plain_types(text, frames, types, functions, channels, counts);
+    if frame != 0 {
+        clear(list);
+        return refusal(9, frame);
+    }
+    if !lent(b, list.len()) {
+        clear(list);
+        return refusal(18, 0);
+    }
+    let x = sized_file(text, frames, types, functions, channels, list, counts);
+    let Counting::Are(k) = x else {
+        clear(list);
+        return sizing_refusal(x);
+    };
+    let r = judge(b, needed(types, channels, counts, k.numbers));
+    if r.number != 0 {
+        clear(list);
+    }
+    r
+}
+
+// Checks a text on a board. The list ends with the instances in order of entry, INSTANCE_WORDS each, and zeros behind them;
+// after a refusal every word is zero.
+pub fn check(text: &[u8], b: Board, list: &mut [u32]) -> Answer
+    ensures { λ r. ⌜ Checks (now (text .entry)) b (now (list .entry)) r (now (list .exit)) ⌝ }
+{
+    let mut frames = [0u32; FRAME_TABLE];
+    let mut types = [0u32; TYPE_TABLE];
+    let mut functions = [0u32; FUNCTION_TABLE];
+    let mut channels = [0u32; CHANNEL_TABLE];
+    let x = read(text, &mut frames, &mut types, &mut functions, &mut channels);
+    let Reading::Done(counts) = x else {
+        clear(list);
+        return reading_refusal(x);
+    };
+    check_read(
+        text,
+        &frames,
+        &types,
+        &functions,
+        &channels,
+        counts,
+        b,
+        list,
+    )
+}

@@ -1,0 +1,21 @@
+-- A refusal of an expression as one of the file.
+use mathlib.Core.Path.{sym, ap}
+use Rattle.sizing.specs.FileParts.{notSized}
+use borrow.Author.Needs.{needs}
+use Rattle.sizing.proofs.file.not_sized.Statement.{statement}
+use Rattle.sizing.proofs.file.not_sized.Tie as tie
+
+enum-told : tie.Need-enum-told
+enum-told c = search needs
+
+enum-known-x : tie.Need-enum-known-x
+enum-known-x c = search needs
+
+returns : tie.Need-returns
+returns c = search needs
+
+returns-2 : tie.Need-returns-2
+returns-2 c = sym (ap notSized (c .before .x .given .1))
+
+pub not-sized-spec : {M : Type 1} → statement M
+not-sized-spec = tie.close (tie.spec enum-told enum-known-x returns returns-2)

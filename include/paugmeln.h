@@ -1,0 +1,90 @@
+/* The proved library, target/staticlib/libpaugmeln.a (written by `rt staticlib paugmeln`).
+ *
+ * Every buffer is the caller's, lent for the time of the call; nothing is allocated, and nothing is kept between calls, so
+ * that several threads may call at the same time. The buffers of one call must not overlap.
+ */
+#ifndef PAUGMELN_H
+#define PAUGMELN_H
+
+#include <stddef.h>
+#include <stdint.h>
+
+#ifdef __cplusplus
+extern "C" {
+#endif
+
+/* Characters of a rule file; a longer one is refused with 1. */
+#define PAUGMELN_TEXT_MOST 16384
+
+/* The largest board; one that has more of anything is refused with 18. */
+#define PAUGMELN_CELLS_MOST 2048
+#define PAUGMELN_SLOTS_MOST 256
+#define PAUGMELN_CALLS_MOST 64
+
+/* A record of the list of instances, in words: the function, its sizes (one for each parameter of a named type, unused
+ * ones 0), then environment, heap and stack of its body at these sizes. */
+#define PAUGMELN_RECORD_SIZES 8
+#define PAUGMELN_RECORD_WORDS (1 + PAUGMELN_RECORD_SIZES + 3)
+
+/* The least that is lent as the list of instances: 1,024 records. A shorter list is refused with 18. */
+#define PAUGMELN_LIST_RECORDS 1024
+#define PAUGMELN_LIST_WORDS (PAUGMELN_LIST_RECORDS * PAUGMELN_RECORD_WORDS)
+
+/* The stack, in bytes, of a thread on which paugmeln_check may be given any rule file: the checker goes as deep as 1,024
+ * bodies, each nested 32. Set by measurement (tools/measure-checking). A file that is not so deep needs far less;
+ * paugmeln_read needs no more than a thread usually has. */
+#define PAUGMELN_STACK_BYTES 268435456
+
+/* Number and frame of an answer: 0 where all is well, else why and in which line of the rule file it is refused. Lines
+ * count from 1; frame 0 names none.
+ *
+ *    1  the text is longer than 16,384 characters
+ *    2  a line is empty, odd, not upper-case hexadecimal, or without its line feed
+ *    3  a frame's kind is unknown, out of order or one too many; or there is no node
+ *    4  the bytes of a frame end early or go on
+ *    5  a code is outside its set
+ *    6  an index names nothing that is allowed there
+ *    7  a count, a size, a scope or the nesting is over its limit or below its least
+ *    8  a type has no constructor without a field of the type itself
+ *    9  plain types disagree, or an initial value has another form
+ *   10  a type's size is outside 1 to 64
+ *   11  sizes disagree, or an adjustment lowers one
+ *   12  a condition of a called function fails
+ *   13  the measure of a self-call does not fall
+ *   14  there would be a 1,025th instance
+ *   15, 16, 17  heap, environment or stack needed is above the board's
+ *   18  the board is over its maximum, or the list is too short
+ *
+ * The reader answers 1 to 8, the checker all of them. Of several the first in this order is answered, but 18 follows 9. */
+struct paugmeln_answer {
+    uint32_t number;
+    uint32_t frame;
+};
+
+/* An answer with the cells, slots and calls that a board needs at most, whatever the inputs. They stop at 65,535, and
+ * are 0 where the file is refused, except with 15 to 17. */
+struct paugmeln_verdict {
+    uint32_t number;
+    uint32_t frame;
+    uint32_t heap;
+    uint32_t environment;
+    uint32_t stack;
+};
+
+/* Reads a rule file. The text is lent for reading: its start and its length in bytes. */
+struct paugmeln_answer paugmeln_read(const uint8_t *text, size_t length);
+
+/* Checks a rule file against a board of so many heap cells, environment slots and calls.
+ *
+ * The text is lent as above. The list is lent for writing: its start and its length in words, at least
+ * PAUGMELN_LIST_WORDS; what it holds before is not looked at. On acceptance it holds a record for each instance, in order
+ * of entry, and its rest is 0; on refusal it is 0 in its whole length. One record in use may be 0 throughout: that of
+ * function 0 without sizes, where its three numbers are 0. At the end of the list it looks like an unused one. */
+struct paugmeln_verdict paugmeln_check(const uint8_t *text, size_t length, uint32_t cells, uint32_t slots, uint32_t calls,
+                                       uint32_t *list, size_t words);
+
+#ifdef __cplusplus
+}
+#endif
+
+#endif

@@ -1,0 +1,79 @@
+//! The proved checker.
+
+use std::thread;
+
+/// The real stack that is lent for any file. The checker may go 1,024 bodies deep, each nested 32, so the need is set
+/// by measurement: `tools/measure-checking` prints what the deepest files use, and this is to stay above twice the most
+/// of them. Pages that are not touched cost nothing.
+pub const STACK_NEEDED: usize = 256 << 20;
+
+/// What a board lends: heap cells, environment slots and calls of stack.
+#[derive(Clone, Copy, Debug, PartialEq, Eq)]
+pub struct Board {
+    pub cells: u32,
+    pub slots: u32,
+    pub calls: u32,
+}
+
+/// A number (0 where the file is accepted), a frame (0 where none is named) and heap, environment and stack needed,
+/// which are 0 except on acceptance and in 15 to 17.
+#[repr(C)]
+#[derive(Clone, Copy, Debug, PartialEq, Eq)]
+pub struct Verdict {
+    pub number: u32,
+    pub frame: u32,
+    pub heap: u32,
+    pub environment: u32,
+    pub stack: u32,
+}
+
+extern "C" {
+    fn paugmeln_check(
+        text: *const u8,
+        length: usize,
+        cells: u32,
+        slots: u32,
+        calls: u32,
+        list: *mut u32,
+        words: usize,
+    ) -> Verdict;
+}
+
+/// Checks a rule file against a board, on a thread of its own whose stack is large enough for any file.
+///
+/// The list is lent as words, of any contents, and is refused with 18 under [`LIST_WORDS`](crate::LIST_WORDS). On
+/// acceptance it holds the instances in order of entry and its rest is 0; on refusal all of it is 0.
+///
+/// # Panics
+///
+/// Where the system has no room for the thread.
+pub fn check(text: &[u8], board: Board, list: &mut [u32]) -> Verdict {
+    thread::scope(|scope| {
+        let deep = thread::Builder::new().stack_size(STACK_NEEDED);
+        let checking = deep.spawn_scoped(scope, || check_on_this_stack(text, board, list));
+        let verdict = checking.expect("room for a deep stack").join();
+        verdict.expect("the checker returns")
+    })
+}
+
+/// The same on the stack of the caller, who has seen to it that [`STACK_NEEDED`] bytes of it are free.
+pub fn check_on_this_stack(text: &[u8], board: Board, list: &mut [u32]) -> Verdict {
+    let Board {
+        cells,
+        slots,
+        calls,
+    } = board;
+    // SAFETY: the text is lent for reading and the list for reading and writing, each with its length. The two cannot
+    // overlap, and neither is kept.
+    unsafe {
+        paugmeln_check(
+            text.as_ptr(),
+            text.len(),
+            cells,
+            slots,
+            calls,
+            list.as_mut_ptr(),
+            list.len(),
+        )
+    }
+}

@@ -1,0 +1,40 @@
+//! Writes the rule files that checking is measured on into the folder named by the argument.
+
+use evaluator::syntax::File;
+use generator::depths::{deepest_bodies, Level};
+use generator::{edges, growth, writer};
+use std::fs;
+use std::io;
+use std::path::Path;
+
+/// The size at which a branch is split.
+const SPLIT_SIZE: usize = 16;
+
+/// The names are what `tools/measure-checking` looks for.
+fn files() -> Vec<(String, File)> {
+    let sums = [("sums".to_string(), growth::sums(7, 9))];
+    let sides = [(2, 5), (10, 10), (25, 40)];
+    let instances = sides.map(|(left, right)| {
+        let name = format!("instances-{}", left * right);
+        (name, edges::instances(left, right))
+    });
+    let splits = [1, 2, 3, 4].map(|fields| {
+        let name = format!("splits-{fields}");
+        (name, growth::splits(fields, SPLIT_SIZE))
+    });
+    let deepest = Level::ALL.map(|level| {
+        let name = format!("deepest-{level:?}").to_lowercase();
+        (name, deepest_bodies(level))
+    });
+    let all = sums.into_iter().chain(instances).chain(splits);
+    all.chain(deepest).collect()
+}
+
+fn main() -> io::Result<()> {
+    let folder = std::env::args().nth(1).expect("the name of a folder");
+    for (name, file) in files() {
+        let path = Path::new(&folder).join(format!("{name}.rules"));
+        fs::write(path, writer::text(&file))?;
+    }
+    Ok(())
+}

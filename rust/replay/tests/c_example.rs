@@ -1,0 +1,111 @@
+//! The C example, compiled with the header and the archive, answers as the Rust checker does; and the header's numbers are those of Rust.
+
+use evaluator::answer::{Answer, Board};
+use evaluator::limits::{
+    BOARD_CALLS, BOARD_CELLS, BOARD_SLOTS, INSTANCES, PARAMETERS, TEXT_CHARACTERS,
+};
+use evaluator::stack::with_deep_stack;
+use generator::depths::{deepest_bodies, Level};
+use generator::{edges, writer};
+use library::{LIST_WORDS, STACK_NEEDED};
+use replay::checking::{by_reference, Checked};
+use std::fs;
+use std::io::Write;
+use std::path::{Path, PathBuf};
+use std::process::{Command, Output, Stdio};
+
+const STRICT: [&str; 5] = ["-std=c11", "-Wall", "-Wextra", "-Wpedantic", "-Werror"];
+
+fn root() -> PathBuf {
+    Path::new(env!("CARGO_MANIFEST_DIR")).join("../..")
+}
+
+/// The example, compiled as its own comment says, with all warnings on.
+fn compiled() -> PathBuf {
+    let program = Path::new(env!("CARGO_TARGET_TMPDIR")).join("check-rules");
+    let compiled = Command::new("cc")
+        .args(STRICT)
+        .args(["-I", "include", "examples/c/check.c"])
+        .args(["target/staticlib/libpaugmeln.a", "-lpthread", "-o"])
+        .arg(&program)
+        .current_dir(root())
+        .status();
+    assert!(compiled.expect("cc is installed").success());
+    program
+}
+
+fn run(program: &Path, text: &[u8]) -> Output {
+    let started = Command::new(program)
+        .stdin(Stdio::piped())
+        .stdout(Stdio::piped())
+        .stderr(Stdio::piped())
+        .spawn();
+    let mut running = started.expect("the example starts");
+    let mut input = running.stdin.take().expect("a pipe");
+    input.write_all(text).expect("all of it is read");
+    drop(input);
+    running.wait_with_output().expect("the example ends")
+}
+
+/// The line that document 01 asks for.
+fn line(answer: Answer) -> String {
+    let bounds = answer.bounds;
+    let (heap, environment, stack) = (bounds.heap, bounds.environment, bounds.stack);
+    match answer.number {
+        0 => format!("ACCEPT {heap} {environment} {stack}\n"),
+        number => format!(
+            "REFUSE {number} {} {heap} {environment} {stack}\n",
+            answer.frame
+        ),
+    }
+}
+
+fn texts() -> Vec<Vec<u8>> {
+    let names = ["accumulate.rules", "listing3.rules", "top10sum.rules"];
+    let examples = names.map(|name| root().join("examples").join(name));
+    let examples = examples.map(|path| fs::read(path).expect("the rule file is there"));
+    let deepest = Level::ALL.map(|level| writer::text(&deepest_bodies(level)));
+    let empty = vec![vec![]];
+    [examples.to_vec(), deepest.to_vec(), edges::all(), empty].concat()
+}
+
+#[test]
+fn the_example_answers_as_the_rust_checker_does() {
+    let program = compiled();
+    for text in texts() {
+        let output = run(&program, &text);
+        let expected = with_deep_stack(move || by_reference(&text, Board::LARGEST, LIST_WORDS));
+        let Checked { answer, list } = expected.expect("an answer");
+        assert_eq!(String::from_utf8_lossy(&output.stdout), line(answer));
+        assert_eq!(output.status.code(), Some(i32::from(answer.number != 0)));
+        let listed = String::from_utf8_lossy(&output.stderr).lines().count();
+        assert_eq!(listed, library::instances(&list).len());
+    }
+}
+
+/// The number that a line `#define <name> <number>` of the header gives.
+fn defined(header: &str, name: &str) -> Option<usize> {
+    let start = format!("#define {name} ");
+    let found = header.lines().find_map(|line| line.strip_prefix(&start));
+    found?.parse().ok()
+}
+
+#[test]
+fn the_numbers_of_the_header_and_of_the_script_are_those_of_rust() {
+    let header = fs::read_to_string(root().join("include/paugmeln.h")).expect("the header");
+    let expected = [
+        ("PAUGMELN_TEXT_MOST", TEXT_CHARACTERS),
+        ("PAUGMELN_CELLS_MOST", BOARD_CELLS as usize),
+        ("PAUGMELN_SLOTS_MOST", BOARD_SLOTS as usize),
+        ("PAUGMELN_CALLS_MOST", BOARD_CALLS as usize),
+        ("PAUGMELN_RECORD_SIZES", PARAMETERS),
+        ("PAUGMELN_LIST_RECORDS", INSTANCES),
+        ("PAUGMELN_STACK_BYTES", STACK_NEEDED),
+    ];
+    for (name, number) in expected {
+        assert_eq!(defined(&header, name), Some(number), "{name}");
+    }
+    let script = fs::read_to_string(root().join("check")).expect("the script");
+    let kibibytes = format!("readonly stack_needed={}\n", STACK_NEEDED / 1024);
+    assert!(script.contains(&kibibytes));
+}

@@ -1,0 +1,100 @@
+//! The proved checker and the Rust checker give the same answer and leave the same words in the lent list.
+
+mod support;
+
+use evaluator::answer::Board;
+use evaluator::stack::with_deep_stack;
+use generator::case::Case;
+use generator::mixture::Mixture;
+use library::LIST_WORDS;
+use replay::checking::{asked, by_library, by_reference, report_by_library};
+use replay::format;
+use std::collections::BTreeMap;
+use std::fs;
+use std::path::Path;
+use support::{own_folder, say, shared_folder};
+
+/// How often each number was answered.
+type Counts = BTreeMap<u32, usize>;
+
+/// Compares the two on one file; gives the number answered.
+fn compared(board: Board, text: &[u8]) -> u32 {
+    let found = by_library(text, board, LIST_WORDS);
+    let expected = by_reference(text, board, LIST_WORDS);
+    let shown = String::from_utf8_lossy(text);
+    let answers = (found.answer, expected.answer);
+    assert!(
+        found == expected,
+        "{answers:?} by the library and by Rust, or unlike lists, for {board:?} and the text {shown}"
+    );
+    found.answer.number
+}
+
+fn compared_all(cases: impl Iterator<Item = Case>) -> Counts {
+    let mut counts = Counts::new();
+    for case in cases {
+        let (board, text) = asked(&case);
+        *counts.entry(compared(board, text)).or_default() += 1;
+    }
+    counts
+}
+
+#[test]
+fn generated_and_damaged_files_agree() {
+    let counts = with_deep_stack(|| {
+        let mut mixture = Mixture::new(47);
+        compared_all((0..22_000).map(|_| mixture.next_case()))
+    })
+    .expect("every file agrees");
+    println!("{counts:?}");
+    assert!(counts.values().sum::<usize>() >= 20_000);
+    assert!((0..=18).all(|number| counts.contains_key(&number)));
+}
+
+fn lines(folder: &Path, name: &str) -> Vec<String> {
+    let content = fs::read_to_string(folder.join(name)).expect("a readable file");
+    content.lines().map(str::to_string).collect()
+}
+
+/// The parts of an answer that the checker gives; none for an iteration.
+fn check_of(answer: &str) -> Option<String> {
+    let parts: Vec<&str> = answer.split(';').take(2).collect();
+    answer.starts_with("check:").then(|| parts.join(";"))
+}
+
+/// Compares the two on the cases of a file, and the reports with the answers on file.
+fn agree(folder: &Path, name: &str) {
+    let cases = lines(folder, &format!("{name}.txt"));
+    let answers = lines(folder, &format!("{name}.answers.txt"));
+    assert_eq!(cases.len(), answers.len());
+    let counts = with_deep_stack(move || {
+        let cases: Vec<Case> = cases
+            .iter()
+            .map(|line| format::parse(line).expect("a case"))
+            .collect();
+        for (case, answer) in cases.iter().zip(&answers) {
+            if let Some(expected) = check_of(answer) {
+                assert_eq!(report_by_library(case), expected);
+            }
+        }
+        compared_all(cases.into_iter())
+    });
+    let counts = counts.expect("every file agrees");
+    say(&format!("{name}.txt: {counts:?} checked alike"));
+}
+
+#[test]
+fn the_cases_of_this_repository_agree() {
+    agree(&own_folder(), "sample");
+    agree(&own_folder(), "instances");
+}
+
+#[test]
+fn the_shared_cases_agree_where_they_are_present() {
+    let Some(folder) = shared_folder() else {
+        return;
+    };
+    for name in ["edges", "run"] {
+        agree(&folder, name);
+    }
+}
