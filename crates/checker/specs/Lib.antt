@@ -5,3 +5,4 @@ pub mod NeedLaws
 pub mod Outcomes
 pub mod ReadLaws
 pub mod CheckLaws
+pub mod AcceptsExactly
