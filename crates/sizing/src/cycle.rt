@@ -97,9 +97,28 @@ pub fn expr(
         Form::Bool(_) => leaf(SizedType::Bool, one_cell(), q),
         Form::Int(_) => leaf(SizedType::Int, one_cell(), q),
         Form::Variable(v) => leaf(type_in(scope, v as usize), nothing(), q),
-        Form::Now(c) => leaf(type_in(channels, CHANNEL_WORDS * (c as usize)), nothing(), q),
-        Form::Last(c) => leaf(type_in(channels, CHANNEL_WORDS * (c as usize)), nothing(), q),
-        _ => compound(text, frames, types, functions, channels, list, scope, sizes, q, form),
+        Form::Now(c) => leaf(
+            type_in(channels, CHANNEL_WORDS * (c as usize)),
+            nothing(),
+            q,
+        ),
+        Form::Last(c) => leaf(
+            type_in(channels, CHANNEL_WORDS * (c as usize)),
+            nothing(),
+            q,
+        ),
+        _ => compound(
+            text,
+            frames,
+            types,
+            functions,
+            channels,
+            list,
+            scope,
+            sizes,
+            q,
+            form,
+        ),
     }
 }
 
@@ -121,18 +140,104 @@ fn compound(
     ensures { λ r. ⌜ Sizes (CompoundPart form) (lent (now (text .entry)) (now (frames .entry)) (now (types .entry)) (now (functions .entry)) (now (channels .entry))) (buffers (now (list .entry)) (now (scope .entry)) (now (sizes .entry))) p r (buffers (now (list .exit)) (now (scope .exit)) (now (sizes .exit))) ⌝ }
 {
     match form {
-        Form::Let => binding(text, frames, types, functions, channels, list, scope, sizes, p),
-        Form::If => choice(text, frames, types, functions, channels, list, scope, sizes, p),
+        Form::Let => binding(
+            text,
+            frames,
+            types,
+            functions,
+            channels,
+            list,
+            scope,
+            sizes,
+            p,
+        ),
+        Form::If => choice(
+            text,
+            frames,
+            types,
+            functions,
+            channels,
+            list,
+            scope,
+            sizes,
+            p,
+        ),
         Form::Operator(o) => {
-            operation(text, frames, types, functions, channels, list, scope, sizes, p, o)
+            operation(
+                text,
+                frames,
+                types,
+                functions,
+                channels,
+                list,
+                scope,
+                sizes,
+                p,
+                o,
+            )
         }
-        Form::Call(f) => call(text, frames, types, functions, channels, list, scope, sizes, p, f),
+        Form::Call(f) => call(
+            text,
+            frames,
+            types,
+            functions,
+            channels,
+            list,
+            scope,
+            sizes,
+            p,
+            f,
+        ),
         Form::Construct(t, c) => {
-            construct(text, frames, types, functions, channels, list, scope, sizes, p, t, c)
+            construct(
+                text,
+                frames,
+                types,
+                functions,
+                channels,
+                list,
+                scope,
+                sizes,
+                p,
+                t,
+                c,
+            )
         }
-        Form::Case(t) => case_of(text, frames, types, functions, channels, list, scope, sizes, p, t),
-        Form::Adjust => adjust(text, frames, types, functions, channels, list, scope, sizes, p),
-        Form::Fit(k) => fit(text, frames, types, functions, channels, list, scope, sizes, p, k),
+        Form::Case(t) => case_of(
+            text,
+            frames,
+            types,
+            functions,
+            channels,
+            list,
+            scope,
+            sizes,
+            p,
+            t,
+        ),
+        Form::Adjust => adjust(
+            text,
+            frames,
+            types,
+            functions,
+            channels,
+            list,
+            scope,
+            sizes,
+            p,
+        ),
+        Form::Fit(k) => fit(
+            text,
+            frames,
+            types,
+            functions,
+            channels,
+            list,
+            scope,
+            sizes,
+            p,
+            k,
+        ),
         _ => Sizing::Refused(5, p.line + 1),
     }
 }
@@ -152,13 +257,33 @@ fn binding(
     requires { ⌜ Room (suc (p .levels)) (length (now scope)) (length (now sizes)) p ⌝ }
     ensures { λ r. ⌜ Sizes LetPart (lent (now (text .entry)) (now (frames .entry)) (now (types .entry)) (now (functions .entry)) (now (channels .entry))) (buffers (now (list .entry)) (now (scope .entry)) (now (sizes .entry))) p r (buffers (now (list .exit)) (now (scope .exit)) (now (sizes .exit))) ⌝ }
 {
-    let x = expr(text, frames, types, functions, channels, list, scope, sizes, p);
+    let x = expr(
+        text,
+        frames,
+        types,
+        functions,
+        channels,
+        list,
+        scope,
+        sizes,
+        p,
+    );
     let Sizing::Is(a) = x else {
         return x;
     };
     put(scope, p.variables as usize, kind_word(a));
     let q = widen(behind(p, a), 1, 0);
-    let y = expr(text, frames, types, functions, channels, list, scope, sizes, q);
+    let y = expr(
+        text,
+        frames,
+        types,
+        functions,
+        channels,
+        list,
+        scope,
+        sizes,
+        q,
+    );
     let Sizing::Is(b) = y else {
         return y;
     };
@@ -180,15 +305,45 @@ fn choice(
     requires { ⌜ Room (suc (p .levels)) (length (now scope)) (length (now sizes)) p ⌝ }
     ensures { λ r. ⌜ Sizes IfPart (lent (now (text .entry)) (now (frames .entry)) (now (types .entry)) (now (functions .entry)) (now (channels .entry))) (buffers (now (list .entry)) (now (scope .entry)) (now (sizes .entry))) p r (buffers (now (list .exit)) (now (scope .exit)) (now (sizes .exit))) ⌝ }
 {
-    let x = expr(text, frames, types, functions, channels, list, scope, sizes, p);
+    let x = expr(
+        text,
+        frames,
+        types,
+        functions,
+        channels,
+        list,
+        scope,
+        sizes,
+        p,
+    );
     let Sizing::Is(a) = x else {
         return x;
     };
-    let y = expr(text, frames, types, functions, channels, list, scope, sizes, behind(p, a));
+    let y = expr(
+        text,
+        frames,
+        types,
+        functions,
+        channels,
+        list,
+        scope,
+        sizes,
+        behind(p, a),
+    );
     let Sizing::Is(b) = y else {
         return y;
     };
-    let z = expr(text, frames, types, functions, channels, list, scope, sizes, behind(p, b));
+    let z = expr(
+        text,
+        frames,
+        types,
+        functions,
+        channels,
+        list,
+        scope,
+        sizes,
+        behind(p, b),
+    );
     let Sizing::Is(d) = z else {
         return z;
     };
@@ -214,11 +369,31 @@ fn operation(
     requires { ⌜ Room (suc (p .levels)) (length (now scope)) (length (now sizes)) p ⌝ }
     ensures { λ r. ⌜ Sizes (OpPart o) (lent (now (text .entry)) (now (frames .entry)) (now (types .entry)) (now (functions .entry)) (now (channels .entry))) (buffers (now (list .entry)) (now (scope .entry)) (now (sizes .entry))) p r (buffers (now (list .exit)) (now (scope .exit)) (now (sizes .exit))) ⌝ }
 {
-    let x = expr(text, frames, types, functions, channels, list, scope, sizes, p);
+    let x = expr(
+        text,
+        frames,
+        types,
+        functions,
+        channels,
+        list,
+        scope,
+        sizes,
+        p,
+    );
     let Sizing::Is(a) = x else {
         return x;
     };
-    let y = expr(text, frames, types, functions, channels, list, scope, sizes, behind(p, a));
+    let y = expr(
+        text,
+        frames,
+        types,
+        functions,
+        channels,
+        list,
+        scope,
+        sizes,
+        behind(p, a),
+    );
     let Sizing::Is(b) = y else {
         return y;
     };
@@ -247,12 +422,35 @@ fn several(
     if n <= i {
         return none(p);
     }
-    let x = expr(text, frames, types, functions, channels, list, scope, sizes, p);
+    let x = expr(
+        text,
+        frames,
+        types,
+        functions,
+        channels,
+        list,
+        scope,
+        sizes,
+        p,
+    );
     match x {
         Sizing::Refused(m, frame) => Counting::Refused(m, frame),
         Sizing::Is(a) => {
             put(row, i as usize, kind_word(a));
-            let y = several(text, frames, types, functions, channels, list, scope, sizes, behind(p, a), row, i + 1, n);
+            let y = several(
+                text,
+                frames,
+                types,
+                functions,
+                channels,
+                list,
+                scope,
+                sizes,
+                behind(p, a),
+                row,
+                i + 1,
+                n,
+            );
             let Counting::Are(b) = y else {
                 return y;
             };
@@ -281,7 +479,20 @@ fn call(
     let n = arity(functions, f);
     let mut inner = [0u32; VARIABLES_MOST as usize];
     let mut named = [0u8; SIZE_VARIABLES_MOST as usize];
-    let x = several(text, frames, types, functions, channels, list, scope, sizes, p, &mut inner, 0, n);
+    let x = several(
+        text,
+        frames,
+        types,
+        functions,
+        channels,
+        list,
+        scope,
+        sizes,
+        p,
+        &mut inner,
+        0,
+        n,
+    );
     let Counting::Are(a) = x else {
         return refused(x);
     };
@@ -292,7 +503,18 @@ fn call(
     let Entering::Ready(e) = y else {
         return not_entered(y);
     };
-    let z = enter(text, frames, types, functions, channels, list, &mut inner, &mut named, q, e);
+    let z = enter(
+        text,
+        frames,
+        types,
+        functions,
+        channels,
+        list,
+        &mut inner,
+        &mut named,
+        q,
+        e,
+    );
     let Sizing::Is(b) = z else {
         return z;
     };
@@ -320,7 +542,18 @@ fn enter(
     let kind = e.kind;
     match x {
         Search::Found(numbers) => leaf(kind, numbers, p),
-        Search::Absent => body(text, frames, types, functions, channels, list, scope, sizes, p, e),
+        Search::Absent => body(
+            text,
+            frames,
+            types,
+            functions,
+            channels,
+            list,
+            scope,
+            sizes,
+            p,
+            e,
+        ),
     }
 }
 
@@ -346,7 +579,17 @@ fn body(
     }
     add(list, p.used, e.function, sizes);
     let q = body_place(functions, p, e);
-    let x = expr(text, frames, types, functions, channels, list, scope, sizes, q);
+    let x = expr(
+        text,
+        frames,
+        types,
+        functions,
+        channels,
+        list,
+        scope,
+        sizes,
+        q,
+    );
     let Sizing::Is(a) = x else {
         return x;
     };
@@ -380,7 +623,20 @@ fn construct(
 {
     let n = fields(types, t, c);
     let mut row = [0u32; FIELDS_MOST];
-    let x = several(text, frames, types, functions, channels, list, scope, sizes, p, &mut row, 0, n);
+    let x = several(
+        text,
+        frames,
+        types,
+        functions,
+        channels,
+        list,
+        scope,
+        sizes,
+        p,
+        &mut row,
+        0,
+        n,
+    );
     let Counting::Are(a) = x else {
         return refused(x);
     };
@@ -404,7 +660,17 @@ fn case_of(
     requires { ⌜ t < 2 ^ 8 ⌝ }
     ensures { λ r. ⌜ Sizes (CasePart t) (lent (now (text .entry)) (now (frames .entry)) (now (types .entry)) (now (functions .entry)) (now (channels .entry))) (buffers (now (list .entry)) (now (scope .entry)) (now (sizes .entry))) p r (buffers (now (list .exit)) (now (scope .exit)) (now (sizes .exit))) ⌝ }
 {
-    let x = expr(text, frames, types, functions, channels, list, scope, sizes, p);
+    let x = expr(
+        text,
+        frames,
+        types,
+        functions,
+        channels,
+        list,
+        scope,
+        sizes,
+        p,
+    );
     let Sizing::Is(a) = x else {
         return x;
     };
@@ -418,9 +684,25 @@ fn case_of(
     let TypeAt::Is(wanted, next) = y else {
         return Sizing::Refused(10, p.line + 1);
     };
-    let s = Subject { of: t, size: m, kind: wanted };
+    let s = Subject {
+        of: t,
+        size: m,
+        kind: wanted,
+    };
     let q = moved(p, next, a.used);
-    let z = branches(text, frames, types, functions, channels, list, scope, sizes, q, s, 0);
+    let z = branches(
+        text,
+        frames,
+        types,
+        functions,
+        channels,
+        list,
+        scope,
+        sizes,
+        q,
+        s,
+        0,
+    );
     let Sizing::Is(b) = z else {
         return z;
     };
@@ -449,11 +731,35 @@ fn branches(
         let kind = s.kind;
         return leaf(kind, nothing(), p);
     }
-    let x = branch(text, frames, types, functions, channels, list, scope, sizes, p, s, k);
+    let x = branch(
+        text,
+        frames,
+        types,
+        functions,
+        channels,
+        list,
+        scope,
+        sizes,
+        p,
+        s,
+        k,
+    );
     let Sizing::Is(a) = x else {
         return x;
     };
-    let y = branches(text, frames, types, functions, channels, list, scope, sizes, behind(p, a), s, k + 1);
+    let y = branches(
+        text,
+        frames,
+        types,
+        functions,
+        channels,
+        list,
+        scope,
+        sizes,
+        behind(p, a),
+        s,
+        k + 1,
+    );
     let Sizing::Is(b) = y else {
         return y;
     };
@@ -488,7 +794,19 @@ fn branch(
         return leaf(kind, nothing(), moved(p, next, p.used));
     }
     first_split(sizes, p.sizes as usize, own, m - 1);
-    at_splits(text, frames, types, functions, channels, list, scope, sizes, p, s, k)
+    at_splits(
+        text,
+        frames,
+        types,
+        functions,
+        channels,
+        list,
+        scope,
+        sizes,
+        p,
+        s,
+        k,
+    )
 }
 
 // A branch for every split from the one on that stands among the sizes.
@@ -513,12 +831,27 @@ fn at_splits(
     let own = own_fields(types, s.of, k);
     let at = p.at;
     let kind = s.kind;
-    let mut all = Checked { kind: kind, numbers: nothing(), next: at, used: p.used };
+    let mut all = Checked {
+        kind: kind,
+        numbers: nothing(),
+        next: at,
+        used: p.used,
+    };
     let mut more = true;
     while more {
         bind_fields(types, scope, sizes, s.of, k, p.variables, p.sizes);
         let q = widen(moved(p, at, all.used), n, own);
-        let x = expr(text, frames, types, functions, channels, list, scope, sizes, q);
+        let x = expr(
+            text,
+            frames,
+            types,
+            functions,
+            channels,
+            list,
+            scope,
+            sizes,
+            q,
+        );
         let Sizing::Is(a) = x else {
             return x;
         };
@@ -553,7 +886,17 @@ fn adjust(
         return Sizing::Refused(10, p.line + 1);
     };
     let q = moved(p, next, p.used);
-    let x = expr(text, frames, types, functions, channels, list, scope, sizes, q);
+    let x = expr(
+        text,
+        frames,
+        types,
+        functions,
+        channels,
+        list,
+        scope,
+        sizes,
+        q,
+    );
     let Sizing::Is(a) = x else {
         return x;
     };
@@ -584,7 +927,17 @@ fn fit(
     requires { ⌜ k < 2 ^ 8 ⌝ }
     ensures { λ r. ⌜ Sizes (FitPart k) (lent (now (text .entry)) (now (frames .entry)) (now (types .entry)) (now (functions .entry)) (now (channels .entry))) (buffers (now (list .entry)) (now (scope .entry)) (now (sizes .entry))) p r (buffers (now (list .exit)) (now (scope .exit)) (now (sizes .exit))) ⌝ }
 {
-    let x = expr(text, frames, types, functions, channels, list, scope, sizes, p);
+    let x = expr(
+        text,
+        frames,
+        types,
+        functions,
+        channels,
+        list,
+        scope,
+        sizes,
+        p,
+    );
     let Sizing::Is(a) = x else {
         return x;
     };
@@ -592,13 +945,37 @@ fn fit(
     let SizedType::Named(t, _) = kind else {
         return Sizing::Refused(9, p.line + 1);
     };
-    put(scope, p.variables as usize, word_of(SizedType::Named(t, k as u8)));
+    put(
+        scope,
+        p.variables as usize,
+        word_of(SizedType::Named(t, k as u8)),
+    );
     let q = widen(behind(p, a), 1, 0);
-    let y = expr(text, frames, types, functions, channels, list, scope, sizes, q);
+    let y = expr(
+        text,
+        frames,
+        types,
+        functions,
+        channels,
+        list,
+        scope,
+        sizes,
+        q,
+    );
     let Sizing::Is(b) = y else {
         return y;
     };
-    let z = expr(text, frames, types, functions, channels, list, scope, sizes, behind(p, b));
+    let z = expr(
+        text,
+        frames,
+        types,
+        functions,
+        channels,
+        list,
+        scope,
+        sizes,
+        behind(p, b),
+    );
     let Sizing::Is(d) = z else {
         return z;
     };
