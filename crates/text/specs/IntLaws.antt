@@ -1,16 +1,21 @@
 -- An Int by its four bytes: each byte may be missing, else the number is theirs.
-use Prim.Native.Nat.{ℕ, _+_, _*_, _^_}
-use mathlib.Core.List.{List}
-use mathlib.Core.Path.{_≡_}
+use Prim.Native.Nat.{ℕ, _+_, _-_, _*_, _/_, _^_, _≤_, _<_}
+use mathlib.Core.List.{List, [], _∷_}
+use mathlib.Core.Path.{_≡_, refl, sym, ap, _∙_}
+use native.Mathlib.Omega.{arith}
+use lib.ListN.{length, drop, length-drop}
+use lib.Seq.{drop-drop}
 use Rattle.language.specs.Limits.{byteRange}
-use Rattle.language.specs.Parser.{Parser, _>>=_, return, byte}
+use Rattle.language.specs.Parser.{got, bad, Parser, andThen, _>>=_, return, byte}
 use Rattle.language.specs.ReadExpr.{int}
 use Rattle.text.specs.declared.Found.{Found}
 use Rattle.text.specs.declared.Number.{Number}
 use Rattle.text.specs.declared.Number.the-variants.{Is, Refused}
-use Rattle.text.specs.Bytes.{bytesFrom, ReadsNumber, Below}
+use Rattle.text.specs.declared.Step.the-variants.{Next, Stop}
+use Rattle.text.specs.Bytes.{bytesOf, bytesFrom, forget, passed, moved, stopped, ReadsNumber, Passes, Below}
+use Rattle.text.specs.DigitLaws.{bytes-length}
 use Rattle.text.specs.ReadLaws.{read-then}
-use Rattle.text.specs.StepLaws.{number-other, read-then-read, read-stops-read}
+use Rattle.text.specs.StepLaws.{pass-here, number-other, read-then-read, read-stops-read}
 
 -- what is left to read behind one byte, two, three and all four
 abbrev behindFour : ℕ → ℕ → ℕ → ℕ → Parser ℕ
@@ -58,3 +63,31 @@ module _ (line : List ℕ) (at : ℕ) {x : Number} (v : ByteAt line at x) where
         pub int-whole : {k : Found} → q ≡ Is k → ReadsNumber line at (Is (record { value = f .value * 2 ^ 24 + g .value * 2 ^ 16 + h .value * 2 ^ 8 + k .value; next = k .next })) (int (bytesFrom line at))
         unfolding int
         int-whole e = read-then-read behindOne (v .0) d (read-then-read (behindTwo (f .value)) (u .0) d′ (read-then-read (behindThree (f .value) (g .value)) (w .0) d″ (number-other (t .0) e (read-then (behindFour (f .value) (g .value) (h .value)) (t .0) e))))
+
+-- ---- an Int passed over: its bytes are only counted
+int-short : (bs : List ℕ) → length bs < 4 → forget (int bs) ≡ bad 4
+unfolding int byte andThen forget
+int-short [] h = refl
+int-short (a ∷ []) h = refl
+int-short (a ∷ b ∷ []) h = refl
+int-short (a ∷ b ∷ c ∷ []) h = refl
+int-short (a ∷ b ∷ c ∷ d ∷ bs) h = absurd (omega arith)
+
+int-there : (bs : List ℕ) → 4 ≤ length bs → forget (int bs) ≡ got tt (drop 4 bs)
+unfolding int byte andThen forget
+int-there [] h = absurd (omega arith)
+int-there (a ∷ []) h = absurd (omega arith)
+int-there (a ∷ b ∷ []) h = absurd (omega arith)
+int-there (a ∷ b ∷ c ∷ []) h = absurd (omega arith)
+int-there (a ∷ b ∷ c ∷ d ∷ bs) h = refl
+
+module _ (line : List ℕ) (at : ℕ) where
+  bytes-left : length (bytesFrom line at) ≡ length line / 2 - at
+  bytes-left = omega (arith, length-drop at (bytesOf line), bytes-length line)
+
+  pub past-int-missing : length line / 2 < at + 4 → Passes line at (Stop 4) (forget (int (bytesFrom line at)))
+  unfolding passed
+  past-int-missing h = record { is = sym (int-short (bytesFrom line at) (omega (arith, bytes-left))); on = stopped }
+
+  pub past-int-whole : at + 4 ≤ length line / 2 → Passes line at (Next (record { at = at + 4 })) (forget (int (bytesFrom line at)))
+  past-int-whole h = pass-here (moved {c = record { at = at + 4 }} (omega arith) (omega (arith, bytes-length line))) (int-there (bytesFrom line at) (omega (arith, bytes-left)) ∙ ap (got tt) (drop-drop 4 at (bytesOf line)))

@@ -10,5 +10,6 @@ pub mod TypeLaws
 pub mod Lines
 pub mod LinesEnd
 pub mod LinesSpell
+pub mod LinesEights
 pub mod LinesWalk
 pub mod LinesJudge

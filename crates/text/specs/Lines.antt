@@ -1,8 +1,9 @@
 -- Lines as parts of a text, and what the pass over a whole text answers (document 01, "By place": refusals 1 and 2).
-use Prim.Native.Nat.{ℕ, zero, suc, _+_}
+use Prim.Native.Nat.{ℕ, zero, suc, _+_, _≤_}
 use mathlib.Core.List.{List, [], _∷_, _++_}
 use mathlib.Core.Bool.{Bool, true, false}
 use mathlib.Core.Option.{Option, none, some}
+use mathlib.Core.Path.{_≡_}
 use lib.ListN.{length, drop, replicate}
 use lib.Dec.{eqb, ltb, leb}
 use Rattle.language.specs.Limits.{textMost}
@@ -41,6 +42,12 @@ unfoldable pub digitPairs : List ℕ → ℕ
 digitPairs [] = 0
 digitPairs (a ∷ []) = 0
 digitPairs (a ∷ b ∷ l) = choose (both (isSome (digit a)) (isSome (digit b))) (suc (suc (digitPairs l))) 0
+
+-- from one place to another there are only pairs of digits: the count from the first goes on at the second
+pub record PairsTo (t : List ℕ) (at end : ℕ) : Type 0 where
+  pub from : at ≤ end
+  pub within : end ≤ length t
+  pub is : at + digitPairs (drop at t) ≡ end + digitPairs (drop end t)
 
 -- where the line from a place on ends, if LF ends it and it has bytes
 unfoldable pub lineEnd : List ℕ → ℕ → LineEnd

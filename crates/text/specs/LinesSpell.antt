@@ -17,7 +17,7 @@ use Rattle.language.specs.Reader.{digit, pair, pairs, lineBytes}
 use Rattle.text.specs.declared.lines.LineEnd.the-variants.{At, Bad}
 use Rattle.text.specs.Bytes.{digitValue, bytesOf}
 use Rattle.text.specs.DigitLaws.{both-hold, digit-value}
-use Rattle.text.specs.Lines.{firstLine, isSome, digitMarks, digitPairs, lineEnd}
+use Rattle.text.specs.Lines.{firstLine, isSome, digitMarks, digitPairs, PairsTo, lineEnd}
 
 -- ---- which characters are digits
 abbrev pub mark : ℕ → ℕ
@@ -70,11 +70,6 @@ feed-no-digit c e = go (eqb c lineFeed) refl
     go false q = refl
 
 -- ---- the walk over pairs
-pub record PairsTo (t : List ℕ) (at end : ℕ) : Type 0 where
-  pub from : at ≤ end
-  pub within : end ≤ length t
-  pub is : at + digitPairs (drop at t) ≡ end + digitPairs (drop end t)
-
 pub pairs-start : {t : List ℕ} {at : ℕ} → at < length t → PairsTo t at at
 pairs-start h = record { from = omega arith; within = omega arith; is = refl }
 

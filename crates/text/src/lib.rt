@@ -3,7 +3,7 @@ pub mod lines;
 
 ghost use mathlib.Core.Path.{_≡_};
 ghost use mathlib.Core.Bool.{true, false};
-ghost use Prim.Native.Nat.{_<_, _≤_, _^_};
+ghost use Prim.Native.Nat.{_<_, _^_};
 ghost use Rattle.language.specs.Limits.{byteRange};
 ghost use Rattle.language.specs.Parser.{byte as byteRead, index as indexRead, count as countRead};
 ghost use Rattle.language.specs.ReadExpr.{int as intRead, sizeAt, result as resultRead, plain, declared as declaredRead, field as fieldRead};
@@ -14,6 +14,9 @@ use language::limits::SIZE_MOST;
 
 // A named type as a word: its number and one, times this, and its size.
 pub const TYPE_STEP: u32 = 256;
+
+// An Int takes so many bytes.
+pub const INT_BYTES: usize = 4;
 
 // The value of an upper-case hexadecimal digit; of any other character some number below 16.
 pub fn digit(c: u8) -> u32
@@ -172,6 +175,21 @@ impl Cursor {
             value: value,
             next: next,
         })
+    }
+
+    // Passes over an Int, whatever its bytes are; 4 where the line ends before the last of them.
+    pub fn past_int(self, line: &[u8]) -> Step
+        ensures { λ r. ⌜ Passes (now (line .entry)) (self .at) r (forget (intRead (bytesFrom (now (line .entry)) (self .at)))) ⌝ }
+    {
+        let at = self.at;
+        let bytes = line.len() / 2;
+        if bytes < INT_BYTES {
+            return Step::Stop(4);
+        }
+        if bytes - INT_BYTES < at {
+            return Step::Stop(4);
+        }
+        Step::Next(Cursor { at: at + INT_BYTES })
     }
 
     // Passes over a size with so many levels left; vars is the number of size variables in scope.

@@ -1,9 +1,10 @@
 // The lines of a text: where each ends, whether its characters spell bytes, and whether it is a channel.
 ghost use mathlib.Core.Path.{_≡_};
-ghost use Prim.Native.Nat.{_+_, _<_};
+ghost use mathlib.Core.Bool.{true};
+ghost use Prim.Native.Nat.{_+_, _≤_, _<_};
 ghost use lib.ListN.{length, drop};
 ghost use Rattle.text.specs.Bytes.{bytesOf};
-ghost use Rattle.text.specs.Lines.{firstLine, digitMarks, digitPairs, lineEnd, channelsOf};
+ghost use Rattle.text.specs.Lines.{firstLine, digitMarks, digitPairs, PairsTo, lineEnd, channelsOf};
 use super::Cursor;
 use super::Number;
 use language::limits::BYTE_RANGE;
@@ -67,6 +68,41 @@ fn digit_marks() -> [u8; BYTE_RANGE as usize]
     marks
 }
 
+// The marks of the two characters at a place in one: 0 unless both are digits.
+fn pair_mark(text: &[u8], digits: &[u8], at: usize) -> u8
+    requires { ⌜ (at + 2 ≤ length (now text)) × (now digits ≡ digitMarks) ⌝ }
+    ensures { λ r. ⌜ ((r ≡ 0 → ⊥) → PairsTo (now (text .entry)) at (at + 2)) ⌝ }
+{
+    digits[text[at] as usize] & digits[text[at + 1] as usize]
+}
+
+// Whether the eight characters at a place are digits. Their marks are tested together: a test for each takes longer.
+fn eight_digits(text: &[u8], digits: &[u8], at: usize) -> bool
+    requires { ⌜ (at + 8 ≤ length (now text)) × (now digits ≡ digitMarks) ⌝ }
+    ensures { λ r. ⌜ (r ≡ true → PairsTo (now (text .entry)) at (at + 8)) ⌝ }
+{
+    let first = pair_mark(text, digits, at);
+    let second = pair_mark(text, digits, at + 2);
+    let third = pair_mark(text, digits, at + 4);
+    let fourth = pair_mark(text, digits, at + 6);
+    first & second & third & fourth != 0
+}
+
+// How far eight digits after eight stand from a place on; pairs of digits may follow.
+fn eights_end(text: &[u8], digits: &[u8], at: usize) -> usize
+    requires { ⌜ (at < length (now text)) × (now digits ≡ digitMarks) ⌝ }
+    ensures { λ r. ⌜ PairsTo (now (text .entry)) at r ⌝ }
+{
+    let mut end = at;
+    while 8 <= text.len() - end {
+        if !eight_digits(text, digits, end) {
+            return end;
+        }
+        end += 8;
+    }
+    end
+}
+
 // Where the pairs of digits end that stand from a place on.
 fn pairs_end(text: &[u8], at: usize) -> usize
     requires { ⌜ at < length (now text) ⌝ }
@@ -74,7 +110,7 @@ fn pairs_end(text: &[u8], at: usize) -> usize
 {
     let digits = digit_marks();
     let last = text.len() - 1;
-    let mut end = at;
+    let mut end = eights_end(text, &digits, at);
     while end < last {
         if digits[text[end] as usize] == 0 {
             return end;
