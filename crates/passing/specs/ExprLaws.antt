@@ -1,7 +1,7 @@
 -- Passing over an expression, return by return: what the calls so far promise, the function promises.
 use Prim.Native.Nat.{ℕ, zero, suc, _+_, _-_, _*_, _%_, _≤_, _<_}
 use mathlib.Core.List.{List, [], _∷_}
-use mathlib.Core.Bool.{Bool, true, false, not}
+use mathlib.Core.Bool.{Bool, true, false}
 use mathlib.Core.Option.{some}
 use mathlib.Core.Path.{_≡_, refl, sym, ap, _∙_, subst}
 use native.Mathlib.Omega.{arith}
@@ -176,14 +176,6 @@ last-form form le less a b d e f g h = one-left form (above form (above form (ab
   where
     one-left : (n : ℕ) → 12 ≤ n → n < 13 → n ≡ 12
     one-left n p q = omega arith
-
-pub negated : (b : Bool) → not b ≡ true → b ≡ false
-negated true e = absurd (let y : _≡_ {A = ℕ} 0 1 = cc in omega arith)
-negated false e = refl
-
-pub affirmed : (b : Bool) → not b ≡ false → b ≡ true
-affirmed true e = refl
-affirmed false e = absurd (let y : _≡_ {A = ℕ} 0 1 = cc in omega arith)
 
 -- fewer levels, whatever the place in the cycle
 pub fewer-levels : {t levels : ℕ} → levels * 1024 + 1 ≡ t → 0 < levels → (levels - 1) * 1024 + 800 < t

@@ -15,6 +15,7 @@ use Rattle.language.specs.Parser.{Read, got, bad, byte, decode}
 use Rattle.language.specs.Reader.{typeDef, function, input, node, whole, Kind, typeKind, functionKind, inputKind, nodeKind, kinds, isEmpty, inOrder, withType, withFunction, withInput, withNode, readKind, readFrame}
 use Rattle.theory.specs.Alls.{all-snoc}
 use Rattle.theory.specs.Lists.{both-left, both-right}
+use Rattle.theory.specs.Tests.{negated, affirmed}
 use Rattle.text.specs.declared.Cursor.{Cursor}
 use Rattle.text.specs.declared.Found.{Found}
 use Rattle.text.specs.declared.Number.{Number}
@@ -27,7 +28,6 @@ use Rattle.text.specs.DigitLaws.{bytes-length}
 use Rattle.index.specs.Tables.{typeWords, typeEntry, typeTable, functionTable, channelTable}
 use Rattle.index.specs.Enters.{Enters, typeBehind, SelfFree}
 use Rattle.index.specs.TypeTable.{FewParts, type-def-behind, type-added, read-few, self-free-told}
-use Rattle.passing.specs.ExprLaws.{negated, affirmed}
 use Rattle.reader.specs.declared.Counts.{Counts}
 use Rattle.reader.specs.declared.Frame.{Frame}
 use Rattle.reader.specs.declared.Frame.the-variants.{Taken, Refused}

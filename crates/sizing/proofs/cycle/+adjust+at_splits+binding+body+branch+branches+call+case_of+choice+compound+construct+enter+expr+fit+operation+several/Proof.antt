@@ -16,7 +16,7 @@ use Rattle.sizes.proofs.SizedType.{enum}
 use Rattle.sizes.specs.declared.SizedType.{SizedType}
 use Rattle.sizing.specs.KindLaws.{NotNamed}
 use Rattle.sizing.specs.Leaves.{Operands}
-use Rattle.passing.specs.ExprLaws.{negated, affirmed}
+use Rattle.theory.specs.Tests.{negated, affirmed}
 use Rattle.sizing.specs.ExprLaws.{isLeaf, hasParts, expr-deep, expr-bool, expr-int, expr-variable, expr-now, expr-last, expr-compound, compound-is, compound-none, operands-of}
 use Rattle.sizing.specs.SeveralLaws.{several-none, several-first, several-rest, several-done}
 use Rattle.sizing.specs.CallLaws.{call-arguments, call-not-entered, call-body, call-done, entry-numbers}
