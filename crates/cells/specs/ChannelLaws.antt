@@ -13,13 +13,12 @@ use Rattle.language.specs.Format.{spellAll}
 use Rattle.language.specs.Within.{All, all-nil, all-cons, WithinDeclared, WithinNodes, wn-nil, wn-cons, Within}
 use Rattle.language.specs.Estimate.{stop}
 use Rattle.language.specs.Cells.{cellsOf, channelCells, inputCells}
-use Rattle.theory.specs.Alls.{all-append, all-map, all-to-map}
+use Rattle.theory.specs.Alls.{all-append, all-map, all-to-map, all-getD}
 use Rattle.text.specs.Bytes.{declaredWord}
 use Rattle.index.specs.Tables.{channelWords, inputEntry, nodeEntry, channelTable}
 use Rattle.index.specs.Padded.{padded-at}
 use Rattle.cells.specs.Counts.{Right, Counts, CountsType, Channels, CountsChannels}
 use Rattle.cells.specs.MostLaws.{types-next}
-use Rattle.cells.specs.TypeWords.{all-getD}
 use Rattle.cells.specs.CountLaws.{counts-given, counts-as, counts-sum}
 
 -- ---- the declared types are within the limits, and the table of channels has their words

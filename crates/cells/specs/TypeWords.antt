@@ -7,7 +7,8 @@ use native.Mathlib.Omega.{arith}
 use lib.ListN.{length, getD, List·getD-map}
 use Rattle.language.specs.Limits.{typesMost, constructorsMost, fieldsMost}
 use Rattle.language.specs.Syntax.{fbool, Constructor, TypeDef, File, constructorsOf, fieldsOf, owns}
-use Rattle.language.specs.Within.{All, all-nil, all-cons, WithinField, WithinType, WithinTypes, wt-nil, wt-cons}
+use Rattle.language.specs.Within.{WithinField, WithinType, WithinTypes, wt-nil, wt-cons}
+use Rattle.theory.specs.Alls.{all-getD}
 use Rattle.text.specs.Bytes.{fieldWord}
 use Rattle.index.specs.Tables.{constructorWords, typeWords, constructorEntry, typeEntry, typeTable}
 use Rattle.index.specs.Padded.{padded-at}
@@ -19,11 +20,6 @@ use Rattle.index.specs.TypeTable.{type-wide, tells-type, each-within-few}
 use Rattle.cells.specs.Counts.{Right, Made, FieldOf}
 
 -- ---- elements that are within the limits
-pub all-getD : {A : Type 0} {Q : A → Type 0} {l : List A} → All Q l → (i : ℕ) (d : A) → i < length l → Q (getD l i d)
-all-getD all-nil i d h = absurd (omega arith)
-all-getD (all-cons q qs) zero d h = q
-all-getD (all-cons q qs) (suc i) d h = all-getD qs i d (omega arith)
-
 type-within : {earlier : ℕ} {ds : List TypeDef} → WithinTypes earlier ds → (t : ℕ) → t < length ds → WithinType (earlier + t) (getD ds t [])
 type-within wt-nil t h = absurd (omega arith)
 type-within (wt-cons {earlier} w ws) zero h = let same : earlier + 0 ≡ earlier = omega arith in rw same w

@@ -1,5 +1,5 @@
 -- Channel frames: what the reads of a declared type and of expressions promise, an input's frame and a node's promise.
-use Prim.Native.Nat.{ℕ, zero, suc, _+_, _*_, _≤_, _<_}
+use Prim.Native.Nat.{ℕ, _+_, _*_, _≤_, _<_}
 use mathlib.Core.List.{List, [], _∷_, _++_, append-nil, append-assoc}
 use mathlib.Core.Path.{_≡_, refl, sym, ap, _∙_, subst}
 use mathlib.Core.Bool.{true}
@@ -10,10 +10,10 @@ use Rattle.language.specs.Syntax.{Expr, ebool, rbool, Function, File}
 use Rattle.language.specs.Format.{spellAll, declaredBytes, exprBytes}
 use Rattle.language.specs.Layout.{padded}
 use Rattle.language.specs.Scope.{Scope, aritiesOf, outerScope}
-use Rattle.language.specs.Within.{All, all-nil, all-cons}
 use Rattle.language.specs.Parser.{Read, got, bad, Parser, andThen}
 use Rattle.language.specs.ReadExpr.{declared, exprAt}
 use Rattle.language.specs.Reader.{input, node}
+use Rattle.theory.specs.Alls.{all-getD}
 use Rattle.theory.specs.ExactTypes.{declared-exact}
 use Rattle.theory.specs.ExactExpr.{expr-exact}
 use Rattle.text.specs.declared.Cursor.{Cursor}
@@ -42,11 +42,6 @@ abbrev pub outsideNames : Counts → ℕ → ℕ → Names
 outsideNames n now last = record { variables = 0; sizes = 0; now = now; last = last; types = n .types; functions = n .functions }
 
 -- ---- the tables tell the scope outside all functions
-pub all-getD : {A : Type 0} {Q : A → Type 0} {l : List A} → All Q l → (i : ℕ) (d : A) → i < length l → Q (getD l i d)
-all-getD all-nil i d h = absurd (omega arith)
-all-getD (all-cons q qs) zero d h = q
-all-getD (all-cons q qs) (suc i) d h = all-getD qs i d (omega arith)
-
 abbrev pub noFunction : Function
 noFunction = record { parameters = []; result = rbool; conditions = []; measure = []; body = ebool true }
 

@@ -14,7 +14,7 @@ use Rattle.language.specs.Syntax.{TypeDef, Function, Input, Node, File, selfFre
 use Rattle.language.specs.Parser.{Read, got, bad, byte, decode}
 use Rattle.language.specs.Reader.{typeDef, function, input, node, whole, Kind, typeKind, functionKind, inputKind, nodeKind, kinds, isEmpty, inOrder, withType, withFunction, withInput, withNode, readKind, readFrame}
 use Rattle.theory.specs.Alls.{all-snoc}
-use Rattle.theory.specs.Lists.{both-left, both-right}
+use Rattle.theory.specs.Lists.{both-left, both-right, both-never}
 use Rattle.theory.specs.Tests.{negated, affirmed}
 use Rattle.text.specs.declared.Cursor.{Cursor}
 use Rattle.text.specs.declared.Found.{Found}
@@ -71,11 +71,6 @@ unfolding isEmpty
 nothing-left [] e = refl
 nothing-left (a ∷ l) e = absurd (let z : _≡_ {A = ℕ} 0 1 = cc in omega arith)
 
-both-no : (a : Bool) → both a false ≡ false
-unfolding both
-both-no true = refl
-both-no false = refl
-
 -- ---- order: at each return of the test
 module _ {kind : ℕ} {n : Counts} where
   pub node-order : kind ≡ 4 → Ordered kind n (ltb (n .nodes) nodesMost)
@@ -87,8 +82,8 @@ module _ {kind : ℕ} {n : Counts} where
   nodes-before other late = record { says = λ types functions channels P held. sym (by held (empty-not (P .nodes) (λ e. late (sym (held .nodeCount) ∙ e))) (which kind) other) }
     where
       by : {types functions channels : List ℕ} {P : File} → Held types functions channels n P → isEmpty (P .nodes) ≡ false → {k : ℕ} → Which k → (k ≡ 4 → ⊥) → ordered (decode 0x01 kinds k) P ≡ false
-      by {P} held e first h = rw (e, both-no (isEmpty (P .inputs)), both-no (isEmpty (P .functions)))
-      by {P} held e second h = rw (e, both-no (isEmpty (P .inputs)))
+      by {P} held e first h = rw (e, both-never (isEmpty (P .inputs)) refl, both-never (isEmpty (P .functions)) refl)
+      by {P} held e second h = rw (e, both-never (isEmpty (P .inputs)) refl)
       by held e third h = rw e
       by held e fourth h = absurd (h refl)
       by held e (unknown p) h = rw p
@@ -102,7 +97,7 @@ module _ {kind : ℕ} {n : Counts} where
   inputs-before fo th late = record { says = λ types functions channels P held. sym (by held (empty-not (P .inputs) (λ e. late (sym (held .inputCount) ∙ e))) (which kind) fo th) }
     where
       by : {types functions channels : List ℕ} {P : File} → Held types functions channels n P → isEmpty (P .inputs) ≡ false → {k : ℕ} → Which k → (k ≡ 4 → ⊥) → (k ≡ 3 → ⊥) → ordered (decode 0x01 kinds k) P ≡ false
-      by {P} held e first h j = rw (e, both-no (isEmpty (P .functions)))
+      by {P} held e first h j = rw (e, both-never (isEmpty (P .functions)) refl)
       by held e second h j = rw e
       by held e third h j = absurd (j refl)
       by held e fourth h j = absurd (h refl)

@@ -13,6 +13,7 @@ use Rattle.language.specs.Scope.{namedCount, aritiesOf, bodyScope}
 use Rattle.language.specs.Parser.{Read, got, Parser, andThen, index, counted}
 use Rattle.language.specs.ReadExpr.{plain, result, exprAt}
 use Rattle.language.specs.Reader.{condition, function}
+use Rattle.theory.specs.Alls.{all-getD}
 use Rattle.theory.specs.ExactParts.{one, index-exact, counted-exact}
 use Rattle.theory.specs.ExactTypes.{plain-exact, result-exact}
 use Rattle.theory.specs.ExactExpr.{expr-exact}
@@ -31,7 +32,7 @@ use Rattle.passing.specs.Follows.{Tells, Follows}
 use Rattle.reader.specs.declared.Counts.{Counts}
 use Rattle.reader.specs.Held.{Held, Fits, PlaceWord, ReadsFunction}
 use Rattle.reader.specs.Places.{read-spelled, place-behind}
-use Rattle.reader.specs.Channels.{all-getD, noFunction, arity-at, few-arities, tells-types, then-got, last-got, place-is}
+use Rattle.reader.specs.Channels.{noFunction, arity-at, few-arities, tells-types, then-got, last-got, place-is}
 
 abbrev pub insideNames : Counts → ℕ → ℕ → Names
 insideNames n variables sizes = record { variables = variables; sizes = sizes; now = 0; last = 0; types = n .types; functions = n .functions + 1 }

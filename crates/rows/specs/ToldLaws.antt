@@ -7,20 +7,15 @@ use native.Mathlib.Omega.{arith}
 use lib.ListN.{length, getD, getElem? as look, List·getD-map}
 use lib.Seq.{getD-take}
 use Rattle.language.specs.Syntax.{Field, fbool, TypeDef, Constructor, constructorsOf, Ty, tbool, File}
-use Rattle.language.specs.Within.{All, all-nil, all-cons, WithinField, WithinType, WithinTypes, wt-nil, wt-cons}
+use Rattle.language.specs.Within.{WithinField, WithinType, WithinTypes, wt-nil, wt-cons}
 use Rattle.text.specs.Bytes.{declaredWord, fieldWord}
 use Rattle.theory.specs.Lists.{look-getD, look-less}
-use Rattle.theory.specs.Alls.{all-at}
+use Rattle.theory.specs.Alls.{all-getD, all-at}
 use Rattle.index.specs.Tables.{constructorWords, typeWords}
 use Rattle.spelling.specs.FrameSpells.{lineAt}
 use Rattle.indexed.specs.Indexed.{fieldAt, TypeIndexed, Indexed}
 use Rattle.sizes.specs.Promises.{Small}
 use Rattle.rows.specs.Rows.{ToldFields, ToldRow}
-
-all-getD : {A : Type 0} {Q : A → Type 0} {l : List A} → All Q l → (i : ℕ) (d : A) → i < length l → Q (getD l i d)
-all-getD all-nil i d less = absurd (omega arith)
-all-getD (all-cons q qs) zero d less = q
-all-getD (all-cons q qs) (suc i) d less = all-getD qs i d (omega arith)
 
 -- ---- a constructor's fields
 module _ {types : List ℕ} {t c : ℕ} {fs : List Field} (q : ToldFields types t c fs) where

@@ -11,6 +11,7 @@ use Rattle.language.specs.Layout.{tagStep}
 use Rattle.language.specs.Within.{WithinField, w-fbool, w-fint, w-own, w-other}
 use Rattle.language.specs.Sizes.{sizeOfType, sameType}
 use Rattle.text.specs.Bytes.{declaredWord, fieldWord}
+use Rattle.theory.specs.Lists.{false-is-not-true}
 use Rattle.theory.specs.SameTests.{same-type, type-same}
 use Rattle.sizes.specs.Promises.{Small, small-bool, small-int, small-named}
 use Rattle.sizes.specs.WordLaws.{word-once}
@@ -60,12 +61,9 @@ size-in-word (small-named {t} {k} p q) = rw (le-ltb (tagStep * (t + 1) + k) tagS
 same-by-word : {σ τ : Ty} → Small σ → Small τ → eqb (declaredWord σ) (declaredWord τ) ≡ sameType σ τ
 same-by-word {σ} {τ} v w = tested (sameType σ τ) refl
   where
-    differ : false ≡ true → ⊥
-    differ z = let o : _≡_ {A = ℕ} 0 1 = cc in omega arith
-
     tested : (r : Bool) → sameType σ τ ≡ r → eqb (declaredWord σ) (declaredWord τ) ≡ r
     tested true e = eq-eqb _ _ (ap declaredWord (same-type σ τ e))
-    tested false e = ne-eqb _ _ (λ (z : declaredWord σ ≡ declaredWord τ). differ (sym e ∙ type-same (word-once v w z)))
+    tested false e = ne-eqb _ _ (λ (z : declaredWord σ ≡ declaredWord τ). false-is-not-true (sym e ∙ type-same (word-once v w z)))
 
 -- a type of this number, at whatever size
 number-same : (t u k : ℕ) → k < 256 → eqb ((tagStep * (u + 1) + k) / tagStep) (t + 1) ≡ both (eqb t u) (eqb k k)

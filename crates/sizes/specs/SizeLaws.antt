@@ -11,6 +11,7 @@ use Rattle.language.specs.Format.{sizeBytes}
 use Rattle.language.specs.Within.{WithinSize, w-plus, w-minus}
 use Rattle.language.specs.Sizes.{added, taken}
 use Rattle.language.specs.Parser.{byte}
+use Rattle.theory.specs.Places.{one-less}
 use Rattle.text.specs.declared.Cursor.{Cursor}
 use Rattle.text.specs.declared.Found.{Found}
 use Rattle.text.specs.declared.Number.{Number}
@@ -109,9 +110,6 @@ module _ (line : List ℕ) (c : Cursor) (Δ : List ℕ) {f : Found} (v : Reads l
 -- ---- how large a size can be
 least : (levels : ℕ) → 2 ^ 8 ≤ 2 ^ (8 + levels)
 least levels = pow-le-pow-right {n = 2} (omega arith) {i = 8} {j = 8 + levels} (omega arith)
-
-one-less : (n : ℕ) → (n ≡ 0 → ⊥) → n ≡ suc (n - 1)
-one-less n more = omega (arith, more)
 
 doubled : (levels : ℕ) → (levels ≡ 0 → ⊥) → 2 ^ (8 + levels) ≡ 2 ^ (8 + (levels - 1)) + 2 ^ (8 + (levels - 1))
 doubled levels more = let next : 8 + levels ≡ suc (8 + (levels - 1)) = omega (arith, more) in ap (λ n. 2 ^ n) next ∙ two-pow-succ (8 + (levels - 1))

@@ -9,6 +9,7 @@ use Rattle.language.specs.Layout.{tagStep}
 use Rattle.language.specs.Syntax.{Ty, tbool, tint, tnamed}
 use Rattle.language.specs.Sizes.{sameType}
 use Rattle.text.specs.Bytes.{declaredWord}
+use Rattle.theory.specs.Lists.{false-is-not-true}
 use Rattle.theory.specs.SameTests.{same-type, type-same}
 use Rattle.sizes.specs.declared.SizedType.{SizedType}
 use Rattle.sizes.specs.declared.SizedType.the-variants.{Bool as BoolIs, Int as IntIs, Named}
@@ -71,12 +72,9 @@ word-once (small-named {t} {k} p q) (small-named {t = u} {k = j} r s) e = ap₂ 
 pub words-same : {x y : SizedType} {a b : ℕ} → WordOf x a → WordOf y b → eqb a b ≡ sameType (meaning x) (meaning y)
 words-same {x} {y} {a} {b} v w = tested (sameType (meaning x) (meaning y)) refl
   where
-    differ : false ≡ true → ⊥
-    differ z = let o : _≡_ {A = ℕ} 0 1 = cc in omega arith
-
     tested : (r : Bool) → sameType (meaning x) (meaning y) ≡ r → eqb a b ≡ r
     tested true e = eq-eqb a b (v .is ∙ ap declaredWord (same-type (meaning x) (meaning y) e) ∙ sym (w .is))
-    tested false e = ne-eqb a b (λ (z : a ≡ b). differ (sym e ∙ type-same (word-once (v .small) (w .small) (sym (v .is) ∙ z ∙ w .is))))
+    tested false e = ne-eqb a b (λ (z : a ≡ b). false-is-not-true (sym e ∙ type-same (word-once (v .small) (w .small) (sym (v .is) ∙ z ∙ w .is))))
 
 -- the types that type_at gives are small
 pub one-byte-small : {x : SizedType} → OneByteEach x → Small (meaning x)

@@ -3,15 +3,16 @@
 use Prim.Native.Nat.{ℕ, suc, _+_, _*_, _-_, _≤_, _<_, _^_}
 use mathlib.Core.List.{List, map}
 use mathlib.Core.Option.{some}
-use mathlib.Core.Path.{_≡_, refl, sym, ap, _∙_}
+use mathlib.Core.Path.{_≡_, refl, _∙_}
 use native.Mathlib.Omega.{arith}
 use lib.ListN.{length, take, set, getElem? as look}
-use lib.Seq.{take-take, take-set-le}
+use lib.Seq.{take-set-le}
 use Rattle.language.specs.Limits.{typesMost, sizeMost, variablesMost, sizeVariablesMost, nestingMost}
 use Rattle.language.specs.Syntax.{Ty, tbool, tint, tnamed, File, declaredTypes}
 use Rattle.language.specs.Scope.{Scope}
 use Rattle.language.specs.Within.{All}
 use Rattle.language.specs.Typing.{Place as Stand, outside, inside, channelsAt, frameAt}
+use Rattle.theory.specs.Lists.{take-fewer}
 use Rattle.text.specs.declared.Cursor.{Cursor}
 use Rattle.text.specs.Bytes.{declaredWord}
 use Rattle.indexed.specs.Indexed.{lineCount}
@@ -100,10 +101,6 @@ kept-all = record { variables = refl; sizesToo = refl }
 
 pub kept-then : {p : Place} {scope sizes scope₁ sizes₁ scope₂ sizes₂ : List ℕ} → Kept p scope sizes scope₁ sizes₁ → Kept p scope₁ sizes₁ scope₂ sizes₂ → Kept p scope sizes scope₂ sizes₂
 kept-then k l = record { variables = l .variables ∙ k .variables; sizesToo = l .sizesToo ∙ k .sizesToo }
-
--- lists that agree up to a place agree up to an earlier one
-pub take-fewer : (m n : ℕ) (l k : List ℕ) → m ≤ n → take n l ≡ take n k → take m l ≡ take m k
-take-fewer m n l k le e = sym (take-take m n l le) ∙ ap (take m) e ∙ take-take m n k le
 
 -- what a part keeps under more variables, of which the first was written over
 pub kept-under : {p : Place} {scope sizes scope′ sizes′ : List ℕ} (v s : ℕ) → Kept (widened p v s) scope sizes scope′ sizes′ → Kept p scope sizes scope′ sizes′

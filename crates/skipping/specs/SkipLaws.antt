@@ -11,6 +11,7 @@ use Rattle.language.specs.Scope.{Scope}
 use Rattle.language.specs.Within.{WithinExpr}
 use Rattle.language.specs.Parser.{byte}
 use Rattle.language.specs.ReadExpr.{result}
+use Rattle.theory.specs.Places.{one-less}
 use Rattle.theory.specs.ExactTypes.{result-exact}
 use Rattle.text.specs.declared.Cursor.{Cursor}
 use Rattle.text.specs.declared.Found.{Found}
@@ -32,9 +33,6 @@ use Rattle.skipping.specs.HeadLaws.{byte-found, byte-there, next-at, nex
 -- ---- levels
 no-level : {S : Scope} {e : Expr} → WithinExpr zero S e → ⊥
 no-level w = elim w [ ]
-
-one-less : (n : ℕ) → (n ≡ 0 → ⊥) → n ≡ suc (n - 1)
-one-less n some = omega (arith, some)
 
 spelled-less : {line : List ℕ} {at : ℕ} {e : Expr} → Spells exprBytes line at e → at < length (bytesOf line)
 spelled-less {e} s = omega (arith, spells-within s, some-byte e)

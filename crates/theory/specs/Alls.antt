@@ -1,9 +1,10 @@
 -- What holds of every element of a list: joining and parting lists, images, looking up, membership.
-use Prim.Native.Nat.{ℕ, zero, suc}
+use Prim.Native.Nat.{ℕ, zero, suc, _<_}
 use mathlib.Core.List.{List, [], _∷_, _++_, map, List·Memᴰ as In, List·Memᴰ·head as in-head, List·Memᴰ·tail as in-tail}
 use mathlib.Core.Option.{some}
 use mathlib.Core.Path.{_≡_, refl, subst}
-use lib.ListN.{getElem? as look}
+use native.Mathlib.Omega.{arith}
+use lib.ListN.{length, getD, getElem? as look}
 use Rattle.language.specs.Within.{All, all-nil, all-cons}
 use Rattle.theory.specs.Lists.{none-is-not-some}
 
@@ -47,6 +48,11 @@ all-of-map f [] all-nil = all-nil
 all-of-map f (a ∷ l) (all-cons r rs) = all-cons r (all-of-map f l rs)
 
 -- ---- looking up, membership
+pub all-getD : {A : Type 0} {Q : A → Type 0} {l : List A} → All Q l → (i : ℕ) (d : A) → i < length l → Q (getD l i d)
+all-getD all-nil i d less = absurd (omega arith)
+all-getD (all-cons q qs) zero d less = q
+all-getD (all-cons q qs) (suc i) d less = all-getD qs i d (omega arith)
+
 pub all-at : {A : Type 0} {Q : A → Type 0} {l : List A} → All Q l → (i : ℕ) {a : A} → look l i ≡ some a → Q a
 all-at all-nil i e = none-is-not-some e
 all-at {Q} (all-cons q qs) zero e = subst Q (cc) q

@@ -1,12 +1,13 @@
 -- Looking into lists, and tests that hold.
-use Prim.Native.Nat.{ℕ, zero, suc, _+_, _<_}
+use Prim.Native.Nat.{ℕ, zero, suc, _+_, _≤_, _<_}
 use mathlib.Core.List.{List, [], _∷_, _++_, map}
 use mathlib.Core.Bool.{Bool, true, false}
 use mathlib.Core.Option.{none, some}
-use mathlib.Core.Path.{_≡_, refl}
+use mathlib.Core.Path.{_≡_, refl, sym, ap, _∙_}
 use native.Mathlib.Omega.{arith}
 use native.Mathlib.Nat.{zero-add, suc-add}
-use lib.ListN.{length, getD, getElem? as look}
+use lib.ListN.{length, getD, take, getElem? as look}
+use lib.Seq.{take-take}
 use Rattle.language.specs.Result.{both}
 
 pub none-is-not-some : {A B : Type 0} {a : A} → none ≡ some a → B
@@ -50,6 +51,10 @@ look-map f [] i e = none-is-not-some e
 look-map f (x ∷ l) zero {a} e = let z : x ≡ a = cc in rw z
 look-map f (x ∷ l) (suc i) e = look-map f l i e
 
+-- lists that agree up to a place agree up to an earlier one
+pub take-fewer : {A : Type 0} (m n : ℕ) (l k : List A) → m ≤ n → take n l ≡ take n k → take m l ≡ take m k
+take-fewer m n l k le e = sym (take-take m n l le) ∙ ap (take m) e ∙ take-take m n k le
+
 -- ---- tests
 pub both-left : (a b : Bool) → both a b ≡ true → a ≡ true
 unfolding both
@@ -64,3 +69,8 @@ both-right false b e = false-is-not-true e
 pub both-true : {a b : Bool} → a ≡ true → b ≡ true → both a b ≡ true
 unfolding both
 both-true p q = rw (p, q)
+
+pub both-never : (a : Bool) {b : Bool} → b ≡ false → both a b ≡ false
+unfolding both
+both-never true e = e
+both-never false e = refl

@@ -21,6 +21,10 @@ below-or-not {X} i n below above = cases (ltb i n) refl
 pub below-or-last : {X : Type 0} (i n : ℕ) → i < suc n → (i < n → X) → (i ≡ n → X) → X
 below-or-last i n less below last = below-or-not i n below (λ above. last (omega arith))
 
+-- a number that is not 0 follows one
+pub one-less : (n : ℕ) → (n ≡ 0 → ⊥) → n ≡ suc (n - 1)
+one-less n more = omega (arith, more)
+
 module _ {A : Type 0} where
   pub look-at : (l : List A) (i : ℕ) (d : A) → i < length l → look l i ≡ some (getD l i d)
   look-at [] i d less = absurd (omega arith)

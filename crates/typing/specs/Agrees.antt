@@ -118,11 +118,6 @@ pub both-not : {a : Bool} (b : Bool) → a ≡ false → both a b ≡ false
 unfolding both
 both-not b e = rw e
 
-pub both-never : (a : Bool) {b : Bool} → b ≡ false → both a b ≡ false
-unfolding both
-both-never true e = e
-both-never false e = refl
-
 -- whatever the first answer is, the second is none
 pub chain-never : {A B : Type 0} (o : Option A) (k : A → Option B) → ((a : A) → k a ≡ none) → chain o k ≡ none
 unfolding chain

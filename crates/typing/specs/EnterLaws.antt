@@ -1,6 +1,6 @@
 -- Words entered into a scope: what was below stays, and behind it stand the words; a scope of a file that was read with more variables.
 use Prim.Native.Nat.{ℕ, zero, suc, _+_, _-_, _≤_, _<_}
-use mathlib.Core.List.{List, [], _∷_, _++_, map, map-append, append-assoc, append-nil, nil≢cons, cons≢nil}
+use mathlib.Core.List.{List, [], _∷_, _++_, map, map-append, append-assoc, append-nil}
 use mathlib.Core.Bool.{true}
 use mathlib.Core.Path.{_≡_, refl, sym, ap, ap₂, _∙_}
 use native.Mathlib.Omega.{arith}
@@ -14,7 +14,7 @@ use Rattle.language.specs.Limits.{variablesMost, sizeVariablesMost}
 use Rattle.language.specs.Syntax.{Plain, Expr, File}
 use Rattle.language.specs.Scope.{Scope, wider, roomIn}
 use Rattle.language.specs.Within.{WithinExpr, w-bool, w-int, w-var, w-now, w-last, w-let, w-if, w-op, w-call, w-con, w-case, w-adj, w-fit}
-use Rattle.theory.specs.Lists.{both-left, both-right}
+use Rattle.theory.specs.Lists.{take-fewer, both-left, both-right}
 use Rattle.text.specs.Bytes.{plainWord}
 use Rattle.scopes.specs.Known.{wider-known}
 use Rattle.typing.specs.declared.words.Want.{Want}
@@ -60,16 +60,8 @@ pub kept-then : {n : ℕ} {scope scope₁ scope₂ : List ℕ} → Kept n scope 
 kept-then k l = record { low = l .low ∙ k .low; long = l .long ∙ k .long }
 
 -- what is kept up to a higher place is kept up to a lower one
-take-less : (m n : ℕ) (l k : List ℕ) → m ≤ n → take n l ≡ take n k → take m l ≡ take m k
-take-less zero n l k h e = refl
-take-less (suc m) zero l k h e = absurd (omega (arith, h))
-take-less (suc m) (suc n) [] [] h e = refl
-take-less (suc m) (suc n) [] (y ∷ k) h e = absurd (nil≢cons e)
-take-less (suc m) (suc n) (x ∷ l) [] h e = absurd (cons≢nil e)
-take-less (suc m) (suc n) (x ∷ l) (y ∷ k) h e = ap₂ (λ (a : ℕ) (r : List ℕ). a ∷ r) (cc) (take-less m n l k (omega (arith, h)) (cc))
-
 pub kept-below : {n : ℕ} {scope scope′ : List ℕ} (m : ℕ) → m ≤ n → Kept n scope scope′ → Kept m scope scope′
-kept-below {n} {scope} {scope′} m h k = record { low = take-less m n scope′ scope h (k .low); long = k .long }
+kept-below {n} {scope} {scope′} m h k = record { low = take-fewer m n scope′ scope h (k .low); long = k .long }
 
 pub kept-put : (n : ℕ) (scope : List ℕ) (i a : ℕ) → n ≤ i → Kept n scope (set scope i a)
 kept-put n scope i a h = record { low = take-set-le n scope i a h; long = length-set scope i a }

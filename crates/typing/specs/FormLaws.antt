@@ -15,6 +15,7 @@ use Rattle.language.specs.Within.{WithinExpr}
 use Rattle.language.specs.ReadExpr.{sizeAt}
 use Rattle.language.specs.Layout.{tagStep}
 use Rattle.language.specs.PlainTypes.{isPlain, isNamed, operandType, opType, plainOf}
+use Rattle.theory.specs.Lists.{both-never}
 use Rattle.text.specs.declared.Cursor.{Cursor}
 use Rattle.text.specs.declared.Step.{Step}
 use Rattle.text.specs.declared.Step.the-variants.{Next, Stop}
@@ -28,7 +29,7 @@ use Rattle.typing.specs.declared.words.Typing.{Typing}
 use Rattle.typing.specs.declared.words.Typing.the-variants.{Is, Wrong}
 use Rattle.typing.specs.declared.places.Place.{Place}
 use Rattle.typing.specs.Words.{operandWord, outcomeWord}
-use Rattle.typing.specs.Agrees.{TypeFound, typed, untyped, agrees-as, Holds, holds, fails, wrong, answered, chain-some, chain-none, chain-never, when-true, when-false, both-first, both-not, both-never}
+use Rattle.typing.specs.Agrees.{TypeFound, typed, untyped, agrees-as, Holds, holds, fails, wrong, answered, chain-some, chain-none, chain-never, when-true, when-false, both-first, both-not}
 use Rattle.typing.specs.Asks.{movedTo, widerBy, Kept, Stage, Part, AskExpr, AskWant, AskOp, AskAdj, TypesExpr, TypesWant, TypesLet, TypesIf, TypesOp, TypesAdj, TypesFit}
 use Rattle.typing.specs.WordLaws.{named-large, small-unnamed, operand-is, outcome-is}
 use Rattle.typing.specs.EnterLaws.{room-variables, kept-same, kept-then, kept-below, kept-put, stage-kept, stage-bound}

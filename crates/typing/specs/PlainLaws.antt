@@ -8,8 +8,8 @@ use lib.ListN.{getElem? as look}
 use Rattle.language.specs.Result.{both, when, chain}
 use Rattle.language.specs.Syntax.{Constructor, Plain, pbool, pint, pnamed, Size, ResultType, Op, Expr, ebool, eint, evar, enow, elast, elet, eif, eop, ecall, econ, ecase, eadj, efit, Exprs, enil, econs, Function, File, constructorsOf}
 use Rattle.language.specs.PlainTypes.{plainFields, plainResult, samePlain, samePlains, operandType, opType, isPlain, arePlain, isNamed, plainOf, plainsOf, plainBranches}
+use Rattle.theory.specs.Lists.{both-never}
 use Rattle.text.specs.Bytes.{plainWord}
-use Rattle.typing.specs.Agrees.{both-never}
 use Rattle.typing.specs.WordLaws.{same-word, other-word}
 
 pub bool-word : 0 ≡ plainWord pbool
