@@ -8,7 +8,7 @@ use lib.ListN.{getD, set, take}
 use lib.Seq.{take-all}
 use borrow.Author.Tests.{lt-ltb, le-ltb}
 use Rattle.language.specs.Result.{choose}
-use Rattle.language.specs.Limits.{typesMost, fieldsMost, sizeMost}
+use Rattle.language.specs.Limits.{byteRange, typesMost, fieldsMost, sizeMost}
 use Rattle.language.specs.Syntax.{File, constructorsOf, fieldsOf, owns}
 use Rattle.language.specs.Estimate.{stop}
 use Rattle.language.specs.Cells.{maxTo, otherCells, cellsNamed}
@@ -46,7 +46,7 @@ pub cells-start : (types table : List ℕ) (t k : ℕ) → CellsTo types table t
 unfolding mostMade
 cells-start types table t k = counts-given (omega arith) (λ P h a. omega arith)
 
-module _ {types table table₁ : List ℕ} {t k n c most : ℕ} (q : (n ≡ getD types (typeWords * t) 0 % 256) × (n < 256)) (v : CellsTo types table t k c most table₁) where
+module _ {types table table₁ : List ℕ} {t k n c most : ℕ} (q : (n ≡ getD types (typeWords * t) 0 % byteRange) × (n < byteRange)) (v : CellsTo types table t k c most table₁) where
   pub cells-on : {made r : ℕ} {table₂ : List ℕ} → c < n → CountsConstructor types table₁ t k c made table₂ → r ≡ max made most → CellsTo types table t k (c + 1) r table₂
   cells-on less w e =
       counts-as (counts-max v w (λ P h a. record { made = record { named = a .named; there = omega (arith, less, constructors-told h (a .named) q) }; low = a .few }) e)
@@ -59,7 +59,7 @@ module _ {types table table₁ : List ℕ} {t k n c most : ℕ} (q : (n ≡ getD
       e
 
 -- ---- a constructor
-module _ {types table : List ℕ} {t k c own : ℕ} (q : (own ≡ getD types (typeWords * t + 2 + constructorWords * c) 0 % 256) × (own < 256)) where
+module _ {types table : List ℕ} {t k c own : ℕ} (q : (own ≡ getD types (typeWords * t + 2 + constructorWords * c) 0 % byteRange) × (own < byteRange)) where
   pub constructor-none : k ≤ own → CountsConstructor types table t k c 0 table
   unfolding madeCells choose
   constructor-none le = counts-given (omega arith) (λ P h a. rw (le-ltb (owns (fieldsOf P t c)) k (omega (arith, le, owns-told h (a .made) q))))

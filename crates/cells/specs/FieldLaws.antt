@@ -6,6 +6,7 @@ use native.Mathlib.Omega.{arith}
 use native.Mathlib.Numerals.{add-one}
 use lib.ListN.{length, getD, take}
 use lib.Seq.{take-all}
+use Rattle.language.specs.Limits.{byteRange}
 use Rattle.language.specs.Syntax.{Field, fbool, fint, own, other, Ty, tbool, tint, tnamed, File, fieldsOf}
 use Rattle.language.specs.Layout.{tagStep}
 use Rattle.language.specs.Within.{WithinField, w-fbool, w-fint, w-own, w-other, WithinDeclared, w-tbool, w-tint, w-tnamed}
@@ -27,7 +28,7 @@ pub others-start : (types table : List ℕ) (t c : ℕ) → OthersTo types table
 unfolding otherCells
 others-start types table t c = counts-given (omega arith) (λ P h a. omega arith)
 
-module _ {types table table₁ : List ℕ} {t c n i sum : ℕ} (q : (n ≡ getD types (typeWords * t + 1 + constructorWords * c) 0 % 256) × (n < 256)) (v : OthersTo types table t c i sum table₁) where
+module _ {types table table₁ : List ℕ} {t c n i sum : ℕ} (q : (n ≡ getD types (typeWords * t + 1 + constructorWords * c) 0 % byteRange) × (n < byteRange)) (v : OthersTo types table t c i sum table₁) where
   pub others-on : {one r : ℕ} {table₂ : List ℕ} → i < n → CountsField types table₁ t c i one table₂ → r ≡ stop (sum + one) → OthersTo types table t c (i + 1) r table₂
   others-on less w e =
       counts-as (counts-sum v w (λ P h a. record { made = a; field = omega (arith, less, fields-told h a q) }) e)

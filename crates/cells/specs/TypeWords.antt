@@ -5,7 +5,7 @@ use mathlib.Core.List.{List, [], map}
 use mathlib.Core.Path.{_≡_, ap, _∙_}
 use native.Mathlib.Omega.{arith}
 use lib.ListN.{length, getD, List·getD-map}
-use Rattle.language.specs.Limits.{typesMost, constructorsMost, fieldsMost}
+use Rattle.language.specs.Limits.{byteRange, typesMost, constructorsMost, fieldsMost}
 use Rattle.language.specs.Syntax.{fbool, Constructor, TypeDef, File, constructorsOf, fieldsOf, owns}
 use Rattle.language.specs.Within.{WithinField, WithinType, WithinTypes, wt-nil, wt-cons}
 use Rattle.theory.specs.Alls.{all-getD}
@@ -48,20 +48,20 @@ module _ {types table : List ℕ} {P : File} (h : Right types table P) where
   pub types-within : WithinTypes 0 (P .types)
   types-within = h .within .types
 
-  pub constructors-told : {t n : ℕ} → t < length (P .types) → (n ≡ getD types (typeWords * t) 0 % 256) × (n < 256) → n ≡ length (constructorsOf P t)
+  pub constructors-told : {t n : ℕ} → t < length (P .types) → (n ≡ getD types (typeWords * t) 0 % byteRange) × (n < byteRange) → n ≡ length (constructorsOf P t)
   constructors-told {t} named q = omega (arith, q .0, tells t named .constructors, tells t named .few)
 
   module _ {t c : ℕ} (a : Made t c P) where
     pub few-fields : length (fieldsOf P t c) ≤ fieldsMost
     few-fields = tells t (a .named) .fewFields c (a .there)
 
-    pub fields-told : {n : ℕ} → (n ≡ getD types (typeWords * t + 1 + constructorWords * c) 0 % 256) × (n < 256) → n ≡ length (fieldsOf P t c)
+    pub fields-told : {n : ℕ} → (n ≡ getD types (typeWords * t + 1 + constructorWords * c) 0 % byteRange) × (n < byteRange) → n ≡ length (fieldsOf P t c)
     fields-told q = omega (arith, q .0, tells t (a .named) .fields c (a .there), few-fields)
 
     pub few-owns : owns (fieldsOf P t c) ≤ fieldsMost
     few-owns = omega (arith, few-fields, owns-fewer (fieldsOf P t c))
 
-    pub owns-told : {n : ℕ} → (n ≡ getD types (typeWords * t + 2 + constructorWords * c) 0 % 256) × (n < 256) → n ≡ owns (fieldsOf P t c)
+    pub owns-told : {n : ℕ} → (n ≡ getD types (typeWords * t + 2 + constructorWords * c) 0 % byteRange) × (n < byteRange) → n ≡ owns (fieldsOf P t c)
     owns-told q = omega (arith, q .0, tells t (a .named) .owns c (a .there), few-owns)
 
   module _ {t c i : ℕ} (a : FieldOf t c i P) where

@@ -7,6 +7,7 @@ use native.Mathlib.Numerals.{add-one}
 use native.Mathlib.Omega.{arith}
 use lib.ListN.{length, getD, drop, drop-of-length-le}
 use lib.Seq.{drop-cons}
+use Rattle.language.specs.Limits.{byteRange}
 use Rattle.language.specs.Result.{both}
 use Rattle.language.specs.Syntax.{Field, fbool, fint, own, other, Ty, tbool}
 use Rattle.language.specs.Sizes.{fieldTypes, ownSizes, sizeOfType, sameType, sameTypes}
@@ -33,7 +34,7 @@ pub record AgreeFrom (types row : List ℕ) (t c i : ℕ) : Type 0 where
 pub agree-start : (types row : List ℕ) (t c : ℕ) → AgreeFrom types row t c 0
 agree-start types row t c = record { says = λ fs τs q p. refl }
 
-module _ {types row : List ℕ} {t c n i : ℕ} (a : (n ≡ getD types (typeWords * t + 1 + constructorWords * c) 0 % 256) × (n < 256)) (v : AgreeFrom types row t c i) where
+module _ {types row : List ℕ} {t c n i : ℕ} (a : (n ≡ getD types (typeWords * t + 1 + constructorWords * c) 0 % byteRange) × (n < byteRange)) (v : AgreeFrom types row t c i) where
   module _ {field word : ℕ} {b : Bool} (h : i < n) (is : field ≡ fieldAt types t c i) (read : word ≡ getD row i 0) (test : b ≡ fieldAgrees field word t) where
     next-decides : (fs : List Field) (τs : List Ty) → ToldFields types t c fs → ToldRow row (length fs) τs → agreeing t fs τs ≡ both b (agreeing t (drop (suc i) fs) (drop (suc i) τs))
     next-decides fs τs q p =

@@ -7,6 +7,7 @@ use native.Mathlib.Omega.{arith}
 use lib.ListN.{length, getD, take, drop, set, length-set, length-map, List·getD-map}
 use lib.Seq.{take-all, take-set-le, getD-take, getD-drop, paste, paste-zero, paste-suc, take-paste, drop-paste}
 use borrow.Author.Tests.{ne-eqb}
+use Rattle.language.specs.Limits.{byteRange}
 use Rattle.language.specs.Format.{bit}
 use Rattle.language.specs.Syntax.{Field, fbool, fint, own, other, owns, tbool}
 use Rattle.language.specs.Layout.{tagStep}
@@ -81,7 +82,7 @@ binding-start types scope sizes t c to from n = record { few = omega arith; low 
 words-long : (t : ℕ) (fs : List Field) (ks : List ℕ) → length (words t fs ks) ≡ length fs
 words-long t fs ks = length-map (fieldTypes t fs ks) declaredWord ∙ types-long t fs ks
 
-module _ {types scope₀ sizes : List ℕ} {t c to from n next i : ℕ} {scope : List ℕ} (a : (n ≡ getD types (typeWords * t + 1 + constructorWords * c) 0 % 256) × (n < 256)) (v : Binding types scope₀ sizes t c to from n next i scope) where
+module _ {types scope₀ sizes : List ℕ} {t c to from n next i : ℕ} {scope : List ℕ} (a : (n ≡ getD types (typeWords * t + 1 + constructorWords * c) 0 % byteRange) × (n < byteRange)) (v : Binding types scope₀ sizes t c to from n next i scope) where
   module _ {field size word one : ℕ} (h : i < n) (is : field ≡ fieldAt types t c i) (read : size ≡ getD sizes (from + next) 0) (bound : word ≡ boundWord field t size) (counts : (one ≡ bit (isOwn field)) × (one ≤ 1)) where
     word-right : (fs : List Field) (ks : List ℕ) → ToldFields types t c fs → take (owns fs) (drop from sizes) ≡ ks → next ≡ owns (take i fs) → i < length fs → word ≡ getD (words t fs ks) i 0
     unfolding declaredWord

@@ -6,6 +6,7 @@ use native.Mathlib.Numerals.{add-one}
 use native.Mathlib.Omega.{arith}
 use lib.ListN.{length, getD, drop, drop-of-length-le}
 use lib.Seq.{drop-cons}
+use Rattle.language.specs.Limits.{byteRange}
 use Rattle.language.specs.Syntax.{Field, fbool, fint, own, other, Ty, tbool}
 use Rattle.language.specs.Sizes.{ownSizes, sizeOfType, sum}
 use Rattle.text.specs.Bytes.{fieldWord}
@@ -38,7 +39,7 @@ other-first (other u k) fs τ τs e = refl
 pub summed-start : (types row : List ℕ) (t c n : ℕ) → Summed types row t c n 0 0
 summed-start types row t c n = record { few = omega arith; low = omega arith; whole = λ fs τs q p. omega arith }
 
-module _ {types row : List ℕ} {t c n i so-far : ℕ} (a : (n ≡ getD types (typeWords * t + 1 + constructorWords * c) 0 % 256) × (n < 256)) (v : Summed types row t c n i so-far) where
+module _ {types row : List ℕ} {t c n i so-far : ℕ} (a : (n ≡ getD types (typeWords * t + 1 + constructorWords * c) 0 % byteRange) × (n < byteRange)) (v : Summed types row t c n i so-far) where
   module _ {field : ℕ} (h : i < n) (is : field ≡ fieldAt types t c i) where
     module _ (fs : List Field) (τs : List Ty) (q : ToldFields types t c fs) (p : ToldRow row (length fs) τs) where
       less : i < length fs
@@ -48,7 +49,7 @@ module _ {types row : List ℕ} {t c n i so-far : ℕ} (a : (n ≡ getD types (t
       next-whole = v .whole fs τs q p ∙ ap (λ s. so-far + sum s) (ap₂ ownSizes (drop-cons fs i fbool less) (drop-cons τs i tbool (omega (arith, less, p .long))))
 
     -- a field of the type itself
-    pub summed-own : {word size total : ℕ} → field ≡ 2 → word ≡ getD row i 0 → (size ≡ sizeIn word) × (size < 256) → total ≡ so-far + size → Summed types row t c n (i + 1) total
+    pub summed-own : {word size total : ℕ} → field ≡ 2 → word ≡ getD row i 0 → (size ≡ sizeIn word) × (size < byteRange) → total ≡ so-far + size → Summed types row t c n (i + 1) total
     summed-own {word} {size} same read s on = rw on (record { few = omega arith; low = omega (arith, v .low, s .1); whole = whole })
       where
         whole : (fs : List Field) (τs : List Ty) → ToldFields types t c fs → ToldRow row (length fs) τs → sum (ownSizes fs τs) ≡ so-far + size + sum (ownSizes (drop (i + 1) fs) (drop (i + 1) τs))

@@ -6,6 +6,7 @@ use mathlib.Core.Path.{_≡_, sym, ap, subst, _∙_}
 use native.Mathlib.Omega.{arith}
 use lib.ListN.{length, getD, getElem? as look, List·getD-map}
 use lib.Seq.{getD-take}
+use Rattle.language.specs.Limits.{byteRange}
 use Rattle.language.specs.Syntax.{Field, fbool, TypeDef, Constructor, constructorsOf, Ty, tbool, File}
 use Rattle.language.specs.Within.{WithinField, WithinType, WithinTypes, wt-nil, wt-cons}
 use Rattle.text.specs.Bytes.{declaredWord, fieldWord}
@@ -19,7 +20,7 @@ use Rattle.rows.specs.Rows.{ToldFields, ToldRow}
 
 -- ---- a constructor's fields
 module _ {types : List ℕ} {t c : ℕ} {fs : List Field} (q : ToldFields types t c fs) where
-  pub fields-counted : {n : ℕ} → (n ≡ getD types (typeWords * t + 1 + constructorWords * c) 0 % 256) × (n < 256) → n ≡ length fs
+  pub fields-counted : {n : ℕ} → (n ≡ getD types (typeWords * t + 1 + constructorWords * c) 0 % byteRange) × (n < byteRange) → n ≡ length fs
   fields-counted a = omega (arith, a .0, q .count, q .few)
 
   pub field-told : {i : ℕ} → i < length fs → fieldAt types t c i ≡ fieldWord (getD fs i fbool)

@@ -5,6 +5,7 @@ use mathlib.Core.Path.{_≡_, refl, sym, ap, _∙_}
 use native.Mathlib.Omega.{arith}
 use lib.Dec.{eqb}
 use borrow.Author.Tests.{eq-eqb, ne-eqb, lt-ltb, le-ltb, eqb-true, eqb-false}
+use Rattle.language.specs.Limits.{byteRange}
 use Rattle.language.specs.Result.{both, choose}
 use Rattle.language.specs.Syntax.{Field, fbool, fint, own, other, Ty, tbool, tint, tnamed}
 use Rattle.language.specs.Layout.{tagStep}
@@ -18,11 +19,11 @@ use Rattle.sizes.specs.WordLaws.{word-once}
 use Rattle.rows.specs.Rows.{sizeIn, fieldAgrees, boundWord}
 
 -- ---- words alone, by what the code tests
-pub size-of-plain : {word : ℕ} → word < tagStep → (0 ≡ sizeIn word) × (0 < 256)
+pub size-of-plain : {word : ℕ} → word < tagStep → (0 ≡ sizeIn word) × (0 < byteRange)
 unfolding sizeIn choose
 size-of-plain {word} h = (rw (lt-ltb word tagStep h), omega arith)
 
-pub size-of-named : {word : ℕ} → tagStep ≤ word → (word % tagStep ≡ sizeIn word) × (word % tagStep < 256)
+pub size-of-named : {word : ℕ} → tagStep ≤ word → (word % tagStep ≡ sizeIn word) × (word % tagStep < byteRange)
 unfolding sizeIn choose
 size-of-named {word} h = (rw (le-ltb word tagStep h), omega arith)
 
@@ -66,7 +67,7 @@ same-by-word {σ} {τ} v w = tested (sameType σ τ) refl
     tested false e = ne-eqb _ _ (λ (z : declaredWord σ ≡ declaredWord τ). false-is-not-true (sym e ∙ type-same (word-once v w z)))
 
 -- a type of this number, at whatever size
-number-same : (t u k : ℕ) → k < 256 → eqb ((tagStep * (u + 1) + k) / tagStep) (t + 1) ≡ both (eqb t u) (eqb k k)
+number-same : (t u k : ℕ) → k < byteRange → eqb ((tagStep * (u + 1) + k) / tagStep) (t + 1) ≡ both (eqb t u) (eqb k k)
 unfolding both
 number-same t u k q = tested (eqb t u) refl
   where

@@ -2,6 +2,7 @@
 ghost use mathlib.Core.Path.{_≡_};
 ghost use Prim.Native.Nat.{_<_};
 ghost use lib.ListN.{getD, set};
+ghost use Rattle.language.specs.Limits.{byteRange};
 ghost use Rattle.indexed.specs.Indexed.{fieldAt};
 ghost use Rattle.rows.specs.Rows.{sizeIn, fieldAgrees, boundWord, NamedSizes, OwnSum, FieldsAgree, FieldsBound};
 use index::CONSTRUCTOR_WORDS;
@@ -42,7 +43,7 @@ fn nth_size(sizes: &[u8], i: usize) -> u8
 
 // The size in the word of a type, 0 of Bool and Int.
 fn size_in(word: u32) -> u32
-    ensures { λ r. ⌜ (r ≡ sizeIn word) × (r < 256) ⌝ }
+    ensures { λ r. ⌜ (r ≡ sizeIn word) × (r < byteRange) ⌝ }
 {
     if word < TYPE_STEP {
         return 0;

@@ -8,7 +8,7 @@ use native.Mathlib.Nat.{le-refl}
 use lib.ListN.{length, getD}
 use lib.Dec.{ltb, leb, eqb}
 use borrow.Author.Tests.{not-true, not-false}
-use Rattle.language.specs.Limits.{nestingMost}
+use Rattle.language.specs.Limits.{byteRange, nestingMost}
 use Rattle.language.specs.Result.{both}
 use Rattle.language.specs.Syntax.{Relation, req, rlt, rle, Condition}
 use Rattle.language.specs.Format.{spellAll, sizeBytes, relationCode, conditionBytes}
@@ -140,5 +140,5 @@ module _ (line : List ℕ) (c : Cursor) (Δ : List ℕ) where
           let left : n - 1 ≡ length is = omega (arith, e) in
           ap₂ _+_ (u .is ∙ ap (λ j. getD Δ j 0) first) (t .says is left (subst (λ m. Spells themselves line m is) (sym (v .next here)) behind))
 
-pub measures-fit : {line Δ : List ℕ} {c : Cursor} {n i k r : ℕ} → n < 256 → Told Δ i k → WeighsAll line c Δ (n - 1) r → k + r < 2 ^ 32
+pub measures-fit : {line Δ : List ℕ} {c : Cursor} {n i k r : ℕ} → n < byteRange → Told Δ i k → WeighsAll line c Δ (n - 1) r → k + r < 2 ^ 32
 measures-fit less u t = omega (arith, less, u .less, t .less)

@@ -6,7 +6,7 @@ use mathlib.Core.Bool.{Bool}
 use mathlib.Core.Option.{Option, none, some}
 use mathlib.Core.Path.{_≡_}
 use lib.ListN.{length, getD}
-use Rattle.language.specs.Limits.{nestingMost}
+use Rattle.language.specs.Limits.{byteRange, nestingMost}
 use Rattle.language.specs.Syntax.{Ty, tbool, tint, tnamed, Size, ResultType, Relation, Condition}
 use Rattle.language.specs.Format.{spellAll, sizeBytes, resultBytes, relationCode, conditionBytes}
 use Rattle.language.specs.Within.{All, Bound, WithinSize, WithinResult, WithinCondition}
@@ -28,12 +28,12 @@ use Rattle.sizes.specs.declared.Judged.{Judged}
 pub record Reads (line : List ℕ) (c : Cursor) (r : Found) : Type 0 where
   pub value : c .at < length (bytesOf line) → r .value ≡ byteAt line (c .at)
   pub next : c .at < length (bytesOf line) → r .next .at ≡ c .at + 1
-  pub less : r .value < 256
+  pub less : r .value < byteRange
 
 -- the size of a variable, 0 of one that is not in scope
 pub record Told (Δ : List ℕ) (i r : ℕ) : Type 0 where
   pub is : r ≡ getD Δ i 0
-  pub less : r < 256
+  pub less : r < byteRange
 
 -- ---- sizes
 pub record IsWorked (Δ : List ℕ) (s : Size) (at : ℕ) (r : Worked) : Type 0 where
@@ -49,8 +49,8 @@ pub record WorksOut (line : List ℕ) (c : Cursor) (Δ : List ℕ) (levels : ℕ
 -- a number or a variable whose code stands before the cursor
 pub record LeafWorked (line : List ℕ) (c : Cursor) (Δ : List ℕ) (code : ℕ) (r : Worked) : Type 0 where
   pub says : (at : ℕ) (s : Size) → c .at ≡ at + 1 → byteAt line at ≡ code → code < 3 → Spells sizeBytes line at s → IsWorked Δ s at r
-  pub addedLess : r .added < 2 ^ 8
-  pub takenLess : r .taken < 2 ^ 8
+  pub addedLess : r .added < byteRange
+  pub takenLess : r .taken < byteRange
 
 -- the answer agrees with the definition's; a size has its cursor at the end of what is spelled
 pub data AgreesSize (x : Option ℕ) (end : ℕ) : SizeAt → Type 0 where
@@ -80,7 +80,7 @@ pub data AgreesType (x : Option Ty) (end : ℕ) : TypeAt → Type 0 where
 pub data OneByteEach : SizedType → Type 0 where
   bool-small : OneByteEach BoolIs
   int-small : OneByteEach IntIs
-  named-small : {t k : ℕ} → t < 256 → Bound k → OneByteEach (Named t k)
+  named-small : {t k : ℕ} → t < byteRange → Bound k → OneByteEach (Named t k)
 
 pub data TypeBound : TypeAt → Type 0 where
   type-bound : {τ : SizedType} {next : Cursor} → OneByteEach τ → TypeBound (TypeIs τ next)
@@ -90,11 +90,11 @@ pub record TypeGiven (line : List ℕ) (c : Cursor) (Δ : List ℕ) (r : TypeAt)
   pub says : (types vars : ℕ) (ρ : ResultType) → WithinResult types vars ρ → Spells resultBytes line (c .at) ρ → AgreesType (typeAt Δ ρ) (c .at + length (resultBytes ρ)) r
   pub bound : TypeBound r
 
--- a type of a number and a size below 256
+-- a type whose number and size are of one byte each
 pub data Small : Ty → Type 0 where
   small-bool : Small tbool
   small-int : Small tint
-  small-named : {t k : ℕ} → t < 256 → k < 256 → Small (tnamed t k)
+  small-named : {t k : ℕ} → t < byteRange → k < byteRange → Small (tnamed t k)
 
 pub record WordOf (x : SizedType) (r : ℕ) : Type 0 where
   pub is : r ≡ declaredWord (meaning x)

@@ -5,7 +5,7 @@ use mathlib.Core.Path.{_≡_, refl, sym, ap, ap₂, _∙_, subst}
 use native.Mathlib.Omega.{arith}
 use native.Mathlib.Nat.{two-pow-succ, pow-le-pow-right, lt-of-lt-of-le, le-trans}
 use lib.ListN.{length, getD, List·getD-eq-default}
-use Rattle.language.specs.Limits.{nestingMost}
+use Rattle.language.specs.Limits.{byteRange, nestingMost}
 use Rattle.language.specs.Syntax.{Size, lit, svar, plus, minus}
 use Rattle.language.specs.Format.{sizeBytes}
 use Rattle.language.specs.Within.{WithinSize, w-plus, w-minus}
@@ -32,7 +32,7 @@ placeOf : Number → ℕ
 placeOf (Is f) = f .next .at
 placeOf (Refused n) = 0
 
-module _ (line : List ℕ) (c : Cursor) {x : Number} (v : ReadsNumber line (c .at) x (byte (bytesFrom line (c .at))) × Below 256 x) where
+module _ (line : List ℕ) (c : Cursor) {x : Number} (v : ReadsNumber line (c .at) x (byte (bytesFrom line (c .at))) × Below byteRange x) where
   pub read-none : {m : ℕ} → x ≡ Refused m → Reads line c (record { value = 0; next = c })
   read-none {m} e = record { value = λ less. absurd (there less); next = λ less. absurd (there less); less = omega arith }
     where
@@ -44,14 +44,14 @@ module _ (line : List ℕ) (c : Cursor) {x : Number} (v : ReadsNumber line (c .a
   read-done {f} e = record {
     value = λ less. ap valueOf (sym e ∙ byte-is x less (v .0));
     next = λ less. ap placeOf (sym e ∙ byte-is x less (v .0));
-    less = elim (subst (Below 256) e (v .1)) [ below q ↦ q ];
+    less = elim (subst (Below byteRange) e (v .1)) [ below q ↦ q ];
   }
 
 -- ---- a variable
 pub variable-none : (Δ : List ℕ) {i : ℕ} → length Δ ≤ i → Told Δ i 0
 variable-none Δ le = record { is = sym (List·getD-eq-default Δ 0 le); less = omega arith }
 
-pub variable-told : (Δ : List ℕ) {i k : ℕ} → k ≡ getD Δ i 0 → k < 256 → Told Δ i k
+pub variable-told : (Δ : List ℕ) {i k : ℕ} → k ≡ getD Δ i 0 → k < byteRange → Told Δ i k
 variable-told Δ e less = record { is = e; less = less }
 
 -- ---- leaves
@@ -108,7 +108,7 @@ module _ (line : List ℕ) (c : Cursor) (Δ : List ℕ) {f : Found} (v : Reads l
           record { isAdded = u .is ∙ ap (λ j. getD Δ j 0) (second .0) ∙ sym (ap (added Δ) (i .is)); isTaken = sym (ap (taken Δ) (i .is)); ends = second .1 }
 
 -- ---- how large a size can be
-least : (levels : ℕ) → 2 ^ 8 ≤ 2 ^ (8 + levels)
+least : (levels : ℕ) → byteRange ≤ 2 ^ (8 + levels)
 least levels = pow-le-pow-right {n = 2} (omega arith) {i = 8} {j = 8 + levels} (omega arith)
 
 doubled : (levels : ℕ) → (levels ≡ 0 → ⊥) → 2 ^ (8 + levels) ≡ 2 ^ (8 + (levels - 1)) + 2 ^ (8 + (levels - 1))
@@ -136,7 +136,7 @@ module _ {vars n : ℕ} {a b : Size} where
   minus-parts (w-minus v w) = (v, w)
 
 module _ (line : List ℕ) (c : Cursor) (Δ : List ℕ) (levels : ℕ) where
-  small : {k : ℕ} → k < 2 ^ 8 → k < 2 ^ (8 + levels)
+  small : {k : ℕ} → k < byteRange → k < 2 ^ (8 + levels)
   small h = lt-of-lt-of-le h (least levels)
 
   pub work-none : levels ≡ 0 → WorksOut line c Δ levels (record { added = 0; taken = 0; next = c })

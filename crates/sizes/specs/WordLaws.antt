@@ -1,10 +1,11 @@
--- Types and their words: one word a type, as long as numbers and sizes are below 256.
+-- Types and their words: one word a type, as long as numbers and sizes are of one byte each.
 use Prim.Native.Nat.{ℕ, _+_, _-_, _*_, _/_, _%_, _<_, _≤_}
 use mathlib.Core.Bool.{Bool, true, false}
 use mathlib.Core.Path.{_≡_, refl, sym, ap, ap₂, _∙_}
 use native.Mathlib.Omega.{arith}
 use lib.Dec.{eqb}
 use borrow.Author.Tests.{eq-eqb, ne-eqb}
+use Rattle.language.specs.Limits.{byteRange}
 use Rattle.language.specs.Layout.{tagStep}
 use Rattle.language.specs.Syntax.{Ty, tbool, tint, tnamed}
 use Rattle.language.specs.Sizes.{sameType}
@@ -24,7 +25,7 @@ pub word-int : {x : SizedType} → x ≡ IntIs → WordOf x 1
 unfolding declaredWord
 word-int e = rw e (record { is = refl; small = small-int })
 
-pub word-named : {x : SizedType} {t k : ℕ} → x ≡ Named t k → t < 256 → k < 256 → WordOf x (tagStep * (t + 1) + k)
+pub word-named : {x : SizedType} {t k : ℕ} → x ≡ Named t k → t < byteRange → k < byteRange → WordOf x (tagStep * (t + 1) + k)
 unfolding declaredWord
 word-named e p q = rw e (record { is = refl; small = small-named p q })
 

@@ -1,6 +1,7 @@
 // Written sizes worked out at the sizes of their variables; types with sizes, conditions and measures.
 ghost use mathlib.Core.Path.{_≡_};
 ghost use Prim.Native.Nat.{_<_};
+ghost use Rattle.language.specs.Limits.{byteRange};
 ghost use Rattle.language.specs.Sizes.{sameType};
 ghost use Rattle.sizes.specs.Promises.{Reads, Told, LeafWorked, WorksOut, SizeGiven, TypeGiven, Compares, Judges, HoldAll, Hold, Weighs, WeighsAll, meaning, WordOf, FromWord};
 use language::limits::NESTING_MOST;
@@ -224,7 +225,7 @@ pub fn conditions_hold(line: &[u8], c: Cursor, sizes: &[u8]) -> bool
 
 // The sum of so many sizes, the variables one after the other.
 fn measures(line: &[u8], c: Cursor, sizes: &[u8], n: u32) -> u32
-    requires { ⌜ n < 256 ⌝ }
+    requires { ⌜ n < byteRange ⌝ }
     ensures { λ r. ⌜ WeighsAll (now (line .entry)) c (now (sizes .entry)) n r ⌝ }
 {
     if n == 0 {
