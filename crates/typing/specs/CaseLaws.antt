@@ -7,6 +7,7 @@ use native.Mathlib.Omega.{arith}
 use native.Mathlib.Numerals.{add-one}
 use lib.ListN.{length, getD, drop, length-map, length-drop}
 use lib.Seq.{drop-cons}
+use Rattle.language.specs.Limits.{byteRange}
 use Rattle.language.specs.Result.{both, when}
 use Rattle.language.specs.Syntax.{Constructor, TypeDef, owns, Plain, pnamed, Expr, Exprs, enil, econs, File, constructorsOf}
 use Rattle.language.specs.Format.{resultBytes, exprBytes, exprsBytes}
@@ -76,7 +77,7 @@ module _ (text frames types functions channels scope : List ℕ) (p : Place) (s 
     kept = kept-same;
   }
 
-  module _ (some-left : s .count ≡ 0 → ⊥) {n : ℕ} (k : (n ≡ getD types (typeWords * s .of + 1 + constructorWords * s .first) 0 % 256) × (n < 256)) {scope₁ : List ℕ} (enter : scope₁ ≡ entered types functions (Fields (s .of) (s .first)) scope (p .variables) n)
+  module _ (some-left : s .count ≡ 0 → ⊥) {n : ℕ} (k : (n ≡ getD types (typeWords * s .of + 1 + constructorWords * s .first) 0 % byteRange) × (n < byteRange)) {scope₁ : List ℕ} (enter : scope₁ ≡ entered types functions (Fields (s .of) (s .first)) scope (p .variables) n)
       {x : Typing} {scope₂ : List ℕ} (v : TypesWant text frames types functions channels scope₁ (widerBy n p (p .at)) (s .word) x scope₂) where
     branch-kept : Kept (p .variables) scope scope₂
     branch-kept = kept-then (rw enter (entered-kept types functions (Fields (s .of) (s .first)) scope (p .variables) n)) (kept-below (p .variables) (omega arith) (v .kept))
@@ -176,7 +177,7 @@ module _ (text frames types functions channels scope : List ℕ) (p : Place) {t 
     pub case-none : y ≡ Wrong → TypesCase text frames types functions channels scope p t Wrong scope₁
     case-none e = record { says = λ st ask. absurd (typed-there (result-read st ask) e); kept = v .kept }
 
-    pub case-done : {j : Typed} {n : ℕ} {r : Typing} {scope₂ : List ℕ} → y ≡ Is j → (n ≡ getD types (typeWords * t) 0 % 256) × (n < 256) →
+    pub case-done : {j : Typed} {n : ℕ} {r : Typing} {scope₂ : List ℕ} → y ≡ Is j → (n ≡ getD types (typeWords * t) 0 % byteRange) × (n < byteRange) →
         TypesBranches text frames types functions channels scope₁ (movedTo p (j .next)) (record { of = t; first = 0; count = n; word = j .word }) r scope₂ → TypesCase text frames types functions channels scope p t r scope₂
     case-done {j} {n} e c u = record {
       says = λ {P} {C} {S} {Γ} st ask.

@@ -8,7 +8,7 @@ use native.Mathlib.Omega.{arith}
 use native.Mathlib.Nat.{zero-add}
 use lib.ListN.{length, getD, take, length-append, length-map, getElem? as look}
 use lib.Seq.{take-all}
-use Rattle.language.specs.Limits.{variablesMost, nestingMost}
+use Rattle.language.specs.Limits.{byteRange, variablesMost, nestingMost}
 use Rattle.language.specs.Result.{when}
 use Rattle.language.specs.Syntax.{Plain, pbool, Ty, Expr, Function, Input, Node, File, declaredTypes}
 use Rattle.language.specs.Format.{exprBytes}
@@ -79,7 +79,7 @@ bodyWord = headWords + 3
 body-place : (functions : List ℕ) (f : ℕ) → getD functions (functionWords * f + bodyWord) 0 ≡ bodyAt functions f
 body-place functions f = ap (λ m. getD functions m 0) (let e : functionWords * f + bodyWord ≡ functionWords * f + headWords + 3 = omega arith in e)
 
-module _ (text frames types functions channels : List ℕ) (count f : ℕ) {n : ℕ} (k : (n ≡ getD functions (functionWords * f) 0 % 256) × (n < 256)) (scope : List ℕ) {scope₁ scope₂ : List ℕ}
+module _ (text frames types functions channels : List ℕ) (count f : ℕ) {n : ℕ} (k : (n ≡ getD functions (functionWords * f) 0 % byteRange) × (n < byteRange)) (scope : List ℕ) {scope₁ scope₂ : List ℕ}
     (enter : scope₁ ≡ entered types functions (Parameters f) scope 0 n) (room : variablesMost ≤ length scope) {at line word : ℕ} (place : at ≡ getD functions (functionWords * f + bodyWord) 0) (number : line ≡ lineOf count f) (ret : Returns text frames functions count f word) {x : Typing}
     (v : TypesWant text frames types functions channels scope₁ (record { at = record { at = at }; levels = nestingMost; line = line; types = count; variables = n }) word x scope₂) where
   module _ {P : File} {F : Function} (h : Indexed text frames types functions channels P) (c : count ≡ length (P .types)) (e : look (P .functions) f ≡ some F) where

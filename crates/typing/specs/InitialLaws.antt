@@ -6,7 +6,7 @@ use mathlib.Core.Option.{Option}
 use mathlib.Core.Path.{_≡_, refl, sym, ap, _∙_, subst}
 use native.Mathlib.Omega.{arith}
 use lib.ListN.{length, getD}
-use Rattle.language.specs.Limits.{sizeVariablesMost, nestingMost}
+use Rattle.language.specs.Limits.{byteRange, sizeVariablesMost, nestingMost}
 use Rattle.language.specs.Result.{both, when}
 use Rattle.language.specs.Syntax.{Plain, pbool, Size, Expr, econ, eadj, Exprs, enil, econs}
 use Rattle.language.specs.Format.{sizeBytes, exprBytes, exprsBytes}
@@ -114,7 +114,7 @@ module _ (line types : List ℕ) (c : Cursor) (levels : ℕ) where
     pub initial-other : (f : Form) → neverInitial f ≡ true → h .form ≡ f → TestsInitial line types c levels Wrong
     initial-other f z q = record { says = λ told w s. wrong (when-false pbool (not-initial heads s w f z q)) }
 
-    pub initial-made : {t k n : ℕ} {r : Typing} → h .form ≡ Construct t k → (n ≡ getD types (typeWords * t + 1 + constructorWords * k) 0 % 256) × (n < 256) → TestsInitials line types (h .next) (levels - 1) n r → TestsInitial line types c levels r
+    pub initial-made : {t k n : ℕ} {r : Typing} → h .form ≡ Construct t k → (n ≡ getD types (typeWords * t + 1 + constructorWords * k) 0 % byteRange) × (n < byteRange) → TestsInitials line types (h .next) (levels - 1) n r → TestsInitial line types c levels r
     initial-made {t} {k} {n} {r} q count u = record {
       says = λ {S} {e} told w s.
           let i = con-head heads s w q in

@@ -7,6 +7,7 @@ use mathlib.Core.Path.{_≡_, refl, sym, ap, ap₂, _∙_, subst}
 use native.Mathlib.Omega.{arith}
 use native.Mathlib.Nat.{zero-add, add-zero}
 use lib.ListN.{length, getD, length-map}
+use Rattle.language.specs.Limits.{byteRange}
 use Rattle.language.specs.Result.{both, when}
 use Rattle.language.specs.Syntax.{Field, TypeDef, Plain, pnamed, Expr, Exprs, enil, econs, File, constructorsOf}
 use Rattle.language.specs.Format.{exprBytes, exprsBytes}
@@ -58,7 +59,7 @@ module _ {text frames types functions channels : List ℕ} {P : File} (h : Index
   pub small-type : t < tagStep
   small-type = omega (arith, less, h .within .fewTypes)
 
-  pub field-count : {n : ℕ} → (n ≡ getD types (typeWords * t + 1 + constructorWords * c) 0 % 256) × (n < 256) → n ≡ length fieldsAt
+  pub field-count : {n : ℕ} → (n ≡ getD types (typeWords * t + 1 + constructorWords * c) 0 % byteRange) × (n < byteRange) → n ≡ length fieldsAt
   field-count k = let tells = h .eachType t less .tells in count-same k (tells .fields c less₂) (omega (arith, tells .fewFields c less₂))
 
   pub fields-wanted : (j : ℕ) → j < length fieldsAt → wantedWord types functions (Fields t c) j ≡ getD (map plainWord (plainFields t fieldsAt)) j 0
@@ -153,7 +154,7 @@ module _ (text frames types functions channels scope : List ℕ) (p : Place) (s 
 
 module _ (text frames types functions channels scope : List ℕ) (p : Place) where
   -- ---- `18`
-  pub call-done : {f n word : ℕ} {r : Typing} {scope₁ : List ℕ} → Returns text frames functions (p .types) f word → (n ≡ getD functions (functionWords * f) 0 % 256) × (n < 256) →
+  pub call-done : {f n word : ℕ} {r : Typing} {scope₁ : List ℕ} → Returns text frames functions (p .types) f word → (n ≡ getD functions (functionWords * f) 0 % byteRange) × (n < byteRange) →
       TypesSeveral text frames types functions channels scope p (record { of = Parameters f; first = 0; count = n; word = word }) r scope₁ → TypesCall text frames types functions channels scope p f r scope₁
   unfolding wantedWord
   call-done {f} {n} {word} ret k u = record {
@@ -178,7 +179,7 @@ module _ (text frames types functions channels scope : List ℕ) (p : Place) whe
   }
 
   -- ---- `19`
-  pub con-done : {t c n word : ℕ} {r : Typing} {scope₁ : List ℕ} → word ≡ namedWord t → (n ≡ getD types (typeWords * t + 1 + constructorWords * c) 0 % 256) × (n < 256) →
+  pub con-done : {t c n word : ℕ} {r : Typing} {scope₁ : List ℕ} → word ≡ namedWord t → (n ≡ getD types (typeWords * t + 1 + constructorWords * c) 0 % byteRange) × (n < byteRange) →
       TypesSeveral text frames types functions channels scope p (record { of = Fields t c; first = 0; count = n; word = word }) r scope₁ → TypesCon text frames types functions channels scope p t c r scope₁
   con-done {t} {c} {n} {word} w k u = record {
     says = λ {P} {C} {S} {Γ} st ask.

@@ -5,7 +5,7 @@ use mathlib.Core.Option.{some}
 use mathlib.Core.Path.{_≡_, refl, sym, ap, _∙_, subst}
 use native.Mathlib.Omega.{arith}
 use lib.ListN.{length, getD, getElem? as look}
-use Rattle.language.specs.Limits.{sizeVariablesMost, nestingMost}
+use Rattle.language.specs.Limits.{byteRange, sizeVariablesMost, nestingMost}
 use Rattle.language.specs.Syntax.{Plain, pbool, pint, pnamed, Size, ResultType, rbool, rint, rnamed, Function, File}
 use Rattle.language.specs.Format.{sizeBytes, resultBytes}
 use Rattle.language.specs.Scope.{namedCount}
@@ -86,7 +86,7 @@ plain-named : {t : ℕ} {s : Size} {ρ : ResultType} → ρ ≡ rnamed t s → p
 unfolding plainResult
 plain-named q = rw q
 
-module _ (line : List ℕ) (c : Cursor) {x : Number} (v : ReadsNumber line (c .at) x (byte (bytesFrom line (c .at))) × Below 256 x) where
+module _ (line : List ℕ) (c : Cursor) {x : Number} (v : ReadsNumber line (c .at) x (byte (bytesFrom line (c .at))) × Below byteRange x) where
   pub result-stops : {m : ℕ} → x ≡ Refused m → ReadsResult line c Wrong
   result-stops q = record { says = λ {types} {vars} {ρ} small few w s. absurd (byte-there (omega (arith, spells-within s, some-result ρ)) v q) }
 
@@ -100,7 +100,7 @@ module _ (line : List ℕ) (c : Cursor) {x : Number} (v : ReadsNumber line (c .a
     pub result-leaf : f .value < 2 → ReadsResult line c (Is (record { word = f .value; next = f .next }))
     result-leaf less = record { says = λ {types} {vars} {ρ} small few w s. let l = leaf-result (coded s) less in answered refl (l .0) (omega (arith, second s, l .1)) refl }
 
-    module _ (more : 2 ≤ f .value) {y : Number} (u : ReadsNumber line (f .next .at) y (byte (bytesFrom line (f .next .at))) × Below 256 y) where
+    module _ (more : 2 ≤ f .value) {y : Number} (u : ReadsNumber line (f .next .at) y (byte (bytesFrom line (f .next .at))) × Below byteRange y) where
       here : {ρ : ResultType} → Spells resultBytes line (c .at) ρ → f .next .at < length (bytesOf line)
       here s = omega (arith, second s, named-result (coded s) more .spelled .within)
 
