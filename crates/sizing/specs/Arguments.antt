@@ -8,7 +8,7 @@ use mathlib.Core.Path.{_≡_, refl, sym, ap, _∙_, subst}
 use native.Mathlib.Omega.{arith}
 use lib.ListN.{length, getD, take, drop, replicate, length-replicate, getElem? as look}
 use lib.Seq.{take-append-seam, take-all}
-use Rattle.language.specs.Limits.{parametersMost, sizeVariablesMost}
+use Rattle.language.specs.Limits.{byteRange, parametersMost, sizeVariablesMost}
 use Rattle.language.specs.Syntax.{Plain, pbool, pint, pnamed, Ty, Exprs, Expr, ecall, Function, File}
 use Rattle.language.specs.Layout.{padded}
 use Rattle.language.specs.Scope.{Scope, namedCount}
@@ -47,7 +47,7 @@ pub record Called (t : Lent) (p : Place) (P : File) (S : Scope) (f n end : ℕ) 
   pub part : ExprsPart (lineAt (t .text) (p .line)) p S (n - 0) end list
 
 abbrev pub ArityOf : List ℕ → ℕ → ℕ → Type 0
-ArityOf functions f n = (n ≡ getD functions (functionWords * f) 0 % 256) × (n < 256)
+ArityOf functions f n = (n ≡ getD functions (functionWords * f) 0 % byteRange) × (n < byteRange)
 
 pub called : {t : Lent} {b : Buffers} {p : Place} {P : File} {S : Scope} {q : Stand} {Γ : List Ty} {Δ : List ℕ} {L : List Instance} {left f n end : ℕ} {e : Expr} → ArityOf (t .functions) f n →
     Here t b p P S q Γ Δ L left → CallPart f (lineAt (t .text) (p .line)) p S end e → Called t p P S f n end e

@@ -6,7 +6,7 @@ use mathlib.Core.Path.{_≡_, refl, sym, ap, _∙_}
 use native.Mathlib.Omega.{arith}
 use lib.ListN.{length, getD, getElem? as look}
 use borrow.Author.Tests.{le-leb, lt-leb}
-use Rattle.language.specs.Limits.{sizeMost, sizeVariablesMost}
+use Rattle.language.specs.Limits.{byteRange, sizeMost, sizeVariablesMost}
 use Rattle.language.specs.Result.{choose}
 use Rattle.language.specs.Syntax.{Constructor, owns, File, constructorsOf}
 use Rattle.language.specs.Scope.{wider}
@@ -43,7 +43,7 @@ use Rattle.sizing.specs.TurnLaws.{grown-is}
 abbrev pub ownWord : Lent → ℕ → ℕ → ℕ
 ownWord t u c = getD (t .types) (typeWords * u + 2 + constructorWords * c) 0
 
-pub owns-told : {t : Lent} {P : File} {u n : ℕ} (c : ℕ) {fs : Constructor} → IndexedFile t P → u < length (P .types) → look (constructorsOf P u) c ≡ some fs → (n ≡ ownWord t u c % 256) × (n < 256) → n ≡ owns fs
+pub owns-told : {t : Lent} {P : File} {u n : ℕ} (c : ℕ) {fs : Constructor} → IndexedFile t P → u < length (P .types) → look (constructorsOf P u) c ≡ some fs → (n ≡ ownWord t u c % byteRange) × (n < byteRange) → n ≡ owns fs
 owns-told {t} {P} {u} {n} c {fs} i less there told =
     let tells = i .eachType u less .tells in
     let at = look-less (constructorsOf P u) c there in
@@ -62,7 +62,7 @@ unfolding splits
 split-most zero n le most = all-cons all-nil all-nil
 split-most (suc r) n le most = all-map (λ ks s. all-map (λ (k : ℕ) less. omega (arith, less, most)) (sizes-in-sum ks n (omega (arith, s .sums)))) (splits-are (suc r) n (omega arith) (omega (arith, le)))
 
-module _ {s : Subject} {k own : ℕ} {t : Lent} {b : Buffers} {p : Place} (told : (own ≡ ownWord t (s .of) k % 256) × (own < 256)) where
+module _ {s : Subject} {k own : ℕ} {t : Lent} {b : Buffers} {p : Place} (told : (own ≡ ownWord t (s .of) k % byteRange) × (own < byteRange)) where
   -- ---- the subject is too small for the constructor
   pub branch-skipped : {line : List ℕ} {next : Cursor} {o : Place} {numbers : Estimate} {r : Sizing} → s .size ≤ own → line ≡ framePart (t .text) (t .frames) (p .line) →
       Skips line (t .types) (t .functions) (p .at) (p .levels) next → o ≡ movedTo p next (p .used) → Makes nothing numbers → r ≡ leafOf (s .kind) numbers o → SizesBranch s k t b p r b

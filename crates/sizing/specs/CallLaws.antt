@@ -1,12 +1,12 @@
 -- `18`: what each return of a call gives.
-use Prim.Native.Nat.{ℕ, suc, _+_, _≤_, _<_, _^_}
+use Prim.Native.Nat.{ℕ, suc, _+_, _≤_, _<_}
 use mathlib.Core.List.{List}
 use mathlib.Core.Bool.{true}
 use mathlib.Core.Option.{some}
 use mathlib.Core.Path.{_≡_, sym, ap, _∙_, subst, subst₂}
 use native.Mathlib.Omega.{arith}
 use lib.ListN.{length, take, replicate, getElem? as look}
-use Rattle.language.specs.Limits.{parametersMost, sizeVariablesMost, variablesMost}
+use Rattle.language.specs.Limits.{byteRange, parametersMost, sizeVariablesMost, variablesMost}
 use Rattle.language.specs.Result.{Result, need, from}
 use Rattle.language.specs.Scope.{Scope}
 use Rattle.language.specs.Syntax.{Ty, Function, File, functionFrame}
@@ -47,7 +47,7 @@ pub entry-is : {f n m : ℕ} {y : Entering} {e : Entry} → EntryOf f n m y → 
 entry-is {f} {n} {m} {e} (entry-of {e = g} i j k s) d = subst (EntryIs f n m) (let same : g ≡ e = cc in same) (record { function = i; variables = j; sizes = k; small = s })
 entry-is no-entry d = absurd (let z : _≡_ {A = ℕ} 0 1 = cc in omega arith)
 
-pub entry-numbers : {f n m : ℕ} {y : Entering} {e : Entry} → EntryOf f n m y → y ≡ Ready e → f < 2 ^ 8 → n < 2 ^ 8 → m ≤ n → Entered e
+pub entry-numbers : {f n m : ℕ} {y : Entering} {e : Entry} → EntryOf f n m y → y ≡ Ready e → f < byteRange → n < byteRange → m ≤ n → Entered e
 entry-numbers v d less few fewer = let i = entry-is v d in record { function = omega (arith, i .function, less); variables = omega (arith, i .variables, few); sizes = omega (arith, i .sizes, few, fewer) }
 
 -- an entry that is ready, for a file

@@ -7,7 +7,7 @@ use native.Mathlib.Omega.{arith}
 use lib.ListN.{length, getD, length-append, length-map}
 use lib.Dec.{leb}
 use borrow.Author.Tests.{leb-true, leb-false}
-use Rattle.language.specs.Limits.{typesMost, functionsMost, inputsMost, nodesMost, variablesMost, sizeVariablesMost, instancesMost}
+use Rattle.language.specs.Limits.{typesMost, functionsMost, inputsMost, nodesMost, channelsMost, variablesMost, sizeVariablesMost, instancesMost}
 use Rattle.language.specs.Syntax.{Ty, Expr, Input, Node, File, declaredTypes, channelFrame}
 use Rattle.language.specs.Scope.{outerScope}
 use Rattle.language.specs.Format.{exprBytes}
@@ -29,7 +29,7 @@ use Rattle.sizing.specs.declared.Place.{Place}
 use Rattle.sizing.specs.declared.Checked.{Checked}
 use Rattle.sizing.specs.declared.Sizing.{Sizing}
 use Rattle.sizing.specs.declared.Sizing.the-variants.{Is, Refused}
-use Rattle.sizing.specs.Sites.{bounded-small, around-none, perLevel, Room}
+use Rattle.sizing.specs.Sites.{bounded-small, around-none, Room}
 use Rattle.sizing.specs.Agreement.{Holds, Agrees, agrees, itself, bind-is, bind-no, need-holds, need-fails}
 use Rattle.sizing.specs.Promises.{Lent, Buffers, buffers, IndexedFile, Here, entering, Sizes, ExprPart}
 use Rattle.sizing.specs.Leaves.{Typed}
@@ -65,7 +65,7 @@ module _ {n : Counts} where
   limited-many (many f) e = f
 
 -- ---- room for an expression of a channel
-pub room-outer : {n : Counts} {c at used : ℕ} {p : Place} {scope sizes : ℕ} → Few n → c < perLevel → p ≡ outerPlace n c at used → variablesMost ≤ scope → sizeVariablesMost ≤ sizes → Room (p .levels) scope sizes p
+pub room-outer : {n : Counts} {c at used : ℕ} {p : Place} {scope sizes : ℕ} → Few n → c < channelsMost → p ≡ outerPlace n c at used → variablesMost ≤ scope → sizeVariablesMost ≤ sizes → Room (p .levels) scope sizes p
 room-outer f less is scope sizes = rw is (record {
   scope = scope;
   sizeScope = sizes;

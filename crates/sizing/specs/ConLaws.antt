@@ -5,7 +5,7 @@ use mathlib.Core.Option.{some}
 use mathlib.Core.Path.{_≡_, refl, sym, ap, _∙_, subst}
 use native.Mathlib.Omega.{arith}
 use lib.ListN.{length, getD, getElem? as look}
-use Rattle.language.specs.Limits.{fieldsMost}
+use Rattle.language.specs.Limits.{byteRange, fieldsMost}
 use Rattle.language.specs.Syntax.{Constructor, TypeDef, Ty, Expr, econ, Exprs, enil, econs, File, constructorsOf}
 use Rattle.language.specs.Result.{Result, ok, no}
 use Rattle.language.specs.Scope.{Scope}
@@ -54,7 +54,7 @@ pub record Constructed (t : Lent) (p : Place) (P : File) (S : Scope) (of c n end
   pub part : ExprsPart (lineAt (t .text) (p .line)) p S (n - 0) end list
 
 abbrev pub FieldsOf : List ℕ → ℕ → ℕ → ℕ → Type 0
-FieldsOf types of c n = (n ≡ getD types (typeWords * of + 1 + constructorWords * c) 0 % 256) × (n < 256)
+FieldsOf types of c n = (n ≡ getD types (typeWords * of + 1 + constructorWords * c) 0 % byteRange) × (n < byteRange)
 
 pub constructed : {t : Lent} {b : Buffers} {p : Place} {P : File} {S : Scope} {q : Stand} {Γ : List Ty} {Δ : List ℕ} {L : List Instance} {left of c n end : ℕ} {e : Expr} → FieldsOf (t .types) of c n →
     Here t b p P S q Γ Δ L left → ConPart of c (lineAt (t .text) (p .line)) p S end e → Constructed t p P S of c n end e

@@ -6,7 +6,7 @@ use mathlib.Core.Path.{_≡_, refl, sym, ap, _∙_}
 use native.Mathlib.Omega.{arith}
 use lib.ListN.{length, take, drop, length-append, length-drop, getElem? as look}
 use lib.Seq.{length-take-le, take-add}
-use Rattle.language.specs.Limits.{variablesMost, sizeVariablesMost}
+use Rattle.language.specs.Limits.{byteRange, variablesMost, sizeVariablesMost}
 use Rattle.language.specs.Syntax.{Field, fbool, fint, own, other, Constructor, owns, Ty, File, constructorsOf}
 use Rattle.language.specs.Scope.{Scope, wider}
 use Rattle.language.specs.Within.{All, all-nil, all-cons, WithinField, w-fbool, w-fint, w-own, w-other}
@@ -32,7 +32,7 @@ field-types-long t (own ∷ fs) [] = ap suc (field-types-long t fs [])
 field-types-long t (own ∷ fs) (k ∷ ks) = ap suc (field-types-long t fs ks)
 field-types-long t (other u j ∷ fs) ks = ap suc (field-types-long t fs ks)
 
-pub fields-bounded : {t : ℕ} {fs : List Field} {ks : List ℕ} → t < 256 → All (WithinField t) fs → All UpToMost ks → All Bounded (fieldTypes t fs ks)
+pub fields-bounded : {t : ℕ} {fs : List Field} {ks : List ℕ} → t < byteRange → All (WithinField t) fs → All UpToMost ks → All Bounded (fieldTypes t fs ks)
 unfolding fieldTypes
 fields-bounded less all-nil sizes = all-nil
 fields-bounded less (all-cons w-fbool ws) sizes = all-cons bounded-bool (fields-bounded less ws sizes)

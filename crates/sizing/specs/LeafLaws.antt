@@ -1,5 +1,5 @@
 -- What each return gives of the functions that work on no expression.
-use Prim.Native.Nat.{ℕ, _+_, _-_, _≤_, _<_, _^_}
+use Prim.Native.Nat.{ℕ, _+_, _-_, _≤_, _<_}
 use mathlib.Core.List.{List, map}
 use mathlib.Core.Bool.{Bool, true, false}
 use mathlib.Core.Option.{some}
@@ -9,7 +9,7 @@ use native.Mathlib.Numerals.{add-one}
 use lib.ListN.{length, take, getElem? as look}
 use lib.Dec.{ltb}
 use borrow.Author.Tests.{lt-ltb, le-ltb, eq-eqb, ne-eqb}
-use Rattle.language.specs.Limits.{sizeMost}
+use Rattle.language.specs.Limits.{byteRange, sizeMost}
 use Rattle.language.specs.Result.{choose}
 use Rattle.language.specs.Syntax.{Constructor, Op, oadd, osub, omul, oeq, olt, ole, oand, oor, tnamed, Function, File, constructorsOf}
 use Rattle.language.specs.Format.{opCode, resultBytes}
@@ -207,7 +207,7 @@ module _ {types row : List ℕ} {p : Place} {a : Counted} {t c size : ℕ} (o : 
       grows = not-grown;
     }
 
-    pub made-done : {one numbers : Estimate} → r ≡ true → t < 2 ^ 8 → Made oneCell one → Combines after (a .numbers) one numbers →
+    pub made-done : {one numbers : Estimate} → r ≡ true → t < byteRange → Made oneCell one → Combines after (a .numbers) one numbers →
         Makes types row p a t c (Is (record { kind = Named t (size + 1); numbers = numbers; next = a .next; used = a .used }))
     made-done {numbers} e small one all = record {
       says = λ text frames functions channels P q fs next words row₀ x i at less is long k.

@@ -1,12 +1,12 @@
 -- What the functions promise that work on no expression.
-use Prim.Native.Nat.{ℕ, suc, _+_, _<_, _^_}
+use Prim.Native.Nat.{ℕ, suc, _+_, _<_}
 use mathlib.Core.List.{List}
 use mathlib.Core.Bool.{Bool, true, false}
 use mathlib.Core.Option.{none, some}
 use mathlib.Core.Path.{_≡_}
 use lib.ListN.{length, getD, take, getElem? as look}
 use lib.Dec.{ltb}
-use Rattle.language.specs.Limits.{sizeMost, nestingMost}
+use Rattle.language.specs.Limits.{byteRange, sizeMost, nestingMost}
 use Rattle.language.specs.Result.{ok, need}
 use Rattle.language.specs.Syntax.{Constructor, tnamed, Op, Function, File, constructorsOf}
 use Rattle.language.specs.Format.{opCode}
@@ -111,15 +111,15 @@ Operands (Last c) = Unit {0}
 Operands Let = Unit {0}
 Operands If = Unit {0}
 Operands (Operator o) = Unit {0}
-Operands (Call f) = f < 2 ^ 8
-Operands (Construct t c) = (t < 2 ^ 8) × (c < 2 ^ 8)
-Operands (Case t) = t < 2 ^ 8
+Operands (Call f) = f < byteRange
+Operands (Construct t c) = (t < byteRange) × (c < byteRange)
+Operands (Case t) = t < byteRange
 Operands Adjust = Unit {0}
-Operands (Fit k) = k < 2 ^ 8
+Operands (Fit k) = k < byteRange
 Operands Missing = Unit {0}
 
 -- an entry whose numbers are small
 pub record Entered (e : Entry) : Type 0 where
-  pub function : e .function < 2 ^ 8
-  pub variables : e .variables < 2 ^ 8
-  pub sizes : e .sizes < 2 ^ 8
+  pub function : e .function < byteRange
+  pub variables : e .variables < byteRange
+  pub sizes : e .sizes < byteRange

@@ -4,14 +4,14 @@ use Prim.Native.Nat.{ℕ, suc, _+_, _*_, _-_, _≤_, _<_, _^_}
 use mathlib.Core.List.{List}
 use mathlib.Core.Path.{_≡_, ap}
 use native.Mathlib.Omega.{arith}
-use Rattle.language.specs.Limits.{typesMost, variablesMost, sizeVariablesMost, instancesMost}
+use Rattle.language.specs.Limits.{byteRange, typesMost, variablesMost, sizeVariablesMost, instancesMost}
 use Rattle.text.specs.declared.Cursor.{Cursor}
 use Rattle.sizing.specs.declared.Place.{Place}
 use Rattle.sizing.specs.declared.Checked.{Checked}
 use Rattle.sizing.specs.declared.Sizing.{Sizing}
 use Rattle.sizing.specs.declared.Sizing.the-variants.{Is}
 use Rattle.sizing.specs.declared.Entry.{Entry}
-use Rattle.sizing.specs.Sites.{movedTo, downTo, widened, perLevel, Room}
+use Rattle.sizing.specs.Sites.{movedTo, downTo, widened, Room}
 use Rattle.sizing.specs.Agreement.{Grows, grows-to}
 use Rattle.sizing.specs.Leaves.{bodyOf, Entered}
 
@@ -86,7 +86,7 @@ module _ {deep ns nz : ℕ} {p : Place} (r : Room deep ns nz p) where
   sizes-long e = omega (arith, r .sizeScope, e)
 
   -- more variables can be counted
-  pub room-widens : {m : Place} {at : Cursor} {used v s : ℕ} → m ≡ movedTo p at used → v < perLevel → s < perLevel → (m .variables + v < 2 ^ 32) × (m .sizes + s < 2 ^ 32)
+  pub room-widens : {m : Place} {at : Cursor} {used v s : ℕ} → m ≡ movedTo p at used → v < byteRange → s < byteRange → (m .variables + v < 2 ^ 32) × (m .sizes + s < 2 ^ 32)
   room-widens {m} e few fewer = (omega (arith, r .variables, few, ap (λ z. z .variables) e), omega (arith, r .sizes, fewer, ap (λ z. z .sizes) e))
 
   -- other buffers of the same lengths
@@ -107,7 +107,7 @@ module _ {deep ns nz : ℕ} {p : Place} (r : Room deep ns nz p) where
   }
 
 -- under more variables, from inside a form
-pub room-wide : {ns nz ns′ nz′ : ℕ} {p m q : Place} {at : Cursor} {used v s : ℕ} → Room (suc (p .levels)) ns nz p → m ≡ movedTo p at used → q ≡ widened m v s → ns′ ≡ ns → nz′ ≡ nz → v < perLevel → s < perLevel → Room (q .levels) ns′ nz′ q
+pub room-wide : {ns nz ns′ nz′ : ℕ} {p m q : Place} {at : Cursor} {used v s : ℕ} → Room (suc (p .levels)) ns nz p → m ≡ movedTo p at used → q ≡ widened m v s → ns′ ≡ ns → nz′ ≡ nz → v < byteRange → s < byteRange → Room (q .levels) ns′ nz′ q
 room-wide {p} {m} {q} r e w n k few fewer = record {
   scope = omega (arith, r .scope, n);
   sizeScope = omega (arith, r .sizeScope, k);
@@ -161,5 +161,5 @@ room-inner {q} r e long wide = record {
 }
 
 -- ---- before a call is entered
-pub prepares : {deep ns nz : ℕ} {p q : Place} {at : Cursor} {used f : ℕ} → Room deep ns nz p → q ≡ movedTo p at used → f < 2 ^ 8 → (q .types ≤ typesMost) × ((q .line < 2 ^ 16) × (f < 2 ^ 8))
+pub prepares : {deep ns nz : ℕ} {p q : Place} {at : Cursor} {used f : ℕ} → Room deep ns nz p → q ≡ movedTo p at used → f < byteRange → (q .types ≤ typesMost) × ((q .line < 2 ^ 16) × (f < byteRange))
 prepares {q} r e less = (omega (arith, r .types, ap (λ z. z .types) e), (omega (arith, r .line, ap (λ z. z .line) e), less))

@@ -7,7 +7,7 @@ use mathlib.Core.Path.{_≡_, refl, _∙_}
 use native.Mathlib.Omega.{arith}
 use lib.ListN.{length, take, set, getElem? as look}
 use lib.Seq.{take-set-le}
-use Rattle.language.specs.Limits.{typesMost, sizeMost, variablesMost, sizeVariablesMost, nestingMost}
+use Rattle.language.specs.Limits.{byteRange, typesMost, sizeMost, variablesMost, sizeVariablesMost, nestingMost}
 use Rattle.language.specs.Syntax.{Ty, tbool, tint, tnamed, File, declaredTypes}
 use Rattle.language.specs.Scope.{Scope}
 use Rattle.language.specs.Within.{All}
@@ -21,11 +21,11 @@ use Rattle.sizes.specs.declared.SizedType.{SizedType}
 use Rattle.sizes.specs.Promises.{meaning, OneByteEach, bool-small, int-small, named-small, Small, small-bool, small-int, small-named}
 use Rattle.sizing.specs.declared.Place.{Place}
 
--- ---- the types of a scope: a number below 256, a size up to the largest one
+-- ---- the types of a scope: a number of one byte, a size up to the largest one
 pub data Bounded : Ty → Type 0 where
   bounded-bool : Bounded tbool
   bounded-int : Bounded tint
-  bounded-named : {t k : ℕ} → t < 256 → k ≤ sizeMost → Bounded (tnamed t k)
+  bounded-named : {t k : ℕ} → t < byteRange → k ≤ sizeMost → Bounded (tnamed t k)
 
 pub bounded-small : {τ : Ty} → Bounded τ → Small τ
 bounded-small bounded-bool = small-bool
@@ -51,11 +51,8 @@ abbrev pub widened : Place → ℕ → ℕ → Place
 widened p v s =
     record { at = p .at; levels = p .levels; types = p .types; line = p .line; around = p .around; weight = p .weight; variables = p .variables + v; sizes = p .sizes + s; used = p .used }
 
--- ---- what keeps the numbers of a place small on any bytes: each level adds fewer variables than a byte counts
-abbrev pub perLevel : ℕ
-perLevel = 2 ^ 8
-
--- deep: the levels that are still to be counted, one more inside a form whose head was read
+-- ---- what keeps the numbers of a place small on any bytes: each level adds fewer variables than a byte counts. deep: the levels
+-- that are still to be counted, one more inside a form whose head was read
 pub record Room (deep scopeLength sizesLength : ℕ) (p : Place) : Type 0 where
   pub scope : variablesMost ≤ scopeLength
   pub sizeScope : sizeVariablesMost ≤ sizesLength
@@ -63,8 +60,8 @@ pub record Room (deep scopeLength sizesLength : ℕ) (p : Place) : Type 0 where
   pub under : p .levels ≤ deep
   pub types : p .types ≤ typesMost
   pub line : p .line < 2 ^ 16
-  pub variables : p .variables + perLevel * deep < 2 ^ 16
-  pub sizes : p .sizes + perLevel * deep < 2 ^ 16
+  pub variables : p .variables + byteRange * deep < 2 ^ 16
+  pub sizes : p .sizes + byteRange * deep < 2 ^ 16
 
 -- ---- the function around it, and its summed measure
 pub data Around (around weight : ℕ) : Stand → Type 0 where

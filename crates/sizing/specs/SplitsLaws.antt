@@ -6,7 +6,7 @@ use mathlib.Core.Option.{some}
 use mathlib.Core.Path.{_≡_, refl, sym, ap, _∙_, subst}
 use native.Mathlib.Omega.{arith}
 use lib.ListN.{length, getD, take, drop, getElem? as look}
-use Rattle.language.specs.Limits.{variablesMost, sizeVariablesMost}
+use Rattle.language.specs.Limits.{byteRange, variablesMost, sizeVariablesMost}
 use Rattle.language.specs.Result.{Result, ok, no, bind, need}
 use Rattle.language.specs.Syntax.{Constructor, owns, Ty, Expr, File, constructorsOf}
 use Rattle.language.specs.Scope.{Scope, wider}
@@ -157,7 +157,7 @@ agreed frame (unanswered before) same small = unanswered before
 
 -- ---- the loop's body: the fields bound, and the branch's expression under them
 module _ {s : Subject} {k n own : ℕ} {t : Lent} {b₀ b b₁ : Buffers} {p m o : Place} {all : Checked} {scope : List ℕ} {x : Sizing} (w : Walks s k t b₀ p true b all)
-    (count : (n ≡ fieldsWord t (s .of) k % 256) × (n < 256)) (told : (own ≡ ownWord t (s .of) k % 256) × (own < 256)) (room : variablesMost ≤ length (b .scope)) (sizeRoom : sizeVariablesMost ≤ length (b .sizes))
+    (count : (n ≡ fieldsWord t (s .of) k % byteRange) × (n < byteRange)) (told : (own ≡ ownWord t (s .of) k % byteRange) × (own < byteRange)) (room : variablesMost ≤ length (b .scope)) (sizeRoom : sizeVariablesMost ≤ length (b .sizes))
     (bound : FieldsBound (t .types) (b .scope) (b .sizes) (s .of) k (p .variables) (p .sizes) scope) (moved : m ≡ movedTo p (p .at) (all .used)) (wide : o ≡ widened m n own)
     (v : Sizes ExprPart t (buffers (b .list) scope (b .sizes)) o x b₁) where
   under : Sizes ExprPart t (buffers (b .list) scope (b .sizes)) (widened (movedTo p (p .at) (all .used)) n own) x b₁
@@ -215,7 +215,7 @@ module _ {s : Subject} {k n own : ℕ} {t : Lent} {b₀ b b₁ : Buffers} {p m o
     })
 
 -- ---- the loop is left
-pub splits-done : {s : Subject} {k n : ℕ} {t : Lent} {b₀ b : Buffers} {p : Place} {all : Checked} {numbers : Held} {r : Sizing} → Walks s k t b₀ p false b all → (n ≡ fieldsWord t (s .of) k % 256) × (n < 256) →
+pub splits-done : {s : Subject} {k n : ℕ} {t : Lent} {b₀ b : Buffers} {p : Place} {all : Checked} {numbers : Held} {r : Sizing} → Walks s k t b₀ p false b all → (n ≡ fieldsWord t (s .of) k % byteRange) × (n < byteRange) →
     Changes (withSlots n) (all .numbers) numbers → r ≡ Is (record { kind = all .kind; numbers = numbers; next = all .next; used = all .used }) → SizesSplits s k t b₀ p r b
 splits-done {s} {k} w count held is = record {
   says = λ P S q Γ Δ L left h fs wanted there end e part kss chain most.

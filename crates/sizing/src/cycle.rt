@@ -1,6 +1,7 @@
 // Expressions, arguments, branches and bodies: they call each other, falling by the instances left and by the levels left.
-ghost use Prim.Native.Nat.{suc, _<_, _≤_, _^_};
+ghost use Prim.Native.Nat.{suc, _<_, _≤_};
 ghost use lib.ListN.{length};
+ghost use Rattle.language.specs.Limits.{byteRange};
 ghost use Rattle.sizing.specs.Sites.{Room};
 ghost use Rattle.sizing.specs.Leaves.{Entered, Operands};
 ghost use Rattle.sizing.specs.Promises.{lent, buffers, Sizes, SizesAll, SizesBranches, SizesBranch, SizesSplits, Enters, EntersNew, ExprPart};
@@ -416,7 +417,7 @@ fn several(
     n: u32,
 ) -> Counting
     requires { ⌜ Room (suc (p .levels)) (length (now scope)) (length (now sizes)) p ⌝ }
-    requires { ⌜ n < 2 ^ 8 ⌝ }
+    requires { ⌜ n < byteRange ⌝ }
     ensures { λ r. ⌜ SizesAll (lent (now (text .entry)) (now (frames .entry)) (now (types .entry)) (now (functions .entry)) (now (channels .entry))) (buffers (now (list .entry)) (now (scope .entry)) (now (sizes .entry))) p i n (now (row .entry)) r (buffers (now (list .exit)) (now (scope .exit)) (now (sizes .exit))) (now (row .exit)) ⌝ }
 {
     if n <= i {
@@ -473,7 +474,7 @@ fn call(
     f: u32,
 ) -> Sizing
     requires { ⌜ Room (suc (p .levels)) (length (now scope)) (length (now sizes)) p ⌝ }
-    requires { ⌜ f < 2 ^ 8 ⌝ }
+    requires { ⌜ f < byteRange ⌝ }
     ensures { λ r. ⌜ Sizes (CallPart f) (lent (now (text .entry)) (now (frames .entry)) (now (types .entry)) (now (functions .entry)) (now (channels .entry))) (buffers (now (list .entry)) (now (scope .entry)) (now (sizes .entry))) p r (buffers (now (list .exit)) (now (scope .exit)) (now (sizes .exit))) ⌝ }
 {
     let n = arity(functions, f);
@@ -618,7 +619,7 @@ fn construct(
     c: u32,
 ) -> Sizing
     requires { ⌜ Room (suc (p .levels)) (length (now scope)) (length (now sizes)) p ⌝ }
-    requires { ⌜ (t < 2 ^ 8) × (c < 2 ^ 8) ⌝ }
+    requires { ⌜ (t < byteRange) × (c < byteRange) ⌝ }
     ensures { λ r. ⌜ Sizes (ConPart t c) (lent (now (text .entry)) (now (frames .entry)) (now (types .entry)) (now (functions .entry)) (now (channels .entry))) (buffers (now (list .entry)) (now (scope .entry)) (now (sizes .entry))) p r (buffers (now (list .exit)) (now (scope .exit)) (now (sizes .exit))) ⌝ }
 {
     let n = fields(types, t, c);
@@ -657,7 +658,7 @@ fn case_of(
     t: u32,
 ) -> Sizing
     requires { ⌜ Room (suc (p .levels)) (length (now scope)) (length (now sizes)) p ⌝ }
-    requires { ⌜ t < 2 ^ 8 ⌝ }
+    requires { ⌜ t < byteRange ⌝ }
     ensures { λ r. ⌜ Sizes (CasePart t) (lent (now (text .entry)) (now (frames .entry)) (now (types .entry)) (now (functions .entry)) (now (channels .entry))) (buffers (now (list .entry)) (now (scope .entry)) (now (sizes .entry))) p r (buffers (now (list .exit)) (now (scope .exit)) (now (sizes .exit))) ⌝ }
 {
     let x = expr(
@@ -724,7 +725,7 @@ fn branches(
     k: u32,
 ) -> Sizing
     requires { ⌜ Room (suc (p .levels)) (length (now scope)) (length (now sizes)) p ⌝ }
-    requires { ⌜ (s .of < 2 ^ 8) × (k ≤ 2 ^ 8) ⌝ }
+    requires { ⌜ (s .of < byteRange) × (k ≤ byteRange) ⌝ }
     ensures { λ r. ⌜ SizesBranches s k (lent (now (text .entry)) (now (frames .entry)) (now (types .entry)) (now (functions .entry)) (now (channels .entry))) (buffers (now (list .entry)) (now (scope .entry)) (now (sizes .entry))) p r (buffers (now (list .exit)) (now (scope .exit)) (now (sizes .exit))) ⌝ }
 {
     if constructors(types, s.of) <= k {
@@ -781,7 +782,7 @@ fn branch(
     k: u32,
 ) -> Sizing
     requires { ⌜ Room (suc (p .levels)) (length (now scope)) (length (now sizes)) p ⌝ }
-    requires { ⌜ (s .of < 2 ^ 8) × (k < 2 ^ 8) ⌝ }
+    requires { ⌜ (s .of < byteRange) × (k < byteRange) ⌝ }
     ensures { λ r. ⌜ SizesBranch s k (lent (now (text .entry)) (now (frames .entry)) (now (types .entry)) (now (functions .entry)) (now (channels .entry))) (buffers (now (list .entry)) (now (scope .entry)) (now (sizes .entry))) p r (buffers (now (list .exit)) (now (scope .exit)) (now (sizes .exit))) ⌝ }
 {
     let own = own_fields(types, s.of, k);
@@ -824,7 +825,7 @@ fn at_splits(
     k: u32,
 ) -> Sizing
     requires { ⌜ Room (suc (p .levels)) (length (now scope)) (length (now sizes)) p ⌝ }
-    requires { ⌜ (s .of < 2 ^ 8) × (k < 2 ^ 8) ⌝ }
+    requires { ⌜ (s .of < byteRange) × (k < byteRange) ⌝ }
     ensures { λ r. ⌜ SizesSplits s k (lent (now (text .entry)) (now (frames .entry)) (now (types .entry)) (now (functions .entry)) (now (channels .entry))) (buffers (now (list .entry)) (now (scope .entry)) (now (sizes .entry))) p r (buffers (now (list .exit)) (now (scope .exit)) (now (sizes .exit))) ⌝ }
 {
     let n = fields(types, s.of, k);
@@ -924,7 +925,7 @@ fn fit(
     k: u32,
 ) -> Sizing
     requires { ⌜ Room (suc (p .levels)) (length (now scope)) (length (now sizes)) p ⌝ }
-    requires { ⌜ k < 2 ^ 8 ⌝ }
+    requires { ⌜ k < byteRange ⌝ }
     ensures { λ r. ⌜ Sizes (FitPart k) (lent (now (text .entry)) (now (frames .entry)) (now (types .entry)) (now (functions .entry)) (now (channels .entry))) (buffers (now (list .entry)) (now (scope .entry)) (now (sizes .entry))) p r (buffers (now (list .exit)) (now (scope .exit)) (now (sizes .exit))) ⌝ }
 {
     let x = expr(

@@ -1,6 +1,8 @@
 // A whole file: initial values first in channel order, then updates in node order, each against its channel's declared type.
 ghost use mathlib.Core.Path.{_≡_};
-ghost use Prim.Native.Nat.{_<_, _^_};
+ghost use Prim.Native.Nat.{_<_};
+ghost use Rattle.language.specs.Limits.{channelsMost};
+ghost use Rattle.index.specs.Tables.{channelWords};
 ghost use Rattle.sizing.specs.Promises.{lent};
 ghost use Rattle.sizing.specs.FileParts.{Few, Limited, outerPlace, NoneYet, Joins, notSized, SizesChannel, SizesChannels, SizesInitials};
 ghost use Rattle.sizing.specs.FilePromises.{SizesFile};
@@ -50,7 +52,7 @@ fn limited(n: Counts) -> bool
 
 // Where an expression of channel c stands: nothing is in scope.
 fn outer_place(n: Counts, c: u32, at: usize, used: u32) -> Place
-    requires { ⌜ Few n × (c < 2 ^ 8) ⌝ }
+    requires { ⌜ Few n × (c < channelsMost) ⌝ }
     ensures { λ r. ⌜ r ≡ outerPlace n c at used ⌝ }
 {
     Place {
@@ -79,7 +81,7 @@ fn channel(
     word: usize,
     used: u32,
 ) -> Sizing
-    requires { ⌜ Few n × ((c < 2 ^ 8) × (word < 2 ^ 8)) ⌝ }
+    requires { ⌜ Few n × ((c < channelsMost) × (word < channelWords)) ⌝ }
     ensures { λ r. ⌜ SizesChannel (lent (now (text .entry)) (now (frames .entry)) (now (types .entry)) (now (functions .entry)) (now (channels .entry))) (now (list .entry)) n c word used r (now (list .exit)) ⌝ }
 {
     let mut scope = [0u32; VARIABLES_MOST as usize];
@@ -156,7 +158,7 @@ fn channels_from(
     word: usize,
     used: u32,
 ) -> Counting
-    requires { ⌜ Few n × (word < 2 ^ 8) ⌝ }
+    requires { ⌜ Few n × (word < channelWords) ⌝ }
     ensures { λ r. ⌜ SizesChannels (lent (now (text .entry)) (now (frames .entry)) (now (types .entry)) (now (functions .entry)) (now (channels .entry))) (now (list .entry)) n from word used r (now (list .exit)) ⌝ }
 {
     let last = n.inputs + n.nodes;

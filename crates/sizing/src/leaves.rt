@@ -2,7 +2,7 @@
 ghost use mathlib.Core.Path.{_≡_};
 ghost use Prim.Native.Nat.{_+_, _<_, _≤_, _^_};
 ghost use lib.ListN.{getD};
-ghost use Rattle.language.specs.Limits.{typesMost, instancesMost};
+ghost use Rattle.language.specs.Limits.{byteRange, typesMost, instancesMost};
 ghost use Rattle.sizing.specs.Sites.{movedTo, downTo, widened};
 ghost use Rattle.language.specs.Sizes.{sameType};
 ghost use Rattle.sizes.specs.Promises.{meaning, WordOf};
@@ -157,7 +157,7 @@ pub fn prepare(
     n: u32,
     m: u32,
 ) -> Entering
-    requires { ⌜ (p .types ≤ typesMost) × ((p .line < 2 ^ 16) × (f < 2 ^ 8)) ⌝ }
+    requires { ⌜ (p .types ≤ typesMost) × ((p .line < 2 ^ 16) × (f < byteRange)) ⌝ }
     ensures { λ r. ⌜ Prepares (now (text .entry)) (now (frames .entry)) (now (functions .entry)) (now (sizes .entry)) p f n m r ⌝ }
 {
     let line = frame_line(text, frames, p.types + f);
@@ -184,7 +184,7 @@ pub fn prepare(
 
 // Where the body of an entry stands.
 pub fn body_place(functions: &[u32], p: Place, e: Entry) -> Place
-    requires { ⌜ (p .types ≤ typesMost) × ((p .used < instancesMost) × (e .function < 2 ^ 8)) ⌝ }
+    requires { ⌜ (p .types ≤ typesMost) × ((p .used < instancesMost) × (e .function < byteRange)) ⌝ }
     ensures { λ r. ⌜ r ≡ bodyOf (now (functions .entry)) p e ⌝ }
 {
     let at = cursor_in(
@@ -206,7 +206,7 @@ pub fn body_place(functions: &[u32], p: Place, e: Entry) -> Place
 
 // A constructor whose fields were checked: its size, then that each field is exactly what it must be.
 pub fn made(types: &[u32], row: &[u32], p: Place, a: Counted, t: u32, c: u32) -> Sizing
-    requires { ⌜ (p .line < 2 ^ 16) × (t < 2 ^ 8) ⌝ }
+    requires { ⌜ (p .line < 2 ^ 16) × (t < byteRange) ⌝ }
     ensures { λ r. ⌜ Makes (now (types .entry)) (now (row .entry)) p a t c r ⌝ }
 {
     let size = own_sum(types, row, t, c);

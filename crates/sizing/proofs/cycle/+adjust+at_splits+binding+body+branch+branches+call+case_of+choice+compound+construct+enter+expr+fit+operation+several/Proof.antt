@@ -16,6 +16,7 @@ use Rattle.sizes.proofs.SizedType.{enum}
 use Rattle.sizes.specs.declared.SizedType.{SizedType}
 use Rattle.sizing.specs.KindLaws.{NotNamed}
 use Rattle.sizing.specs.Leaves.{Operands}
+use Rattle.language.specs.Limits.{byteRange}
 use Rattle.theory.specs.Tests.{negated, affirmed}
 use Rattle.sizing.specs.ExprLaws.{isLeaf, hasParts, expr-deep, expr-bool, expr-int, expr-variable, expr-now, expr-last, expr-compound, compound-is, compound-none, operands-of}
 use Rattle.sizing.specs.SeveralLaws.{several-none, several-first, several-rest, several-done}
@@ -203,7 +204,7 @@ abbrev μ-branch : Measures 8 branch-kinds.ps ℕ
 μ-branch κs a = load (a .1 .1 .1 .1 .1 .1 .1 .1 .0) 200
 
 abbrev μ-branches : Measures 8 branches-kinds.ps ℕ
-μ-branches κs a = load (a .1 .1 .1 .1 .1 .1 .1 .1 .0) (300 + (256 - a .1 .1 .1 .1 .1 .1 .1 .1 .1 .1 .0))
+μ-branches κs a = load (a .1 .1 .1 .1 .1 .1 .1 .1 .0) (300 + (byteRange - a .1 .1 .1 .1 .1 .1 .1 .1 .1 .1 .0))
 
 abbrev μ-call : Measures 8 call-kinds.ps ℕ
 μ-call κs a = load (a .1 .1 .1 .1 .1 .1 .1 .1 .0) 900
