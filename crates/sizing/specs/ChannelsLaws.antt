@@ -15,11 +15,10 @@ use Rattle.sizing.specs.declared.Checked.{Checked}
 use Rattle.sizing.specs.declared.Sizing.{Sizing}
 use Rattle.sizing.specs.declared.Sizing.the-variants.{Is, Refused as RefusedOne}
 use Rattle.sizing.specs.declared.Counted.{Counted}
-use Rattle.sizing.specs.declared.Counting.{Counting}
-use Rattle.sizing.specs.declared.Counting.the-variants.{Are}
+use Rattle.sizing.specs.declared.Counting.the-variants.{Are, Refused}
 use Rattle.sizing.specs.Agreement.{Holds, Before, Agrees, agrees, refused, beyond, ofType}
 use Rattle.sizing.specs.Promises.{Lent, IndexedFile}
-use Rattle.sizing.specs.FileParts.{Named, SizesChannel, summed, Lasting, no-more, one-more, AgreesSum, sum-agrees, sum-refused, sum-beyond, channelCount, SizesChannels, NoneYet, Joins, notSized}
+use Rattle.sizing.specs.FileParts.{Named, SizesChannel, summed, Lasting, no-more, one-more, AgreesSum, sum-agrees, sum-refused, sum-beyond, channelCount, SizesChannels, NoneYet, Joins}
 
 -- ---- before channel c: what was summed so far, and the expressions that are left decide the whole
 data Reached (t : Lent) (P : File) (C : List Ty) (word last c : ℕ) (list : List ℕ) (all : Counted) (whole : Result CountedDef) : Type 0 where
@@ -44,11 +43,13 @@ module _ {t : Lent} {P : File} {C : List Ty} {word last c end : ℕ} {list : Lis
   turn-is (refused e) d joins ls st is = absurd (let same = sym e ∙ d in let z : _≡_ {A = ℕ} 0 1 = cc in omega arith)
   turn-is (beyond b) d joins ls st is = lost b is
 
-turn-no : {P : File} {end : ℕ} {list : List ℕ} {whole : Result CountedDef} {x : Sizing} {τ : Ty} {a : Result CountedDef} {n frame : ℕ} {r : Counting} (κ : CountedDef → Result CountedDef) → Agrees P (ofType τ) end list x a → x ≡ RefusedOne n frame → r ≡ notSized x → whole ≡ bind a κ → AgreesSum P list r whole
+turn-no : {P : File} {end : ℕ} {list : List ℕ} {whole : Result CountedDef} {x : Sizing} {τ : Ty} {a : Result CountedDef} {n frame : ℕ} (κ : CountedDef → Result CountedDef) → Agrees P (ofType τ) end list x a → x ≡ RefusedOne n frame → whole ≡ bind a κ → AgreesSum P list (Refused n frame) whole
 unfolding bind
-turn-no κ (agrees e g) d answer is = absurd (let same = sym e ∙ d in let z : _≡_ {A = ℕ} 0 1 = cc in omega arith)
-turn-no κ (refused e) d answer is = rw is (sum-refused (answer ∙ ap notSized e))
-turn-no κ (beyond b) d answer is = rw is (sum-beyond b)
+turn-no κ (agrees e g) d is = absurd (let same = sym e ∙ d in let z : _≡_ {A = ℕ} 0 1 = cc in omega arith)
+turn-no {n} {frame} κ (refused {n = m} {frame = k} e) d is =
+    let same : Refused n frame ≡ Refused m k = (let both : RefusedOne n frame ≡ RefusedOne m k = sym d ∙ e in cc) in
+    rw is (sum-refused same)
+turn-no κ (beyond b) d is = rw is (sum-beyond b)
 
 module _ {t : Lent} {list₀ list list₁ : List ℕ} {n : Counts} {from word used c : ℕ} {all : Counted} {x : Sizing} (v : Along t list₀ n from word used c list all) (less : c < channelCount n) (u : SizesChannel t list n c word (all .used) x list₁) where
   on-reached : {a : Checked} {all′ : Counted} → x ≡ Is a → Joins all a all′ → (P : File) → IndexedFile t P → CountsAre n P → (C : List Ty) → Named P C → {whole : Result CountedDef} → Reached t P C word (channelCount n) c list all whole → Reached t P C word (channelCount n) (suc c) list₁ all′ whole
@@ -60,14 +61,14 @@ module _ {t : Lent} {list₀ list list₁ : List ℕ} {n : Counts} {from word us
   pub along-on : {a : Checked} {all′ : Counted} → x ≡ Is a → Joins all a all′ → Along t list₀ n from word used (c + 1) list₁ all′
   along-on d joins = rw (add-one c) (record { says = λ P i k C named es τs ls L h. on-reached d joins P i k C named (v .says P i k C named es τs ls L h) })
 
-  no-reached : {m frame : ℕ} {r : Counting} → x ≡ RefusedOne m frame → r ≡ notSized x → (P : File) → IndexedFile t P → CountsAre n P → (C : List Ty) → Named P C → {whole : Result CountedDef} → Reached t P C word (channelCount n) c list all whole → AgreesSum P list₁ r whole
+  no-reached : {m frame : ℕ} → x ≡ RefusedOne m frame → (P : File) → IndexedFile t P → CountsAre n P → (C : List Ty) → Named P C → {whole : Result CountedDef} → Reached t P C word (channelCount n) c list all whole → AgreesSum P list₁ (Refused m frame) whole
   unfolding summed
-  no-reached d answer P i k C named (reached (no-more past) st h is) = absurd (omega (arith, past, less))
-  no-reached d answer P i k C named (reached {L = L} (one-more {e = e} {τ = τ} also s ls) st h is) = turn-no _ (u .says P i k C named e τ s L h) d answer is
-  no-reached d answer P i k C named (lost b is) = rw is (sum-beyond b)
+  no-reached d P i k C named (reached (no-more past) st h is) = absurd (omega (arith, past, less))
+  no-reached d P i k C named (reached {L = L} (one-more {e = e} {τ = τ} also s ls) st h is) = turn-no _ (u .says P i k C named e τ s L h) d is
+  no-reached d P i k C named (lost b is) = rw is (sum-beyond b)
 
-  pub along-no : {m frame : ℕ} {r : Counting} → x ≡ RefusedOne m frame → r ≡ notSized x → SizesChannels t list₀ n from word used r list₁
-  along-no d answer = record { says = λ P i k C named es τs ls L h. no-reached d answer P i k C named (v .says P i k C named es τs ls L h) }
+  pub along-no : {m frame : ℕ} → x ≡ RefusedOne m frame → SizesChannels t list₀ n from word used (Refused m frame) list₁
+  along-no d = record { says = λ P i k C named es τs ls L h. no-reached d P i k C named (v .says P i k C named es τs ls L h) }
 
 end-reached : {t : Lent} {P : File} {C : List Ty} {word last c : ℕ} {list : List ℕ} {all : Counted} {whole : Result CountedDef} → last ≤ c → Reached t P C word last c list all whole → AgreesSum P list (Are all) whole
 unfolding summed

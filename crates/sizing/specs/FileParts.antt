@@ -24,7 +24,6 @@ use Rattle.instances.specs.Listed.{instanceWordsCount}
 use Rattle.sizing.specs.declared.Place.{Place}
 use Rattle.sizing.specs.declared.Checked.{Checked}
 use Rattle.sizing.specs.declared.Sizing.{Sizing}
-use Rattle.sizing.specs.declared.Sizing.the-variants.{Is, Refused as RefusedOne}
 use Rattle.sizing.specs.declared.Counted.{Counted}
 use Rattle.sizing.specs.declared.Counting.{Counting}
 use Rattle.sizing.specs.declared.Counting.the-variants.{Are, Refused}
@@ -104,8 +103,3 @@ pub record NoneYet (used : ℕ) (r : Counted) : Type 0 where
 pub record Joins (all : Counted) (a : Checked) (r : Counted) : Type 0 where
   pub numbers : Combines after (all .numbers) (a .numbers) (r .numbers)
   pub used : r .used ≡ a .used
-
--- a refusal of a part is one of the whole
-abbrev pub notSized : Sizing → Counting
-notSized (Is k) = Refused 0 0
-notSized (RefusedOne n frame) = Refused n frame

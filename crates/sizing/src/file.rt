@@ -4,7 +4,7 @@ ghost use Prim.Native.Nat.{_<_};
 ghost use Rattle.language.specs.Limits.{channelsMost};
 ghost use Rattle.index.specs.Tables.{channelWords};
 ghost use Rattle.sizing.specs.Promises.{lent};
-ghost use Rattle.sizing.specs.FileParts.{Few, Limited, outerPlace, NoneYet, Joins, notSized, SizesChannel, SizesChannels, SizesInitials};
+ghost use Rattle.sizing.specs.FileParts.{Few, Limited, outerPlace, NoneYet, Joins, SizesChannel, SizesChannels, SizesInitials};
 ghost use Rattle.sizing.specs.FilePromises.{SizesFile};
 use super::Checked;
 use super::Counted;
@@ -135,16 +135,6 @@ fn joined(all: Counted, a: Checked) -> Counted
     }
 }
 
-// A refusal of an expression is one of the file.
-fn not_sized(x: Sizing) -> Counting
-    ensures { λ r. ⌜ r ≡ notSized x ⌝ }
-{
-    match x {
-        Sizing::Is(_) => Counting::Refused(0, 0),
-        Sizing::Refused(n, frame) => Counting::Refused(n, frame),
-    }
-}
-
 // The expressions of all channels from one on, each where that word of its entry tells: their numbers together.
 fn channels_from(
     text: &[u8],
@@ -177,10 +167,14 @@ fn channels_from(
             word,
             all.used,
         );
-        let Sizing::Is(a) = x else {
-            return not_sized(x);
-        };
-        all = joined(all, a);
+        match x {
+            Sizing::Refused(m, frame) => {
+                return Counting::Refused(m, frame);
+            }
+            Sizing::Is(a) => {
+                all = joined(all, a);
+            }
+        }
         c += 1;
     }
     Counting::Are(all)
