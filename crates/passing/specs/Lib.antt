@@ -1,5 +1,8 @@
+pub mod Parts
+pub mod PartsLaws
 pub mod Follows
-pub mod ExprLaws
+pub mod ScopeLaws
+pub mod HeadLaws
 pub mod FormLaws
 pub mod CaseLaws
 pub mod SeveralLaws

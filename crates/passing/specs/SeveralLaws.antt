@@ -1,103 +1,124 @@
--- Several expressions in turn: the loop over them, and one alone.
-use Prim.Native.Nat.{ℕ, _+_, _-_, _≤_, _<_}
+-- Several expressions in turn: the loop over them and over the parts of those that are open.
+use Prim.Native.Nat.{ℕ, suc, _+_, _-_, _*_, _≤_, _<_}
 use mathlib.Core.List.{List}
-use mathlib.Core.Bool.{Bool, true, false}
 use mathlib.Core.Path.{_≡_, refl, sym, ap, subst, _∙_}
 use native.Mathlib.Omega.{arith}
-use Rattle.language.specs.Limits.{byteRange}
+use native.Mathlib.Nat.{le-refl}
+use lib.ListN.{length, getD, set, length-set}
+use lib.Seq.{getD-set-same}
+use borrow.Author.Needs.{read-below}
+use Rattle.language.specs.Limits.{nestingMost}
+use Rattle.language.specs.Scope.{Scope}
+use Rattle.language.specs.Parser.{Parser, andThen}
 use Rattle.language.specs.ReadExpr.{exprs, exprAt}
 use Rattle.text.specs.declared.Cursor.{Cursor}
 use Rattle.text.specs.declared.Found.{Found}
 use Rattle.text.specs.declared.Number.{Number}
 use Rattle.text.specs.declared.Number.the-variants.{Is, Refused}
 use Rattle.text.specs.declared.Step.{Step}
-use Rattle.text.specs.declared.Step.the-variants.{Next, Stop}
-use Rattle.text.specs.Bytes.{bytesFrom, stepOf, ReadsNumber, Below}
-use Rattle.text.specs.Codes.{placeIn}
-use Rattle.text.specs.CodeLaws.{no-room}
+use Rattle.text.specs.declared.Step.the-variants.{Next}
+use Rattle.text.specs.Bytes.{bytesOf, bytesFrom, forget, stepOf, moved, stopped, Passes}
+use Rattle.text.specs.StepLaws.{pass-here, read-then-pass, read-stops-pass, moved-from}
 use Rattle.passing.specs.declared.Names.{Names}
-use Rattle.passing.specs.Follows.{Follows, Roomy, isRoomy, behind, leafBehind}
-use Rattle.passing.specs.ExprLaws.{expr-narrow, expr-stops, expr-leaf, expr-compound, exprs-one, form-less, roomy-levels, roomy-names}
-use Rattle.passing.specs.FormLaws.{several-none, several-stops, several-done}
+use Rattle.passing.specs.Parts.{remaining}
+use Rattle.passing.specs.PartsLaws.{exprs-one, narrow-exprs, remaining-all, remaining-none, remaining-resumed, remaining-head, remaining-leaf, remaining-inside}
+use Rattle.passing.specs.Follows.{Tells, Follows, Heads, levelsIn}
+use Rattle.passing.specs.ScopeLaws.{LevelsIn, roomy, narrow, levels-in, narrow-scope}
 
--- ---- so many are passed, and what stands behind them decides the rest
-pub record SeveralTo (line types functions : List ℕ) (c : Cursor) (s : Names) (levels n : ℕ) (next : Cursor) (i : ℕ) : Type 0 where
-  pub within : i ≤ n
-  pub rest : (r : Step) → Follows line types functions next s r (λ S. exprs (exprAt levels S) (n - i)) → Follows line types functions c s r (λ S. exprs (exprAt levels S) n)
+-- ---- another parser that says the same
+same-follows : {A B : Type 0} {line types functions : List ℕ} {c : Cursor} {s : Names} {r : Step} (p : Scope → Parser A) (q : Scope → Parser B) → ((S : Scope) → Tells types functions s S → forget (p S (bytesFrom line (c .at))) ≡ forget (q S (bytesFrom line (c .at)))) → Follows line types functions c s r q → Follows line types functions c s r p
+same-follows {line} {c} {r} p q same u = record { says = λ S t here. subst (λ y. Passes line (c .at) r y) (sym (same S t)) (u .says S t here); on = u .on }
+
+-- ---- so far: what remains decides the rest
+pub record SeveralTo (line types functions : List ℕ) (c : Cursor) (s : Names) (levels n most : ℕ) (next : Cursor) (W : List ℕ) (depth left : ℕ) : Type 0 where
+  pub deep : depth ≤ most
+  pub long : length W ≡ nestingMost
+  pub rest : (r : Step) → Follows line types functions next s r (λ S. remaining most S left W depth) → Follows line types functions c s r (λ S. exprs (exprAt levels S) n)
 
 module _ (line types functions : List ℕ) (c : Cursor) (s : Names) (levels n : ℕ) where
-  -- the same number of them, by another word
-  as-many : (d : Cursor) (r : Step) {m k : ℕ} → m ≡ k → Follows line types functions d s r (λ S. exprs (exprAt levels S) m) → Follows line types functions d s r (λ S. exprs (exprAt levels S) k)
-  as-many d r e u = subst (λ j. Follows line types functions d s r (λ S. exprs (exprAt levels S) j)) e u
+  pub several-start : {most : ℕ} {W : List ℕ} → most ≡ levelsIn s levels → length W ≡ nestingMost → SeveralTo line types functions c s levels n most c W 0 n
+  several-start {most} {W} e size = record {
+    deep = omega arith;
+    long = size;
+    rest = λ r u. same-follows (λ S. exprs (exprAt levels S) n) (λ S. remaining most S n W 0) (λ S t. by S t (levels-in s levels e)) u;
+  }
+    where
+      by : (S : Scope) → Tells types functions s S → {m : ℕ} → LevelsIn s levels m → forget (exprs (exprAt levels S) n (bytesFrom line (c .at))) ≡ forget (remaining m S n W 0 (bytesFrom line (c .at)))
+      by S t (roomy w) = remaining-all levels S W n (bytesFrom line (c .at))
+      by S t (narrow h) = ap forget (narrow-exprs levels S (narrow-scope t h) n (bytesFrom line (c .at))) ∙ remaining-all 0 S W n (bytesFrom line (c .at))
 
-  pub several-start : SeveralTo line types functions c s levels n c 0
-  several-start = record { within = omega arith; rest = λ r u. as-many c r (omega arith) u }
+  module _ {most : ℕ} {next : Cursor} {W : List ℕ} {depth left : ℕ} (p : SeveralTo line types functions c s levels n most next W depth left) where
+    -- nothing is left
+    pub several-end : left ≡ 0 → depth ≡ 0 → Follows line types functions c s (Next next) (λ S. exprs (exprAt levels S) n)
+    unfolding forget
+    several-end none out = p .rest (Next next) (rw (none, out) (record {
+      says = λ S t here. pass-here (moved {c = next} (le-refl (next .at)) here) (ap forget (remaining-none most S W (bytesFrom line (next .at))));
+      on = λ here. moved {c = next} (le-refl (next .at)) here;
+    }))
 
-  module _ {next : Cursor} {i : ℕ} (p : SeveralTo line types functions c s levels n next i) where
-    pub several-end : n ≤ i → Follows line types functions c s (Next next) (λ S. exprs (exprAt levels S) n)
-    several-end h = p .rest (Next next) (several-none line types functions next s levels (n - i) (omega arith))
-
-    passed-on : {y : Step} {d : Cursor} → i < n → Follows line types functions next s y (exprAt levels) → y ≡ Next d → SeveralTo line types functions c s levels n d (i + 1)
-    passed-on {d = d} h u e = record {
-      within = omega arith;
-      rest = λ r w. p .rest r (several-done line types functions next s levels u (n - i) (λ z. omega (arith, z)) e (as-many d r (omega arith) w));
+    -- what waited goes on
+    pub several-resumed : {m : ℕ} → left ≡ 0 → (depth ≡ 0 → ⊥) → m ≡ getD W (depth - 1) 0 → SeveralTo line types functions c s levels n most next W (depth - 1) m
+    several-resumed {m} none deep e = record {
+      deep = omega (arith, p .deep);
+      long = p .long;
+      rest = λ r u. p .rest r (same-follows (λ S. remaining most S left W depth) (λ S. remaining most S m W (depth - 1)) (λ S t. by S) u);
     }
+      where
+        by : (S : Scope) → forget (remaining most S left W depth (bytesFrom line (next .at))) ≡ forget (remaining most S m W (depth - 1) (bytesFrom line (next .at)))
+        by S = let same : depth ≡ suc (depth - 1) = omega (arith, deep) in
+            ap (λ k. forget (remaining most S k W depth (bytesFrom line (next .at)))) none
+            ∙ ap (λ k. forget (remaining most S 0 W k (bytesFrom line (next .at)))) same
+            ∙ ap forget (remaining-resumed most S W (depth - 1) (bytesFrom line (next .at)))
+            ∙ ap (λ k. forget (remaining most S k W (depth - 1) (bytesFrom line (next .at)))) (sym e)
 
-    not-passed : {y : Step} {m : ℕ} → i < n → Follows line types functions next s y (exprAt levels) → y ≡ Stop m → Follows line types functions c s y (λ S. exprs (exprAt levels S) n)
-    not-passed {y} h u e = p .rest y (several-stops line types functions next s levels u (n - i) (λ z. omega (arith, z)) e)
-
-    -- ---- the code of the next one: none, a leaf's, that of an expression with others inside
-    module _ (h : i < n) {room : Bool} {x : Number} (test : room ≡ isRoomy s levels) (v : ReadsNumber line (next .at) x (placeIn room 16 13 (bytesFrom line (next .at))) × Below byteRange x) where
-      pub several-no-code : {m : ℕ} {r : Step} → x ≡ Refused m → r ≡ stepOf x → Follows line types functions c s r (λ S. exprs (exprAt levels S) n)
-      several-no-code {m} {r} e d = not-passed h (go room test v) (d ∙ ap stepOf e)
-        where
-          go : (b : Bool) → b ≡ isRoomy s levels → ReadsNumber line (next .at) x (placeIn b 16 13 (bytesFrom line (next .at))) × Below byteRange x → Follows line types functions next s r (exprAt levels)
-          go true q w = expr-stops line types functions next s levels (sym q) w e d
-          go false q w = expr-narrow line types functions next s levels (sym q) w d
+    -- ---- the head of the next one
+    module _ (some : left ≡ 0 → ⊥) {x : Number} (h : Heads line types functions next s x (most - depth)) where
+      pub several-refused : {m : ℕ} {r : Step} → x ≡ Refused m → r ≡ stepOf x → Follows line types functions c s r (λ S. exprs (exprAt levels S) n)
+      several-refused {r = r} e d = p .rest r (record {
+        says = λ S t here. subst (λ y. Passes line (next .at) r y) (sym (remaining-head most S W left depth (bytesFrom line (next .at)) (omega (arith, some)))) (read-stops-pass _ (h .says S t here) e d);
+        on = λ here. rw (d, e) stopped;
+      })
 
       module _ {f : Found} (e : x ≡ Is f) where
-        room-there : room ≡ true
-        room-there = go room v
+        -- what is left behind the head
+        behind-head : (r : Step) (q : Scope → Parser (Unit {0})) → ((S : Scope) (cs : List ℕ) → andThen (exprs (exprAt (most - depth - 1) S) (f .value) cs) (λ es ds. remaining most S (left - 1) W depth ds) ≡ q S cs) → Follows line types functions (f .next) s r q → Follows line types functions next s r (λ S. remaining most S left W depth)
+        behind-head r q same u = record {
+          says = λ S t here. subst (λ y. Passes line (next .at) r y) (sym (remaining-head most S W left depth (bytesFrom line (next .at)) (omega (arith, some)))) (read-then-pass _ (h .says S t here) e (subst (λ y. Passes line (f .next .at) r (forget y)) (sym (same S (bytesFrom line (f .next .at)))) (u .says S t (h .further e .1))));
+          on = λ here. moved-from (omega (arith, h .further e .0)) (u .on (h .further e .1));
+        }
+
+        pub several-passed : {d : Cursor} → f .value ≡ 0 → d ≡ f .next → SeveralTo line types functions c s levels n most d W depth (left - 1)
+        several-passed none q = rw q (record {
+          deep = p .deep;
+          long = p .long;
+          rest = λ r u. p .rest r (behind-head r (λ S. remaining most S (left - 1) W depth) (λ S cs. rw none (remaining-leaf most S W (left - 1) depth cs)) u);
+        })
+
+        pub several-inside : {d : Cursor} {T : List ℕ} → most ≤ nestingMost → d ≡ f .next → T ≡ set W depth (left - 1) → SeveralTo line types functions c s levels n most d T (depth + 1) (f .value)
+        several-inside few q w =
+            let level : 0 < most - depth = h .level e in
+            rw (q, w) (record {
+              deep = omega (arith, level);
+              long = length-set W depth (left - 1) ∙ p .long;
+              rest = λ r u. p .rest r (behind-head r (λ S. remaining most S (f .value) (set W depth (left - 1)) (depth + 1)) (λ S cs. by S cs) u);
+            })
           where
-            go : (b : Bool) → ReadsNumber line (next .at) x (placeIn b 16 13 (bytesFrom line (next .at))) × Below byteRange x → b ≡ true
-            go true w = refl
-            go false w = absurd (no-room 16 13 (w .0) e)
-
-        there : isRoomy s levels ≡ true
-        there = sym test ∙ room-there
-
-        coded : ReadsNumber line (next .at) x (placeIn true 16 13 (bytesFrom line (next .at))) × Below byteRange x
-        coded = subst (λ b. ReadsNumber line (next .at) x (placeIn b 16 13 (bytesFrom line (next .at))) × Below byteRange x) room-there v
-
-        pub code-levels : 0 < levels
-        code-levels = roomy-levels s levels there
-
-        pub code-roomy : Roomy s
-        code-roomy = roomy-names s levels there
-
-        pub code-less : f .value < 13
-        code-less = form-less coded e
-
-        module _ {y : Step} (less : f .value < 5) (u : Follows line types functions (f .next) s y (leafBehind (f .value))) where
-          leaf-passed : Follows line types functions next s y (exprAt levels)
-          leaf-passed = expr-leaf line types functions next s levels there coded e less u
-
-          pub several-leaf : {d e : Cursor} → y ≡ Next d → e ≡ d → SeveralTo line types functions c s levels n e (i + 1)
-          several-leaf q same = passed-on h leaf-passed (q ∙ ap Next (sym same))
-
-          pub several-no-leaf : {m : ℕ} → y ≡ Stop m → Follows line types functions c s y (λ S. exprs (exprAt levels S) n)
-          several-no-leaf q = not-passed h leaf-passed q
-
-        module _ {y : Step} (u : Follows line types functions (f .next) s y (behind (levels - 1) (f .value))) where
-          compound-passed : Follows line types functions next s y (exprAt levels)
-          compound-passed = expr-compound line types functions next s levels there coded e u
-
-          pub several-compound : {d e : Cursor} → y ≡ Next d → e ≡ d → SeveralTo line types functions c s levels n e (i + 1)
-          several-compound q same = passed-on h compound-passed (q ∙ ap Next (sym same))
-
-          pub several-no-compound : {m : ℕ} → y ≡ Stop m → Follows line types functions c s y (λ S. exprs (exprAt levels S) n)
-          several-no-compound q = not-passed h compound-passed q
+            by : (S : Scope) (cs : List ℕ) → andThen (exprs (exprAt (most - depth - 1) S) (f .value) cs) (λ es ds. remaining most S (left - 1) W depth ds) ≡ remaining most S (f .value) (set W depth (left - 1)) (depth + 1) cs
+            by S cs =
+                let one : suc depth ≡ depth + 1 = omega arith in
+                remaining-inside most S W (set W depth (left - 1)) (left - 1) depth (f .value) (getD-set-same W depth (left - 1) 0 (omega (arith, p .long, few, h .level e))) (λ k less. read-below ℕ W depth k (left - 1) 0 (getD W k 0) less refl) cs
+                ∙ ap (λ k. remaining most S (f .value) (set W depth (left - 1)) k cs) one
 
 -- ---- one alone
 pub one-alone : (line types functions : List ℕ) (c : Cursor) (s : Names) (levels : ℕ) {r : Step} → Follows line types functions c s r (λ S. exprs (exprAt levels S) 1) → Follows line types functions c s r (exprAt levels)
-one-alone line types functions c s levels u = record { says = λ S t here. rw (exprs-one (exprAt levels S) (bytesFrom line (c .at))) (u .says S t here) }
+one-alone line types functions c s levels u = same-follows (exprAt levels) (λ S. exprs (exprAt levels S) 1) (λ S t. exprs-one (exprAt levels S) (bytesFrom line (c .at))) u
+
+-- ---- the loop ends: the bytes left count for two, since one more may wait
+abbrev pub bytesLeft : List ℕ → ℕ → ℕ
+bytesLeft line at = length (bytesOf line) - at
+
+pub fewer-left : {line types functions : List ℕ} {next d : Cursor} {s : Names} {x : Number} {levels : ℕ} {f : Found} (depth deeper : ℕ) → deeper ≤ depth + 1 → Heads line types functions next s x levels → x ≡ Is f → d ≡ f .next → bytesLeft line (d .at) * 2 + deeper < bytesLeft line (next .at) * 2 + depth
+fewer-left {line} {next = next} {f = f} depth deeper few h e q = rw q (less (length (bytesOf line)) (next .at) (f .next .at) (h .further e .0) (h .further e .1))
+  where
+    less : (size at behind : ℕ) → at < behind → behind ≤ size → (size - behind) * 2 + deeper < (size - at) * 2 + depth
+    less size at behind p r = omega (arith, few)

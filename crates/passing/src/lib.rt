@@ -4,18 +4,22 @@ ghost use mathlib.Core.Path.{_≡_};
 ghost use mathlib.Core.List.{[]};
 ghost use Prim.Native.Nat.{_+_, _≤_, _<_};
 ghost use lib.ListN.{getD, drop};
-ghost use Rattle.language.specs.Limits.{byteRange};
-ghost use Rattle.language.specs.ReadExpr.{exprAt, exprs, exprBehind, branches as branchesRead, letForm, opForm, callForm, conForm, caseForm, adjForm, fitForm};
-ghost use Rattle.passing.specs.Follows.{Follows, Roomy, widerNames, isRoomy, behind, leafBehind};
+ghost use Rattle.language.specs.Limits.{byteRange, nestingMost};
+ghost use Rattle.language.specs.ReadExpr.{exprAt, exprs, exprBehind, branches as branchesRead, letForm, callForm, conForm, caseForm, fitForm};
+ghost use Rattle.passing.specs.Follows.{Follows, Opens, Heads, Roomy, widerNames, levelsIn, openedBy, formAt};
+ghost use Rattle.passing.specs.Parts.{parts};
 use index::arity;
 use index::constructors;
 use index::fields;
 use index::own_fields;
+use index::put;
+use index::word_at;
 use language::limits::NESTING_MOST;
 use language::limits::SIZE_MOST;
 use language::limits::SIZE_VARIABLES_MOST;
 use language::limits::VARIABLES_MOST;
 use text::Cursor;
+use text::Found;
 use text::Number;
 use text::Step;
 use text::step_of;
@@ -31,17 +35,17 @@ pub struct Names {
     pub functions: u32,
 }
 
-// A level is left, and the scope is not too wide.
-fn roomy(s: Names, levels: u32) -> bool
-    ensures { λ r. ⌜ r ≡ isRoomy s levels ⌝ }
+// How many levels are left in a scope: none where it is too wide.
+fn levels_in(s: Names, levels: u32) -> u32
+    ensures { λ r. ⌜ r ≡ levelsIn s levels ⌝ }
 {
-    if levels == 0 {
-        return false;
-    }
     if VARIABLES_MOST < s.variables {
-        return false;
+        return 0;
     }
-    s.sizes <= SIZE_VARIABLES_MOST
+    if SIZE_VARIABLES_MOST < s.sizes {
+        return 0;
+    }
+    levels
 }
 
 // The scope with more variables and size variables.
@@ -60,75 +64,69 @@ fn wider(s: Names, variables: u32, sizes: u32) -> Names
     }
 }
 
-// `10` to `14`: a constant, a variable, a channel.
-fn leaf(line: &[u8], types: &[u32], functions: &[u32], c: Cursor, s: Names, form: u32) -> Step
-    requires { ⌜ form < 5 ⌝ }
-    ensures { λ r. ⌜ Follows (now (line .entry)) (now (types .entry)) (now (functions .entry)) c s r (leafBehind form) ⌝ }
+// What was passed, and how many parts follow in the same scope.
+fn opened(x: Step, parts: u32) -> Number
+    ensures { λ r. ⌜ r ≡ openedBy x parts ⌝ }
 {
-    if form == 0 {
-        return step_of(c.code(line, 0, 2));
+    match x {
+        Step::Next(next) => Number::Is(Found {
+            value: parts,
+            next: next,
+        }),
+        Step::Stop(n) => Number::Refused(n),
     }
-    if form == 1 {
-        return step_of(c.int(line));
-    }
-    if form == 2 {
-        let variables = s.variables;
-        return step_of(c.index(line, variables));
-    }
-    if form == 3 {
-        let now = s.now;
-        return step_of(c.index(line, now));
-    }
-    let last = s.last;
-    step_of(c.index(line, last))
+}
+
+// `18`: a call; its arguments follow.
+fn call(line: &[u8], types: &[u32], functions: &[u32], c: Cursor, s: Names) -> Number
+    ensures { λ r. ⌜ Opens (now (line .entry)) (now (types .entry)) (now (functions .entry)) c s r (λ S. parts (exprAt 0) S callForm) ⌝ }
+{
+    let known = s.functions;
+    let x = c.index(line, known);
+    let Number::Is(f) = x else {
+        return x;
+    };
+    let parts = arity(functions, f.value);
+    opened(step_of(x), parts)
+}
+
+// `19`: a constructor; its fields follow.
+fn construct(line: &[u8], types: &[u32], functions: &[u32], c: Cursor, s: Names) -> Number
+    ensures { λ r. ⌜ Opens (now (line .entry)) (now (types .entry)) (now (functions .entry)) c s r (λ S. parts (exprAt 0) S conForm) ⌝ }
+{
+    let known = s.types;
+    let x = c.index(line, known);
+    let Number::Is(f) = x else {
+        return x;
+    };
+    let t = f.value;
+    let second = f.next;
+    let count = constructors(types, t);
+    let y = second.index(line, count);
+    let Number::Is(g) = y else {
+        return y;
+    };
+    let parts = fields(types, t, g.value);
+    opened(step_of(y), parts)
+}
+
+// An expression; none is nested deeper than the limit.
+pub fn expr(line: &[u8], types: &[u32], functions: &[u32], c: Cursor, s: Names) -> Step
+    ensures { λ r. ⌜ Follows (now (line .entry)) (now (types .entry)) (now (functions .entry)) c s r (exprAt nestingMost) ⌝ }
+{
+    nested(line, types, functions, c, s, NESTING_MOST)
 }
 
 // An expression with so many levels left.
-pub fn expr(line: &[u8], types: &[u32], functions: &[u32], c: Cursor, s: Names, levels: u32) -> Step
+fn nested(line: &[u8], types: &[u32], functions: &[u32], c: Cursor, s: Names, levels: u32) -> Step
+    requires { ⌜ levels ≤ nestingMost ⌝ }
     ensures { λ r. ⌜ Follows (now (line .entry)) (now (types .entry)) (now (functions .entry)) c s r (exprAt levels) ⌝ }
 {
     several(line, types, functions, c, s, levels, 1)
 }
 
-// `15` to `1C`, with so many levels left inside.
-fn compound(
-    line: &[u8],
-    types: &[u32],
-    functions: &[u32],
-    c: Cursor,
-    s: Names,
-    levels: u32,
-    form: u32,
-) -> Step
-    requires { ⌜ Roomy s ⌝ }
-    requires { ⌜ (5 ≤ form) × (form < 13) ⌝ }
-    ensures { λ r. ⌜ Follows (now (line .entry)) (now (types .entry)) (now (functions .entry)) c s r (behind levels form) ⌝ }
-{
-    if form == 5 {
-        return binding(line, types, functions, c, s, levels);
-    }
-    if form == 6 {
-        return several(line, types, functions, c, s, levels, 3);
-    }
-    if form == 7 {
-        return operation(line, types, functions, c, s, levels);
-    }
-    if form == 8 {
-        return call(line, types, functions, c, s, levels);
-    }
-    if form == 9 {
-        return construct(line, types, functions, c, s, levels);
-    }
-    if form == 10 {
-        return case_of(line, types, functions, c, s, levels);
-    }
-    if form == 11 {
-        return adjust(line, types, functions, c, s, levels);
-    }
-    fit(line, types, functions, c, s, levels)
-}
-
-// So many expressions, left to right.
+// So many expressions, left to right. The parts of a form that are in its own scope are passed in the same loop; for each level
+// inside, `waiting` has how many are still to be passed there.
 fn several(
     line: &[u8],
     types: &[u32],
@@ -138,112 +136,100 @@ fn several(
     levels: u32,
     n: u32,
 ) -> Step
+    requires { ⌜ levels ≤ nestingMost ⌝ }
     ensures { λ r. ⌜ Follows (now (line .entry)) (now (types .entry)) (now (functions .entry)) c s r (λ S. exprs (exprAt levels S) n) ⌝ }
 {
-    let room = roomy(s, levels);
+    let most = levels_in(s, levels);
+    let mut waiting = [0u32; NESTING_MOST as usize];
     let mut next = c;
-    let mut i: u32 = 0;
-    while i < n {
-        let x = next.code_in(line, room, 16, 13);
-        let Number::Is(f) = x else {
-            return step_of(x);
-        };
-        let form = f.value;
-        let inner = f.next;
-        if form < 5 {
-            let y = leaf(line, types, functions, inner, s, form);
-            let Step::Next(d) = y else {
-                return y;
-            };
-            next = d;
+    let mut depth: u32 = 0;
+    let mut left = n;
+    loop {
+        if left == 0 {
+            if depth == 0 {
+                return Step::Next(next);
+            }
+            depth -= 1;
+            left = word_at(&waiting, depth as usize);
         } else {
-            let z = compound(line, types, functions, inner, s, levels - 1, form);
-            let Step::Next(e) = z else {
-                return z;
+            let x = head(line, types, functions, next, s, most - depth);
+            let Number::Is(f) = x else {
+                return step_of(x);
             };
-            next = e;
+            next = f.next;
+            left -= 1;
+            if f.value != 0 {
+                put(&mut waiting, depth as usize, left);
+                depth += 1;
+                left = f.value;
+            }
         }
-        i += 1;
     }
-    Step::Next(next)
+}
+
+// The code of an expression and what stands behind it, up to parts in the same scope: how many of those follow.
+fn head(line: &[u8], types: &[u32], functions: &[u32], c: Cursor, s: Names, levels: u32) -> Number
+    requires { ⌜ levels ≤ nestingMost ⌝ }
+    requires { ⌜ (0 < levels → Roomy s) ⌝ }
+    ensures { λ r. ⌜ Heads (now (line .entry)) (now (types .entry)) (now (functions .entry)) c s r levels ⌝ }
+{
+    let x = c.code_in(line, 0 < levels, 16, 13);
+    let Number::Is(f) = x else {
+        return x;
+    };
+    let next = f.next;
+    behind(line, types, functions, next, s, levels - 1, f.value)
+}
+
+// What stands behind the code of a form, with so many levels left inside.
+fn behind(
+    line: &[u8],
+    types: &[u32],
+    functions: &[u32],
+    c: Cursor,
+    s: Names,
+    levels: u32,
+    form: u32,
+) -> Number
+    requires { ⌜ levels ≤ nestingMost ⌝ }
+    requires { ⌜ Roomy s ⌝ }
+    requires { ⌜ form < 13 ⌝ }
+    ensures { λ r. ⌜ Opens (now (line .entry)) (now (types .entry)) (now (functions .entry)) c s r (λ S. parts (exprAt levels) S (formAt form)) ⌝ }
+{
+    match form {
+        0 => opened(step_of(c.code(line, 0, 2)), 0),
+        1 => opened(c.past_int(line), 0),
+        2 => opened(step_of(c.index(line, s.variables)), 0),
+        3 => opened(step_of(c.index(line, s.now)), 0),
+        4 => opened(step_of(c.index(line, s.last)), 0),
+        5 => opened(binding(line, types, functions, c, s, levels), 0),
+        6 => opened(Step::Next(c), 3),
+        7 => opened(step_of(c.code(line, 0, 8)), 2),
+        8 => call(line, types, functions, c, s),
+        9 => construct(line, types, functions, c, s),
+        10 => opened(case_of(line, types, functions, c, s, levels), 0),
+        11 => opened(c.size(line, s.sizes, NESTING_MOST), 1),
+        _ => opened(fit(line, types, functions, c, s, levels), 0),
+    }
 }
 
 // `15`: a let.
 fn binding(line: &[u8], types: &[u32], functions: &[u32], c: Cursor, s: Names, levels: u32) -> Step
+    requires { ⌜ levels ≤ nestingMost ⌝ }
     requires { ⌜ Roomy s ⌝ }
     ensures { λ r. ⌜ Follows (now (line .entry)) (now (types .entry)) (now (functions .entry)) c s r (λ S. exprBehind (exprAt levels) S letForm) ⌝ }
 {
-    let x = expr(line, types, functions, c, s, levels);
+    let x = nested(line, types, functions, c, s, levels);
     let Step::Next(next) = x else {
         return x;
     };
     let inner = wider(s, 1, 0);
-    expr(line, types, functions, next, inner, levels)
-}
-
-// `17`: an operator and its operands.
-fn operation(
-    line: &[u8],
-    types: &[u32],
-    functions: &[u32],
-    c: Cursor,
-    s: Names,
-    levels: u32,
-) -> Step
-    ensures { λ r. ⌜ Follows (now (line .entry)) (now (types .entry)) (now (functions .entry)) c s r (λ S. exprBehind (exprAt levels) S opForm) ⌝ }
-{
-    let x = c.code(line, 0, 8);
-    let Number::Is(f) = x else {
-        return step_of(x);
-    };
-    let next = f.next;
-    several(line, types, functions, next, s, levels, 2)
-}
-
-// `18`: a call and its arguments.
-fn call(line: &[u8], types: &[u32], functions: &[u32], c: Cursor, s: Names, levels: u32) -> Step
-    ensures { λ r. ⌜ Follows (now (line .entry)) (now (types .entry)) (now (functions .entry)) c s r (λ S. exprBehind (exprAt levels) S callForm) ⌝ }
-{
-    let known = s.functions;
-    let x = c.index(line, known);
-    let Number::Is(f) = x else {
-        return step_of(x);
-    };
-    let n = arity(functions, f.value);
-    let next = f.next;
-    several(line, types, functions, next, s, levels, n)
-}
-
-// `19`: a constructor and its fields.
-fn construct(
-    line: &[u8],
-    types: &[u32],
-    functions: &[u32],
-    c: Cursor,
-    s: Names,
-    levels: u32,
-) -> Step
-    ensures { λ r. ⌜ Follows (now (line .entry)) (now (types .entry)) (now (functions .entry)) c s r (λ S. exprBehind (exprAt levels) S conForm) ⌝ }
-{
-    let known = s.types;
-    let x = c.index(line, known);
-    let Number::Is(f) = x else {
-        return step_of(x);
-    };
-    let t = f.value;
-    let second = f.next;
-    let count = constructors(types, t);
-    let y = second.index(line, count);
-    let Number::Is(g) = y else {
-        return step_of(y);
-    };
-    let n = fields(types, t, g.value);
-    let next = g.next;
-    several(line, types, functions, next, s, levels, n)
+    nested(line, types, functions, next, inner, levels)
 }
 
 // `1A`: a case: its subject, its return type, a branch for each constructor.
 fn case_of(line: &[u8], types: &[u32], functions: &[u32], c: Cursor, s: Names, levels: u32) -> Step
+    requires { ⌜ levels ≤ nestingMost ⌝ }
     requires { ⌜ Roomy s ⌝ }
     ensures { λ r. ⌜ Follows (now (line .entry)) (now (types .entry)) (now (functions .entry)) c s r (λ S. exprBehind (exprAt levels) S caseForm) ⌝ }
 {
@@ -255,7 +241,7 @@ fn case_of(line: &[u8], types: &[u32], functions: &[u32], c: Cursor, s: Names, l
     };
     let t = f.value;
     let subject = f.next;
-    let y = expr(line, types, functions, subject, s, levels);
+    let y = nested(line, types, functions, subject, s, levels);
     let Step::Next(written) = y else {
         return y;
     };
@@ -277,6 +263,7 @@ fn branches(
     t: u32,
     k: u32,
 ) -> Step
+    requires { ⌜ levels ≤ nestingMost ⌝ }
     requires { ⌜ Roomy s ⌝ }
     requires { ⌜ (t < s .types) × (k < byteRange) ⌝ }
     ensures { λ r. ⌜ Follows (now (line .entry)) (now (types .entry)) (now (functions .entry)) c s r (λ S. branchesRead (exprAt levels) S (drop k (getD (S .types) t []))) ⌝ }
@@ -288,27 +275,16 @@ fn branches(
     let variables = fields(types, t, k);
     let sizes = own_fields(types, t, k);
     let inner = wider(s, variables, sizes);
-    let x = expr(line, types, functions, c, inner, levels);
+    let x = nested(line, types, functions, c, inner, levels);
     let Step::Next(next) = x else {
         return x;
     };
     branches(line, types, functions, next, s, levels, t, k + 1)
 }
 
-// `1B`: a written size, and the expression that it adjusts.
-fn adjust(line: &[u8], types: &[u32], functions: &[u32], c: Cursor, s: Names, levels: u32) -> Step
-    ensures { λ r. ⌜ Follows (now (line .entry)) (now (types .entry)) (now (functions .entry)) c s r (λ S. exprBehind (exprAt levels) S adjForm) ⌝ }
-{
-    let sizes = s.sizes;
-    let x = c.size(line, sizes, NESTING_MOST);
-    let Step::Next(next) = x else {
-        return x;
-    };
-    expr(line, types, functions, next, s, levels)
-}
-
 // `1C`: a fit: its bound, the subject, the arm where it fits, the other arm.
 fn fit(line: &[u8], types: &[u32], functions: &[u32], c: Cursor, s: Names, levels: u32) -> Step
+    requires { ⌜ levels ≤ nestingMost ⌝ }
     requires { ⌜ Roomy s ⌝ }
     ensures { λ r. ⌜ Follows (now (line .entry)) (now (types .entry)) (now (functions .entry)) c s r (λ S. exprBehind (exprAt levels) S fitForm) ⌝ }
 {
@@ -317,14 +293,14 @@ fn fit(line: &[u8], types: &[u32], functions: &[u32], c: Cursor, s: Names, level
         return step_of(x);
     };
     let first = f.next;
-    let y = expr(line, types, functions, first, s, levels);
+    let y = nested(line, types, functions, first, s, levels);
     let Step::Next(second) = y else {
         return y;
     };
     let inner = wider(s, 1, 0);
-    let z = expr(line, types, functions, second, inner, levels);
+    let z = nested(line, types, functions, second, inner, levels);
     let Step::Next(third) = z else {
         return z;
     };
-    expr(line, types, functions, third, s, levels)
+    nested(line, types, functions, third, s, levels)
 }

@@ -21,7 +21,6 @@ use index::types::self_free;
 use index::types::type_def;
 use language::limits::FUNCTIONS_MOST;
 use language::limits::INPUTS_MOST;
-use language::limits::NESTING_MOST;
 use language::limits::NODES_MOST;
 use language::limits::PARAMETERS_MOST;
 use language::limits::TEXT_MOST;
@@ -101,7 +100,7 @@ fn input_frame(
     let word = f.value;
     let c = f.next;
     let s = outside(known, 0, 0);
-    let y = expr(line, types, functions, c, s, NESTING_MOST);
+    let y = expr(line, types, functions, c, s);
     let to = CHANNEL_WORDS * (known.inputs as usize);
     let initial = place(c);
     channel_into(channels, to, word, initial, 0);
@@ -128,13 +127,13 @@ fn node_frame(
     let word = f.value;
     let c = f.next;
     let s = outside(known, 0, 0);
-    let y = expr(line, types, functions, c, s, NESTING_MOST);
+    let y = expr(line, types, functions, c, s);
     let Step::Next(d) = y else {
         return y;
     };
     let before = known.inputs + known.nodes;
     let u = outside(known, before, all);
-    let z = expr(line, types, functions, d, u, NESTING_MOST);
+    let z = expr(line, types, functions, d, u);
     let to = CHANNEL_WORDS * (before as usize);
     let initial = place(c);
     let update = place(d);
@@ -178,7 +177,7 @@ fn function_frame(line: &[u8], types: &[u32], functions: &mut [u32], known: Coun
         return z;
     };
     let s = inside(known, arity(functions, f), sizes);
-    let e = expr(line, types, functions, b, s, NESTING_MOST);
+    let e = expr(line, types, functions, b, s);
     let to = FUNCTION_WORDS * (f as usize) + 1 + PARAMETERS_MOST;
     places_into(functions, to, place(c), place(d), place(m), place(b));
     e
