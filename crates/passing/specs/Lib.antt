@@ -5,4 +5,4 @@ pub mod ScopeLaws
 pub mod HeadLaws
 pub mod FormLaws
 pub mod CaseLaws
-pub mod SeveralLaws
+pub mod NestedLaws

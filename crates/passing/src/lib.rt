@@ -5,7 +5,7 @@ ghost use mathlib.Core.List.{[]};
 ghost use Prim.Native.Nat.{_+_, _≤_, _<_};
 ghost use lib.ListN.{getD, drop};
 ghost use Rattle.language.specs.Limits.{byteRange, nestingMost};
-ghost use Rattle.language.specs.ReadExpr.{exprAt, exprs, exprBehind, branches as branchesRead, letForm, callForm, conForm, caseForm, fitForm};
+ghost use Rattle.language.specs.ReadExpr.{exprAt, exprBehind, branches as branchesRead, letForm, callForm, conForm, caseForm, fitForm};
 ghost use Rattle.passing.specs.Follows.{Follows, Opens, Heads, Roomy, widerNames, levelsIn, openedBy, formAt};
 ghost use Rattle.passing.specs.Parts.{parts};
 use index::arity;
@@ -117,33 +117,17 @@ pub fn expr(line: &[u8], types: &[u32], functions: &[u32], c: Cursor, s: Names) 
     nested(line, types, functions, c, s, NESTING_MOST)
 }
 
-// An expression with so many levels left.
+// An expression with so many levels left. The parts of a form that are in its own scope are passed in the same loop; for each level
+// inside, `waiting` has how many are still to be passed there.
 fn nested(line: &[u8], types: &[u32], functions: &[u32], c: Cursor, s: Names, levels: u32) -> Step
     requires { ⌜ levels ≤ nestingMost ⌝ }
     ensures { λ r. ⌜ Follows (now (line .entry)) (now (types .entry)) (now (functions .entry)) c s r (exprAt levels) ⌝ }
-{
-    several(line, types, functions, c, s, levels, 1)
-}
-
-// So many expressions, left to right. The parts of a form that are in its own scope are passed in the same loop; for each level
-// inside, `waiting` has how many are still to be passed there.
-fn several(
-    line: &[u8],
-    types: &[u32],
-    functions: &[u32],
-    c: Cursor,
-    s: Names,
-    levels: u32,
-    n: u32,
-) -> Step
-    requires { ⌜ levels ≤ nestingMost ⌝ }
-    ensures { λ r. ⌜ Follows (now (line .entry)) (now (types .entry)) (now (functions .entry)) c s r (λ S. exprs (exprAt levels S) n) ⌝ }
 {
     let most = levels_in(s, levels);
     let mut waiting = [0u32; NESTING_MOST as usize];
     let mut next = c;
     let mut depth: u32 = 0;
-    let mut left = n;
+    let mut left: u32 = 1;
     loop {
         if left == 0 {
             if depth == 0 {
@@ -181,7 +165,7 @@ fn head(line: &[u8], types: &[u32], functions: &[u32], c: Cursor, s: Names, leve
     behind(line, types, functions, next, s, levels - 1, f.value)
 }
 
-// What stands behind the code of a form, with so many levels left inside.
+// What stands behind the code of a form, with so many levels left inside; forms are counted from `10`.
 fn behind(
     line: &[u8],
     types: &[u32],

@@ -1,4 +1,4 @@
--- Several expressions in turn: the loop over them and over the parts of those that are open.
+-- The loop over an expression and the parts of those that are open.
 use Prim.Native.Nat.{ℕ, suc, _+_, _-_, _*_, _≤_, _<_}
 use mathlib.Core.List.{List}
 use mathlib.Core.Path.{_≡_, refl, sym, ap, subst, _∙_}
@@ -30,35 +30,35 @@ same-follows : {A B : Type 0} {line types functions : List ℕ} {c : Cursor} {s 
 same-follows {line} {c} {r} p q same u = record { says = λ S t here. subst (λ y. Passes line (c .at) r y) (sym (same S t)) (u .says S t here); on = u .on }
 
 -- ---- so far: what remains decides the rest
-pub record SeveralTo (line types functions : List ℕ) (c : Cursor) (s : Names) (levels n most : ℕ) (next : Cursor) (W : List ℕ) (depth left : ℕ) : Type 0 where
+pub record NestedTo (line types functions : List ℕ) (c : Cursor) (s : Names) (levels most : ℕ) (next : Cursor) (W : List ℕ) (depth left : ℕ) : Type 0 where
   pub deep : depth ≤ most
   pub long : length W ≡ nestingMost
-  pub rest : (r : Step) → Follows line types functions next s r (λ S. remaining most S left W depth) → Follows line types functions c s r (λ S. exprs (exprAt levels S) n)
+  pub rest : (r : Step) → Follows line types functions next s r (λ S. remaining most S left W depth) → Follows line types functions c s r (exprAt levels)
 
-module _ (line types functions : List ℕ) (c : Cursor) (s : Names) (levels n : ℕ) where
-  pub several-start : {most : ℕ} {W : List ℕ} → most ≡ levelsIn s levels → length W ≡ nestingMost → SeveralTo line types functions c s levels n most c W 0 n
-  several-start {most} {W} e size = record {
+module _ (line types functions : List ℕ) (c : Cursor) (s : Names) (levels : ℕ) where
+  pub nested-start : {most : ℕ} {W : List ℕ} → most ≡ levelsIn s levels → length W ≡ nestingMost → NestedTo line types functions c s levels most c W 0 1
+  nested-start {most} {W} e size = record {
     deep = omega arith;
     long = size;
-    rest = λ r u. same-follows (λ S. exprs (exprAt levels S) n) (λ S. remaining most S n W 0) (λ S t. by S t (levels-in s levels e)) u;
+    rest = λ r u. same-follows (exprAt levels) (λ S. remaining most S 1 W 0) (λ S t. exprs-one (exprAt levels S) (bytesFrom line (c .at)) ∙ by S t (levels-in s levels e)) u;
   }
     where
-      by : (S : Scope) → Tells types functions s S → {m : ℕ} → LevelsIn s levels m → forget (exprs (exprAt levels S) n (bytesFrom line (c .at))) ≡ forget (remaining m S n W 0 (bytesFrom line (c .at)))
-      by S t (roomy w) = remaining-all levels S W n (bytesFrom line (c .at))
-      by S t (narrow h) = ap forget (narrow-exprs levels S (narrow-scope t h) n (bytesFrom line (c .at))) ∙ remaining-all 0 S W n (bytesFrom line (c .at))
+      by : (S : Scope) → Tells types functions s S → {m : ℕ} → LevelsIn s levels m → forget (exprs (exprAt levels S) 1 (bytesFrom line (c .at))) ≡ forget (remaining m S 1 W 0 (bytesFrom line (c .at)))
+      by S t (roomy w) = remaining-all levels S W 1 (bytesFrom line (c .at))
+      by S t (narrow h) = ap forget (narrow-exprs levels S (narrow-scope t h) 1 (bytesFrom line (c .at))) ∙ remaining-all 0 S W 1 (bytesFrom line (c .at))
 
-  module _ {most : ℕ} {next : Cursor} {W : List ℕ} {depth left : ℕ} (p : SeveralTo line types functions c s levels n most next W depth left) where
+  module _ {most : ℕ} {next : Cursor} {W : List ℕ} {depth left : ℕ} (p : NestedTo line types functions c s levels most next W depth left) where
     -- nothing is left
-    pub several-end : left ≡ 0 → depth ≡ 0 → Follows line types functions c s (Next next) (λ S. exprs (exprAt levels S) n)
+    pub nested-end : left ≡ 0 → depth ≡ 0 → Follows line types functions c s (Next next) (exprAt levels)
     unfolding forget
-    several-end none out = p .rest (Next next) (rw (none, out) (record {
+    nested-end none out = p .rest (Next next) (rw (none, out) (record {
       says = λ S t here. pass-here (moved {c = next} (le-refl (next .at)) here) (ap forget (remaining-none most S W (bytesFrom line (next .at))));
       on = λ here. moved {c = next} (le-refl (next .at)) here;
     }))
 
     -- what waited goes on
-    pub several-resumed : {m : ℕ} → left ≡ 0 → (depth ≡ 0 → ⊥) → m ≡ getD W (depth - 1) 0 → SeveralTo line types functions c s levels n most next W (depth - 1) m
-    several-resumed {m} none deep e = record {
+    pub nested-resumed : {m : ℕ} → left ≡ 0 → (depth ≡ 0 → ⊥) → m ≡ getD W (depth - 1) 0 → NestedTo line types functions c s levels most next W (depth - 1) m
+    nested-resumed {m} none deep e = record {
       deep = omega (arith, p .deep);
       long = p .long;
       rest = λ r u. p .rest r (same-follows (λ S. remaining most S left W depth) (λ S. remaining most S m W (depth - 1)) (λ S t. by S) u);
@@ -73,8 +73,8 @@ module _ (line types functions : List ℕ) (c : Cursor) (s : Names) (levels n : 
 
     -- ---- the head of the next one
     module _ (some : left ≡ 0 → ⊥) {x : Number} (h : Heads line types functions next s x (most - depth)) where
-      pub several-refused : {m : ℕ} {r : Step} → x ≡ Refused m → r ≡ stepOf x → Follows line types functions c s r (λ S. exprs (exprAt levels S) n)
-      several-refused {r = r} e d = p .rest r (record {
+      pub nested-refused : {m : ℕ} {r : Step} → x ≡ Refused m → r ≡ stepOf x → Follows line types functions c s r (exprAt levels)
+      nested-refused {r = r} e d = p .rest r (record {
         says = λ S t here. subst (λ y. Passes line (next .at) r y) (sym (remaining-head most S W left depth (bytesFrom line (next .at)) (omega (arith, some)))) (read-stops-pass _ (h .says S t here) e d);
         on = λ here. rw (d, e) stopped;
       })
@@ -87,15 +87,15 @@ module _ (line types functions : List ℕ) (c : Cursor) (s : Names) (levels n : 
           on = λ here. moved-from (omega (arith, h .further e .0)) (u .on (h .further e .1));
         }
 
-        pub several-passed : {d : Cursor} → f .value ≡ 0 → d ≡ f .next → SeveralTo line types functions c s levels n most d W depth (left - 1)
-        several-passed none q = rw q (record {
+        pub nested-passed : {d : Cursor} → f .value ≡ 0 → d ≡ f .next → NestedTo line types functions c s levels most d W depth (left - 1)
+        nested-passed none q = rw q (record {
           deep = p .deep;
           long = p .long;
           rest = λ r u. p .rest r (behind-head r (λ S. remaining most S (left - 1) W depth) (λ S cs. rw none (remaining-leaf most S W (left - 1) depth cs)) u);
         })
 
-        pub several-inside : {d : Cursor} {T : List ℕ} → most ≤ nestingMost → d ≡ f .next → T ≡ set W depth (left - 1) → SeveralTo line types functions c s levels n most d T (depth + 1) (f .value)
-        several-inside few q w =
+        pub nested-inside : {d : Cursor} {T : List ℕ} → most ≤ nestingMost → d ≡ f .next → T ≡ set W depth (left - 1) → NestedTo line types functions c s levels most d T (depth + 1) (f .value)
+        nested-inside few q w =
             let level : 0 < most - depth = h .level e in
             rw (q, w) (record {
               deep = omega (arith, level);
@@ -108,10 +108,6 @@ module _ (line types functions : List ℕ) (c : Cursor) (s : Names) (levels n : 
                 let one : suc depth ≡ depth + 1 = omega arith in
                 remaining-inside most S W (set W depth (left - 1)) (left - 1) depth (f .value) (getD-set-same W depth (left - 1) 0 (omega (arith, p .long, few, h .level e))) (λ k less. read-below ℕ W depth k (left - 1) 0 (getD W k 0) less refl) cs
                 ∙ ap (λ k. remaining most S (f .value) (set W depth (left - 1)) k cs) one
-
--- ---- one alone
-pub one-alone : (line types functions : List ℕ) (c : Cursor) (s : Names) (levels : ℕ) {r : Step} → Follows line types functions c s r (λ S. exprs (exprAt levels S) 1) → Follows line types functions c s r (exprAt levels)
-one-alone line types functions c s levels u = same-follows (exprAt levels) (λ S. exprs (exprAt levels S) 1) (λ S t. exprs-one (exprAt levels S) (bytesFrom line (c .at))) u
 
 -- ---- the loop ends: the bytes left count for two, since one more may wait
 abbrev pub bytesLeft : List ℕ → ℕ → ℕ

@@ -1,4 +1,4 @@
--- The cycle of functions that pass over an expression meets its contracts: each need is answered by a law of SeveralLaws, HeadLaws,
+-- The cycle of functions that pass over an expression meets its contracts: each need is answered by a law of NestedLaws, HeadLaws,
 -- FormLaws or CaseLaws; the measure is levels left, then the place in the cycle.
 use Prim.Native.Nat.{ℕ, _<_, _+_, _*_, _-_}
 use mathlib.Core.Path.{refl, ap}
@@ -10,33 +10,30 @@ use Rattle.passing.specs.ScopeLaws.{levels-in, levels-most, levels-roomy
 use Rattle.passing.specs.HeadLaws.{code-level, code-form, head-none, head-done, last-form, fewer-levels}
 use Rattle.passing.specs.FormLaws.{index-less, opens-whole, bool-whole, int-whole, variable-whole, now-whole, last-whole, let-whole, case-whole, fit-whole, leaf-bool, leaf-int, leaf-variable, leaf-now, leaf-last, opens-if, opens-operator, opens-size, opens-call, opens-construct, binding-stops, binding-done}
 use Rattle.passing.specs.CaseLaws.{branches-none, branches-stop, branches-done, case-stops, case-subject, case-type, case-done, fit-stops, fit-subject, fit-arm, fit-done}
-use Rattle.passing.specs.SeveralLaws.{SeveralTo, several-start, several-end, several-resumed, several-refused, several-passed, several-inside, one-alone, bytesLeft, fewer-left}
+use Rattle.passing.specs.NestedLaws.{NestedTo, nested-start, nested-end, nested-resumed, nested-refused, nested-passed, nested-inside, bytesLeft, fewer-left}
 use borrow.Fn.Kinds.{In}
 use borrow.Fn.PlainCycle.{Measures, is, falls, and}
 use Rattle.passing.proofs.behind.Reads as behind
 use Rattle.passing.proofs.behind.Kinds as behind-kinds
-use Rattle.passing.proofs.+behind+binding+branches+case_of+fit+head+nested+several.Lts-behind as behind-lts
+use Rattle.passing.proofs.+behind+binding+branches+case_of+fit+head+nested.Lts-behind as behind-lts
 use Rattle.passing.proofs.binding.Reads as binding
 use Rattle.passing.proofs.binding.Kinds as binding-kinds
-use Rattle.passing.proofs.+behind+binding+branches+case_of+fit+head+nested+several.Lts-binding as binding-lts
+use Rattle.passing.proofs.+behind+binding+branches+case_of+fit+head+nested.Lts-binding as binding-lts
 use Rattle.passing.proofs.branches.Reads as branches
 use Rattle.passing.proofs.branches.Kinds as branches-kinds
-use Rattle.passing.proofs.+behind+binding+branches+case_of+fit+head+nested+several.Lts-branches as branches-lts
+use Rattle.passing.proofs.+behind+binding+branches+case_of+fit+head+nested.Lts-branches as branches-lts
 use Rattle.passing.proofs.case_of.Reads as case-of
 use Rattle.passing.proofs.case_of.Kinds as case-of-kinds
-use Rattle.passing.proofs.+behind+binding+branches+case_of+fit+head+nested+several.Lts-case_of as case-of-lts
+use Rattle.passing.proofs.+behind+binding+branches+case_of+fit+head+nested.Lts-case_of as case-of-lts
 use Rattle.passing.proofs.fit.Reads as fit
 use Rattle.passing.proofs.fit.Kinds as fit-kinds
-use Rattle.passing.proofs.+behind+binding+branches+case_of+fit+head+nested+several.Lts-fit as fit-lts
+use Rattle.passing.proofs.+behind+binding+branches+case_of+fit+head+nested.Lts-fit as fit-lts
 use Rattle.passing.proofs.head.Reads as head
 use Rattle.passing.proofs.head.Kinds as head-kinds
-use Rattle.passing.proofs.+behind+binding+branches+case_of+fit+head+nested+several.Lts-head as head-lts
+use Rattle.passing.proofs.+behind+binding+branches+case_of+fit+head+nested.Lts-head as head-lts
 use Rattle.passing.proofs.nested.Reads as nested
 use Rattle.passing.proofs.nested.Kinds as nested-kinds
-use Rattle.passing.proofs.+behind+binding+branches+case_of+fit+head+nested+several.Lts-nested as nested-lts
-use Rattle.passing.proofs.several.Reads as several
-use Rattle.passing.proofs.several.Kinds as several-kinds
-use Rattle.passing.proofs.+behind+binding+branches+case_of+fit+head+nested+several.Lts-several as several-lts
+use Rattle.passing.proofs.+behind+binding+branches+case_of+fit+head+nested.Lts-nested as nested-lts
 use Rattle.index.proofs.constructors.Reads as constructors-reads
 use Rattle.index.proofs.fields.Reads as fields-reads
 use Rattle.index.proofs.own_fields.Reads as own-fields-reads
@@ -55,12 +52,8 @@ use Rattle.text.proofs.Cursor.past_int.Reads as past-int-reads
 use Rattle.text.proofs.Cursor.result.Reads as result-reads
 use Rattle.text.proofs.Cursor.size.Reads as size-reads
 use Rattle.text.proofs.step_of.Reads as step-of-reads
-use Rattle.passing.proofs.+behind+binding+branches+case_of+fit+head+nested+several.{
-  statement,
-}
-use Rattle.passing.proofs.+behind+binding+branches+case_of+fit+head+nested+several.Tie.{
-  close,
-}
+use Rattle.passing.proofs.+behind+binding+branches+case_of+fit+head+nested.{statement}
+use Rattle.passing.proofs.+behind+binding+branches+case_of+fit+head+nested.Tie.{close}
 
 abbrev μ-behind : Measures 3 behind-kinds.ps ℕ
 μ-behind κs a = a .1 .1 .1 .1 .1 .0 * 1024 + 800
@@ -81,10 +74,7 @@ abbrev μ-head : Measures 3 head-kinds.ps ℕ
 μ-head κs a = a .1 .1 .1 .1 .1 .0 * 1024 + 1
 
 abbrev μ-nested : Measures 3 nested-kinds.ps ℕ
-μ-nested κs a = a .1 .1 .1 .1 .1 .0 * 1024 + 3
-
-abbrev μ-several : Measures 3 several-kinds.ps ℕ
-μ-several κs a = a .1 .1 .1 .1 .1 .0 * 1024 + 2
+μ-nested κs a = a .1 .1 .1 .1 .1 .0 * 1024 + 2
 
 abbrev behind-at : ℕ → In 3 behind-kinds.ps
 behind-at t = and 3 behind-kinds.ps (is 3 behind-kinds.ps μ-behind t) behind.Pre
@@ -129,13 +119,7 @@ nested-at t = and 3 nested-kinds.ps (is 3 nested-kinds.ps μ-nested t) nested.Pr
 abbrev nested-below : ℕ → In 3 nested-kinds.ps
 nested-below t = and 3 nested-kinds.ps (falls 3 nested-kinds.ps _<_ μ-nested t) nested.Pre
 
-abbrev several-at : ℕ → In 3 several-kinds.ps
-several-at t = and 3 several-kinds.ps (is 3 several-kinds.ps μ-several t) several.Pre
-
-abbrev several-below : ℕ → In 3 several-kinds.ps
-several-below t = and 3 several-kinds.ps (falls 3 several-kinds.ps _<_ μ-several t) several.Pre
-
--- src/lib.rt:200:29
+-- src/lib.rt:184:29
 behind-code-requires : (t : ℕ) → behind-lts.Need-code-requires (
   code-reads.Asked,
   code-reads.Learnt,
@@ -162,7 +146,7 @@ behind-code-requires : (t : ℕ) → behind-lts.Need-code-requires (
 ) (behind-at t) behind.Post
 behind-code-requires t c κs = tt
 
--- src/lib.rt:200:21
+-- src/lib.rt:184:21
 behind-step-of-requires : (t : ℕ) → behind-lts.Need-step-of-requires (
   code-reads.Asked,
   code-reads.Learnt,
@@ -189,7 +173,7 @@ behind-step-of-requires : (t : ℕ) → behind-lts.Need-step-of-requires (
 ) (behind-at t) behind.Post
 behind-step-of-requires t c κs = tt
 
--- src/lib.rt:200:14
+-- src/lib.rt:184:14
 behind-opened-requires : (t : ℕ) → behind-lts.Need-opened-requires (
   code-reads.Asked,
   code-reads.Learnt,
@@ -216,7 +200,7 @@ behind-opened-requires : (t : ℕ) → behind-lts.Need-opened-requires (
 ) (behind-at t) behind.Post
 behind-opened-requires t c κs = tt
 
--- src/lib.rt:201:21
+-- src/lib.rt:185:21
 behind-past-int-requires : (t : ℕ) → behind-lts.Need-past-int-requires (
   code-reads.Asked,
   code-reads.Learnt,
@@ -243,7 +227,7 @@ behind-past-int-requires : (t : ℕ) → behind-lts.Need-past-int-requires (
 ) (behind-at t) behind.Post
 behind-past-int-requires t c κs = tt
 
--- src/lib.rt:201:14
+-- src/lib.rt:185:14
 behind-opened-requires-2 : (t : ℕ) → behind-lts.Need-opened-requires-2 (
   code-reads.Asked,
   code-reads.Learnt,
@@ -270,7 +254,7 @@ behind-opened-requires-2 : (t : ℕ) → behind-lts.Need-opened-requires-2 (
 ) (behind-at t) behind.Post
 behind-opened-requires-2 t c κs = tt
 
--- src/lib.rt:202:29
+-- src/lib.rt:186:29
 behind-index-requires : (t : ℕ) → behind-lts.Need-index-requires (
   code-reads.Asked,
   code-reads.Learnt,
@@ -297,7 +281,7 @@ behind-index-requires : (t : ℕ) → behind-lts.Need-index-requires (
 ) (behind-at t) behind.Post
 behind-index-requires t c κs = tt
 
--- src/lib.rt:202:21
+-- src/lib.rt:186:21
 behind-step-of-requires-2 : (t : ℕ) → behind-lts.Need-step-of-requires-2 (
   code-reads.Asked,
   code-reads.Learnt,
@@ -324,7 +308,7 @@ behind-step-of-requires-2 : (t : ℕ) → behind-lts.Need-step-of-requires-2 (
 ) (behind-at t) behind.Post
 behind-step-of-requires-2 t c κs = tt
 
--- src/lib.rt:202:14
+-- src/lib.rt:186:14
 behind-opened-requires-3 : (t : ℕ) → behind-lts.Need-opened-requires-3 (
   code-reads.Asked,
   code-reads.Learnt,
@@ -351,7 +335,7 @@ behind-opened-requires-3 : (t : ℕ) → behind-lts.Need-opened-requires-3 (
 ) (behind-at t) behind.Post
 behind-opened-requires-3 t c κs = tt
 
--- src/lib.rt:203:29
+-- src/lib.rt:187:29
 behind-index-requires-2 : (t : ℕ) → behind-lts.Need-index-requires-2 (
   code-reads.Asked,
   code-reads.Learnt,
@@ -378,7 +362,7 @@ behind-index-requires-2 : (t : ℕ) → behind-lts.Need-index-requires-2 (
 ) (behind-at t) behind.Post
 behind-index-requires-2 t c κs = tt
 
--- src/lib.rt:203:21
+-- src/lib.rt:187:21
 behind-step-of-requires-3 : (t : ℕ) → behind-lts.Need-step-of-requires-3 (
   code-reads.Asked,
   code-reads.Learnt,
@@ -405,7 +389,7 @@ behind-step-of-requires-3 : (t : ℕ) → behind-lts.Need-step-of-requires-3 (
 ) (behind-at t) behind.Post
 behind-step-of-requires-3 t c κs = tt
 
--- src/lib.rt:203:14
+-- src/lib.rt:187:14
 behind-opened-requires-4 : (t : ℕ) → behind-lts.Need-opened-requires-4 (
   code-reads.Asked,
   code-reads.Learnt,
@@ -432,7 +416,7 @@ behind-opened-requires-4 : (t : ℕ) → behind-lts.Need-opened-requires-4 (
 ) (behind-at t) behind.Post
 behind-opened-requires-4 t c κs = tt
 
--- src/lib.rt:204:29
+-- src/lib.rt:188:29
 behind-index-requires-3 : (t : ℕ) → behind-lts.Need-index-requires-3 (
   code-reads.Asked,
   code-reads.Learnt,
@@ -459,7 +443,7 @@ behind-index-requires-3 : (t : ℕ) → behind-lts.Need-index-requires-3 (
 ) (behind-at t) behind.Post
 behind-index-requires-3 t c κs = tt
 
--- src/lib.rt:204:21
+-- src/lib.rt:188:21
 behind-step-of-requires-4 : (t : ℕ) → behind-lts.Need-step-of-requires-4 (
   code-reads.Asked,
   code-reads.Learnt,
@@ -486,7 +470,7 @@ behind-step-of-requires-4 : (t : ℕ) → behind-lts.Need-step-of-requires-4 (
 ) (behind-at t) behind.Post
 behind-step-of-requires-4 t c κs = tt
 
--- src/lib.rt:204:14
+-- src/lib.rt:188:14
 behind-opened-requires-5 : (t : ℕ) → behind-lts.Need-opened-requires-5 (
   code-reads.Asked,
   code-reads.Learnt,
@@ -513,7 +497,7 @@ behind-opened-requires-5 : (t : ℕ) → behind-lts.Need-opened-requires-5 (
 ) (behind-at t) behind.Post
 behind-opened-requires-5 t c κs = tt
 
--- src/lib.rt:205:21
+-- src/lib.rt:189:21
 behind-binding-requires : (t : ℕ) → behind-lts.Need-binding-requires (
   code-reads.Asked,
   code-reads.Learnt,
@@ -540,7 +524,7 @@ behind-binding-requires : (t : ℕ) → behind-lts.Need-binding-requires (
 ) (behind-at t) behind.Post
 behind-binding-requires t c κs = (omega (arith, (c .before .before .before .before .pre .0)), ((c .before .before .before .before .pre .1 .0), (c .before .before .before .before .pre .1 .1 .0)))
 
--- src/lib.rt:205:14
+-- src/lib.rt:189:14
 behind-opened-requires-6 : (t : ℕ) → behind-lts.Need-opened-requires-6 (
   code-reads.Asked,
   code-reads.Learnt,
@@ -567,7 +551,7 @@ behind-opened-requires-6 : (t : ℕ) → behind-lts.Need-opened-requires-6 (
 ) (behind-at t) behind.Post
 behind-opened-requires-6 t c κs = tt
 
--- src/lib.rt:206:14
+-- src/lib.rt:190:14
 behind-opened-requires-7 : (t : ℕ) → behind-lts.Need-opened-requires-7 (
   code-reads.Asked,
   code-reads.Learnt,
@@ -594,7 +578,7 @@ behind-opened-requires-7 : (t : ℕ) → behind-lts.Need-opened-requires-7 (
 ) (behind-at t) behind.Post
 behind-opened-requires-7 t c κs = tt
 
--- src/lib.rt:207:29
+-- src/lib.rt:191:29
 behind-code-requires-2 : (t : ℕ) → behind-lts.Need-code-requires-2 (
   code-reads.Asked,
   code-reads.Learnt,
@@ -621,7 +605,7 @@ behind-code-requires-2 : (t : ℕ) → behind-lts.Need-code-requires-2 (
 ) (behind-at t) behind.Post
 behind-code-requires-2 t c κs = tt
 
--- src/lib.rt:207:21
+-- src/lib.rt:191:21
 behind-step-of-requires-5 : (t : ℕ) → behind-lts.Need-step-of-requires-5 (
   code-reads.Asked,
   code-reads.Learnt,
@@ -648,7 +632,7 @@ behind-step-of-requires-5 : (t : ℕ) → behind-lts.Need-step-of-requires-5 (
 ) (behind-at t) behind.Post
 behind-step-of-requires-5 t c κs = tt
 
--- src/lib.rt:207:14
+-- src/lib.rt:191:14
 behind-opened-requires-8 : (t : ℕ) → behind-lts.Need-opened-requires-8 (
   code-reads.Asked,
   code-reads.Learnt,
@@ -675,7 +659,7 @@ behind-opened-requires-8 : (t : ℕ) → behind-lts.Need-opened-requires-8 (
 ) (behind-at t) behind.Post
 behind-opened-requires-8 t c κs = tt
 
--- src/lib.rt:208:14
+-- src/lib.rt:192:14
 behind-call-requires : (t : ℕ) → behind-lts.Need-call-requires (
   code-reads.Asked,
   code-reads.Learnt,
@@ -702,7 +686,7 @@ behind-call-requires : (t : ℕ) → behind-lts.Need-call-requires (
 ) (behind-at t) behind.Post
 behind-call-requires t c κs = tt
 
--- src/lib.rt:209:14
+-- src/lib.rt:193:14
 behind-construct-requires : (t : ℕ) → behind-lts.Need-construct-requires (
   code-reads.Asked,
   code-reads.Learnt,
@@ -729,7 +713,7 @@ behind-construct-requires : (t : ℕ) → behind-lts.Need-construct-requires (
 ) (behind-at t) behind.Post
 behind-construct-requires t c κs = tt
 
--- src/lib.rt:210:22
+-- src/lib.rt:194:22
 behind-case-of-requires : (t : ℕ) → behind-lts.Need-case-of-requires (
   code-reads.Asked,
   code-reads.Learnt,
@@ -756,7 +740,7 @@ behind-case-of-requires : (t : ℕ) → behind-lts.Need-case-of-requires (
 ) (behind-at t) behind.Post
 behind-case-of-requires t c κs = (omega (arith, (c .before .before .before .before .pre .0)), ((c .before .before .before .before .pre .1 .0), (c .before .before .before .before .pre .1 .1 .0)))
 
--- src/lib.rt:210:15
+-- src/lib.rt:194:15
 behind-opened-requires-9 : (t : ℕ) → behind-lts.Need-opened-requires-9 (
   code-reads.Asked,
   code-reads.Learnt,
@@ -783,7 +767,7 @@ behind-opened-requires-9 : (t : ℕ) → behind-lts.Need-opened-requires-9 (
 ) (behind-at t) behind.Post
 behind-opened-requires-9 t c κs = tt
 
--- src/lib.rt:211:22
+-- src/lib.rt:195:22
 behind-size-requires : (t : ℕ) → behind-lts.Need-size-requires (
   code-reads.Asked,
   code-reads.Learnt,
@@ -810,7 +794,7 @@ behind-size-requires : (t : ℕ) → behind-lts.Need-size-requires (
 ) (behind-at t) behind.Post
 behind-size-requires t c κs = tt
 
--- src/lib.rt:211:15
+-- src/lib.rt:195:15
 behind-opened-requires-10 : (t : ℕ) → behind-lts.Need-opened-requires-10 (
   code-reads.Asked,
   code-reads.Learnt,
@@ -837,7 +821,7 @@ behind-opened-requires-10 : (t : ℕ) → behind-lts.Need-opened-requires-10 (
 ) (behind-at t) behind.Post
 behind-opened-requires-10 t c κs = tt
 
--- src/lib.rt:212:21
+-- src/lib.rt:196:21
 behind-fit-requires : (t : ℕ) → behind-lts.Need-fit-requires (
   code-reads.Asked,
   code-reads.Learnt,
@@ -864,7 +848,7 @@ behind-fit-requires : (t : ℕ) → behind-lts.Need-fit-requires (
 ) (behind-at t) behind.Post
 behind-fit-requires t c κs = (omega (arith, (c .before .before .before .before .pre .0)), ((c .before .before .before .before .pre .1 .0), (c .before .before .before .before .pre .1 .1 .0)))
 
--- src/lib.rt:212:14
+-- src/lib.rt:196:14
 behind-opened-requires-11 : (t : ℕ) → behind-lts.Need-opened-requires-11 (
   code-reads.Asked,
   code-reads.Learnt,
@@ -891,7 +875,7 @@ behind-opened-requires-11 : (t : ℕ) → behind-lts.Need-opened-requires-11 (
 ) (behind-at t) behind.Post
 behind-opened-requires-11 t c κs = tt
 
--- src/lib.rt:185:1
+-- src/lib.rt:169:1
 behind-returns : (t : ℕ) → behind-lts.Need-returns (
   code-reads.Asked,
   code-reads.Learnt,
@@ -918,7 +902,7 @@ behind-returns : (t : ℕ) → behind-lts.Need-returns (
 ) (behind-at t) behind.Post
 behind-returns t c = opens-whole _ _ _ _ _ _ (c .before .before .before .before .before .before .before .args .form) (ap formAt (c .before .before .before .match .keys1)) bool-whole (leaf-bool _ _ _ _ _ _ (c .before .before .code .ensures) (c .before .step-of .ensures)) (c .opened .ensures)
 
--- src/lib.rt:185:1
+-- src/lib.rt:169:1
 behind-returns-2 : (t : ℕ) → behind-lts.Need-returns-2 (
   code-reads.Asked,
   code-reads.Learnt,
@@ -945,7 +929,7 @@ behind-returns-2 : (t : ℕ) → behind-lts.Need-returns-2 (
 ) (behind-at t) behind.Post
 behind-returns-2 t c = opens-whole _ _ _ _ _ _ (c .before .before .before .before .before .before .args .form) (ap formAt (c .before .before .match .keys2)) int-whole (leaf-int _ _ _ _ _ _ (c .before .past-int .ensures)) (c .opened2 .ensures)
 
--- src/lib.rt:185:1
+-- src/lib.rt:169:1
 behind-returns-3 : (t : ℕ) → behind-lts.Need-returns-3 (
   code-reads.Asked,
   code-reads.Learnt,
@@ -972,7 +956,7 @@ behind-returns-3 : (t : ℕ) → behind-lts.Need-returns-3 (
 ) (behind-at t) behind.Post
 behind-returns-3 t c = opens-whole _ _ _ _ _ _ (c .before .before .before .before .before .before .before .args .form) (ap formAt (c .before .before .before .match .keys3)) variable-whole (leaf-variable _ _ _ _ _ _ (c .before .before .index .ensures) (c .before .step-of2 .ensures)) (c .opened3 .ensures)
 
--- src/lib.rt:185:1
+-- src/lib.rt:169:1
 behind-returns-4 : (t : ℕ) → behind-lts.Need-returns-4 (
   code-reads.Asked,
   code-reads.Learnt,
@@ -999,7 +983,7 @@ behind-returns-4 : (t : ℕ) → behind-lts.Need-returns-4 (
 ) (behind-at t) behind.Post
 behind-returns-4 t c = opens-whole _ _ _ _ _ _ (c .before .before .before .before .before .before .before .args .form) (ap formAt (c .before .before .before .match .keys4)) now-whole (leaf-now _ _ _ _ _ _ (c .before .before .index2 .ensures) (c .before .step-of3 .ensures)) (c .opened4 .ensures)
 
--- src/lib.rt:185:1
+-- src/lib.rt:169:1
 behind-returns-5 : (t : ℕ) → behind-lts.Need-returns-5 (
   code-reads.Asked,
   code-reads.Learnt,
@@ -1026,7 +1010,7 @@ behind-returns-5 : (t : ℕ) → behind-lts.Need-returns-5 (
 ) (behind-at t) behind.Post
 behind-returns-5 t c = opens-whole _ _ _ _ _ _ (c .before .before .before .before .before .before .before .args .form) (ap formAt (c .before .before .before .match .keys5)) last-whole (leaf-last _ _ _ _ _ _ (c .before .before .index3 .ensures) (c .before .step-of4 .ensures)) (c .opened5 .ensures)
 
--- src/lib.rt:185:1
+-- src/lib.rt:169:1
 behind-returns-6 : (t : ℕ) → behind-lts.Need-returns-6 (
   code-reads.Asked,
   code-reads.Learnt,
@@ -1053,7 +1037,7 @@ behind-returns-6 : (t : ℕ) → behind-lts.Need-returns-6 (
 ) (behind-at t) behind.Post
 behind-returns-6 t c = opens-whole _ _ _ _ _ _ (c .before .before .before .before .before .before .args .form) (ap formAt (c .before .before .match .keys6)) let-whole (c .before .binding .ensures) (c .opened6 .ensures)
 
--- src/lib.rt:185:1
+-- src/lib.rt:169:1
 behind-returns-7 : (t : ℕ) → behind-lts.Need-returns-7 (
   code-reads.Asked,
   code-reads.Learnt,
@@ -1080,7 +1064,7 @@ behind-returns-7 : (t : ℕ) → behind-lts.Need-returns-7 (
 ) (behind-at t) behind.Post
 behind-returns-7 t c = opens-if _ _ _ _ _ _ (c .before .before .before .before .before .args .form) (c .before .match .keys7) (c .opened7 .ensures)
 
--- src/lib.rt:185:1
+-- src/lib.rt:169:1
 behind-returns-8 : (t : ℕ) → behind-lts.Need-returns-8 (
   code-reads.Asked,
   code-reads.Learnt,
@@ -1107,7 +1091,7 @@ behind-returns-8 : (t : ℕ) → behind-lts.Need-returns-8 (
 ) (behind-at t) behind.Post
 behind-returns-8 t c = opens-operator _ _ _ _ _ _ (c .before .before .before .before .before .before .before .args .form) (c .before .before .before .match .keys8) (c .before .before .code2 .ensures) (c .before .step-of5 .ensures) (c .opened8 .ensures)
 
--- src/lib.rt:185:1
+-- src/lib.rt:169:1
 behind-returns-9 : (t : ℕ) → behind-lts.Need-returns-9 (
   code-reads.Asked,
   code-reads.Learnt,
@@ -1134,7 +1118,7 @@ behind-returns-9 : (t : ℕ) → behind-lts.Need-returns-9 (
 ) (behind-at t) behind.Post
 behind-returns-9 t c = opens-call _ _ _ _ _ _ (c .before .before .before .before .before .args .form) (c .before .match .keys9) (c .call .ensures)
 
--- src/lib.rt:185:1
+-- src/lib.rt:169:1
 behind-returns-10 : (t : ℕ) → behind-lts.Need-returns-10 (
   code-reads.Asked,
   code-reads.Learnt,
@@ -1161,7 +1145,7 @@ behind-returns-10 : (t : ℕ) → behind-lts.Need-returns-10 (
 ) (behind-at t) behind.Post
 behind-returns-10 t c = opens-construct _ _ _ _ _ _ (c .before .before .before .before .before .args .form) (c .before .match .keys10) (c .construct .ensures)
 
--- src/lib.rt:185:1
+-- src/lib.rt:169:1
 behind-returns-11 : (t : ℕ) → behind-lts.Need-returns-11 (
   code-reads.Asked,
   code-reads.Learnt,
@@ -1188,7 +1172,7 @@ behind-returns-11 : (t : ℕ) → behind-lts.Need-returns-11 (
 ) (behind-at t) behind.Post
 behind-returns-11 t c = opens-whole _ _ _ _ _ _ (c .before .before .before .before .before .before .args .form) (ap formAt (c .before .before .match .keys11)) case-whole (c .before .case-of .ensures) (c .opened9 .ensures)
 
--- src/lib.rt:185:1
+-- src/lib.rt:169:1
 behind-returns-12 : (t : ℕ) → behind-lts.Need-returns-12 (
   code-reads.Asked,
   code-reads.Learnt,
@@ -1215,7 +1199,7 @@ behind-returns-12 : (t : ℕ) → behind-lts.Need-returns-12 (
 ) (behind-at t) behind.Post
 behind-returns-12 t c = opens-size _ _ _ _ _ _ (c .before .before .before .before .before .before .args .form) (c .before .before .match .keys12) (c .before .size .ensures) (c .opened10 .ensures)
 
--- src/lib.rt:185:1
+-- src/lib.rt:169:1
 behind-returns-13 : (t : ℕ) → behind-lts.Need-returns-13 (
   code-reads.Asked,
   code-reads.Learnt,
@@ -1242,7 +1226,7 @@ behind-returns-13 : (t : ℕ) → behind-lts.Need-returns-13 (
 ) (behind-at t) behind.Post
 behind-returns-13 t c = opens-whole _ _ _ _ _ _ (c .before .before .before .before .before .before .args .form) (ap formAt (last-form (c .before .before .before .before .before .before .args .form) (c .before .before .before .before .before .before .pre .1 .1 .1) (c .before .before .match .rest))) fit-whole (c .before .fit .ensures) (c .opened11 .ensures)
 
--- src/lib.rt:222:9
+-- src/lib.rt:206:9
 binding-nested-requires : (t : ℕ) → binding-lts.Need-nested-requires (
   nested-below t,
   nested.Post,
@@ -1251,7 +1235,7 @@ binding-nested-requires : (t : ℕ) → binding-lts.Need-nested-requires (
 ) (binding-at t) binding.Post
 binding-nested-requires t c κs = (omega (arith, (c .before .before .before .pre .0)), (c .before .before .before .pre .1 .0))
 
--- src/lib.rt:223:20
+-- src/lib.rt:207:20
 binding-enum-known-x : (t : ℕ) → binding-lts.Need-enum-known-x (
   nested-below t,
   nested.Post,
@@ -1260,7 +1244,7 @@ binding-enum-known-x : (t : ℕ) → binding-lts.Need-enum-known-x (
 ) (binding-at t) binding.Post
 binding-enum-known-x t c = (c .match .keys1)
 
--- src/lib.rt:224:9
+-- src/lib.rt:208:9
 binding-enum-told : (t : ℕ) → binding-lts.Need-enum-told (
   nested-below t,
   nested.Post,
@@ -1269,7 +1253,7 @@ binding-enum-told : (t : ℕ) → binding-lts.Need-enum-told (
 ) (binding-at t) binding.Post
 binding-enum-told t c = (c .match .keys2)
 
--- src/lib.rt:224:9
+-- src/lib.rt:208:9
 binding-returns : (t : ℕ) → binding-lts.Need-returns (
   nested-below t,
   nested.Post,
@@ -1278,7 +1262,7 @@ binding-returns : (t : ℕ) → binding-lts.Need-returns (
 ) (binding-at t) binding.Post
 binding-returns t c = binding-stops _ _ _ _ _ _ (c .before .before .nested .ensures) (c .enum-told .given .1)
 
--- src/lib.rt:226:9
+-- src/lib.rt:210:9
 binding-wider-requires : (t : ℕ) → binding-lts.Need-wider-requires (
   nested-below t,
   nested.Post,
@@ -1287,7 +1271,7 @@ binding-wider-requires : (t : ℕ) → binding-lts.Need-wider-requires (
 ) (binding-at t) binding.Post
 binding-wider-requires t c κs = ((c .before .before .before .before .before .before .before .pre .1 .1), (omega arith, omega arith))
 
--- src/lib.rt:227:5
+-- src/lib.rt:211:5
 binding-nested-requires-2 : (t : ℕ) → binding-lts.Need-nested-requires-2 (
   nested-below t,
   nested.Post,
@@ -1296,7 +1280,7 @@ binding-nested-requires-2 : (t : ℕ) → binding-lts.Need-nested-requires-2 (
 ) (binding-at t) binding.Post
 binding-nested-requires-2 t c κs = (omega (arith, (c .before .before .before .before .before .before .before .before .pre .0)), (c .before .before .before .before .before .before .before .before .pre .1 .0))
 
--- src/lib.rt:217:1
+-- src/lib.rt:201:1
 binding-returns-2 : (t : ℕ) → binding-lts.Need-returns-2 (
   nested-below t,
   nested.Post,
@@ -1305,7 +1289,7 @@ binding-returns-2 : (t : ℕ) → binding-lts.Need-returns-2 (
 ) (binding-at t) binding.Post
 binding-returns-2 t c = binding-done _ _ _ _ _ _ (c .before .before .before .before .before .nested .ensures) (c .before .before .before .x .given .1) (c .before .wider .ensures) (c .nested2 .ensures)
 
--- src/lib.rt:271:9
+-- src/lib.rt:255:9
 branches-constructors-requires : (t : ℕ) → branches-lts.Need-constructors-requires (
   constructors-reads.Asked,
   constructors-reads.Learnt,
@@ -1322,7 +1306,7 @@ branches-constructors-requires : (t : ℕ) → branches-lts.Need-constructors-re
 ) (branches-at t) branches.Post
 branches-constructors-requires t c κs = tt
 
--- src/lib.rt:273:9
+-- src/lib.rt:257:9
 branches-returns : (t : ℕ) → branches-lts.Need-returns (
   constructors-reads.Asked,
   constructors-reads.Learnt,
@@ -1339,7 +1323,7 @@ branches-returns : (t : ℕ) → branches-lts.Need-returns (
 ) (branches-at t) branches.Post
 branches-returns t c = branches-none _ _ _ _ _ _ _ _ (c .before .constructors .ensures) (c .before .before .before .before .before .pre .1 .1 .1 .0) (c .if1 .taken)
 
--- src/lib.rt:275:9
+-- src/lib.rt:259:9
 branches-fields-requires : (t : ℕ) → branches-lts.Need-fields-requires (
   constructors-reads.Asked,
   constructors-reads.Learnt,
@@ -1356,7 +1340,7 @@ branches-fields-requires : (t : ℕ) → branches-lts.Need-fields-requires (
 ) (branches-at t) branches.Post
 branches-fields-requires t c κs = tt
 
--- src/lib.rt:276:9
+-- src/lib.rt:260:9
 branches-own-fields-requires : (t : ℕ) → branches-lts.Need-own-fields-requires (
   constructors-reads.Asked,
   constructors-reads.Learnt,
@@ -1373,7 +1357,7 @@ branches-own-fields-requires : (t : ℕ) → branches-lts.Need-own-fields-requir
 ) (branches-at t) branches.Post
 branches-own-fields-requires t c κs = tt
 
--- src/lib.rt:277:9
+-- src/lib.rt:261:9
 branches-wider-requires : (t : ℕ) → branches-lts.Need-wider-requires (
   constructors-reads.Asked,
   constructors-reads.Learnt,
@@ -1390,7 +1374,7 @@ branches-wider-requires : (t : ℕ) → branches-lts.Need-wider-requires (
 ) (branches-at t) branches.Post
 branches-wider-requires t c κs = ((c .before .before .before .before .before .before .before .pre .1 .1 .0), (omega (arith, (c .before .fields .ensures .1), (c .own-fields .ensures .1)), omega (arith, (c .before .fields .ensures .1), (c .own-fields .ensures .1))))
 
--- src/lib.rt:278:9
+-- src/lib.rt:262:9
 branches-nested-requires : (t : ℕ) → branches-lts.Need-nested-requires (
   constructors-reads.Asked,
   constructors-reads.Learnt,
@@ -1407,7 +1391,7 @@ branches-nested-requires : (t : ℕ) → branches-lts.Need-nested-requires (
 ) (branches-at t) branches.Post
 branches-nested-requires t c κs = (omega (arith, (c .before .before .before .before .before .before .before .before .pre .0)), (c .before .before .before .before .before .before .before .before .pre .1 .0))
 
--- src/lib.rt:279:20
+-- src/lib.rt:263:20
 branches-enum-known-x : (t : ℕ) → branches-lts.Need-enum-known-x (
   constructors-reads.Asked,
   constructors-reads.Learnt,
@@ -1424,7 +1408,7 @@ branches-enum-known-x : (t : ℕ) → branches-lts.Need-enum-known-x (
 ) (branches-at t) branches.Post
 branches-enum-known-x t c = (c .match .keys1)
 
--- src/lib.rt:280:9
+-- src/lib.rt:264:9
 branches-enum-told : (t : ℕ) → branches-lts.Need-enum-told (
   constructors-reads.Asked,
   constructors-reads.Learnt,
@@ -1441,7 +1425,7 @@ branches-enum-told : (t : ℕ) → branches-lts.Need-enum-told (
 ) (branches-at t) branches.Post
 branches-enum-told t c = (c .match .keys2)
 
--- src/lib.rt:280:9
+-- src/lib.rt:264:9
 branches-returns-2 : (t : ℕ) → branches-lts.Need-returns-2 (
   constructors-reads.Asked,
   constructors-reads.Learnt,
@@ -1458,7 +1442,7 @@ branches-returns-2 : (t : ℕ) → branches-lts.Need-returns-2 (
 ) (branches-at t) branches.Post
 branches-returns-2 t c = branches-stop _ _ _ _ _ _ _ _ (c .before .before .before .before .before .before .before .constructors .ensures) (c .before .before .before .before .before .before .before .before .before .before .before .pre .1 .1 .1 .0) (c .before .before .before .before .before .before .if1 .left) (c .before .before .before .before .before .fields .ensures) (c .before .before .before .before .own-fields .ensures) (c .before .before .before .wider .ensures) (c .before .before .nested .ensures) (c .enum-told .given .1)
 
--- src/lib.rt:282:58
+-- src/lib.rt:266:58
 branches-add-branches : (t : ℕ) → branches-lts.Need-add-branches (
   constructors-reads.Asked,
   constructors-reads.Learnt,
@@ -1475,7 +1459,7 @@ branches-add-branches : (t : ℕ) → branches-lts.Need-add-branches (
 ) (branches-at t) branches.Post
 branches-add-branches t c = omega (arith, (c .before .before .before .before .before .before .before .before .constructors .ensures .1), (c .before .before .before .before .before .before .before .if1 .left))
 
--- src/lib.rt:282:5
+-- src/lib.rt:266:5
 branches-branches-requires : (t : ℕ) → branches-lts.Need-branches-requires (
   constructors-reads.Asked,
   constructors-reads.Learnt,
@@ -1492,7 +1476,7 @@ branches-branches-requires : (t : ℕ) → branches-lts.Need-branches-requires (
 ) (branches-at t) branches.Post
 branches-branches-requires t c κs = (omega (arith, (c .before .before .before .before .before .before .before .before .before .before .before .before .pre .0), (c .before .before .before .before .before .before .before .before .constructors .ensures .1), (c .before .before .before .before .before .before .before .if1 .left)), ((c .before .before .before .before .before .before .before .before .before .before .before .before .pre .1 .0), ((c .before .before .before .before .before .before .before .before .before .before .before .before .pre .1 .1 .0), ((c .before .before .before .before .before .before .before .before .before .before .before .before .pre .1 .1 .1 .0), omega (arith, (c .before .before .before .before .before .before .before .before .constructors .ensures .1), (c .before .before .before .before .before .before .before .if1 .left))))))
 
--- src/lib.rt:256:1
+-- src/lib.rt:240:1
 branches-returns-3 : (t : ℕ) → branches-lts.Need-returns-3 (
   constructors-reads.Asked,
   constructors-reads.Learnt,
@@ -1509,7 +1493,7 @@ branches-returns-3 : (t : ℕ) → branches-lts.Need-returns-3 (
 ) (branches-at t) branches.Post
 branches-returns-3 t c = branches-done _ _ _ _ _ _ _ _ (c .before .before .before .before .before .before .before .before .before .constructors .ensures) (c .before .before .before .before .before .before .before .before .before .before .before .before .before .pre .1 .1 .1 .0) (c .before .before .before .before .before .before .before .before .if1 .left) (c .before .before .before .before .before .before .before .fields .ensures) (c .before .before .before .before .before .before .own-fields .ensures) (c .before .before .before .before .before .wider .ensures) (c .before .before .before .before .nested .ensures) (c .before .before .x .given .1) (c .branches .ensures)
 
--- src/lib.rt:238:9
+-- src/lib.rt:222:9
 case-of-index-requires : (t : ℕ) → case-of-lts.Need-index-requires (
   index-reads.Asked,
   index-reads.Learnt,
@@ -1524,7 +1508,7 @@ case-of-index-requires : (t : ℕ) → case-of-lts.Need-index-requires (
 ) (case-of-at t) case-of.Post
 case-of-index-requires t c κs = tt
 
--- src/lib.rt:239:20
+-- src/lib.rt:223:20
 case-of-enum-known-x : (t : ℕ) → case-of-lts.Need-enum-known-x (
   index-reads.Asked,
   index-reads.Learnt,
@@ -1539,7 +1523,7 @@ case-of-enum-known-x : (t : ℕ) → case-of-lts.Need-enum-known-x (
 ) (case-of-at t) case-of.Post
 case-of-enum-known-x t c = (c .match .keys1)
 
--- src/lib.rt:240:9
+-- src/lib.rt:224:9
 case-of-enum-told : (t : ℕ) → case-of-lts.Need-enum-told (
   index-reads.Asked,
   index-reads.Learnt,
@@ -1554,7 +1538,7 @@ case-of-enum-told : (t : ℕ) → case-of-lts.Need-enum-told (
 ) (case-of-at t) case-of.Post
 case-of-enum-told t c = (c .match .keys2)
 
--- src/lib.rt:240:9
+-- src/lib.rt:224:9
 case-of-step-of-requires : (t : ℕ) → case-of-lts.Need-step-of-requires (
   index-reads.Asked,
   index-reads.Learnt,
@@ -1569,7 +1553,7 @@ case-of-step-of-requires : (t : ℕ) → case-of-lts.Need-step-of-requires (
 ) (case-of-at t) case-of.Post
 case-of-step-of-requires t c κs = tt
 
--- src/lib.rt:240:9
+-- src/lib.rt:224:9
 case-of-returns : (t : ℕ) → case-of-lts.Need-returns (
   index-reads.Asked,
   index-reads.Learnt,
@@ -1584,7 +1568,7 @@ case-of-returns : (t : ℕ) → case-of-lts.Need-returns (
 ) (case-of-at t) case-of.Post
 case-of-returns t c = case-stops _ _ _ _ _ _ (c .before .before .before .index .ensures) (c .before .enum-told .given .1) (c .step-of .ensures)
 
--- src/lib.rt:244:9
+-- src/lib.rt:228:9
 case-of-nested-requires : (t : ℕ) → case-of-lts.Need-nested-requires (
   index-reads.Asked,
   index-reads.Learnt,
@@ -1599,7 +1583,7 @@ case-of-nested-requires : (t : ℕ) → case-of-lts.Need-nested-requires (
 ) (case-of-at t) case-of.Post
 case-of-nested-requires t c κs = (omega (arith, (c .before .before .before .before .before .before .before .before .pre .0)), (c .before .before .before .before .before .before .before .before .pre .1 .0))
 
--- src/lib.rt:245:20
+-- src/lib.rt:229:20
 case-of-enum-known-y : (t : ℕ) → case-of-lts.Need-enum-known-y (
   index-reads.Asked,
   index-reads.Learnt,
@@ -1614,7 +1598,7 @@ case-of-enum-known-y : (t : ℕ) → case-of-lts.Need-enum-known-y (
 ) (case-of-at t) case-of.Post
 case-of-enum-known-y t c = (c .match2 .keys1)
 
--- src/lib.rt:246:9
+-- src/lib.rt:230:9
 case-of-enum-told-2 : (t : ℕ) → case-of-lts.Need-enum-told-2 (
   index-reads.Asked,
   index-reads.Learnt,
@@ -1629,7 +1613,7 @@ case-of-enum-told-2 : (t : ℕ) → case-of-lts.Need-enum-told-2 (
 ) (case-of-at t) case-of.Post
 case-of-enum-told-2 t c = (c .match2 .keys2)
 
--- src/lib.rt:246:9
+-- src/lib.rt:230:9
 case-of-returns-2 : (t : ℕ) → case-of-lts.Need-returns-2 (
   index-reads.Asked,
   index-reads.Learnt,
@@ -1644,7 +1628,7 @@ case-of-returns-2 : (t : ℕ) → case-of-lts.Need-returns-2 (
 ) (case-of-at t) case-of.Post
 case-of-returns-2 t c = case-subject _ _ _ _ _ _ (c .before .before .before .before .before .before .before .index .ensures) (c .before .before .before .before .before .x .given .1) (c .before .before .nested .ensures) (c .enum-told2 .given .1)
 
--- src/lib.rt:248:9
+-- src/lib.rt:232:9
 case-of-result-requires : (t : ℕ) → case-of-lts.Need-result-requires (
   index-reads.Asked,
   index-reads.Learnt,
@@ -1659,7 +1643,7 @@ case-of-result-requires : (t : ℕ) → case-of-lts.Need-result-requires (
 ) (case-of-at t) case-of.Post
 case-of-result-requires t c κs = tt
 
--- src/lib.rt:249:20
+-- src/lib.rt:233:20
 case-of-enum-known-z : (t : ℕ) → case-of-lts.Need-enum-known-z (
   index-reads.Asked,
   index-reads.Learnt,
@@ -1674,7 +1658,7 @@ case-of-enum-known-z : (t : ℕ) → case-of-lts.Need-enum-known-z (
 ) (case-of-at t) case-of.Post
 case-of-enum-known-z t c = (c .match3 .keys1)
 
--- src/lib.rt:250:9
+-- src/lib.rt:234:9
 case-of-enum-told-3 : (t : ℕ) → case-of-lts.Need-enum-told-3 (
   index-reads.Asked,
   index-reads.Learnt,
@@ -1689,7 +1673,7 @@ case-of-enum-told-3 : (t : ℕ) → case-of-lts.Need-enum-told-3 (
 ) (case-of-at t) case-of.Post
 case-of-enum-told-3 t c = (c .match3 .keys2)
 
--- src/lib.rt:250:9
+-- src/lib.rt:234:9
 case-of-returns-3 : (t : ℕ) → case-of-lts.Need-returns-3 (
   index-reads.Asked,
   index-reads.Learnt,
@@ -1704,7 +1688,7 @@ case-of-returns-3 : (t : ℕ) → case-of-lts.Need-returns-3 (
 ) (case-of-at t) case-of.Post
 case-of-returns-3 t c = case-type _ _ _ _ _ _ (c .before .before .before .before .before .before .before .before .before .before .before .index .ensures) (c .before .before .before .before .before .before .before .before .before .x .given .1) (c .before .before .before .before .before .before .nested .ensures) (c .before .before .before .before .y .given .1) (c .before .before .result .ensures) (c .enum-told3 .given .1)
 
--- src/lib.rt:252:5
+-- src/lib.rt:236:5
 case-of-branches-requires : (t : ℕ) → case-of-lts.Need-branches-requires (
   index-reads.Asked,
   index-reads.Learnt,
@@ -1719,7 +1703,7 @@ case-of-branches-requires : (t : ℕ) → case-of-lts.Need-branches-requires (
 ) (case-of-at t) case-of.Post
 case-of-branches-requires t c κs = (omega (arith, (c .before .before .before .before .before .before .before .before .before .before .before .before .before .before .before .before .pre .0)), ((c .before .before .before .before .before .before .before .before .before .before .before .before .before .before .before .before .pre .1 .0), ((c .before .before .before .before .before .before .before .before .before .before .before .before .before .before .before .before .pre .1 .1), (index-less ((c .before .before .before .before .before .before .before .before .before .before .before .before .index .ensures) .0) (c .before .before .before .before .before .before .before .before .before .before .x .given .1), omega arith))))
 
--- src/lib.rt:231:1
+-- src/lib.rt:215:1
 case-of-returns-4 : (t : ℕ) → case-of-lts.Need-returns-4 (
   index-reads.Asked,
   index-reads.Learnt,
@@ -1734,7 +1718,7 @@ case-of-returns-4 : (t : ℕ) → case-of-lts.Need-returns-4 (
 ) (case-of-at t) case-of.Post
 case-of-returns-4 t c = case-done _ _ _ _ _ _ (c .before .before .before .before .before .before .before .before .before .before .before .before .before .index .ensures) (c .before .before .before .before .before .before .before .before .before .before .before .x .given .1) (c .before .before .before .before .before .before .before .before .nested .ensures) (c .before .before .before .before .before .before .y .given .1) (c .before .before .before .before .result .ensures) (c .before .before .z .given .1) (c .branches .ensures)
 
--- src/lib.rt:291:9
+-- src/lib.rt:275:9
 fit-count-requires : (t : ℕ) → fit-lts.Need-count-requires (
   count-reads.Asked,
   count-reads.Learnt,
@@ -1747,7 +1731,7 @@ fit-count-requires : (t : ℕ) → fit-lts.Need-count-requires (
 ) (fit-at t) fit.Post
 fit-count-requires t c κs = tt
 
--- src/lib.rt:292:20
+-- src/lib.rt:276:20
 fit-enum-known-x : (t : ℕ) → fit-lts.Need-enum-known-x (
   count-reads.Asked,
   count-reads.Learnt,
@@ -1760,7 +1744,7 @@ fit-enum-known-x : (t : ℕ) → fit-lts.Need-enum-known-x (
 ) (fit-at t) fit.Post
 fit-enum-known-x t c = (c .match .keys1)
 
--- src/lib.rt:293:9
+-- src/lib.rt:277:9
 fit-enum-told : (t : ℕ) → fit-lts.Need-enum-told (
   count-reads.Asked,
   count-reads.Learnt,
@@ -1773,7 +1757,7 @@ fit-enum-told : (t : ℕ) → fit-lts.Need-enum-told (
 ) (fit-at t) fit.Post
 fit-enum-told t c = (c .match .keys2)
 
--- src/lib.rt:293:9
+-- src/lib.rt:277:9
 fit-step-of-requires : (t : ℕ) → fit-lts.Need-step-of-requires (
   count-reads.Asked,
   count-reads.Learnt,
@@ -1786,7 +1770,7 @@ fit-step-of-requires : (t : ℕ) → fit-lts.Need-step-of-requires (
 ) (fit-at t) fit.Post
 fit-step-of-requires t c κs = tt
 
--- src/lib.rt:293:9
+-- src/lib.rt:277:9
 fit-returns : (t : ℕ) → fit-lts.Need-returns (
   count-reads.Asked,
   count-reads.Learnt,
@@ -1799,7 +1783,7 @@ fit-returns : (t : ℕ) → fit-lts.Need-returns (
 ) (fit-at t) fit.Post
 fit-returns t c = fit-stops _ _ _ _ _ _ (c .before .before .before .count .ensures) (c .before .enum-told .given .1) (c .step-of .ensures)
 
--- src/lib.rt:296:9
+-- src/lib.rt:280:9
 fit-nested-requires : (t : ℕ) → fit-lts.Need-nested-requires (
   count-reads.Asked,
   count-reads.Learnt,
@@ -1812,7 +1796,7 @@ fit-nested-requires : (t : ℕ) → fit-lts.Need-nested-requires (
 ) (fit-at t) fit.Post
 fit-nested-requires t c κs = (omega (arith, (c .before .before .before .before .before .before .before .before .pre .0)), (c .before .before .before .before .before .before .before .before .pre .1 .0))
 
--- src/lib.rt:297:20
+-- src/lib.rt:281:20
 fit-enum-known-y : (t : ℕ) → fit-lts.Need-enum-known-y (
   count-reads.Asked,
   count-reads.Learnt,
@@ -1825,7 +1809,7 @@ fit-enum-known-y : (t : ℕ) → fit-lts.Need-enum-known-y (
 ) (fit-at t) fit.Post
 fit-enum-known-y t c = (c .match2 .keys1)
 
--- src/lib.rt:298:9
+-- src/lib.rt:282:9
 fit-enum-told-2 : (t : ℕ) → fit-lts.Need-enum-told-2 (
   count-reads.Asked,
   count-reads.Learnt,
@@ -1838,7 +1822,7 @@ fit-enum-told-2 : (t : ℕ) → fit-lts.Need-enum-told-2 (
 ) (fit-at t) fit.Post
 fit-enum-told-2 t c = (c .match2 .keys2)
 
--- src/lib.rt:298:9
+-- src/lib.rt:282:9
 fit-returns-2 : (t : ℕ) → fit-lts.Need-returns-2 (
   count-reads.Asked,
   count-reads.Learnt,
@@ -1851,7 +1835,7 @@ fit-returns-2 : (t : ℕ) → fit-lts.Need-returns-2 (
 ) (fit-at t) fit.Post
 fit-returns-2 t c = fit-subject _ _ _ _ _ _ (c .before .before .before .before .before .before .before .count .ensures) (c .before .before .before .before .before .x .given .1) (c .before .before .nested .ensures) (c .enum-told2 .given .1)
 
--- src/lib.rt:300:9
+-- src/lib.rt:284:9
 fit-wider-requires : (t : ℕ) → fit-lts.Need-wider-requires (
   count-reads.Asked,
   count-reads.Learnt,
@@ -1864,7 +1848,7 @@ fit-wider-requires : (t : ℕ) → fit-lts.Need-wider-requires (
 ) (fit-at t) fit.Post
 fit-wider-requires t c κs = ((c .before .before .before .before .before .before .before .before .before .before .before .before .pre .1 .1), (omega arith, omega arith))
 
--- src/lib.rt:301:9
+-- src/lib.rt:285:9
 fit-nested-requires-2 : (t : ℕ) → fit-lts.Need-nested-requires-2 (
   count-reads.Asked,
   count-reads.Learnt,
@@ -1877,7 +1861,7 @@ fit-nested-requires-2 : (t : ℕ) → fit-lts.Need-nested-requires-2 (
 ) (fit-at t) fit.Post
 fit-nested-requires-2 t c κs = (omega (arith, (c .before .before .before .before .before .before .before .before .before .before .before .before .before .pre .0)), (c .before .before .before .before .before .before .before .before .before .before .before .before .before .pre .1 .0))
 
--- src/lib.rt:302:20
+-- src/lib.rt:286:20
 fit-enum-known-z : (t : ℕ) → fit-lts.Need-enum-known-z (
   count-reads.Asked,
   count-reads.Learnt,
@@ -1890,7 +1874,7 @@ fit-enum-known-z : (t : ℕ) → fit-lts.Need-enum-known-z (
 ) (fit-at t) fit.Post
 fit-enum-known-z t c = (c .match3 .keys1)
 
--- src/lib.rt:303:9
+-- src/lib.rt:287:9
 fit-enum-told-3 : (t : ℕ) → fit-lts.Need-enum-told-3 (
   count-reads.Asked,
   count-reads.Learnt,
@@ -1903,7 +1887,7 @@ fit-enum-told-3 : (t : ℕ) → fit-lts.Need-enum-told-3 (
 ) (fit-at t) fit.Post
 fit-enum-told-3 t c = (c .match3 .keys2)
 
--- src/lib.rt:303:9
+-- src/lib.rt:287:9
 fit-returns-3 : (t : ℕ) → fit-lts.Need-returns-3 (
   count-reads.Asked,
   count-reads.Learnt,
@@ -1916,7 +1900,7 @@ fit-returns-3 : (t : ℕ) → fit-lts.Need-returns-3 (
 ) (fit-at t) fit.Post
 fit-returns-3 t c = fit-arm _ _ _ _ _ _ (c .before .before .before .before .before .before .before .before .before .before .before .before .count .ensures) (c .before .before .before .before .before .before .before .before .before .before .x .given .1) (c .before .before .before .before .before .before .before .nested .ensures) (c .before .before .before .before .before .y .given .1) (c .before .before .before .wider .ensures) (c .before .before .nested2 .ensures) (c .enum-told3 .given .1)
 
--- src/lib.rt:305:5
+-- src/lib.rt:289:5
 fit-nested-requires-3 : (t : ℕ) → fit-lts.Need-nested-requires-3 (
   count-reads.Asked,
   count-reads.Learnt,
@@ -1929,7 +1913,7 @@ fit-nested-requires-3 : (t : ℕ) → fit-lts.Need-nested-requires-3 (
 ) (fit-at t) fit.Post
 fit-nested-requires-3 t c κs = (omega (arith, (c .before .before .before .before .before .before .before .before .before .before .before .before .before .before .before .before .before .pre .0)), (c .before .before .before .before .before .before .before .before .before .before .before .before .before .before .before .before .before .pre .1 .0))
 
--- src/lib.rt:286:1
+-- src/lib.rt:270:1
 fit-returns-4 : (t : ℕ) → fit-lts.Need-returns-4 (
   count-reads.Asked,
   count-reads.Learnt,
@@ -1942,7 +1926,7 @@ fit-returns-4 : (t : ℕ) → fit-lts.Need-returns-4 (
 ) (fit-at t) fit.Post
 fit-returns-4 t c = fit-done _ _ _ _ _ _ (c .before .before .before .before .before .before .before .before .before .before .before .before .before .before .count .ensures) (c .before .before .before .before .before .before .before .before .before .before .before .before .x .given .1) (c .before .before .before .before .before .before .before .before .before .nested .ensures) (c .before .before .before .before .before .before .before .y .given .1) (c .before .before .before .before .before .wider .ensures) (c .before .before .before .before .nested2 .ensures) (c .before .before .z .given .1) (c .nested3 .ensures)
 
--- src/lib.rt:176:9
+-- src/lib.rt:160:9
 head-code-in-requires : (t : ℕ) → head-lts.Need-code-in-requires (
   code-in-reads.Asked,
   code-in-reads.Learnt,
@@ -1951,7 +1935,7 @@ head-code-in-requires : (t : ℕ) → head-lts.Need-code-in-requires (
 ) (head-at t) head.Post
 head-code-in-requires t c κs = tt
 
--- src/lib.rt:177:20
+-- src/lib.rt:161:20
 head-enum-known-x : (t : ℕ) → head-lts.Need-enum-known-x (
   code-in-reads.Asked,
   code-in-reads.Learnt,
@@ -1960,7 +1944,7 @@ head-enum-known-x : (t : ℕ) → head-lts.Need-enum-known-x (
 ) (head-at t) head.Post
 head-enum-known-x t c = (c .match .keys1)
 
--- src/lib.rt:178:9
+-- src/lib.rt:162:9
 head-enum-told : (t : ℕ) → head-lts.Need-enum-told (
   code-in-reads.Asked,
   code-in-reads.Learnt,
@@ -1969,7 +1953,7 @@ head-enum-told : (t : ℕ) → head-lts.Need-enum-told (
 ) (head-at t) head.Post
 head-enum-told t c = (c .match .keys2)
 
--- src/lib.rt:178:9
+-- src/lib.rt:162:9
 head-returns : (t : ℕ) → head-lts.Need-returns (
   code-in-reads.Asked,
   code-in-reads.Learnt,
@@ -1978,7 +1962,7 @@ head-returns : (t : ℕ) → head-lts.Need-returns (
 ) (head-at t) head.Post
 head-returns t c = head-none _ _ _ _ _ _ (c .before .before .code-in .ensures) (c .before .before .before .before .before .before .pre .1 .1) (c .enum-told .given .1)
 
--- src/lib.rt:181:45
+-- src/lib.rt:165:45
 head-sub-behind : (t : ℕ) → head-lts.Need-sub-behind (
   code-in-reads.Asked,
   code-in-reads.Learnt,
@@ -1987,7 +1971,7 @@ head-sub-behind : (t : ℕ) → head-lts.Need-sub-behind (
 ) (head-at t) head.Post
 head-sub-behind t c = code-level _ _ _ (c .before .before .before .before .code-in .ensures) (c .before .before .x .given .1)
 
--- src/lib.rt:181:5
+-- src/lib.rt:165:5
 head-behind-requires : (t : ℕ) → head-lts.Need-behind-requires (
   code-in-reads.Asked,
   code-in-reads.Learnt,
@@ -1996,7 +1980,7 @@ head-behind-requires : (t : ℕ) → head-lts.Need-behind-requires (
 ) (head-at t) head.Post
 head-behind-requires t c κs = (fewer-levels (c .before .before .before .before .before .before .before .before .pre .0) (code-level _ _ (c .before .before .before .before .before .before .before .before .args .levels) (c .before .before .before .before .code-in .ensures) (c .before .before .x .given .1)), (omega (arith, (c .before .before .before .before .before .before .before .before .pre .1 .0)), ((c .before .before .before .before .before .before .before .before .pre .1 .1) (code-level _ _ (c .before .before .before .before .before .before .before .before .args .levels) (c .before .before .before .before .code-in .ensures) (c .before .before .x .given .1)), code-form _ _ (c .before .before .before .before .before .before .before .before .args .levels) (c .before .before .before .before .code-in .ensures) (c .before .before .x .given .1))))
 
--- src/lib.rt:171:1
+-- src/lib.rt:155:1
 head-returns-2 : (t : ℕ) → head-lts.Need-returns-2 (
   code-in-reads.Asked,
   code-in-reads.Learnt,
@@ -2005,28 +1989,14 @@ head-returns-2 : (t : ℕ) → head-lts.Need-returns-2 (
 ) (head-at t) head.Post
 head-returns-2 t c = head-done _ _ _ _ _ _ (c .before .before .before .before .before .code-in .ensures) (c .before .before .before .before .before .before .before .before .before .pre .1 .1) (c .before .before .before .x .given .1) (c .behind .ensures)
 
--- src/lib.rt:125:5
-nested-several-requires : (t : ℕ) → nested-lts.Need-several-requires (
-  several-below t,
-  several.Post,
-) (nested-at t) nested.Post
-nested-several-requires t c κs = (omega (arith, (c .before .before .before .pre .0)), (c .before .before .before .pre .1))
+abbrev nested-Inv-loop : nested-lts.InvT-loop
+nested-Inv-loop line types functions s levels most waiting₀ next₀ depth₀ left₀ waiting next depth left = NestedTo line types functions next₀ s levels most next waiting depth left
 
--- src/lib.rt:121:1
-nested-returns :
-    (t : ℕ) → nested-lts.Need-returns (several-below t, several.Post) (nested-at t) nested.Post
-nested-returns t c = one-alone _ _ _ _ _ _ (c .several .ensures)
+abbrev nested-μ-loop : nested-lts.MeasureT-loop
+nested-μ-loop line types functions s levels most waiting₀ next₀ depth₀ left₀ waiting next depth left = bytesLeft line (next .at) * 2 + depth
 
-abbrev several-Inv-loop : several-lts.InvT-loop
-several-Inv-loop line types functions s levels n most waiting₀ next₀ depth₀ left₀ waiting next depth left =
-    SeveralTo line types functions next₀ s levels n most next waiting depth left
-
-abbrev several-μ-loop : several-lts.MeasureT-loop
-several-μ-loop line types functions s levels n most waiting₀ next₀ depth₀ left₀ waiting next depth left =
-    bytesLeft line (next .at) * 2 + depth
-
--- src/lib.rt:142:9
-several-levels-in-requires : (t : ℕ) → several-lts.Need-levels-in-requires (
+-- src/lib.rt:126:9
+nested-levels-in-requires : (t : ℕ) → nested-lts.Need-levels-in-requires (
   levels-in-reads.Asked,
   levels-in-reads.Learnt,
   word-at-reads.Asked,
@@ -2037,11 +2007,11 @@ several-levels-in-requires : (t : ℕ) → several-lts.Need-levels-in-requires (
   step-of-reads.Learnt,
   put-reads.Asked,
   put-reads.Learnt,
-) (several-at t) several.Post several-Inv-loop several-μ-loop
-several-levels-in-requires t c κs = tt
+) (nested-at t) nested.Post nested-Inv-loop nested-μ-loop
+nested-levels-in-requires t c κs = tt
 
--- src/lib.rt:147:5
-several-loop-holds : (t : ℕ) → several-lts.Need-loop-holds (
+-- src/lib.rt:131:5
+nested-loop-holds : (t : ℕ) → nested-lts.Need-loop-holds (
   levels-in-reads.Asked,
   levels-in-reads.Learnt,
   word-at-reads.Asked,
@@ -2052,11 +2022,11 @@ several-loop-holds : (t : ℕ) → several-lts.Need-loop-holds (
   step-of-reads.Learnt,
   put-reads.Asked,
   put-reads.Learnt,
-) (several-at t) several.Post several-Inv-loop several-μ-loop
-several-loop-holds t c = several-start _ _ _ _ _ _ _ (c .levels-in .ensures) refl
+) (nested-at t) nested.Post nested-Inv-loop nested-μ-loop
+nested-loop-holds t c = nested-start _ _ _ _ _ _ (c .levels-in .ensures) refl
 
--- src/lib.rt:150:17
-several-returns : (t : ℕ) → several-lts.Need-returns (
+-- src/lib.rt:134:17
+nested-returns : (t : ℕ) → nested-lts.Need-returns (
   levels-in-reads.Asked,
   levels-in-reads.Learnt,
   word-at-reads.Asked,
@@ -2067,11 +2037,11 @@ several-returns : (t : ℕ) → several-lts.Need-returns (
   step-of-reads.Learnt,
   put-reads.Asked,
   put-reads.Learnt,
-) (several-at t) several.Post several-Inv-loop several-μ-loop
-several-returns t c = several-end _ _ _ _ _ _ _ (c .before .before .loop .inv) (c .before .if1 .taken) (c .if2 .taken)
+) (nested-at t) nested.Post nested-Inv-loop nested-μ-loop
+nested-returns t c = nested-end _ _ _ _ _ _ (c .before .before .loop .inv) (c .before .if1 .taken) (c .if2 .taken)
 
--- src/lib.rt:152:13
-several-sub-depth : (t : ℕ) → several-lts.Need-sub-depth (
+-- src/lib.rt:136:13
+nested-sub-depth : (t : ℕ) → nested-lts.Need-sub-depth (
   levels-in-reads.Asked,
   levels-in-reads.Learnt,
   word-at-reads.Asked,
@@ -2082,11 +2052,11 @@ several-sub-depth : (t : ℕ) → several-lts.Need-sub-depth (
   step-of-reads.Learnt,
   put-reads.Asked,
   put-reads.Learnt,
-) (several-at t) several.Post several-Inv-loop several-μ-loop
-several-sub-depth t c = omega (arith, (c .if2 .left))
+) (nested-at t) nested.Post nested-Inv-loop nested-μ-loop
+nested-sub-depth t c = omega (arith, (c .if2 .left))
 
--- src/lib.rt:153:28
-several-slice-aggregate-word-at : (t : ℕ) → several-lts.Need-slice-aggregate-word-at (
+-- src/lib.rt:137:28
+nested-slice-aggregate-word-at : (t : ℕ) → nested-lts.Need-slice-aggregate-word-at (
   levels-in-reads.Asked,
   levels-in-reads.Learnt,
   word-at-reads.Asked,
@@ -2097,11 +2067,11 @@ several-slice-aggregate-word-at : (t : ℕ) → several-lts.Need-slice-aggregate
   step-of-reads.Learnt,
   put-reads.Asked,
   put-reads.Learnt,
-) (several-at t) several.Post several-Inv-loop several-μ-loop
-several-slice-aggregate-word-at t c = search needs
+) (nested-at t) nested.Post nested-Inv-loop nested-μ-loop
+nested-slice-aggregate-word-at t c = search needs
 
--- src/lib.rt:153:38
-several-cast-word-at : (t : ℕ) → several-lts.Need-cast-word-at (
+-- src/lib.rt:137:38
+nested-cast-word-at : (t : ℕ) → nested-lts.Need-cast-word-at (
   levels-in-reads.Asked,
   levels-in-reads.Learnt,
   word-at-reads.Asked,
@@ -2112,11 +2082,11 @@ several-cast-word-at : (t : ℕ) → several-lts.Need-cast-word-at (
   step-of-reads.Learnt,
   put-reads.Asked,
   put-reads.Learnt,
-) (several-at t) several.Post several-Inv-loop several-μ-loop
-several-cast-word-at t c = search needs
+) (nested-at t) nested.Post nested-Inv-loop nested-μ-loop
+nested-cast-word-at t c = search needs
 
--- src/lib.rt:153:13
-several-word-at-requires : (t : ℕ) → several-lts.Need-word-at-requires (
+-- src/lib.rt:137:13
+nested-word-at-requires : (t : ℕ) → nested-lts.Need-word-at-requires (
   levels-in-reads.Asked,
   levels-in-reads.Learnt,
   word-at-reads.Asked,
@@ -2127,11 +2097,11 @@ several-word-at-requires : (t : ℕ) → several-lts.Need-word-at-requires (
   step-of-reads.Learnt,
   put-reads.Asked,
   put-reads.Learnt,
-) (several-at t) several.Post several-Inv-loop several-μ-loop
-several-word-at-requires t c κs = tt
+) (nested-at t) nested.Post nested-Inv-loop nested-μ-loop
+nested-word-at-requires t c κs = tt
 
--- src/lib.rt:147:5
-several-loop-less : (t : ℕ) → several-lts.Need-loop-less (
+-- src/lib.rt:131:5
+nested-loop-less : (t : ℕ) → nested-lts.Need-loop-less (
   levels-in-reads.Asked,
   levels-in-reads.Learnt,
   word-at-reads.Asked,
@@ -2142,11 +2112,11 @@ several-loop-less : (t : ℕ) → several-lts.Need-loop-less (
   step-of-reads.Learnt,
   put-reads.Asked,
   put-reads.Learnt,
-) (several-at t) several.Post several-Inv-loop several-μ-loop
-several-loop-less t c = omega (arith, (c .before .before .if2 .left))
+) (nested-at t) nested.Post nested-Inv-loop nested-μ-loop
+nested-loop-less t c = omega (arith, (c .before .before .if2 .left))
 
--- src/lib.rt:147:5
-several-loop-again : (t : ℕ) → several-lts.Need-loop-again (
+-- src/lib.rt:131:5
+nested-loop-again : (t : ℕ) → nested-lts.Need-loop-again (
   levels-in-reads.Asked,
   levels-in-reads.Learnt,
   word-at-reads.Asked,
@@ -2157,11 +2127,11 @@ several-loop-again : (t : ℕ) → several-lts.Need-loop-again (
   step-of-reads.Learnt,
   put-reads.Asked,
   put-reads.Learnt,
-) (several-at t) several.Post several-Inv-loop several-μ-loop
-several-loop-again t c = several-resumed _ _ _ _ _ _ _ (c .before .before .before .before .loop .inv) (c .before .before .before .if1 .taken) (c .before .before .if2 .left) (c .word-at .ensures)
+) (nested-at t) nested.Post nested-Inv-loop nested-μ-loop
+nested-loop-again t c = nested-resumed _ _ _ _ _ _ (c .before .before .before .before .loop .inv) (c .before .before .before .if1 .taken) (c .before .before .if2 .left) (c .word-at .ensures)
 
--- src/lib.rt:155:59
-several-sub-head : (t : ℕ) → several-lts.Need-sub-head (
+-- src/lib.rt:139:59
+nested-sub-head : (t : ℕ) → nested-lts.Need-sub-head (
   levels-in-reads.Asked,
   levels-in-reads.Learnt,
   word-at-reads.Asked,
@@ -2172,11 +2142,11 @@ several-sub-head : (t : ℕ) → several-lts.Need-sub-head (
   step-of-reads.Learnt,
   put-reads.Asked,
   put-reads.Learnt,
-) (several-at t) several.Post several-Inv-loop several-μ-loop
-several-sub-head t c = (c .before .loop .inv .deep)
+) (nested-at t) nested.Post nested-Inv-loop nested-μ-loop
+nested-sub-head t c = (c .before .loop .inv .deep)
 
--- src/lib.rt:155:17
-several-head-requires : (t : ℕ) → several-lts.Need-head-requires (
+-- src/lib.rt:139:17
+nested-head-requires : (t : ℕ) → nested-lts.Need-head-requires (
   levels-in-reads.Asked,
   levels-in-reads.Learnt,
   word-at-reads.Asked,
@@ -2187,11 +2157,11 @@ several-head-requires : (t : ℕ) → several-lts.Need-head-requires (
   step-of-reads.Learnt,
   put-reads.Asked,
   put-reads.Learnt,
-) (several-at t) several.Post several-Inv-loop several-μ-loop
-several-head-requires t c κs = (omega (arith, (c .before .before .before .before .before .before .pre .0), levels-most (levels-in (c .before .before .before .before .before .before .args .s) (c .before .before .before .before .before .before .args .levels) (c .before .before .levels-in .ensures))), (omega (arith, (c .before .before .before .before .before .before .pre .1), levels-most (levels-in (c .before .before .before .before .before .before .args .s) (c .before .before .before .before .before .before .args .levels) (c .before .before .levels-in .ensures))), λ h. levels-roomy (levels-in (c .before .before .before .before .before .before .args .s) (c .before .before .before .before .before .before .args .levels) (c .before .before .levels-in .ensures)) (omega (arith, h))))
+) (nested-at t) nested.Post nested-Inv-loop nested-μ-loop
+nested-head-requires t c κs = (omega (arith, (c .before .before .before .before .before .before .pre .0), levels-most (levels-in (c .before .before .before .before .before .before .args .s) (c .before .before .before .before .before .before .args .levels) (c .before .before .levels-in .ensures))), (omega (arith, (c .before .before .before .before .before .before .pre .1), levels-most (levels-in (c .before .before .before .before .before .before .args .s) (c .before .before .before .before .before .before .args .levels) (c .before .before .levels-in .ensures))), λ h. levels-roomy (levels-in (c .before .before .before .before .before .before .args .s) (c .before .before .before .before .before .before .args .levels) (c .before .before .levels-in .ensures)) (omega (arith, h))))
 
--- src/lib.rt:156:28
-several-enum-known-x : (t : ℕ) → several-lts.Need-enum-known-x (
+-- src/lib.rt:140:28
+nested-enum-known-x : (t : ℕ) → nested-lts.Need-enum-known-x (
   levels-in-reads.Asked,
   levels-in-reads.Learnt,
   word-at-reads.Asked,
@@ -2202,11 +2172,11 @@ several-enum-known-x : (t : ℕ) → several-lts.Need-enum-known-x (
   step-of-reads.Learnt,
   put-reads.Asked,
   put-reads.Learnt,
-) (several-at t) several.Post several-Inv-loop several-μ-loop
-several-enum-known-x t c = (c .match .keys1)
+) (nested-at t) nested.Post nested-Inv-loop nested-μ-loop
+nested-enum-known-x t c = (c .match .keys1)
 
--- src/lib.rt:157:17
-several-enum-told : (t : ℕ) → several-lts.Need-enum-told (
+-- src/lib.rt:141:17
+nested-enum-told : (t : ℕ) → nested-lts.Need-enum-told (
   levels-in-reads.Asked,
   levels-in-reads.Learnt,
   word-at-reads.Asked,
@@ -2217,11 +2187,11 @@ several-enum-told : (t : ℕ) → several-lts.Need-enum-told (
   step-of-reads.Learnt,
   put-reads.Asked,
   put-reads.Learnt,
-) (several-at t) several.Post several-Inv-loop several-μ-loop
-several-enum-told t c = (c .match .keys2)
+) (nested-at t) nested.Post nested-Inv-loop nested-μ-loop
+nested-enum-told t c = (c .match .keys2)
 
--- src/lib.rt:157:17
-several-step-of-requires : (t : ℕ) → several-lts.Need-step-of-requires (
+-- src/lib.rt:141:17
+nested-step-of-requires : (t : ℕ) → nested-lts.Need-step-of-requires (
   levels-in-reads.Asked,
   levels-in-reads.Learnt,
   word-at-reads.Asked,
@@ -2232,11 +2202,11 @@ several-step-of-requires : (t : ℕ) → several-lts.Need-step-of-requires (
   step-of-reads.Learnt,
   put-reads.Asked,
   put-reads.Learnt,
-) (several-at t) several.Post several-Inv-loop several-μ-loop
-several-step-of-requires t c κs = tt
+) (nested-at t) nested.Post nested-Inv-loop nested-μ-loop
+nested-step-of-requires t c κs = tt
 
--- src/lib.rt:157:17
-several-returns-2 : (t : ℕ) → several-lts.Need-returns-2 (
+-- src/lib.rt:141:17
+nested-returns-2 : (t : ℕ) → nested-lts.Need-returns-2 (
   levels-in-reads.Asked,
   levels-in-reads.Learnt,
   word-at-reads.Asked,
@@ -2247,11 +2217,11 @@ several-returns-2 : (t : ℕ) → several-lts.Need-returns-2 (
   step-of-reads.Learnt,
   put-reads.Asked,
   put-reads.Learnt,
-) (several-at t) several.Post several-Inv-loop several-μ-loop
-several-returns-2 t c = several-refused _ _ _ _ _ _ _ (c .before .before .before .before .before .loop .inv) (c .before .before .before .before .if1 .left) (c .before .before .before .head .ensures) (c .before .enum-told .given .1) (c .step-of .ensures)
+) (nested-at t) nested.Post nested-Inv-loop nested-μ-loop
+nested-returns-2 t c = nested-refused _ _ _ _ _ _ (c .before .before .before .before .before .loop .inv) (c .before .before .before .before .if1 .left) (c .before .before .before .head .ensures) (c .before .enum-told .given .1) (c .step-of .ensures)
 
--- src/lib.rt:160:13
-several-sub-left : (t : ℕ) → several-lts.Need-sub-left (
+-- src/lib.rt:144:13
+nested-sub-left : (t : ℕ) → nested-lts.Need-sub-left (
   levels-in-reads.Asked,
   levels-in-reads.Learnt,
   word-at-reads.Asked,
@@ -2262,11 +2232,11 @@ several-sub-left : (t : ℕ) → several-lts.Need-sub-left (
   step-of-reads.Learnt,
   put-reads.Asked,
   put-reads.Learnt,
-) (several-at t) several.Post several-Inv-loop several-μ-loop
-several-sub-left t c = omega (arith, (c .before .before .before .before .before .if1 .left))
+) (nested-at t) nested.Post nested-Inv-loop nested-μ-loop
+nested-sub-left t c = omega (arith, (c .before .before .before .before .before .if1 .left))
 
--- src/lib.rt:162:21
-several-slice-aggregate-put : (t : ℕ) → several-lts.Need-slice-aggregate-put (
+-- src/lib.rt:146:21
+nested-slice-aggregate-put : (t : ℕ) → nested-lts.Need-slice-aggregate-put (
   levels-in-reads.Asked,
   levels-in-reads.Learnt,
   word-at-reads.Asked,
@@ -2277,11 +2247,11 @@ several-slice-aggregate-put : (t : ℕ) → several-lts.Need-slice-aggregate-put
   step-of-reads.Learnt,
   put-reads.Asked,
   put-reads.Learnt,
-) (several-at t) several.Post several-Inv-loop several-μ-loop
-several-slice-aggregate-put t c = search needs
+) (nested-at t) nested.Post nested-Inv-loop nested-μ-loop
+nested-slice-aggregate-put t c = search needs
 
--- src/lib.rt:162:35
-several-cast-put : (t : ℕ) → several-lts.Need-cast-put (
+-- src/lib.rt:146:35
+nested-cast-put : (t : ℕ) → nested-lts.Need-cast-put (
   levels-in-reads.Asked,
   levels-in-reads.Learnt,
   word-at-reads.Asked,
@@ -2292,11 +2262,11 @@ several-cast-put : (t : ℕ) → several-lts.Need-cast-put (
   step-of-reads.Learnt,
   put-reads.Asked,
   put-reads.Learnt,
-) (several-at t) several.Post several-Inv-loop several-μ-loop
-several-cast-put t c = search needs
+) (nested-at t) nested.Post nested-Inv-loop nested-μ-loop
+nested-cast-put t c = search needs
 
--- src/lib.rt:162:17
-several-put-requires : (t : ℕ) → several-lts.Need-put-requires (
+-- src/lib.rt:146:17
+nested-put-requires : (t : ℕ) → nested-lts.Need-put-requires (
   levels-in-reads.Asked,
   levels-in-reads.Learnt,
   word-at-reads.Asked,
@@ -2307,11 +2277,11 @@ several-put-requires : (t : ℕ) → several-lts.Need-put-requires (
   step-of-reads.Learnt,
   put-reads.Asked,
   put-reads.Learnt,
-) (several-at t) several.Post several-Inv-loop several-μ-loop
-several-put-requires t c κs = tt
+) (nested-at t) nested.Post nested-Inv-loop nested-μ-loop
+nested-put-requires t c κs = tt
 
--- src/lib.rt:163:17
-several-add-depth : (t : ℕ) → several-lts.Need-add-depth (
+-- src/lib.rt:147:17
+nested-add-depth : (t : ℕ) → nested-lts.Need-add-depth (
   levels-in-reads.Asked,
   levels-in-reads.Learnt,
   word-at-reads.Asked,
@@ -2322,11 +2292,11 @@ several-add-depth : (t : ℕ) → several-lts.Need-add-depth (
   step-of-reads.Learnt,
   put-reads.Asked,
   put-reads.Learnt,
-) (several-at t) several.Post several-Inv-loop several-μ-loop
-several-add-depth t c = omega (arith, (c .before .before .before .before .before .before .before .before .before .head .ensures .level) (c .before .before .before .before .before .before .before .x .given .1), (c .before .before .before .before .before .before .before .before .before .before .before .before .before .before .before .before .pre .1), levels-most (levels-in (c .before .before .before .before .before .before .before .before .before .before .before .before .before .before .before .before .args .s) (c .before .before .before .before .before .before .before .before .before .before .before .before .before .before .before .before .args .levels) (c .before .before .before .before .before .before .before .before .before .before .before .before .levels-in .ensures)))
+) (nested-at t) nested.Post nested-Inv-loop nested-μ-loop
+nested-add-depth t c = omega (arith, (c .before .before .before .before .before .before .before .before .before .head .ensures .level) (c .before .before .before .before .before .before .before .x .given .1), (c .before .before .before .before .before .before .before .before .before .before .before .before .before .before .before .before .pre .1), levels-most (levels-in (c .before .before .before .before .before .before .before .before .before .before .before .before .before .before .before .before .args .s) (c .before .before .before .before .before .before .before .before .before .before .before .before .before .before .before .before .args .levels) (c .before .before .before .before .before .before .before .before .before .before .before .before .levels-in .ensures)))
 
--- src/lib.rt:147:5
-several-loop-less-2 : (t : ℕ) → several-lts.Need-loop-less-2 (
+-- src/lib.rt:131:5
+nested-loop-less-2 : (t : ℕ) → nested-lts.Need-loop-less-2 (
   levels-in-reads.Asked,
   levels-in-reads.Learnt,
   word-at-reads.Asked,
@@ -2337,11 +2307,11 @@ several-loop-less-2 : (t : ℕ) → several-lts.Need-loop-less-2 (
   step-of-reads.Learnt,
   put-reads.Asked,
   put-reads.Learnt,
-) (several-at t) several.Post several-Inv-loop several-μ-loop
-several-loop-less-2 t c = fewer-left (c .before .before .before .before .before .before .before .before .before .before .before .loop .depth) ((c .before .before .before .before .before .before .before .before .before .before .before .loop .depth) + 1) (omega arith) (c .before .before .before .before .before .before .before .before .before .head .ensures) (c .before .before .before .before .before .before .before .x .given .1) refl
+) (nested-at t) nested.Post nested-Inv-loop nested-μ-loop
+nested-loop-less-2 t c = fewer-left (c .before .before .before .before .before .before .before .before .before .before .before .loop .depth) ((c .before .before .before .before .before .before .before .before .before .before .before .loop .depth) + 1) (omega arith) (c .before .before .before .before .before .before .before .before .before .head .ensures) (c .before .before .before .before .before .before .before .x .given .1) refl
 
--- src/lib.rt:147:5
-several-loop-again-2 : (t : ℕ) → several-lts.Need-loop-again-2 (
+-- src/lib.rt:131:5
+nested-loop-again-2 : (t : ℕ) → nested-lts.Need-loop-again-2 (
   levels-in-reads.Asked,
   levels-in-reads.Learnt,
   word-at-reads.Asked,
@@ -2352,11 +2322,11 @@ several-loop-again-2 : (t : ℕ) → several-lts.Need-loop-again-2 (
   step-of-reads.Learnt,
   put-reads.Asked,
   put-reads.Learnt,
-) (several-at t) several.Post several-Inv-loop several-μ-loop
-several-loop-again-2 t c = several-inside _ _ _ _ _ _ _ (c .before .before .before .before .before .before .before .before .before .before .before .loop .inv) (c .before .before .before .before .before .before .before .before .before .before .if1 .left) (c .before .before .before .before .before .before .before .before .before .head .ensures) (c .before .before .before .before .before .before .before .x .given .1) (omega (arith, (c .before .before .before .before .before .before .before .before .before .before .before .before .before .before .before .before .pre .1), levels-most (levels-in (c .before .before .before .before .before .before .before .before .before .before .before .before .before .before .before .before .args .s) (c .before .before .before .before .before .before .before .before .before .before .before .before .before .before .before .before .args .levels) (c .before .before .before .before .before .before .before .before .before .before .before .before .levels-in .ensures)))) refl (c .before .put .ensures)
+) (nested-at t) nested.Post nested-Inv-loop nested-μ-loop
+nested-loop-again-2 t c = nested-inside _ _ _ _ _ _ (c .before .before .before .before .before .before .before .before .before .before .before .loop .inv) (c .before .before .before .before .before .before .before .before .before .before .if1 .left) (c .before .before .before .before .before .before .before .before .before .head .ensures) (c .before .before .before .before .before .before .before .x .given .1) (omega (arith, (c .before .before .before .before .before .before .before .before .before .before .before .before .before .before .before .before .pre .1), levels-most (levels-in (c .before .before .before .before .before .before .before .before .before .before .before .before .before .before .before .before .args .s) (c .before .before .before .before .before .before .before .before .before .before .before .before .before .before .before .before .args .levels) (c .before .before .before .before .before .before .before .before .before .before .before .before .levels-in .ensures)))) refl (c .before .put .ensures)
 
--- src/lib.rt:147:5
-several-loop-less-3 : (t : ℕ) → several-lts.Need-loop-less-3 (
+-- src/lib.rt:131:5
+nested-loop-less-3 : (t : ℕ) → nested-lts.Need-loop-less-3 (
   levels-in-reads.Asked,
   levels-in-reads.Learnt,
   word-at-reads.Asked,
@@ -2367,11 +2337,11 @@ several-loop-less-3 : (t : ℕ) → several-lts.Need-loop-less-3 (
   step-of-reads.Learnt,
   put-reads.Asked,
   put-reads.Learnt,
-) (several-at t) several.Post several-Inv-loop several-μ-loop
-several-loop-less-3 t c = fewer-left (c .before .before .before .before .before .before .before .before .loop .depth) (c .before .before .before .before .before .before .before .before .loop .depth) (omega arith) (c .before .before .before .before .before .before .head .ensures) (c .before .before .before .before .x .given .1) refl
+) (nested-at t) nested.Post nested-Inv-loop nested-μ-loop
+nested-loop-less-3 t c = fewer-left (c .before .before .before .before .before .before .before .before .loop .depth) (c .before .before .before .before .before .before .before .before .loop .depth) (omega arith) (c .before .before .before .before .before .before .head .ensures) (c .before .before .before .before .x .given .1) refl
 
--- src/lib.rt:147:5
-several-loop-again-3 : (t : ℕ) → several-lts.Need-loop-again-3 (
+-- src/lib.rt:131:5
+nested-loop-again-3 : (t : ℕ) → nested-lts.Need-loop-again-3 (
   levels-in-reads.Asked,
   levels-in-reads.Learnt,
   word-at-reads.Asked,
@@ -2382,21 +2352,12 @@ several-loop-again-3 : (t : ℕ) → several-lts.Need-loop-again-3 (
   step-of-reads.Learnt,
   put-reads.Asked,
   put-reads.Learnt,
-) (several-at t) several.Post several-Inv-loop several-μ-loop
-several-loop-again-3 t c = several-passed _ _ _ _ _ _ _ (c .before .before .before .before .before .before .before .before .loop .inv) (c .before .before .before .before .before .before .before .if1 .left) (c .before .before .before .before .before .before .head .ensures) (c .before .before .before .before .x .given .1) (c .if3 .left) refl
+) (nested-at t) nested.Post nested-Inv-loop nested-μ-loop
+nested-loop-again-3 t c = nested-passed _ _ _ _ _ _ (c .before .before .before .before .before .before .before .before .loop .inv) (c .before .before .before .before .before .before .before .if1 .left) (c .before .before .before .before .before .before .head .ensures) (c .before .before .before .before .x .given .1) (c .if3 .left) refl
 
-pub +behind+binding+branches+case-of+fit+head+nested+several-spec : {M : Type 1} → statement M
-+behind+binding+branches+case-of+fit+head+nested+several-spec =
-    close
-    μ-behind
-    μ-binding
-    μ-branches
-    μ-case-of
-    μ-fit
-    μ-head
-    μ-nested
-    μ-several
-    (λ t. behind-lts.spec (
+pub +behind+binding+branches+case-of+fit+head+nested-spec : {M : Type 1} → statement M
++behind+binding+branches+case-of+fit+head+nested-spec =
+    close μ-behind μ-binding μ-branches μ-case-of μ-fit μ-head μ-nested (λ t. behind-lts.spec (
       code-reads.Asked,
       code-reads.Learnt,
       step-of-reads.Asked,
@@ -2570,13 +2531,7 @@ pub +behind+binding+branches+case-of+fit+head+nested+several-spec : {M : Type 1}
     (head-sub-behind t)
     (head-behind-requires t)
     (head-returns-2 t))
-    (λ t. nested-lts.spec
-    (several-below t, several.Post)
-    (nested-at t)
-    nested.Post
-    (nested-several-requires t)
-    (nested-returns t))
-    λ t. several-lts.spec (
+    λ t. nested-lts.spec (
       levels-in-reads.Asked,
       levels-in-reads.Learnt,
       word-at-reads.Asked,
@@ -2588,31 +2543,31 @@ pub +behind+binding+branches+case-of+fit+head+nested+several-spec : {M : Type 1}
       put-reads.Asked,
       put-reads.Learnt,
     )
-    (several-at t)
-    several.Post
-    several-Inv-loop
-    several-μ-loop
-    (several-levels-in-requires t)
-    (several-loop-holds t)
-    (several-returns t)
-    (several-sub-depth t)
-    (several-slice-aggregate-word-at t)
-    (several-cast-word-at t)
-    (several-word-at-requires t)
-    (several-loop-less t)
-    (several-loop-again t)
-    (several-sub-head t)
-    (several-head-requires t)
-    (several-enum-known-x t)
-    (several-enum-told t)
-    (several-step-of-requires t)
-    (several-returns-2 t)
-    (several-sub-left t)
-    (several-slice-aggregate-put t)
-    (several-cast-put t)
-    (several-put-requires t)
-    (several-add-depth t)
-    (several-loop-less-2 t)
-    (several-loop-again-2 t)
-    (several-loop-less-3 t)
-    (several-loop-again-3 t)
+    (nested-at t)
+    nested.Post
+    nested-Inv-loop
+    nested-μ-loop
+    (nested-levels-in-requires t)
+    (nested-loop-holds t)
+    (nested-returns t)
+    (nested-sub-depth t)
+    (nested-slice-aggregate-word-at t)
+    (nested-cast-word-at t)
+    (nested-word-at-requires t)
+    (nested-loop-less t)
+    (nested-loop-again t)
+    (nested-sub-head t)
+    (nested-head-requires t)
+    (nested-enum-known-x t)
+    (nested-enum-told t)
+    (nested-step-of-requires t)
+    (nested-returns-2 t)
+    (nested-sub-left t)
+    (nested-slice-aggregate-put t)
+    (nested-cast-put t)
+    (nested-put-requires t)
+    (nested-add-depth t)
+    (nested-loop-less-2 t)
+    (nested-loop-again-2 t)
+    (nested-loop-less-3 t)
+    (nested-loop-again-3 t)
