@@ -22,7 +22,7 @@ use Rattle.theory.specs.ReaderExact.{reader-forth}
 use Rattle.theory.specs.ReaderRefusals.{reader-refusals}
 use Rattle.theory.specs.CheckerAgrees.{FewInstances, accepted-iff-few}
 use Rattle.theory.specs.Judged.{BoardAllowed, board-allowed, judge-accepted}
-use Rattle.theory.specs.AcceptedFiles.{AcceptedFile, reported-accepted, acceptedAs, checks-again, reported-again}
+use Rattle.theory.specs.AcceptedFiles.{AcceptedFile, reported-accepted, checks-again, reported-again}
 use Rattle.checker.specs.declared.Board.{Board as Lent}
 use Rattle.checker.specs.declared.Answer.{Answer as Said}
 use Rattle.checker.specs.Checks.{boardOf, said, recordsOf, Checks}

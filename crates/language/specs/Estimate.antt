@@ -1,6 +1,5 @@
 -- The three numbers of figure 7: environment, heap and stack. They are exact here; what is reported stops at 65,535.
 use Prim.Native.Nat.{ℕ, _+_, max, min}
-use mathlib.Core.List.{[]}
 use Rattle.language.specs.Limits.{numberMost}
 
 pub record Estimate : Type 0 where

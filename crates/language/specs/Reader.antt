@@ -4,7 +4,7 @@ use Prim.Native.Nat.{ℕ, suc, _+_, _-_, _*_}
 use mathlib.Core.List.{List, [], _∷_, _++_}
 use mathlib.Core.Bool.{Bool, true, false}
 use mathlib.Core.Option.{Option, none, some}
-use lib.ListN.{length, getElem? as look}
+use lib.ListN.{length}
 use lib.Dec.{ltb, leb, eqb}
 use Rattle.language.specs.Limits.{textMost, typesMost, functionsMost, inputsMost, nodesMost, constructorsMost, fieldsMost, parametersMost, conditionsMost, measuresMost}
 use Rattle.language.specs.Syntax.{TypeDef, Relation, req, rlt, rle, Condition, Function, Input, Node, File, selfFree}

@@ -1,11 +1,11 @@
 -- Which files are within the limits: document 01, "The rule file", as a predicate on the syntax.
 -- What the reader refuses with 1 and 3 to 8 is what is not within them.
-use Prim.Native.Nat.{ℕ, zero, suc, _+_, _≤_, _<_, _^_}
+use Prim.Native.Nat.{ℕ, zero, suc, _+_, _≤_, _<_}
 use mathlib.Core.List.{List, [], _∷_, _++_}
 use mathlib.Core.Bool.{Bool, true}
 use mathlib.Core.Path.{_≡_}
 use lib.ListN.{length, getD}
-use Rattle.language.specs.Limits.{textMost, typesMost, functionsMost, inputsMost, nodesMost, constructorsMost, fieldsMost, sizeMost, parametersMost, conditionsMost, measuresMost, nestingMost, intRange}
+use Rattle.language.specs.Limits.{byteRange, textMost, typesMost, functionsMost, inputsMost, nodesMost, constructorsMost, fieldsMost, sizeMost, parametersMost, conditionsMost, measuresMost, nestingMost, intRange}
 use Rattle.language.specs.Syntax.{Field, fbool, fint, own, other, Constructor, TypeDef, Plain, pbool, pint, pnamed, Ty, tbool, tint, tnamed, Size, lit, svar, plus, minus, ResultType, rbool, rint, rnamed, owns}
 use Rattle.language.specs.Syntax.{Op, Expr, ebool, eint, evar, enow, elast, elet, eif, eop, ecall, econ, ecase, eadj, efit, Exprs, enil, econs}
 use Rattle.language.specs.Syntax.{Condition, Function, Input, Node, File, selfFree}
@@ -38,7 +38,7 @@ pub data WithinDeclared (types : ℕ) : Ty → Type 0 where
 
 -- a size with n levels left, "a leaf counting 1"; "k one byte"
 pub data WithinSize (vars : ℕ) : ℕ → Size → Type 0 where
-  w-lit : {n k : ℕ} → k < 2 ^ 8 → WithinSize vars (suc n) (lit k)
+  w-lit : {n k : ℕ} → k < byteRange → WithinSize vars (suc n) (lit k)
   w-svar : {n i : ℕ} → i < vars → WithinSize vars (suc n) (svar i)
   w-plus : {n : ℕ} {a b : Size} → WithinSize vars n a → WithinSize vars n b → WithinSize vars (suc n) (plus a b)
   w-minus : {n : ℕ} {a b : Size} → WithinSize vars n a → WithinSize vars n b → WithinSize vars (suc n) (minus a b)

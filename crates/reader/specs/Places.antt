@@ -1,9 +1,10 @@
 -- Where a cursor stands behind what was read: as many bytes further on as its spelling has.
-use Prim.Native.Nat.{ℕ, zero, suc, _+_, _*_, _≤_, _<_, _^_}
+use Prim.Native.Nat.{ℕ, zero, suc, _+_, _*_, _≤_, _<_}
 use mathlib.Core.List.{List, [], _∷_}
 use mathlib.Core.Path.{_≡_, ap, _∙_, subst}
 use native.Mathlib.Omega.{arith}
 use lib.ListN.{length, drop, length-drop, length-append}
+use Rattle.language.specs.Limits.{byteRange}
 use Rattle.language.specs.Within.{All, all-nil, all-cons}
 use Rattle.language.specs.Parser.{Read, got, Parser}
 use Rattle.text.specs.Bytes.{bytesOf, bytesFrom, digitValue}
@@ -16,7 +17,7 @@ bytes-small : (line : List ℕ) → All Byte (bytesOf line)
 unfolding bytesOf
 bytes-small [] = all-nil
 bytes-small (a ∷ []) = all-nil
-bytes-small (a ∷ b ∷ l) = let small : digitValue a * 16 + digitValue b < 2 ^ 8 = omega (arith, digit-small a, digit-small b) in all-cons small (bytes-small l)
+bytes-small (a ∷ b ∷ l) = let small : digitValue a * 16 + digitValue b < byteRange = omega (arith, digit-small a, digit-small b) in all-cons small (bytes-small l)
 
 all-drop : {Q : ℕ → Type 0} (n : ℕ) {l : List ℕ} → All Q l → All Q (drop n l)
 all-drop zero q = q

@@ -1,8 +1,9 @@
 -- What it means that a parser is exact for a way of spelling: it reads what is spelled within the limits, and nothing else.
 -- Starts, Behind and Exact are notions of the proofs; document 01 has no words for them.
-use Prim.Native.Nat.{ℕ, _<_, _^_}
+use Prim.Native.Nat.{ℕ, _<_}
 use mathlib.Core.List.{List, [], _∷_, _++_, append-assoc, append-nil}
 use mathlib.Core.Path.{_≡_, refl, sym, ap, _∙_}
+use Rattle.language.specs.Limits.{byteRange}
 use Rattle.language.specs.Result.{ok}
 use Rattle.language.specs.Within.{All}
 use Rattle.language.specs.Parser.{Read, got, Parser, andThen, return, refuse}
@@ -10,7 +11,7 @@ use Rattle.language.specs.Reader.{whole}
 use Rattle.theory.specs.Outcomes.{Sat, sat-ok, sat-no, Reads, reads-got, reads-bad, reads-map, reads-then, reads-refused}
 
 abbrev pub Byte : ℕ → Type 0
-Byte b = b < 2 ^ 8
+Byte b = b < byteRange
 
 -- the bytes bs are the spelling of a, which is within its limits, and the rest
 pub record Starts {A : Type 0} (bytes : A → List ℕ) (W : A → Type 0) (bs : List ℕ) (a : A) (rest : List ℕ) : Type 0 where

@@ -1,9 +1,9 @@
 -- The frames of a file within the limits are lines of bytes.
-use Prim.Native.Nat.{ℕ, zero, suc, _+_, _≤_, _<_, _^_}
+use Prim.Native.Nat.{ℕ, zero, suc, _+_, _≤_, _<_}
 use mathlib.Core.List.{List, [], _∷_, map}
 use native.Mathlib.Omega.{arith}
 use lib.ListN.{length, getD, length-append, length-map}
-use Rattle.language.specs.Limits.{typesMost, functionsMost, inputsMost, nodesMost, constructorsMost}
+use Rattle.language.specs.Limits.{byteRange, typesMost, functionsMost, inputsMost, nodesMost, constructorsMost}
 use Rattle.language.specs.Syntax.{Constructor, TypeDef, Plain, pbool, pint, pnamed, Relation, req, rlt, rle, Condition, Function, Input, Node, File}
 use Rattle.language.specs.Format.{fieldBytes, plainBytes, relationCode, conditionBytes, constructorBytes, typeBytes, functionBytes, inputBytes, nodeBytes, fileFrames}
 use Rattle.language.specs.Scope.{namedCount, bodyScope, outerScope}
@@ -16,11 +16,11 @@ use Rattle.theory.specs.FileFrames.{frameOfType, frameOfFunction, frameO
 use Rattle.theory.specs.SmallParts.{small-cons, spell-small, field-small, plain-small, declared-small, size-small, result-small, SmallScope, expr-small}
 
 -- ---- types
-constructor-small : (types : ℕ) → types ≤ 2 ^ 8 → (fs : Constructor) → WithinConstructor types fs → All Byte (constructorBytes fs)
+constructor-small : (types : ℕ) → types ≤ byteRange → (fs : Constructor) → WithinConstructor types fs → All Byte (constructorBytes fs)
 unfolding constructorBytes
 constructor-small types few fs w = small-cons (omega (arith, w .few)) (spell-small fieldBytes (field-small types few) (w .fields))
 
-type-small : (types : ℕ) → types ≤ 2 ^ 8 → (d : TypeDef) → WithinType types d → All Byte (typeBytes d)
+type-small : (types : ℕ) → types ≤ byteRange → (d : TypeDef) → WithinType types d → All Byte (typeBytes d)
 unfolding typeBytes
 type-small types few d w = small-cons (omega (arith, w .few)) (spell-small constructorBytes (constructor-small types few) (w .constructors))
 
@@ -46,11 +46,11 @@ relation-small req = omega arith
 relation-small rlt = omega arith
 relation-small rle = omega arith
 
-condition-small : (vars : ℕ) → vars ≤ 2 ^ 8 → (c : Condition) → WithinCondition vars c → All Byte (conditionBytes c)
+condition-small : (vars : ℕ) → vars ≤ byteRange → (c : Condition) → WithinCondition vars c → All Byte (conditionBytes c)
 unfolding conditionBytes
 condition-small vars few c w = small-cons (relation-small (c .rel)) (all-append (size-small vars few (w .left)) (size-small vars few (w .right)))
 
-indices-small : (n : ℕ) → n ≤ 2 ^ 8 → {l : List ℕ} → All (λ i. i < n) l → All Byte l
+indices-small : (n : ℕ) → n ≤ byteRange → {l : List ℕ} → All (λ i. i < n) l → All Byte l
 indices-small n few all-nil = all-nil
 indices-small n few (all-cons w ws) = small-cons (omega arith) (indices-small n few ws)
 
@@ -74,8 +74,8 @@ function-small : (ts : List TypeDef) (earlier : List Function) (F : Function) �
 unfolding functionBytes
 function-small ts earlier F few fits w =
     let ps = F .parameters in
-    let few-vars : namedCount ps ≤ 2 ^ 8 = omega (arith, named-fewer ps, w .fewParameters) in
-    let few-types : length ts ≤ 2 ^ 8 = omega (arith, few .types) in
+    let few-vars : namedCount ps ≤ byteRange = omega (arith, named-fewer ps, w .fewParameters) in
+    let few-types : length ts ≤ byteRange = omega (arith, few .types) in
     small-cons (omega (arith, w .fewParameters)) (all-append (spell-small plainBytes (plain-small (length ts) few-types) (w .parameters)) (
     all-append (result-small (length ts) (namedCount ps) few-types few-vars (F .result) (w .result)) (
     small-cons (omega (arith, w .fewConditions)) (all-append (spell-small conditionBytes (condition-small (namedCount ps) few-vars) (w .conditions)) (
@@ -89,7 +89,7 @@ functions-lines {ts} few (wf-cons {earlier} {F} w ws) fits =
     all-cons (filled {b = 0x02} (omega arith) (function-small ts earlier F few (omega arith) w)) (functions-lines few ws (rw length-append (omega arith)))
 
 -- ---- channels
-outer-small : (P : File) (now last : ℕ) → Within P → now ≤ 2 ^ 8 → last ≤ 2 ^ 8 → SmallScope (outerScope (P .types) (P .functions) now last)
+outer-small : (P : File) (now last : ℕ) → Within P → now ≤ byteRange → last ≤ byteRange → SmallScope (outerScope (P .types) (P .functions) now last)
 unfolding outerScope
 outer-small P now last w few few′ =
     record {

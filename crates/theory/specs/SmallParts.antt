@@ -1,12 +1,12 @@
 -- What is spelled within the limits is spelled by bytes: types, sizes and expressions.
-use Prim.Native.Nat.{ℕ, _≤_, _^_}
+use Prim.Native.Nat.{ℕ, _≤_}
 use mathlib.Core.List.{List, [], _∷_}
 use mathlib.Core.Bool.{Bool, true, false}
 use mathlib.Core.Path.{_≡_}
 use native.Mathlib.Omega.{arith}
 use lib.ListN.{length, getD}
 use borrow.Author.Tests.{leb-true}
-use Rattle.language.specs.Limits.{variablesMost, sizeVariablesMost}
+use Rattle.language.specs.Limits.{byteRange, variablesMost, sizeVariablesMost}
 use Rattle.language.specs.Syntax.{Op, oadd, osub, omul, oeq, olt, ole, oand, oor}
 use Rattle.language.specs.Format.{spellAll, bit, intBytes, opCode, fieldBytes, plainBytes, declaredBytes, sizeBytes, resultBytes, exprBytes, exprsBytes}
 use Rattle.language.specs.Scope.{Scope, wider, roomIn}
@@ -30,7 +30,7 @@ spell-small bytes each all-nil = all-nil
 spell-small bytes each (all-cons {a} w ws) = all-append (each a w) (spell-small bytes each ws)
 
 -- ---- types and sizes, where few may be named
-module _ (types : ℕ) (few : types ≤ 2 ^ 8) where
+module _ (types : ℕ) (few : types ≤ byteRange) where
   pub field-small : (f : Field) → WithinField types f → All Byte (fieldBytes f)
   unfolding fieldBytes
   field-small f w-fbool = small-cons (omega arith) all-nil
@@ -50,14 +50,14 @@ module _ (types : ℕ) (few : types ≤ 2 ^ 8) where
   declared-small τ w-tint = small-cons (omega arith) all-nil
   declared-small τ (w-tnamed t k) = small-cons (omega arith) (small-cons (omega arith) (small-cons (omega arith) all-nil))
 
-pub size-small : (vars : ℕ) → vars ≤ 2 ^ 8 → {n : ℕ} {s : Size} → WithinSize vars n s → All Byte (sizeBytes s)
+pub size-small : (vars : ℕ) → vars ≤ byteRange → {n : ℕ} {s : Size} → WithinSize vars n s → All Byte (sizeBytes s)
 unfolding sizeBytes
 size-small vars few (w-lit k) = small-cons (omega arith) (small-cons k all-nil)
 size-small vars few (w-svar i) = small-cons (omega arith) (small-cons (omega arith) all-nil)
 size-small vars few (w-plus u v) = small-cons (omega arith) (all-append (size-small vars few u) (size-small vars few v))
 size-small vars few (w-minus u v) = small-cons (omega arith) (all-append (size-small vars few u) (size-small vars few v))
 
-pub result-small : (types vars : ℕ) → types ≤ 2 ^ 8 → vars ≤ 2 ^ 8 → (ρ : ResultType) → WithinResult types vars ρ → All Byte (resultBytes ρ)
+pub result-small : (types vars : ℕ) → types ≤ byteRange → vars ≤ byteRange → (ρ : ResultType) → WithinResult types vars ρ → All Byte (resultBytes ρ)
 unfolding resultBytes
 result-small types vars few few′ ρ w-rbool = small-cons (omega arith) all-nil
 result-small types vars few few′ ρ w-rint = small-cons (omega arith) all-nil
@@ -65,11 +65,11 @@ result-small types vars few few′ ρ (w-rnamed t s) = small-cons (omega arith) 
 
 -- ---- expressions, in a scope that names few things
 pub record SmallScope (S : Scope) : Type 0 where
-  pub now : S .now ≤ 2 ^ 8
-  pub last : S .last ≤ 2 ^ 8
-  pub types : length (S .types) ≤ 2 ^ 8
-  pub constructors : (t : ℕ) → length (getD (S .types) t []) ≤ 2 ^ 8
-  pub functions : length (S .arities) ≤ 2 ^ 8
+  pub now : S .now ≤ byteRange
+  pub last : S .last ≤ byteRange
+  pub types : length (S .types) ≤ byteRange
+  pub constructors : (t : ℕ) → length (getD (S .types) t []) ≤ byteRange
+  pub functions : length (S .arities) ≤ byteRange
 
 small-wider : (v s : ℕ) (S : Scope) → SmallScope S → SmallScope (wider v s S)
 unfolding wider
