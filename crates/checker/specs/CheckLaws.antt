@@ -65,7 +65,7 @@ module _ {text frames types functions channels : List ℕ} {n : Counts} (z : Rea
       unfolding need
       lent-refused e f c = refused text b list (after-types ∙ ap (λ d. need d 18 0 (sizesOf (z .file))) e) f c
 
-      module _ (enough : given ≡ true) {x : Counting} {list₁ : List ℕ} (s : SizesFile (lent text frames types functions channels) list n x list₁) (kept : length list₁ ≡ length list) where
+      module _ (enough : given ≡ true) {x : Counting} {list₁ : List ℕ} (s : SizesFile (lent text frames types functions) channels list n x list₁) (kept : length list₁ ≡ length list) where
         after-lent : outcome text b list ≡ sizesOf (z .file)
         unfolding need
         after-lent = after-types ∙ ap (λ d. need d 18 0 (sizesOf (z .file))) enough

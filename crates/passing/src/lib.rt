@@ -2,7 +2,7 @@
 // the number of the refusal.
 ghost use mathlib.Core.Path.{_≡_};
 ghost use mathlib.Core.List.{[]};
-ghost use Prim.Native.Nat.{_+_, _≤_, _<_};
+ghost use Prim.Native.Nat.{_≤_, _<_};
 ghost use lib.ListN.{getD, drop};
 ghost use Rattle.language.specs.Limits.{byteRange, nestingMost};
 ghost use Rattle.language.specs.ReadExpr.{exprAt, exprBehind, branches as branchesRead, letForm, callForm, conForm, caseForm, fitForm};

@@ -1,31 +1,25 @@
 -- A frame, return by return: what the calls so far promise, the frame promises.
-use Prim.Native.Nat.{ℕ, zero, suc, _+_, _-_, _*_, _/_, _≤_, _<_}
+use Prim.Native.Nat.{ℕ, _+_, _-_, _*_, _≤_, _<_}
 use mathlib.Core.List.{List, [], _∷_, _++_}
 use mathlib.Core.Bool.{Bool, true, false, not}
 use mathlib.Core.Option.{Option, none, some}
 use mathlib.Core.Path.{_≡_, refl, sym, ap, _∙_, subst}
 use native.Mathlib.Omega.{arith}
-use lib.ListN.{length, drop, length-append, length-drop, drop-of-length-le}
-use lib.Dec.{ltb}
-use borrow.Author.Tests.{lt-ltb, ltb-true, le-ltb, ltb-false, le-leb}
-use Rattle.language.specs.Limits.{typesMost, functionsMost, inputsMost, nodesMost, parametersMost}
-use Rattle.language.specs.Result.{Result, ok, no, bind, need, from, both, choose}
-use Rattle.language.specs.Syntax.{TypeDef, Function, Input, Node, File, selfFree}
+use lib.ListN.{length, drop}
+use borrow.Author.Tests.{ltb-true, not-true, not-false}
+use Rattle.language.specs.Limits.{typesMost, functionsMost, inputsMost, nodesMost}
+use Rattle.language.specs.Result.{Result, ok, no, bind, need, from, choose}
+use Rattle.language.specs.Syntax.{TypeDef, File, selfFree}
 use Rattle.language.specs.Parser.{Read, got, bad, byte, decode}
-use Rattle.language.specs.Reader.{typeDef, function, input, node, whole, Kind, typeKind, functionKind, inputKind, nodeKind, kinds, isEmpty, inOrder, withType, withFunction, withInput, withNode, readKind, readFrame}
-use Rattle.theory.specs.Alls.{all-snoc}
-use Rattle.theory.specs.Lists.{both-left, both-right, both-never}
-use Rattle.theory.specs.Tests.{negated, affirmed}
-use Rattle.text.specs.declared.Cursor.{Cursor}
+use Rattle.language.specs.Reader.{typeDef, function, input, node, whole, Kind, typeKind, functionKind, inputKind, nodeKind, kinds, inOrder, withType, withFunction, withInput, withNode, readKind, readFrame}
+use Rattle.theory.specs.Lists.{both-left, both-right}
 use Rattle.text.specs.declared.Found.{Found}
 use Rattle.text.specs.declared.Number.{Number}
 use Rattle.text.specs.declared.Number.the-variants.{Is, Refused as NoNumber}
 use Rattle.text.specs.declared.Step.{Step}
-use Rattle.text.specs.declared.Step.the-variants.{Next, Stop}
-use Rattle.text.specs.Bytes.{bytesOf, bytesFrom, forget, ReadsNumber, Passes}
-use Rattle.text.specs.StepLaws.{number-got, number-bad, pass-got, pass-bad}
-use Rattle.text.specs.DigitLaws.{bytes-length}
-use Rattle.index.specs.Tables.{typeWords, typeEntry, typeTable, functionTable, channelTable}
+use Rattle.text.specs.Bytes.{bytesOf, bytesFrom, forget, ReadsNumber}
+use Rattle.text.specs.StepLaws.{number-got, number-bad}
+use Rattle.index.specs.Tables.{typeWords, typeEntry, typeTable}
 use Rattle.index.specs.Enters.{Enters, typeBehind, SelfFree}
 use Rattle.index.specs.TypeTable.{FewParts, type-def-behind, type-added, read-few, self-free-told}
 use Rattle.reader.specs.declared.Counts.{Counts}
@@ -34,214 +28,9 @@ use Rattle.reader.specs.declared.Frame.the-variants.{Taken, Refused}
 use Rattle.reader.specs.Held.{Held, ReadsFunction, ReadsInput, ReadsNode, FrameRead, taken, refused, ReadsFrame, TypeTaken}
 use Rattle.reader.specs.Functions.{passes-as}
 use Rattle.reader.specs.Frames.{ordered, Ordered, endedAs, moreTypes, moreFunctions, moreInputs, moreNodes}
-
--- ---- kinds
-data Which : ℕ → Type 0 where
-  first : Which 1
-  second : Which 2
-  third : Which 3
-  fourth : Which 4
-  unknown : {k : ℕ} → decode 0x01 kinds k ≡ none → Which k
-
-beyond : (k : ℕ) → decode 0x01 kinds (suc (suc (suc (suc (suc k))))) ≡ none
-unfolding decode choose
-beyond k = let on : suc (suc (suc (suc (suc k)))) - 1 ≡ suc (suc (suc (suc k))) = omega arith in rw (le-leb 1 (suc (suc (suc (suc (suc k))))) (omega arith), on)
-
-which : (k : ℕ) → Which k
-unfolding decode choose
-which zero = unknown refl
-which (suc zero) = first
-which (suc (suc zero)) = second
-which (suc (suc (suc zero))) = third
-which (suc (suc (suc (suc zero)))) = fourth
-which (suc (suc (suc (suc (suc k))))) = unknown (beyond k)
-
-empty-is : {A : Type 0} (l : List A) → length l ≡ 0 → isEmpty l ≡ true
-unfolding isEmpty
-empty-is [] e = refl
-empty-is (a ∷ l) e = absurd (omega arith)
-
-empty-not : {A : Type 0} (l : List A) → (length l ≡ 0 → ⊥) → isEmpty l ≡ false
-unfolding isEmpty
-empty-not [] e = absurd (e refl)
-empty-not (a ∷ l) e = refl
-
-nothing-left : {A : Type 0} (l : List A) → isEmpty l ≡ true → l ≡ []
-unfolding isEmpty
-nothing-left [] e = refl
-nothing-left (a ∷ l) e = absurd (let z : _≡_ {A = ℕ} 0 1 = cc in omega arith)
-
--- ---- order: at each return of the test
-module _ {kind : ℕ} {n : Counts} where
-  pub node-order : kind ≡ 4 → Ordered kind n (ltb (n .nodes) nodesMost)
-  unfolding ordered decode choose inOrder
-  node-order e = record { says = λ types functions channels P held. rw (e, held .nodeCount) }
-
-  pub nodes-before : (kind ≡ 4 → ⊥) → (n .nodes ≡ 0 → ⊥) → Ordered kind n false
-  unfolding ordered decode choose inOrder both
-  nodes-before other late = record { says = λ types functions channels P held. sym (by held (empty-not (P .nodes) (λ e. late (sym (held .nodeCount) ∙ e))) (which kind) other) }
-    where
-      by : {types functions channels : List ℕ} {P : File} → Held types functions channels n P → isEmpty (P .nodes) ≡ false → {k : ℕ} → Which k → (k ≡ 4 → ⊥) → ordered (decode 0x01 kinds k) P ≡ false
-      by {P} held e first h = rw (e, both-never (isEmpty (P .inputs)) refl, both-never (isEmpty (P .functions)) refl)
-      by {P} held e second h = rw (e, both-never (isEmpty (P .inputs)) refl)
-      by held e third h = rw e
-      by held e fourth h = absurd (h refl)
-      by held e (unknown p) h = rw p
-
-  pub input-order : kind ≡ 3 → n .nodes ≡ 0 → Ordered kind n (ltb (n .inputs) inputsMost)
-  unfolding ordered decode choose inOrder both
-  input-order e z = record { says = λ types functions channels P held. rw (e, empty-is (P .nodes) (held .nodeCount ∙ z), held .inputCount) }
-
-  pub inputs-before : (kind ≡ 4 → ⊥) → (kind ≡ 3 → ⊥) → (n .inputs ≡ 0 → ⊥) → Ordered kind n false
-  unfolding ordered decode choose inOrder both
-  inputs-before fo th late = record { says = λ types functions channels P held. sym (by held (empty-not (P .inputs) (λ e. late (sym (held .inputCount) ∙ e))) (which kind) fo th) }
-    where
-      by : {types functions channels : List ℕ} {P : File} → Held types functions channels n P → isEmpty (P .inputs) ≡ false → {k : ℕ} → Which k → (k ≡ 4 → ⊥) → (k ≡ 3 → ⊥) → ordered (decode 0x01 kinds k) P ≡ false
-      by {P} held e first h j = rw (e, both-never (isEmpty (P .functions)) refl)
-      by held e second h j = rw e
-      by held e third h j = absurd (j refl)
-      by held e fourth h j = absurd (h refl)
-      by held e (unknown p) h j = rw p
-
-  pub function-order : kind ≡ 2 → n .nodes ≡ 0 → n .inputs ≡ 0 → Ordered kind n (ltb (n .functions) functionsMost)
-  unfolding ordered decode choose inOrder both
-  function-order e z z′ = record { says = λ types functions channels P held. rw (e, empty-is (P .nodes) (held .nodeCount ∙ z), empty-is (P .inputs) (held .inputCount ∙ z′), held .functionCount) }
-
-  pub functions-before : (kind ≡ 4 → ⊥) → (kind ≡ 3 → ⊥) → (kind ≡ 2 → ⊥) → (n .functions ≡ 0 → ⊥) → Ordered kind n false
-  unfolding ordered decode choose inOrder both
-  functions-before fo th se late = record { says = λ types functions channels P held. sym (by held (empty-not (P .functions) (λ e. late (sym (held .functionCount) ∙ e))) (which kind) fo th se) }
-    where
-      by : {types functions channels : List ℕ} {P : File} → Held types functions channels n P → isEmpty (P .functions) ≡ false → {k : ℕ} → Which k → (k ≡ 4 → ⊥) → (k ≡ 3 → ⊥) → (k ≡ 2 → ⊥) → ordered (decode 0x01 kinds k) P ≡ false
-      by held e first h j i = rw e
-      by held e second h j i = absurd (i refl)
-      by held e third h j i = absurd (j refl)
-      by held e fourth h j i = absurd (h refl)
-      by held e (unknown p) h j i = rw p
-
-  pub type-order : kind ≡ 1 → n .nodes ≡ 0 → n .inputs ≡ 0 → n .functions ≡ 0 → Ordered kind n (ltb (n .types) typesMost)
-  unfolding ordered decode choose inOrder both
-  type-order e z z′ z″ = record { says = λ types functions channels P held. rw (e, empty-is (P .nodes) (held .nodeCount ∙ z), empty-is (P .inputs) (held .inputCount ∙ z′), empty-is (P .functions) (held .functionCount ∙ z″), held .typeCount) }
-
-  pub unknown-kind : (kind ≡ 4 → ⊥) → (kind ≡ 3 → ⊥) → (kind ≡ 2 → ⊥) → (kind ≡ 1 → ⊥) → Ordered kind n false
-  unfolding ordered
-  unknown-kind fo th se fi = record { says = λ types functions channels P held. sym (by P (which kind) fo th se fi) }
-    where
-      by : (P : File) {k : ℕ} → Which k → (k ≡ 4 → ⊥) → (k ≡ 3 → ⊥) → (k ≡ 2 → ⊥) → (k ≡ 1 → ⊥) → ordered (decode 0x01 kinds k) P ≡ false
-      by P first h j i g = absurd (g refl)
-      by P second h j i g = absurd (i refl)
-      by P third h j i g = absurd (j refl)
-      by P fourth h j i g = absurd (h refl)
-      by P (unknown p) h j i g = rw p
-
--- ---- the end of a frame
-pub ended-stops : (line : List ℕ) (n : Counts) {r : Step} {k : ℕ} → r ≡ Stop k → Refused k ≡ endedAs line r n
-ended-stops line n e = rw e
-
-pub ended-goes-on : (line : List ℕ) (n : Counts) {r : Step} {c : Cursor} → r ≡ Next c → c .at < length line / 2 → Refused 4 ≡ endedAs line r n
-unfolding choose
-ended-goes-on line n {c = c} e h = rw (e, lt-ltb (c .at) (length (bytesOf line)) (omega (arith, bytes-length line)))
-
-pub ended-there : (line : List ℕ) (n : Counts) {r : Step} {c : Cursor} → r ≡ Next c → length line / 2 ≤ c .at → Taken n ≡ endedAs line r n
-unfolding choose
-ended-there line n {c = c} e h = rw (e, le-ltb (c .at) (length (bytesOf line)) (omega (arith, bytes-length line)))
-
-data Ended {A : Type 0} (frame : ℕ) (y : Read A) (n : Counts) (x : Frame) : Type 0 where
-  stops : {k : ℕ} → x ≡ Refused k → whole frame y ≡ no k frame → Ended frame y n x
-  ends : {a : A} {rest : List ℕ} → x ≡ Taken n → y ≡ got a rest → whole frame y ≡ ok a → Ended frame y n x
-
-goes-on : {A : Type 0} (frame : ℕ) (a : A) (l : List ℕ) → 0 < length l → whole frame (got a l) ≡ no 4 frame
-unfolding whole
-goes-on frame a [] h = absurd (omega arith)
-goes-on frame a (b ∷ l) h = refl
-
-stays : {A : Type 0} (frame : ℕ) (a : A) (l : List ℕ) → l ≡ [] → whole frame (got a l) ≡ ok a
-unfolding whole
-stays frame a l e = rw e
-
-ended-is : {A : Type 0} {line : List ℕ} {n : Counts} {x : Frame} (frame : ℕ) (y : Read A) (r : Step) → Passes line 1 r (forget y) → x ≡ endedAs line r n → Ended frame y n x
-unfolding whole choose
-ended-is frame y (Stop k) p e = stops e (ap (whole frame) (pass-bad p refl))
-ended-is {A} {line} {n} {x} frame y (Next c) p e = by (ltb (c .at) (length (bytesOf line))) refl
-  where
-    by : (b : Bool) → ltb (c .at) (length (bytesOf line)) ≡ b → Ended frame y n x
-    by true t = let g = pass-got p refl in
-        stops (e ∙ ap (λ b. choose b (Refused 4) (Taken n)) t) (ap (whole frame) (g .is) ∙ goes-on frame (g .value) (bytesFrom line (c .at)) (omega (arith, length-drop (c .at) (bytesOf line), ltb-true (c .at) (length (bytesOf line)) t)))
-    by false t = let g = pass-got p refl in
-        ends (e ∙ ap (λ b. choose b (Refused 4) (Taken n)) t) (g .is) (ap (whole frame) (g .is) ∙ stays frame (g .value) (bytesFrom line (c .at)) (drop-of-length-le (bytesOf line) (ltb-false (c .at) (length (bytesOf line)) t)))
-
--- ---- one frame more is held
-module _ {types functions channels : List ℕ} {n : Counts} {P : File} (held : Held types functions channels n P) where
-  held-type : {types′ : List ℕ} (d : TypeDef) → types′ ≡ typeTable (P .types ++ (d ∷ [])) → n .types < typesMost → FewParts d → Held types′ functions channels (moreTypes n) (withType P d)
-  unfolding withType
-  held-type d tb few parts = record {
-    typesAre = tb;
-    functionsAre = held .functionsAre;
-    channelsAre = held .channelsAre;
-    typeCount = length-append (P .types) (d ∷ []) ∙ ap (λ k. k + 1) (held .typeCount);
-    functionCount = held .functionCount;
-    inputCount = held .inputCount;
-    nodeCount = held .nodeCount;
-    fewTypes = omega (arith, length-append (P .types) (d ∷ []), held .typeCount);
-    fewFunctions = held .fewFunctions;
-    fewInputs = held .fewInputs;
-    fewNodes = held .fewNodes;
-    parts = all-snoc (held .parts) parts;
-    parameters = held .parameters;
-  }
-
-  held-function : {functions′ : List ℕ} (F : Function) → (functions′ ≡ functionTable (P .functions ++ (F ∷ []))) × (length (F .parameters) ≤ parametersMost) → n .functions < functionsMost → Held types functions′ channels (moreFunctions n) (withFunction P F)
-  unfolding withFunction
-  held-function F tb few = record {
-    typesAre = held .typesAre;
-    functionsAre = tb .0;
-    channelsAre = held .channelsAre;
-    typeCount = held .typeCount;
-    functionCount = length-append (P .functions) (F ∷ []) ∙ ap (λ k. k + 1) (held .functionCount);
-    inputCount = held .inputCount;
-    nodeCount = held .nodeCount;
-    fewTypes = held .fewTypes;
-    fewFunctions = omega (arith, length-append (P .functions) (F ∷ []), held .functionCount);
-    fewInputs = held .fewInputs;
-    fewNodes = held .fewNodes;
-    parts = held .parts;
-    parameters = all-snoc (held .parameters) (tb .1);
-  }
-
-  held-input : {channels′ : List ℕ} (i : Input) → channels′ ≡ channelTable (P .inputs ++ (i ∷ [])) [] → P .nodes ≡ [] → n .inputs < inputsMost → Held types functions channels′ (moreInputs n) (withInput P i)
-  unfolding withInput
-  held-input i tb empty few = record {
-    typesAre = held .typesAre;
-    functionsAre = held .functionsAre;
-    channelsAre = tb ∙ ap (channelTable (P .inputs ++ (i ∷ []))) (sym empty);
-    typeCount = held .typeCount;
-    functionCount = held .functionCount;
-    inputCount = length-append (P .inputs) (i ∷ []) ∙ ap (λ k. k + 1) (held .inputCount);
-    nodeCount = held .nodeCount;
-    fewTypes = held .fewTypes;
-    fewFunctions = held .fewFunctions;
-    fewInputs = omega (arith, length-append (P .inputs) (i ∷ []), held .inputCount);
-    fewNodes = held .fewNodes;
-    parts = held .parts;
-    parameters = held .parameters;
-  }
-
-  held-node : {channels′ : List ℕ} (m : Node) → channels′ ≡ channelTable (P .inputs) (P .nodes ++ (m ∷ [])) → n .nodes < nodesMost → Held types functions channels′ (moreNodes n) (withNode P m)
-  unfolding withNode
-  held-node m tb few = record {
-    typesAre = held .typesAre;
-    functionsAre = held .functionsAre;
-    channelsAre = tb;
-    typeCount = held .typeCount;
-    functionCount = held .functionCount;
-    inputCount = held .inputCount;
-    nodeCount = length-append (P .nodes) (m ∷ []) ∙ ap (λ k. k + 1) (held .nodeCount);
-    fewTypes = held .fewTypes;
-    fewFunctions = held .fewFunctions;
-    fewInputs = held .fewInputs;
-    fewNodes = omega (arith, length-append (P .nodes) (m ∷ []), held .nodeCount);
-    parts = held .parts;
-    parameters = held .parameters;
-  }
+use Rattle.reader.specs.OrderLaws.{Which, first, fourth, nothing-left, second, third, unknown, which}
+use Rattle.reader.specs.EndedLaws.{Ended, ended-is, ends, stops}
+use Rattle.reader.specs.HeldLaws.{held-function, held-input, held-node, held-type}
 
 -- ---- the answer of a frame, where the parser's is known
 as-read : {r : Frame} {types functions channels : List ℕ} {y z : Result File} → z ≡ y → FrameRead r types functions channels y → FrameRead r types functions channels z
@@ -336,13 +125,13 @@ module _ (line types functions channels : List ℕ) (n : Counts) (all : ℕ) {x 
     pub frame-unordered : {types′ functions′ channels′ : List ℕ} → not b ≡ true → ReadsFrame line types functions channels n all (Refused 3) types′ functions′ channels′
     frame-unordered t = record {
       says = λ P held frame long.
-          as-read (frame-is all frame P (bytesOf line) kind-first ∙ out-of-order all frame P (decode 0x01 kinds (f .value)) (bytesFrom line 1) (sym (o .says types functions channels P held) ∙ negated b t)) (refused refl);
+          as-read (frame-is all frame P (bytesOf line) kind-first ∙ out-of-order all frame P (decode 0x01 kinds (f .value)) (bytesFrom line 1) (sym (o .says types functions channels P held) ∙ not-true b t)) (refused refl);
     }
 
     module _ (t : not b ≡ false) where
       in-turn : {P : File} {kind : Kind} → Held types functions channels n P → decode 0x01 kinds (f .value) ≡ some kind → inOrder kind P ≡ true
       unfolding ordered
-      in-turn {P} held d = ap (λ w. ordered w P) (sym d) ∙ sym (o .says types functions channels P held) ∙ affirmed b t
+      in-turn {P} held d = ap (λ w. ordered w P) (sym d) ∙ sym (o .says types functions channels P held) ∙ not-false b t
 
       behind-kind : {P : File} {kind : Kind} (frame : ℕ) → Held types functions channels n P → decode 0x01 kinds (f .value) ≡ some kind → readFrame all frame P (bytesOf line) ≡ readKind all frame P (bytesFrom line 1) kind
       behind-kind {P} frame held d = frame-is all frame P (bytesOf line) kind-first ∙ in-order all frame P (bytesFrom line 1) d (in-turn held d)
@@ -398,4 +187,4 @@ module _ (line types functions channels : List ℕ) (n : Counts) (all : ℕ) {x 
             by P held frame long second k = absurd (two k)
             by P held frame long third k = absurd (three k)
             by P held frame long fourth k = node-here k u m h .says P held frame long
-            by P held frame long (unknown p) k = absurd (let same = ap (λ w. ordered w P) (sym (ap (decode 0x01 kinds) k ∙ p)) ∙ sym (o .says types functions channels P held) ∙ affirmed b t in let z : _≡_ {A = ℕ} 0 1 = cc in omega arith)
+            by P held frame long (unknown p) k = absurd (let same = ap (λ w. ordered w P) (sym (ap (decode 0x01 kinds) k ∙ p)) ∙ sym (o .says types functions channels P held) ∙ not-false b t in let z : _≡_ {A = ℕ} 0 1 = cc in omega arith)

@@ -3,6 +3,9 @@ pub mod Places
 pub mod Channels
 pub mod Functions
 pub mod Frames
+pub mod OrderLaws
+pub mod EndedLaws
+pub mod HeldLaws
 pub mod FrameLaws
 pub mod Texts
 pub mod TableLaws

@@ -43,7 +43,7 @@ use Rattle.sizing.specs.TurnLaws.{grown-is}
 abbrev pub ownWord : Lent → ℕ → ℕ → ℕ
 ownWord t u c = getD (t .types) (typeWords * u + 2 + constructorWords * c) 0
 
-pub owns-told : {t : Lent} {P : File} {u n : ℕ} (c : ℕ) {fs : Constructor} → IndexedFile t P → u < length (P .types) → look (constructorsOf P u) c ≡ some fs → (n ≡ ownWord t u c % byteRange) × (n < byteRange) → n ≡ owns fs
+pub owns-told : {t : Lent} {table : List ℕ} {P : File} {u n : ℕ} (c : ℕ) {fs : Constructor} → IndexedFile t table P → u < length (P .types) → look (constructorsOf P u) c ≡ some fs → (n ≡ ownWord t u c % byteRange) × (n < byteRange) → n ≡ owns fs
 owns-told {t} {P} {u} {n} c {fs} i less there told =
     let tells = i .eachType u less .tells in
     let at = look-less (constructorsOf P u) c there in
@@ -85,7 +85,7 @@ module _ {s : Subject} {k own : ℕ} {t : Lent} {b : Buffers} {p : Place} (told 
         let same : own ≡ owns fs = owns-told k (h .indexed) (w .of) there told in
         let fits = fits-of (part .within) in
         let chain = walk-starts {n = s .size - 1} (omega (arith, room, fits .sizes, h .site .sizesIn, h .site .sizeCount, same)) (omega (arith, large)) (omega (arith, w .size)) starts in
-        rw (lt-leb (s .size) (owns fs) (omega (arith, large, same))) (v .says P S q Γ Δ L left (record { indexed = h .indexed; site = site-kept (h .site) split-kept; holds = h .holds; deep = h .deep })
+        rw (lt-leb (s .size) (owns fs) (omega (arith, large, same))) (v .says P S q Γ Δ L left (record { table = h .table; indexed = h .indexed; site = site-kept (h .site) split-kept; holds = h .holds; deep = h .deep })
         fs w there end e part (splits (owns fs) (s .size - 1)) (rw same at chain) (split-most (owns fs) (s .size - 1) (omega (arith, large, same)) (omega (arith, w .size))));
     grows = v .grows;
     kept = kept-then split-kept (v .kept);

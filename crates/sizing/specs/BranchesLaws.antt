@@ -38,7 +38,7 @@ use Rattle.sizing.specs.TurnLaws.{grown-is}
 use Rattle.sizing.specs.Eithers.{branches-then}
 
 -- ---- how many constructors a type has
-constructors-told : {t : Lent} {P : File} {u n : ℕ} → IndexedFile t P → u < length (P .types) → (n ≡ getD (t .types) (typeWords * u) 0 % byteRange) × (n < byteRange) → n ≡ length (constructorsOf P u)
+constructors-told : {t : Lent} {table : List ℕ} {P : File} {u n : ℕ} → IndexedFile t table P → u < length (P .types) → (n ≡ getD (t .types) (typeWords * u) 0 % byteRange) × (n < byteRange) → n ≡ length (constructorsOf P u)
 constructors-told {u} i less told = let tells = i .eachType u less .tells in omega (arith, told .0, told .1, tells .few, tells .constructors)
 
 no-branches : {n : ℕ} {S : Scope} {cs : List Constructor} {bs : Exprs} → WithinBranches n S cs bs → cs ≡ [] → bs ≡ enil

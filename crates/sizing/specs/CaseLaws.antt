@@ -1,7 +1,7 @@
 -- `1A`: what each return of a case gives.
 use Prim.Native.Nat.{ℕ, _+_, _<_}
 use mathlib.Core.List.{List, []}
-use mathlib.Core.Path.{_≡_, refl, sym, ap, _∙_, subst}
+use mathlib.Core.Path.{_≡_, refl, sym, ap, _∙_, subst₂}
 use native.Mathlib.Omega.{arith}
 use lib.ListN.{length, getD}
 use Rattle.language.specs.Result.{Result}
@@ -31,10 +31,12 @@ use Rattle.sizing.specs.declared.Place.{Place}
 use Rattle.sizing.specs.declared.Checked.{Checked}
 use Rattle.sizing.specs.declared.Sizing.{Sizing}
 use Rattle.sizing.specs.declared.Sizing.the-variants.{Is, Refused}
+use Rattle.sizing.specs.declared.Subject.{Subject}
 use Rattle.sizing.specs.Sites.{one-byte-bounded, movedTo, Kept, kept-then, kept-moved}
 use Rattle.sizing.specs.Agreement.{CheckedAs, Agrees, Grows, agrees, before-9, ofType, not-grown, grows-to, grows-same, bind-is, bind-no, need-before, named-before, from-some, from-none}
 use Rattle.sizing.specs.Promises.{Lent, Buffers, Here, ExprPart, entering, Sizes, SizesBranches}
 use Rattle.sizing.specs.Parts.{CasePart}
+use Rattle.sizing.specs.Leaves.{subjectOf}
 use Rattle.sizing.specs.HereLaws.{part-at, ends-at, here-moved, suc-same}
 use Rattle.sizing.specs.TurnLaws.{behind-first, here-behind, sizes-scope, in-frame, grown-is}
 use Rattle.sizing.specs.KindLaws.{named-kind, NotNamed, bounded-size}
@@ -87,9 +89,9 @@ module _ {t : Lent} {b b₁ : Buffers} {p : Place} {x : Sizing} (v : Sizes ExprP
       }
 
       module _ {u : ℕ} {wanted : SizedType} {next : Cursor} {o : Place} {z : Sizing} {b₂ : Buffers} (given : y ≡ TypeIs wanted next) (moved : o ≡ movedTo p next (a .used))
-          (br : SizesBranches (record { of = u; size = m; kind = wanted }) 0 t b₁ o z b₂) where
-        under : SizesBranches (record { of = u; size = m; kind = wanted }) 0 t b₁ (movedTo p next (a .used)) z b₂
-        under = subst (λ i. SizesBranches (record { of = u; size = m; kind = wanted }) 0 t b₁ i z b₂) moved br
+          {s : Subject} (subject : s ≡ subjectOf u m wanted) (br : SizesBranches s 0 t b₁ o z b₂) where
+        under : SizesBranches (subjectOf u m wanted) 0 t b₁ (movedTo p next (a .used)) z b₂
+        under = subst₂ (λ i j. SizesBranches i 0 t b₁ j z b₂) subject moved br
 
         case-kept : Kept p (b .scope) (b .sizes) (b₂ .scope) (b₂ .sizes)
         case-kept = kept-then (v .kept) (kept-moved (under .kept))

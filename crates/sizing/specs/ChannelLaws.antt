@@ -1,5 +1,5 @@
 -- Counts against the limits, and an expression of a channel: what each return gives.
-use Prim.Native.Nat.{ℕ, _+_, _*_, _≤_, _<_}
+use Prim.Native.Nat.{ℕ, _+_, _*_, _≤_, _<_, _^_}
 use mathlib.Core.List.{List, [], map}
 use mathlib.Core.Bool.{Bool, true, false}
 use mathlib.Core.Path.{_≡_, refl, sym, ap, ap₂, _∙_, subst}
@@ -29,13 +29,13 @@ use Rattle.sizing.specs.declared.Place.{Place}
 use Rattle.sizing.specs.declared.Checked.{Checked}
 use Rattle.sizing.specs.declared.Sizing.{Sizing}
 use Rattle.sizing.specs.declared.Sizing.the-variants.{Is, Refused}
-use Rattle.sizing.specs.Sites.{bounded-small, around-none, Room}
+use Rattle.sizing.specs.Sites.{around-none, Room}
 use Rattle.sizing.specs.Agreement.{Holds, Agrees, agrees, itself, bind-is, bind-no, need-holds, need-fails}
 use Rattle.sizing.specs.Promises.{Lent, Buffers, buffers, IndexedFile, Here, entering, Sizes, ExprPart}
-use Rattle.sizing.specs.Leaves.{Typed}
+use Rattle.sizing.specs.Leaves.{ChannelTyped}
 use Rattle.sizing.specs.HereLaws.{part-at}
 use Rattle.sizing.specs.TurnLaws.{sizes-at}
-use Rattle.sizing.specs.TypesTold.{channel-told}
+use Rattle.sizing.specs.TypesTold.{channel-bounded, channel-typed}
 use Rattle.sizing.specs.FileParts.{Few, Limited, few, many, outerPlace, Standing, Named, SizesChannel}
 
 -- ---- counts
@@ -72,21 +72,21 @@ room-outer f less is scope sizes = rw is (record {
   levels = omega arith;
   under = omega arith;
   types = f .types;
+  first = omega (arith, f .types, f .functions);
   line = omega (arith, f .types, f .functions, less);
   variables = omega arith;
   sizes = omega arith;
 })
 
--- the type that was found, against the declared one
-test-is : {t : Lent} {word c : ℕ} {P : File} {e : Expr} {σ τ : Ty} {kind : SizedType} {r : Bool} (found : SizedType) → IndexedFile t P → Standing t P word c e τ → Typed (t .channels) (channelWords * c) kind → r ≡ sameType (meaning found) (meaning kind) →
-    meaning found ≡ σ → sameType σ τ ≡ r
-test-is {t} {c} {τ} found i s typed same type = let told = channel-told {t = t} i c (s .declared) in ap₂ sameType (sym type) (sym (typed .says τ (bounded-small (told .small)) (told .is))) ∙ sym same
+-- the line of the channel can be counted
+pub line-counted : {n : Counts} {c at used : ℕ} {p : Place} → Few n → c < channelsMost → p ≡ outerPlace n c at used → p .first + c < 2 ^ 32
+line-counted f less is = omega (arith, f .types, f .functions, less, ap (λ z. z .first) is)
 
 -- ---- an expression of channel c
-module _ {t : Lent} {list scope sizes : List ℕ} {n : Counts} {c word at used : ℕ} {p : Place} {x : Sizing} {b : Buffers}
-    (here : at ≡ getD (t .channels) (channelWords * c + word) 0) (place : p ≡ outerPlace n c at used) (u : Sizes ExprPart t (buffers list scope sizes) p x b) where
+module _ {t : Lent} {channels : List ℕ} {list scope sizes : List ℕ} {n : Counts} {c word at used : ℕ} {p : Place} {x : Sizing} {b : Buffers}
+    (here : at ≡ getD channels (channelWords * c + word) 0) (place : p ≡ outerPlace n c at used) (u : Sizes ExprPart t (buffers list scope sizes) p x b) where
   -- the expression as the definition has it
-  module _ (P : File) (i : IndexedFile t P) (k : CountsAre n P) (C : List Ty) (named : Named P C) (e : Expr) (τ : Ty) (s : Standing t P word c e τ) (L : List Instance) (h : Holds P list used L) where
+  module _ (P : File) (i : IndexedFile t channels P) (k : CountsAre n P) (C : List Ty) (named : Named P C) (e : Expr) (τ : Ty) (s : Standing t channels P word c e τ) (L : List Instance) (h : Holds P list used L) where
     line-is : channelLine P c ≡ n .types + n .functions + c
     line-is = omega (arith, k .typeCount, k .functionCount)
 
@@ -102,10 +102,11 @@ module _ {t : Lent} {list scope sizes : List ℕ} {n : Counts} {c word at used :
     channel-here : Here t (buffers list scope sizes) (outerPlace n c at used) P (outerScope (P .types) (P .functions) (s .now) (s .last)) (outside (channelFrame P c) C) [] [] L instancesMost
     unfolding channelsAt frameAt outerScope
     channel-here = record {
+      table = channels;
       indexed = i;
       site = record {
         known = outer-known P (s .now) (s .last);
-        channels = named;
+        channels = λ d σ is. record { declared = named d σ is; line = omega (arith, k .typeCount, k .functionCount) };
         typeCount = sym (k .typeCount);
         frame = omega (arith, line-is);
         line = omega (arith, line-is, below);
@@ -122,31 +123,37 @@ module _ {t : Lent} {list scope sizes : List ℕ} {n : Counts} {c word at used :
       deep = omega arith;
     }
 
-    channel-agrees : Agrees P itself (getD (t .channels) (channelWords * c + word) 0 + length (exprBytes e)) (b .list) x (sized P (entering P instancesMost) e (outside (channelFrame P c) C) [] [] L)
+    channel-agrees : Agrees P itself (getD channels (channelWords * c + word) 0 + length (exprBytes e)) (b .list) x (sized P (entering P instancesMost) e (outside (channelFrame P c) C) [] [] L)
     channel-agrees = sizes-at place u .says P _ (outside (channelFrame P c) C) [] [] L instancesMost channel-here _ e
-        (part-at (outerPlace n c at used) (subst (λ m. Spells exprBytes (lineAt (t .text) m) (getD (t .channels) (channelWords * c + word) 0) e) line-is (s .spelled)) (s .within) here refl)
+        (part-at (outerPlace n c at used) (subst (λ m. Spells exprBytes (lineAt (t .text) m) (getD channels (channelWords * c + word) 0) e) line-is (s .spelled)) (s .within) here refl)
 
-  pub channel-refused : {m frame : ℕ} → x ≡ Refused m frame → SizesChannel t list n c word used x (b .list)
+    -- the type that was found, against the declared one
+    test-is : {σ : Ty} {kind : SizedType} {r : Bool} (found : SizedType) → ChannelTyped (t .text) (t .frames) p c kind → r ≡ sameType (meaning found) (meaning kind) → meaning found ≡ σ → sameType σ τ ≡ r
+    test-is {kind} found typed same type =
+        let there : ChannelTyped (t .text) (t .frames) (outerPlace n c at used) c kind = subst (λ z. ChannelTyped (t .text) (t .frames) z c kind) place typed in
+        ap₂ sameType (sym type) (sym (channel-typed {t = t} i {p = outerPlace n c at used} (sym (k .typeCount)) (record { declared = s .declared; line = sym line-is }) there)) ∙ sym same
+
+  pub channel-refused : {m frame : ℕ} → x ≡ Refused m frame → SizesChannel t channels list n c word used x (b .list)
   unfolding sizedChannel
   channel-refused d = record { says = λ P i k C named e τ s L h. bind-no _ (channel-agrees P i k C named e τ s L h) d d }
 
-  module _ {a : Checked} {kind : SizedType} {r : Bool} (d : x ≡ Is a) (typed : Typed (t .channels) (channelWords * c) kind) (same : r ≡ sameType (meaning (a .kind)) (meaning kind)) where
-    pub channel-differs : r ≡ false → SizesChannel t list n c word used (Refused 11 (p .line + 1)) (b .list)
+  module _ {a : Checked} {kind : SizedType} {r : Bool} (d : x ≡ Is a) (typed : ChannelTyped (t .text) (t .frames) p c kind) (same : r ≡ sameType (meaning (a .kind)) (meaning kind)) where
+    pub channel-differs : r ≡ false → SizesChannel t channels list n c word used (Refused 11 (p .line + 1)) (b .list)
     unfolding sizedChannel
     channel-differs no-match = record {
       says = λ P i k C named e τ s L h. bind-is _ (channel-agrees P i k C named e τ s L h) d (λ y g.
-          need-fails _ (test-is (a .kind) i s typed same (g .type) ∙ no-match)
+          need-fails _ (test-is P i k C named e τ s L h (a .kind) typed same (g .type) ∙ no-match)
           (ap (λ z. Refused 11 (z .line + 1)) place ∙ ap (λ m. Refused 11 (m + 1)) (sym (line-is P i k C named e τ s L h))));
     }
 
-    pub channel-done : {z : Sizing} → r ≡ true → z ≡ Is a → SizesChannel t list n c word used z (b .list)
+    pub channel-done : {z : Sizing} → r ≡ true → z ≡ Is a → SizesChannel t channels list n c word used z (b .list)
     unfolding sizedChannel
     channel-done match answer = record {
       says = λ P i k C named e τ s L h. bind-is _ (channel-agrees P i k C named e τ s L h) d (λ y g.
-          need-holds 11 (channelFrame P c) (test-is (a .kind) i s typed same (g .type) ∙ match)
+          need-holds 11 (channelFrame P c) (test-is P i k C named e τ s L h (a .kind) typed same (g .type) ∙ match)
           (agrees answer (record {
-            type = g .type ∙ same-type _ _ (test-is (a .kind) i s typed same (g .type) ∙ match);
-            small = channel-told {t = t} i c (s .declared) .small;
+            type = g .type ∙ same-type _ _ (test-is P i k C named e τ s L h (a .kind) typed same (g .type) ∙ match);
+            small = channel-bounded {t = t} i c (s .declared);
             numbers = g .numbers;
             ends = g .ends;
             holds = g .holds;

@@ -97,7 +97,7 @@ module _ {t : Lent} {b b₁ : Buffers} {p : Place} {of c n : ℕ} {row row₁ : 
   con-made d m = record {
     says = λ P S q Γ Δ L left h end e part. let i = constructed told h part in
         rw (i .form) (all-know _ (v .says P S q Γ Δ L left h (omega arith) (omega (arith, room, i .few)) end (i .list) (i .part)) (sizeds-counted P (entering P left) (i .list) q Γ Δ L) d (λ y count k.
-        from-some 6 _ _ (i .is) (m .says (t .text) (t .frames) (t .functions) (t .channels) P q (i .fields) end (b₁ .list) row y (h .indexed) (h .site .frame) (i .type) (i .is)
+        from-some 6 _ _ (i .is) (m .says (t .text) (t .frames) (t .functions) (h .table) P q (i .fields) end (b₁ .list) row y (h .indexed) (h .site .frame) (i .type) (i .is)
         (omega (arith, count, exprs-counted (i .part .within), i .count)) k)));
     grows = grows-same (grows-all-to (v .grows) d) (m .grows);
     kept = v .kept;

@@ -88,7 +88,7 @@ not-found absent e = refl
 module _ {e : Entry} {t : Lent} {b : Buffers} {p : Place} {x : Search} (f : Finds (b .list) (p .used) (e .function) (b .sizes) x) where
   pub enter-found : {numbers : Estimate} {r : Sizing} → x ≡ Found numbers → r ≡ leafOf (e .kind) numbers p → Enters e t b p r b
   enter-found d answer = record {
-    says = λ P F ks L left i types h deep v.
+    says = λ P F ks L left table i types h deep v.
         let y = was-found (f .says L ks (h .listed) (h .count) (v .padded) (same-arity h v)) d in
         rw (entered-before P (suc (p .line)) (e .function) F ks (meaning (e .kind)) L left (y .is))
         (agrees answer (record { type = refl; small = v .result; numbers = y .stands; ends = refl; holds = h }));
@@ -97,7 +97,7 @@ module _ {e : Entry} {t : Lent} {b : Buffers} {p : Place} {x : Search} (f : Find
 
   pub enter-absent : {r : Sizing} {b₁ : Buffers} → x ≡ Absent → EntersNew e t b p r b₁ → Enters e t b p r b₁
   enter-absent d u = record {
-    says = λ P F ks L left i types h deep v. u .says P F ks L left i types h deep v (not-found (f .says L ks (h .listed) (h .count) (v .padded) (same-arity h v)) d);
+    says = λ P F ks L left table i types h deep v. u .says P F ks L left table i types h deep v (not-found (f .says L ks (h .listed) (h .count) (v .padded) (same-arity h v)) d);
     grows = u .grows;
   }
 
@@ -138,7 +138,7 @@ module _ {P : File} {e : Entry} {F : Function} {ks scope sizes : List ℕ} (v : 
 module _ (e : Entry) {t : Lent} {b : Buffers} (p : Place) where
   pub body-full : instancesMost ≤ p .used → EntersNew e t b p (Refused 14 (p .line + 1)) b
   body-full full = record {
-    says = λ P F ks L left i types h deep v new. rw (no-room P (suc (p .line)) (e .function) F ks (meaning (e .kind)) L left new (omega (arith, full, h .count))) (refused (ap (Refused 14) (add-one (p .line))));
+    says = λ P F ks L left table i types h deep v new. rw (no-room P (suc (p .line)) (e .function) F ks (meaning (e .kind)) L left new (omega (arith, full, h .count))) (refused (ap (Refused 14) (add-one (p .line))));
     grows = not-grown;
   }
 
@@ -152,13 +152,14 @@ module _ (e : Entry) {t : Lent} {b : Buffers} (p : Place) where
     body-grows = grows-same (omega arith) (inner .grows)
 
     -- the body as the definition has it
-    module _ (P : File) (F : Function) (ks : List ℕ) (L : List Instance) (left : ℕ) (i : IndexedFile t P) (types : p .types ≡ length (P .types)) (h : Holds P (b .list) (p .used) L) (deep : instancesMost ≤ left + length L)
+    module _ (P : File) (F : Function) (ks : List ℕ) (L : List Instance) (left : ℕ) (table : List ℕ) (i : IndexedFile t table P) (types : p .types ≡ length (P .types)) (h : Holds P (b .list) (p .used) L) (deep : instancesMost ≤ left + length L)
         (v : Given P e F ks (b .scope) (b .sizes)) where
       known : BodyKnown P F
       known = body-known (i .within) (e .function) (v .function)
 
       here : Here t (buffers list (b .scope) (b .sizes)) (bodyOf (t .functions) p e) P (known .scope) (inside (e .function) (weight (F .measure) ks)) (parameterTypes (F .parameters) ks) ks (L ++ (entered (e .function) ks nothing ∷ [])) (left - 1)
       here = record {
+        table = table;
         indexed = i;
         site = body-site v p (t .functions) types known;
         holds = holds-added h a room (v .padded) (body-row v nothing);
@@ -184,14 +185,14 @@ module _ (e : Entry) {t : Lent} {b : Buffers} (p : Place) where
 
     pub body-refused : {n frame : ℕ} → x ≡ Refused n frame → EntersNew e t b p x b₁
     body-refused d = record {
-      says = λ P F ks L left i types h deep v new. rw (entered-here P F ks L left i types h deep v new) (bind-no _ (body-agrees P F ks L left i types h deep v) d d);
+      says = λ P F ks L left table i types h deep v new. rw (entered-here P F ks L left table i types h deep v new) (bind-no _ (body-agrees P F ks L left table i types h deep v) d d);
       grows = body-grows;
     }
 
     module _ {k : Checked} {r : Bool} (d : x ≡ Is k) (same : r ≡ sameType (meaning (k .kind)) (meaning (e .kind))) where
       pub body-differs : r ≡ false → EntersNew e t b p (Refused 11 (q .line + 1)) b₁
       body-differs no-match = record {
-        says = λ P F ks L left i types h deep v new. rw (entered-here P F ks L left i types h deep v new) (bind-is _ (body-agrees P F ks L left i types h deep v) d (λ y c.
+        says = λ P F ks L left table i types h deep v new. rw (entered-here P F ks L left table i types h deep v new) (bind-is _ (body-agrees P F ks L left table i types h deep v) d (λ y c.
             need-fails _ (ap (λ τ. sameType τ (meaning (e .kind))) (sym (c .type)) ∙ sym same ∙ no-match) (ap (λ z. Refused 11 (z .line + 1)) at ∙ ap (λ n. Refused 11 (n + e .function + 1)) types)));
         grows = not-grown;
       }
@@ -199,7 +200,7 @@ module _ (e : Entry) {t : Lent} {b : Buffers} (p : Place) where
       pub body-done : {list′ : List ℕ} {m : Place} {z : Sizing} → r ≡ true → Finishes (b₁ .list) (p .used) (k .numbers) list′ → m ≡ movedTo p (p .at) (k .used) → z ≡ leafOf (e .kind) (k .numbers) m →
           EntersNew e t b p z (buffers list′ (b₁ .scope) (b₁ .sizes))
       body-done {list′} match fin moved answer = let whole = answer ∙ ap (leafOf (e .kind) (k .numbers)) moved in record {
-        says = λ P F ks L left i types h deep v new. rw (entered-here P F ks L left i types h deep v new) (bind-knows _ (body-agrees P F ks L left i types h deep v) (body-keeps P F ks L left i types h deep v) d (λ y g c.
+        says = λ P F ks L left table i types h deep v new. rw (entered-here P F ks L left table i types h deep v new) (bind-knows _ (body-agrees P F ks L left table i types h deep v) (body-keeps P F ks L left table i types h deep v) d (λ y g c.
             need-holds 11 (functionFrame P (e .function)) (ap (λ τ. sameType τ (meaning (e .kind))) (sym (c .type)) ∙ sym same ∙ match)
             (agrees whole (record {
               type = refl;

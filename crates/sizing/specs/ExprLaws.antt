@@ -1,5 +1,5 @@
 -- What each return of an expression gives: no level left, a leaf, or what its form gives behind its head; and a form by its number.
-use Prim.Native.Nat.{ℕ, suc, _*_, _-_, _<_}
+use Prim.Native.Nat.{ℕ, suc, _+_, _-_, _<_, _^_}
 use mathlib.Core.List.{List}
 use mathlib.Core.Bool.{Bool, true, false}
 use mathlib.Core.Path.{_≡_, refl, sym, ap, _∙_, subst}
@@ -13,7 +13,6 @@ use Rattle.language.specs.Checker.{Instance, sized}
 use Rattle.theory.specs.Lists.{false-is-not-true}
 use Rattle.text.specs.declared.Cursor.{Cursor}
 use Rattle.spelling.specs.FrameSpells.{lineAt}
-use Rattle.index.specs.Tables.{channelWords}
 use Rattle.indexed.specs.Indexed.{framePart}
 use Rattle.indexed.specs.FramePartLaws.{part-is-line}
 use Rattle.estimate.specs.declared.Estimate.{Estimate}
@@ -32,9 +31,9 @@ use Rattle.sizing.specs.Sites.{bounded-bool, bounded-int, bounded-small,
 use Rattle.sizing.specs.Agreement.{agrees, Grows, grown, not-grown, before-6, from-before}
 use Rattle.sizing.specs.Promises.{Lent, Buffers, Here, Sizes, ExprPart, FormPart}
 use Rattle.sizing.specs.Parts.{Part, LetPart, IfPart, OpPart, CallPart, ConPart, CasePart, AdjPart, FitPart, CompoundPart}
-use Rattle.sizing.specs.Leaves.{leafOf, Typed, Operands}
+use Rattle.sizing.specs.Leaves.{leafOf, Typed, ChannelTyped, Operands}
 use Rattle.sizing.specs.HereLaws.{here-down}
-use Rattle.sizing.specs.TypesTold.{variable-told, channel-told}
+use Rattle.sizing.specs.TypesTold.{variable-told, channel-bounded, channel-typed}
 
 -- ---- forms with parts, and leaves; Missing is neither
 abbrev pub isLeaf : Form → Bool
@@ -142,22 +141,22 @@ module _ {t : Lent} {b : Buffers} {p : Place} {line : List ℕ} {h : Head} (cut 
     kept = kept-all;
   }
 
-  pub expr-now : {x : Sizing} {kind : SizedType} {numbers : Estimate} {c : ℕ} → h .form ≡ Now c → Typed (t .channels) (channelWords * c) kind → x ≡ leafOf kind numbers r → Makes nothing numbers → Sizes ExprPart t b p x b
+  pub expr-now : {x : Sizing} {kind : SizedType} {numbers : Estimate} {c : ℕ} → h .form ≡ Now c → ChannelTyped (t .text) (t .frames) p c kind → x ≡ leafOf kind numbers r → Makes nothing numbers → Sizes ExprPart t b p x b
   unfolding sized
   expr-now {c} form type is none = record {
     says = λ P S q Γ Δ L left k end e part. let i = now-head (read-here k) (part .spelled) (part .within) form in
-        rw (i .is) (from-before _ _ _ before-6 (λ τ at. let told = channel-told {t = t} (k .indexed) c (k .site .channels c τ at) in
-        agrees (leaf-is p (h .next) down is) (record { type = type .says τ (bounded-small (told .small)) (told .is); small = told .small; numbers = none .says; ends = i .ends ∙ sym (part .ends); holds = k .holds })));
+        rw (i .is) (from-before _ _ _ before-6 (λ τ at. let named = k .site .channels c τ at in
+        agrees (leaf-is p (h .next) down is) (record { type = channel-typed {t = t} (k .indexed) {p = p} (k .site .typeCount) named type; small = channel-bounded {t = t} (k .indexed) c (named .declared); numbers = none .says; ends = i .ends ∙ sym (part .ends); holds = k .holds })));
     grows = leaf-grows p (h .next) down is;
     kept = kept-all;
   }
 
-  pub expr-last : {x : Sizing} {kind : SizedType} {numbers : Estimate} {c : ℕ} → h .form ≡ Last c → Typed (t .channels) (channelWords * c) kind → x ≡ leafOf kind numbers r → Makes nothing numbers → Sizes ExprPart t b p x b
+  pub expr-last : {x : Sizing} {kind : SizedType} {numbers : Estimate} {c : ℕ} → h .form ≡ Last c → ChannelTyped (t .text) (t .frames) p c kind → x ≡ leafOf kind numbers r → Makes nothing numbers → Sizes ExprPart t b p x b
   unfolding sized
   expr-last {c} form type is none = record {
     says = λ P S q Γ Δ L left k end e part. let i = last-head (read-here k) (part .spelled) (part .within) form in
-        rw (i .is) (from-before _ _ _ before-6 (λ τ at. let told = channel-told {t = t} (k .indexed) c (k .site .channels c τ at) in
-        agrees (leaf-is p (h .next) down is) (record { type = type .says τ (bounded-small (told .small)) (told .is); small = told .small; numbers = none .says; ends = i .ends ∙ sym (part .ends); holds = k .holds })));
+        rw (i .is) (from-before _ _ _ before-6 (λ τ at. let named = k .site .channels c τ at in
+        agrees (leaf-is p (h .next) down is) (record { type = channel-typed {t = t} (k .indexed) {p = p} (k .site .typeCount) named type; small = channel-bounded {t = t} (k .indexed) c (named .declared); numbers = none .says; ends = i .ends ∙ sym (part .ends); holds = k .holds })));
     grows = leaf-grows p (h .next) down is;
     kept = kept-all;
   }
@@ -216,6 +215,13 @@ module _ {t : Lent} {b : Buffers} {p : Place} {line : List ℕ} {h : Head} (cut 
     expr-compound Adjust is parts v = expr-adj is v
     expr-compound (Fit n) is parts v = expr-fit is v
     expr-compound Missing is parts v = expr-missing is v
+
+-- ---- the line of a channel that is named can be counted
+pub now-counted : {line : List ℕ} {at first c : ℕ} {h : Head} → Heads line at h → h .form ≡ Now c → first < 2 ^ 16 → first + c < 2 ^ 32
+now-counted r is small = omega (arith, shown r is .1 .small, small)
+
+pub last-counted : {line : List ℕ} {at first c : ℕ} {h : Head} → Heads line at h → h .form ≡ Last c → first < 2 ^ 16 → first + c < 2 ^ 32
+last-counted r is small = omega (arith, shown r is .1 .small, small)
 
 -- ---- a form by its number: what the function for that form gives, or nothing where there are no parts
 pub compound-is : {t : Lent} {b b′ : Buffers} {p : Place} {x : Sizing} {form f : Form} → form ≡ f → Sizes (CompoundPart f) t b p x b′ → Sizes (CompoundPart form) t b p x b′

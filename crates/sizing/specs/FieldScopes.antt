@@ -49,6 +49,7 @@ pub here-fields : {t : Lent} {b : Buffers} {p : Place} {P : File} {S : Scope} {q
     (Γ ++ fieldTypes u fs (take (owns fs) (drop (p .sizes) (b .sizes)))) (Δ ++ take (owns fs) (drop (p .sizes) (b .sizes))) L left
 unfolding wider
 here-fields {t} {b} {p} {P} {S} {q} {Γ} {Δ} {L} {left} {u} c {fs} {scope} h less there room sizeRoom fits most bound = record {
+  table = h .table;
   indexed = h .indexed;
   site = record {
     known = wider-known (length fs) (owns fs) (s .known);

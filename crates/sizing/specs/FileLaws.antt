@@ -32,10 +32,10 @@ holds-none m long =
     record { listed = listed-none words; count = refl; rows = all-nil; lent = omega (arith, long, length-replicate {A = ℕ} m 0); rest = ap (λ k. replicate k 0) same }
 
 -- ---- initial values
-pub initials-many : {t : Lent} {list list′ : List ℕ} {n : Counts} {m frame : ℕ} → (Few n → ⊥) → SizesInitials t list n (Refused m frame) list′
+pub initials-many : {t : Lent} {channels : List ℕ} {list list′ : List ℕ} {n : Counts} {m frame : ℕ} → (Few n → ⊥) → SizesInitials t channels list n (Refused m frame) list′
 initials-many more = record { says = λ P i k long. absurd (more (counts-few i k)); few = λ e. absurd (let z : _≡_ {A = ℕ} 0 1 = cc in omega arith) }
 
-pub initials-done : {t : Lent} (list : List ℕ) {list₁ list₂ : List ℕ} {n : Counts} {x : Counting} → Few n → list₁ ≡ replicate (length list) 0 → SizesChannels t list₁ n 0 initialWord 0 x list₂ → SizesInitials t list n x list₂
+pub initials-done : {t : Lent} {channels : List ℕ} (list : List ℕ) {list₁ list₂ : List ℕ} {n : Counts} {x : Counting} → Few n → list₁ ≡ replicate (length list) 0 → SizesChannels t channels list₁ n 0 initialWord 0 x list₂ → SizesInitials t channels list n x list₂
 initials-done list f cleared v = record {
   says = λ P i k long. v .says P i k [] (λ c τ is. none-is-not-some is) _ _ (initials-last i k) [] (rw cleared (holds-none (length list) long));
   few = λ e. f;
@@ -61,12 +61,12 @@ then-updates (ok s) (sum-agrees e st h) = file-agrees {x = s} e (record { env = 
 then-updates (no n frame) (sum-refused e) = file-refused e
 then-updates (no n frame) (sum-beyond b) = file-beyond b
 
-module _ {t : Lent} {list list₁ : List ℕ} {n : Counts} {x : Counting} (v : SizesInitials t list n x list₁) where
-  pub file-first : {m frame : ℕ} → x ≡ Refused m frame → SizesFile t list n x list₁
+module _ {t : Lent} {channels : List ℕ} {list list₁ : List ℕ} {n : Counts} {x : Counting} (v : SizesInitials t channels list n x list₁) where
+  pub file-first : {m frame : ℕ} → x ≡ Refused m frame → SizesFile t channels list n x list₁
   unfolding sizedFile
   file-first d = record { says = λ P i k long. rw (initials-are P nothing 0 (initialValues P) (declaredTypes P) []) (first-refused _ (v .says P i k long) d) }
 
-  pub file-done : {a : Counted} {y : Counting} {list₂ : List ℕ} → x ≡ Are a → SizesChannels t list₁ n (n .inputs) updateWord (a .used) y list₂ → SizesFile t list n y list₂
+  pub file-done : {a : Counted} {y : Counting} {list₂ : List ℕ} → x ≡ Are a → SizesChannels t channels list₁ n (n .inputs) updateWord (a .used) y list₂ → SizesFile t channels list n y list₂
   unfolding sizedFile
   file-done {y} {list₂} d u = record {
     says = λ P i k long. rw (initials-are P nothing 0 (initialValues P) (declaredTypes P) []) (first-are _ (v .says P i k long) d (λ L h.

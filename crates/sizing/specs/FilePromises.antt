@@ -24,5 +24,5 @@ pub data AgreesFile (P : File) (words : List ℕ) (r : Counting) : Result SizedF
   file-refused : {n frame : ℕ} → r ≡ Refused n frame → AgreesFile P words r (no n frame)
   file-beyond : {n frame : ℕ} → Before n → AgreesFile P words r (no n frame)
 
-pub record SizesFile (t : Lent) (list : List ℕ) (n : Counts) (r : Counting) (list′ : List ℕ) : Type 0 where
-  pub says : (P : File) → IndexedFile t P → CountsAre n P → instanceWordsCount * instancesMost ≤ length list → AgreesFile P list′ r (sizedFile P)
+pub record SizesFile (t : Lent) (channels : List ℕ) (list : List ℕ) (n : Counts) (r : Counting) (list′ : List ℕ) : Type 0 where
+  pub says : (P : File) → IndexedFile t channels P → CountsAre n P → instanceWordsCount * instancesMost ≤ length list → AgreesFile P list′ r (sizedFile P)

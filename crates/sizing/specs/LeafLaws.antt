@@ -11,8 +11,10 @@ use lib.Dec.{ltb}
 use borrow.Author.Tests.{lt-ltb, le-ltb, eq-eqb, ne-eqb}
 use Rattle.language.specs.Limits.{byteRange, sizeMost}
 use Rattle.language.specs.Result.{choose}
-use Rattle.language.specs.Syntax.{Constructor, Op, oadd, osub, omul, oeq, olt, ole, oand, oor, tnamed, Function, File, constructorsOf}
-use Rattle.language.specs.Format.{opCode, resultBytes}
+use Rattle.language.specs.Syntax.{Constructor, Op, oadd, osub, omul, oeq, olt, ole, oand, oor, Ty, tnamed, Function, File, constructorsOf}
+use Rattle.language.specs.Format.{declaredBytes, opCode, resultBytes}
+use Rattle.language.specs.ReadExpr.{declared as declaredRead}
+use Rattle.language.specs.Within.{WithinDeclared}
 use Rattle.language.specs.Scope.{namedCount}
 use Rattle.language.specs.PlainTypes.{opType}
 use Rattle.language.specs.Sizes.{typeAt, conditionsHold, sum, weight, ownSizes}
@@ -21,8 +23,14 @@ use Rattle.language.specs.Typing.{Place as Stand, outside, inside, frameAt, fal
 use Rattle.language.specs.Checker.{Sizeds}
 use Rattle.theory.specs.Alls.{all-map}
 use Rattle.theory.specs.Lists.{look-less}
+use Rattle.theory.specs.ExactTypes.{declared-exact}
 use Rattle.text.specs.declared.Cursor.{Cursor}
-use Rattle.text.specs.Bytes.{declaredWord}
+use Rattle.text.specs.declared.Found.{Found}
+use Rattle.text.specs.declared.Number.{Number}
+use Rattle.text.specs.declared.Number.the-variants.{Is as NumberIs, Refused as NoNumber}
+use Rattle.text.specs.Bytes.{bytesFrom, mapRead, ReadsNumber, declaredWord}
+use Rattle.spelling.specs.Spells.{Spells}
+use Rattle.spelling.specs.CursorSpells.{word-is}
 use Rattle.spelling.specs.FrameSpells.{lineAt}
 use Rattle.indexed.specs.Indexed.{framePart, resultAt, conditionsAt, measureAt, functionLine, Indexed}
 use Rattle.scopes.specs.WithinParts.{function-within}
@@ -39,11 +47,15 @@ use Rattle.rows.specs.Rows.{ToldRow, OwnSum, FieldsAgree}
 use Rattle.rows.specs.ToldLaws.{told-fields}
 use Rattle.sizing.specs.declared.Place.{Place}
 use Rattle.sizing.specs.declared.Sizing.the-variants.{Is, Refused}
+use Rattle.sizing.specs.declared.Checked.{Checked}
 use Rattle.sizing.specs.declared.Counted.{Counted}
+use Rattle.sizing.specs.declared.Counting.{Counting}
+use Rattle.sizing.specs.declared.Counting.the-variants.{Are, Refused as RefusedAll}
 use Rattle.sizing.specs.declared.Entering.the-variants.{Ready, Refused as NotEntered}
 use Rattle.sizing.specs.Sites.{bounded-named, bounded-small, one-byte-bounded, Around, around-none, around-one}
 use Rattle.sizing.specs.Agreement.{CountedAs, agrees, grown, not-grown, need-holds, need-fails}
-use Rattle.sizing.specs.Leaves.{OperatorType, Falls, ready, no-condition, no-fall, no-size, entry-of, no-entry, SizesFor, Prepares, Makes}
+use Rattle.sizing.specs.Leaves.{ChannelTyped, OperatorType, Falls, ready, no-condition, no-fall, no-size, entry-of, no-entry, SizesFor, Prepares, Makes}
+use Rattle.sizing.specs.Numbers.{OneMore, OneMoreOf, more-are, more-refused}
 
 -- ---- type_in
 pub typed-word : {word told : ℕ} {r : SizedType} → word ≡ told → FromWord word r → FromWord told r
@@ -170,13 +182,13 @@ module _ (text frames functions sizes : List ℕ) {line : List ℕ} (p : Place) 
         }
 
 -- ---- body_place
-abbrev placeOf : Cursor → ℕ → ℕ → ℕ → ℕ → ℕ → ℕ → ℕ → ℕ → Place
-placeOf at levels types line around weight variables sizes used =
-    record { at = at; levels = levels; types = types; line = line; around = around; weight = weight; variables = variables; sizes = sizes; used = used }
+abbrev placeOf : Cursor → ℕ → ℕ → ℕ → ℕ → ℕ → ℕ → ℕ → ℕ → ℕ → Place
+placeOf at levels types first line around weight variables sizes used =
+    record { at = at; levels = levels; types = types; first = first; line = line; around = around; weight = weight; variables = variables; sizes = sizes; used = used }
 
-pub place-at : {at : Cursor} {n levels types line around weight variables sizes used : ℕ} → at .at ≡ n →
-    placeOf at levels types line around weight variables sizes used ≡ placeOf (record { at = n }) levels types line around weight variables sizes used
-place-at {levels} {types} {line} {around} {weight} {variables} {sizes} {used} is = ap (λ n. placeOf (record { at = n }) levels types line around weight variables sizes used) is
+pub place-at : {at : Cursor} {n levels types first line around weight variables sizes used : ℕ} → at .at ≡ n →
+    placeOf at levels types first line around weight variables sizes used ≡ placeOf (record { at = n }) levels types first line around weight variables sizes used
+place-at {levels} {types} {first} {line} {around} {weight} {variables} {sizes} {used} is = ap (λ n. placeOf (record { at = n }) levels types first line around weight variables sizes used) is
 
 -- ---- made
 told-row : {row words row₀ : List ℕ} {a : Counted} {P : File} {next : ℕ} {x : Sizeds} (fs : Constructor) → length (x .types) ≡ length fs → CountedAs P next words 0 row₀ row a x → ToldRow row (length fs) (x .types)
@@ -223,3 +235,23 @@ module _ {types row : List ℕ} {p : Place} {a : Counted} {t c size : ℕ} (o : 
           })));
       grows = grown {k = record { kind = Named t (size + 1); numbers = numbers; next = a .next; used = a .used }} (omega arith);
     }
+
+-- ---- the declared type of a channel: line the channel's, x what is read behind its first byte
+module _ (text frames : List ℕ) (p : Place) (c : ℕ) {line : List ℕ} {x : Number} (cut : line ≡ framePart text frames (p .first + c)) (v : ReadsNumber line 1 x (mapRead declaredWord (declaredRead (p .types) (bytesFrom line 1)))) where
+  declared-is : {τ : Ty} → Spells declaredBytes (framePart text frames (p .first + c)) 1 τ → WithinDeclared (p .types) τ → x ≡ NumberIs (record { value = declaredWord τ; next = record { at = 1 + length (declaredBytes τ) } })
+  declared-is {τ} s w = word-is (declared-exact (p .types)) (subst (λ l. Spells declaredBytes l 1 τ) (sym cut) s) w declaredWord x v
+
+  pub channel-none : {n : ℕ} {r : SizedType} → x ≡ NoNumber n → ChannelTyped text frames p c r
+  channel-none d = record { says = λ τ small s w. absurd (let same = sym d ∙ declared-is s w in let z : _≡_ {A = ℕ} 0 1 = cc in omega arith) }
+
+  pub channel-read : {f : Found} {r : SizedType} → x ≡ NumberIs f → FromWord (f .value) r → ChannelTyped text frames p c r
+  channel-read {f} d from = record {
+    says = λ τ small s w. from .says τ small (let same : NumberIs f ≡ NumberIs (record { value = declaredWord τ; next = record { at = 1 + length (declaredBytes τ) } }) = sym d ∙ declared-is s w in let value : declaredWord τ ≡ f .value = cc in value);
+  }
+
+-- ---- one part, and those behind it or their refusal
+pub more-some : {a : Checked} {b : Counted} {y r : Counting} → y ≡ Are b → OneMore a b r → OneMoreOf a y r
+more-some e o = rw e (more-are o)
+
+pub more-none : {a : Checked} {y : Counting} {n frame : ℕ} → y ≡ RefusedAll n frame → OneMoreOf a y y
+more-none e = rw e more-refused

@@ -8,20 +8,22 @@ use lib.ListN.{length, getD, take, getElem? as look}
 use lib.Dec.{ltb}
 use Rattle.language.specs.Limits.{byteRange, sizeMost, nestingMost}
 use Rattle.language.specs.Result.{ok, need}
-use Rattle.language.specs.Syntax.{Constructor, tnamed, Op, Function, File, constructorsOf}
-use Rattle.language.specs.Format.{opCode}
+use Rattle.language.specs.Syntax.{Constructor, Ty, tnamed, Op, Function, File, constructorsOf}
+use Rattle.language.specs.Format.{declaredBytes, opCode}
 use Rattle.language.specs.Scope.{namedCount}
+use Rattle.language.specs.Within.{WithinDeclared}
 use Rattle.language.specs.PlainTypes.{opType}
 use Rattle.language.specs.Sizes.{typeAt, conditionsHold, sum, weight, fieldTypes, ownSizes, sameTypes}
 use Rattle.language.specs.Estimate.{after, oneCell}
 use Rattle.language.specs.Typing.{Place as Stand, frameAt, falls, baseType}
 use Rattle.language.specs.Checker.{Sizeds}
 use Rattle.estimate.specs.declared.Estimate.{Estimate}
-use Rattle.indexed.specs.Indexed.{bodyAt, Indexed}
+use Rattle.spelling.specs.Spells.{Spells}
+use Rattle.indexed.specs.Indexed.{framePart, bodyAt, Indexed}
 use Rattle.forms.specs.declared.Form.{Form}
 use Rattle.forms.specs.declared.Form.the-variants.{Bool as BoolForm, Int, Variable, Now, Last, Let, If, Operator, Call, Construct, Case, Adjust, Fit, Missing}
 use Rattle.sizes.specs.declared.SizedType.{SizedType}
-use Rattle.sizes.specs.Promises.{meaning, FromWord}
+use Rattle.sizes.specs.Promises.{meaning, Small, FromWord}
 use Rattle.sizing.specs.declared.Place.{Place}
 use Rattle.sizing.specs.declared.Sizing.{Sizing}
 use Rattle.sizing.specs.declared.Sizing.the-variants.{Is, Refused as RefusedWhole}
@@ -31,6 +33,7 @@ use Rattle.sizing.specs.declared.Counting.the-variants.{Are, Refused as 
 use Rattle.sizing.specs.declared.Entry.{Entry}
 use Rattle.sizing.specs.declared.Entering.{Entering}
 use Rattle.sizing.specs.declared.Entering.the-variants.{Ready, Refused}
+use Rattle.sizing.specs.declared.Subject.{Subject}
 use Rattle.sizing.specs.Sites.{Bounded, Around}
 use Rattle.sizing.specs.Agreement.{CountedAs, Agrees, itself, Grows}
 
@@ -42,6 +45,11 @@ abbrev pub refusedOf : Counting → Sizing
 refusedOf (Are k) = RefusedWhole 0 0
 refusedOf (RefusedAll n frame) = RefusedWhole n frame
 
+-- a refusal of a part is one of them all
+abbrev pub refusedAll : Sizing → Counting
+refusedAll (Is k) = RefusedAll 0 0
+refusedAll (RefusedWhole n frame) = RefusedAll n frame
+
 abbrev pub notEntered : Entering → Sizing
 notEntered (Ready e) = RefusedWhole 0 0
 notEntered (Refused n frame) = RefusedWhole n frame
@@ -50,11 +58,19 @@ notEntered (Refused n frame) = RefusedWhole n frame
 abbrev pub Typed : List ℕ → ℕ → SizedType → Type 0
 Typed table i r = FromWord (getD table i 0) r
 
+-- the declared type of channel c, where its line spells one behind the first byte
+pub record ChannelTyped (text frames : List ℕ) (p : Place) (c : ℕ) (r : SizedType) : Type 0 where
+  pub says : (τ : Ty) → Small τ → Spells declaredBytes (framePart text frames (p .first + c)) 1 τ → WithinDeclared (p .types) τ → meaning r ≡ τ
+
 pub record OperatorType (o : ℕ) (r : SizedType) : Type 0 where
   pub says : (op : Op) → opCode op ≡ o → meaning r ≡ baseType (opType op)
 
 pub record Falls (p : Place) (f w : ℕ) (r : Bool) : Type 0 where
   pub says : (q : Stand) → Around (p .around) (p .weight) q → r ≡ falls q f w
+
+-- the subject of a case
+abbrev pub subjectOf : ℕ → ℕ → SizedType → Subject
+subjectOf t m kind = record { of = t; size = m; kind = kind }
 
 -- where the body of an entry stands
 abbrev pub bodyOf : List ℕ → Place → Entry → Place
@@ -62,6 +78,7 @@ bodyOf functions p e = record {
   at = record { at = bodyAt functions (e .function) };
   levels = nestingMost;
   types = p .types;
+  first = p .first;
   line = p .types + e .function;
   around = e .function + 1;
   weight = e .weight;

@@ -12,7 +12,7 @@ use Rattle.sizing.specs.declared.Sizing.{Sizing}
 use Rattle.sizing.specs.declared.Sizing.the-variants.{Is}
 use Rattle.sizing.specs.declared.Counted.{Counted}
 use Rattle.sizing.specs.declared.Counting.{Counting}
-use Rattle.sizing.specs.declared.Counting.the-variants.{Are}
+use Rattle.sizing.specs.declared.Counting.the-variants.{Are, Refused as RefusedAll}
 use Rattle.sizing.specs.Leaves.{OperatorType}
 
 -- b with other numbers
@@ -94,3 +94,14 @@ pub record OneMore (a : Checked) (b : Counted) (r : Counting) : Type 0 where
   pub numbers : Estimate
   pub all : Combines after (a .numbers) (b .numbers) numbers
   pub is : r ≡ Are (record { numbers = numbers; next = b .next; used = b .used })
+
+-- the same where those behind it may be refused
+pub data OneMoreOf (a : Checked) : Counting → Counting → Type 0 where
+  more-are : {b : Counted} {r : Counting} → OneMore a b r → OneMoreOf a (Are b) r
+  more-refused : {n frame : ℕ} → OneMoreOf a (RefusedAll n frame) (RefusedAll n frame)
+
+-- nothing so far
+pub record NothingYet (kind : SizedType) (p : Place) (r : Checked) : Type 0 where
+  pub numbers : Estimate
+  pub none : Makes nothing numbers
+  pub is : r ≡ record { kind = kind; numbers = numbers; next = p .at; used = p .used }

@@ -2,21 +2,22 @@
 -- spelled at the place, the answer is the definition's; and on any bytes the scope is kept and no instance is lost.
 use Prim.Native.Nat.{ℕ, suc, _+_, _-_, _≤_, _<_}
 use mathlib.Core.List.{List, _++_, map}
+use mathlib.Core.Bool.{true}
 use mathlib.Core.Option.{none, some}
 use mathlib.Core.Path.{_≡_}
 use lib.ListN.{length, take, drop, getElem? as look}
 use lib.Dec.{leb}
-use Rattle.language.specs.Limits.{sizeMost, instancesMost}
-use Rattle.language.specs.Result.{Result, ok, bind, need, choose}
-use Rattle.language.specs.Syntax.{Constructor, Ty, owns, Expr, Exprs, Function, File, constructorsOf}
+use Rattle.language.specs.Limits.{sizeMost, parametersMost, instancesMost}
+use Rattle.language.specs.Result.{Result, ok, bind, need, from, choose}
+use Rattle.language.specs.Syntax.{Constructor, Ty, owns, Expr, Exprs, Function, File, constructorsOf, functionFrame}
 use Rattle.language.specs.Format.{exprBytes, exprsBytes}
 use Rattle.language.specs.Scope.{Scope, wider, namedCount}
 use Rattle.language.specs.Within.{All, WithinExpr, WithinExprs, WithinBranches}
-use Rattle.language.specs.Sizes.{weight, parameterTypes, fieldTypes, sameType}
+use Rattle.language.specs.Sizes.{typeAt, conditionsHold, weight, sizesOf, parameterTypes, fieldTypes, sameType, sameTypes}
 use Rattle.language.specs.Splits.{splits}
-use Rattle.language.specs.Estimate.{nothing, withSlots}
-use Rattle.language.specs.Typing.{Place as Stand, frameAt}
-use Rattle.language.specs.Checker.{Instance, Counted as CountedDef, Enter, atSplits, sized, sizeds, sizedBranches, find, enterAt}
+use Rattle.language.specs.Estimate.{nothing, after, withSlots, inCall}
+use Rattle.language.specs.Typing.{Place as Stand, frameAt, falls}
+use Rattle.language.specs.Checker.{Instance, Sized as SizedDef, Sizeds, Counted as CountedDef, Enter, atSplits, sized, sizeds, sizedBranches, find, enterAt}
 use Rattle.text.specs.Bytes.{declaredWord}
 use Rattle.spelling.specs.Spells.{Spells}
 use Rattle.spelling.specs.FrameSpells.{lineAt}
@@ -26,11 +27,12 @@ use Rattle.sizes.specs.Promises.{meaning}
 use Rattle.splits.specs.Next.{Chain}
 use Rattle.sizing.specs.declared.Place.{Place}
 use Rattle.sizing.specs.declared.Sizing.{Sizing}
+use Rattle.sizing.specs.declared.Counted.{Counted}
 use Rattle.sizing.specs.declared.Counting.{Counting}
 use Rattle.sizing.specs.declared.Entry.{Entry}
 use Rattle.sizing.specs.declared.Subject.{Subject}
-use Rattle.sizing.specs.Sites.{Bounded, Site, Kept}
-use Rattle.sizing.specs.Agreement.{Holds, Agrees, itself, ofType, AgreesAll, Grows, GrowsAll}
+use Rattle.sizing.specs.Sites.{Bounded, Around, Site, Kept}
+use Rattle.sizing.specs.Agreement.{Holds, CountedAs, Agrees, itself, ofType, AgreesAll, Grows, GrowsAll}
 
 -- ---- what is lent: the text and its tables, and what is written
 pub record Lent : Type 0 where
@@ -38,25 +40,26 @@ pub record Lent : Type 0 where
   pub frames : List ℕ
   pub types : List ℕ
   pub functions : List ℕ
-  pub channels : List ℕ
 
 pub record Buffers : Type 0 where
   pub list : List ℕ
   pub scope : List ℕ
   pub sizes : List ℕ
 
-abbrev pub lent : List ℕ → List ℕ → List ℕ → List ℕ → List ℕ → Lent
-lent text frames types functions channels = record { text = text; frames = frames; types = types; functions = functions; channels = channels }
+abbrev pub lent : List ℕ → List ℕ → List ℕ → List ℕ → Lent
+lent text frames types functions = record { text = text; frames = frames; types = types; functions = functions }
 
 abbrev pub buffers : List ℕ → List ℕ → List ℕ → Buffers
 buffers list scope sizes = record { list = list; scope = scope; sizes = sizes }
 
-abbrev pub IndexedFile : Lent → File → Type 0
-IndexedFile t P = Indexed (t .text) (t .frames) (t .types) (t .functions) (t .channels) P
+-- beside the table of channels, which no expression reads
+abbrev pub IndexedFile : Lent → List ℕ → File → Type 0
+IndexedFile t channels P = Indexed (t .text) (t .frames) (t .types) (t .functions) channels P
 
 -- ---- what is known where an expression stands; left: how deep bodies may still be entered
 pub record Here (t : Lent) (b : Buffers) (p : Place) (P : File) (S : Scope) (q : Stand) (Γ : List Ty) (Δ : List ℕ) (L : List Instance) (left : ℕ) : Type 0 where
-  pub indexed : IndexedFile t P
+  pub table : List ℕ
+  pub indexed : IndexedFile t table P
   pub site : Site P S q Γ Δ (b .scope) (b .sizes) p
   pub holds : Holds P (b .list) (p .used) L
   pub deep : instancesMost ≤ left + length L
@@ -168,13 +171,38 @@ pub record Given (P : File) (e : Entry) (F : Function) (ks : List ℕ) (scope si
   pub result : Bounded (meaning (e .kind))
 
 pub record Enters (e : Entry) (t : Lent) (b : Buffers) (p : Place) (r : Sizing) (b′ : Buffers) : Type 0 where
-  pub says : (P : File) (F : Function) (ks : List ℕ) (L : List Instance) (left : ℕ) → IndexedFile t P → p .types ≡ length (P .types) → Holds P (b .list) (p .used) L → instancesMost ≤ left + length L →
+  pub says : (P : File) (F : Function) (ks : List ℕ) (L : List Instance) (left : ℕ) (table : List ℕ) → IndexedFile t table P → p .types ≡ length (P .types) → Holds P (b .list) (p .used) L → instancesMost ≤ left + length L →
       Given P e F ks (b .scope) (b .sizes) → Agrees P (ofType (meaning (e .kind))) (p .at .at) (b′ .list) r (entering P left (suc (p .line)) (e .function) F ks (meaning (e .kind)) L)
   pub grows : Grows (p .used) r
 
 -- a body that was not entered before
 pub record EntersNew (e : Entry) (t : Lent) (b : Buffers) (p : Place) (r : Sizing) (b′ : Buffers) : Type 0 where
-  pub says : (P : File) (F : Function) (ks : List ℕ) (L : List Instance) (left : ℕ) → IndexedFile t P → p .types ≡ length (P .types) → Holds P (b .list) (p .used) L → instancesMost ≤ left + length L →
+  pub says : (P : File) (F : Function) (ks : List ℕ) (L : List Instance) (left : ℕ) (table : List ℕ) → IndexedFile t table P → p .types ≡ length (P .types) → Holds P (b .list) (p .used) L → instancesMost ≤ left + length L →
       Given P e F ks (b .scope) (b .sizes) → find L (e .function) ks ≡ none →
       Agrees P (ofType (meaning (e .kind))) (p .at .at) (b′ .list) r (entering P left (suc (p .line)) (e .function) F ks (meaning (e .kind)) L)
   pub grows : Grows (p .used) r
+
+-- ---- a call whose arguments were checked: what the definition does behind them
+abbrev pub applied : File → Enter → Stand → ℕ → Function → Sizeds → Result SizedDef
+applied P enter o g F z = need (conditionsHold (sizesOf (z .types)) (F .conditions)) 12 (frameAt P o) (need (falls o g (weight (F .measure) (sizesOf (z .types)))) 13 (frameAt P o)
+    (from (typeAt (sizesOf (z .types)) (F .result)) 10 (functionFrame P g) (λ τ. bind (enter (frameAt P o) g F (sizesOf (z .types)) τ (z .list)) (λ r.
+    ok (record { type = τ; numbers = withSlots (length (F .parameters)) (after (z .numbers) (inCall (r .numbers))); list = r .list })))))
+
+-- z: the arguments for the definition, which agree with the parameters; a, row: what the code holds of them
+pub record Argues (t : Lent) (p : Place) (f n : ℕ) (a : Counted) (list row : List ℕ) (P : File) (o : Stand) (F : Function) (z : Sizeds) (left next : ℕ) : Type 0 where
+  pub table : List ℕ
+  pub indexed : IndexedFile t table P
+  pub typeCount : p .types ≡ length (P .types)
+  pub frame : frameAt P o ≡ suc (p .line)
+  pub around : Around (p .around) (p .weight) o
+  pub function : look (P .functions) f ≡ some F
+  pub count : n ≡ length (F .parameters)
+  pub few : n ≤ parametersMost
+  pub row₀ : List ℕ
+  pub counted : CountedAs P next list 0 row₀ row a z
+  pub agree : sameTypes (parameterTypes (F .parameters) (sizesOf (z .types))) (z .types) ≡ true
+  pub deep : instancesMost ≤ left + length (z .list)
+
+pub record Applies (f n : ℕ) (a : Counted) (t : Lent) (list row : List ℕ) (p : Place) (r : Sizing) (list′ : List ℕ) : Type 0 where
+  pub says : (P : File) (o : Stand) (F : Function) (z : Sizeds) (left next : ℕ) → Argues t p f n a list row P o F z left next → Agrees P itself next list′ r (applied P (entering P left) o f F z)
+  pub grows : Grows (a .used) r

@@ -30,6 +30,8 @@ use Rattle.sizing.specs.Sites.{movedTo, Kept, kept-all, kept-then, kept-
 use Rattle.sizing.specs.Agreement.{agree, GrowsAll, not-grown-all, grows-to, grows-all-to}
 use Rattle.sizing.specs.SeveralAgree.{grown-all-as, first-is, first-no, rest-are, rest-no}
 use Rattle.sizing.specs.Promises.{Lent, Buffers, Sizes, SizesAll, ExprPart, ExprsPart}
+use Rattle.sizing.specs.Leaves.{refusedAll}
+use Rattle.sizing.specs.Numbers.{OneMoreOf, more-are, more-refused}
 use Rattle.sizing.specs.HereLaws.{part-at, here-moved}
 
 -- ---- none are left, or a first one and others
@@ -88,15 +90,15 @@ module _ {t : Lent} {b : Buffers} {p : Place} {i n : ℕ} (row : List ℕ) where
   }
 
   module _ {x : Sizing} {b₁ : Buffers} (more : i < n) (v : Sizes ExprPart t b p x b₁) where
-    pub several-first : {m frame : ℕ} → x ≡ Refused m frame → SizesAll t b p i n row (RefusedAll m frame) b₁ row
+    pub several-first : {m frame : ℕ} {r : Counting} → x ≡ Refused m frame → r ≡ refusedAll x → SizesAll t b p i n row r b₁ row
     unfolding sizeds
-    several-first d = record {
+    several-first {m} {frame} {r} d answer = let whole : r ≡ RefusedAll m frame = answer ∙ ap refusedAll d in rw whole (record {
       says = λ P S q Γ Δ L left h few long end es part.
           let m = more-part part (one-left more) in
           rw (m .of .is) (first-no _ (v .says P S q Γ Δ L left h _ (m .of .first) (part-at p (m .spelled) (m .of .within) refl refl)) d refl);
       grows = not-grown-all;
       kept = v .kept;
-    }
+    })
 
     -- its word in the row, and the others behind it
     module _ {a : Checked} {word : ℕ} {m : Place} {y : Counting} {b₂ : Buffers} {row₁ row₂ : List ℕ} (d : x ≡ Is a) (is : word ≡ declaredWord (meaning (a .kind)))
@@ -107,7 +109,7 @@ module _ {t : Lent} {b : Buffers} {p : Place} {i n : ℕ} (row : List ℕ) where
       several-kept : Kept p (b .scope) (b .sizes) (b₂ .scope) (b₂ .sizes)
       several-kept = kept-then (v .kept) (kept-moved (behind .kept))
 
-      pub several-rest : {k frame : ℕ} → y ≡ RefusedAll k frame → SizesAll t b p i n row y b₂ row₂
+      several-rest : {k frame : ℕ} → y ≡ RefusedAll k frame → SizesAll t b p i n row y b₂ row₂
       unfolding sizeds
       several-rest d′ = record {
         says = λ P S q Γ Δ L left h few long end es part.
@@ -119,7 +121,7 @@ module _ {t : Lent} {b : Buffers} {p : Place} {i n : ℕ} (row : List ℕ) where
         kept = several-kept;
       }
 
-      pub several-done : {k : Counted} {numbers : Estimate} {r : Counting} → y ≡ Are k → Combines after (a .numbers) (k .numbers) numbers → r ≡ Are (record { numbers = numbers; next = k .next; used = k .used }) →
+      several-done : {k : Counted} {numbers : Estimate} {r : Counting} → y ≡ Are k → Combines after (a .numbers) (k .numbers) numbers → r ≡ Are (record { numbers = numbers; next = k .next; used = k .used }) →
           SizesAll t b p i n row r b₂ row₂
       unfolding sizeds
       several-done d′ all answer = record {
@@ -145,3 +147,10 @@ module _ {t : Lent} {b : Buffers} {p : Place} {i n : ℕ} (row : List ℕ) where
               let front : take (i + 1) (set row i word) ≡ take i row ++ (declaredWord τ ∷ []) = rw (add-one, take-suc-set row i word less, w) in
               let same : i + suc (length τs) ≡ i + 1 + length τs = omega arith in
               ap (λ j. take j row₂) same ∙ e ∙ ap (λ l. l ++ map declaredWord τs) front ∙ append-assoc (take i row) (declaredWord τ ∷ []) (map declaredWord τs)
+
+      pub several-more : {r : Counting} → OneMoreOf a y r → SizesAll t b p i n row r b₂ row₂
+      several-more o = go o refl
+        where
+          go : {z r : Counting} → OneMoreOf a z r → y ≡ z → SizesAll t b p i n row r b₂ row₂
+          go (more-are w) e = several-done e (w .all) (w .is)
+          go (more-refused {n = k} {frame = g}) e = subst (λ z. SizesAll t b p i n row z b₂ row₂) e (several-rest e)

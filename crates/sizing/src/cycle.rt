@@ -1,49 +1,52 @@
 // Expressions, arguments, branches and bodies: they call each other, falling by the instances left and by the levels left.
 ghost use Prim.Native.Nat.{suc, _<_, _≤_};
 ghost use lib.ListN.{length};
-ghost use Rattle.language.specs.Limits.{byteRange};
+ghost use Rattle.language.specs.Limits.{byteRange, sizeVariablesMost};
 ghost use Rattle.sizing.specs.Sites.{Room};
-ghost use Rattle.sizing.specs.Leaves.{Entered, Operands};
-ghost use Rattle.sizing.specs.Promises.{lent, buffers, Sizes, SizesAll, SizesBranches, SizesBranch, SizesSplits, Enters, EntersNew, ExprPart};
-ghost use Rattle.sizing.specs.Parts.{LetPart, IfPart, OpPart, CallPart, ConPart, CasePart, AdjPart, FitPart, CompoundPart};
-use super::Checked;
+ghost use Rattle.sizing.specs.Leaves.{Operands, Entered};
+ghost use Rattle.sizing.specs.Promises.{lent, buffers, Sizes, ExprPart, SizesAll, Enters, EntersNew, Applies, SizesBranches, SizesBranch, SizesSplits};
+ghost use Rattle.sizing.specs.Parts.{LetPart, IfPart, OpPart, AdjPart, FitPart, CompoundPart, CallPart, ConPart, CasePart};
+use super::Counted;
 use super::Counting;
 use super::Entering;
 use super::Entry;
 use super::Place;
 use super::Sizing;
 use super::Subject;
-use super::leaves::adjusted;
-use super::leaves::agree;
-use super::leaves::behind;
-use super::leaves::body_place;
-use super::leaves::branched;
-use super::leaves::called;
-use super::leaves::cased;
-use super::leaves::chosen;
-use super::leaves::down;
-use super::leaves::fitted;
-use super::leaves::is_kind;
-use super::leaves::kind_word;
-use super::leaves::larger;
-use super::leaves::leaf;
+use super::leaves::channel_type;
 use super::leaves::made;
-use super::leaves::moved;
-use super::leaves::none;
-use super::leaves::not_entered;
-use super::leaves::one_more;
-use super::leaves::operated;
 use super::leaves::prepare;
-use super::leaves::refused;
-use super::leaves::slotted;
 use super::leaves::type_in;
-use super::leaves::widen;
-use super::leaves::with_let;
+use super::numbers::adjusted;
+use super::numbers::agree;
+use super::numbers::branched;
+use super::numbers::called;
+use super::numbers::cased;
+use super::numbers::chosen;
+use super::numbers::fitted;
+use super::numbers::is_kind;
+use super::numbers::kind_word;
+use super::numbers::larger;
+use super::numbers::leaf;
+use super::numbers::none;
+use super::numbers::not_entered;
+use super::numbers::nothing_yet;
+use super::numbers::one_more;
+use super::numbers::operated;
+use super::numbers::refused;
+use super::numbers::refused_all;
+use super::numbers::slotted;
+use super::numbers::subject;
+use super::numbers::with_let;
+use super::places::behind;
+use super::places::body_place;
+use super::places::down;
+use super::places::moved;
+use super::places::widen;
 use estimate::nothing;
 use estimate::one_cell;
 use forms::Form;
 use forms::head_at;
-use index::CHANNEL_WORDS;
 use index::arity;
 use index::constructors;
 use index::fields;
@@ -76,14 +79,13 @@ pub fn expr(
     frames: &[u32],
     types: &[u32],
     functions: &[u32],
-    channels: &[u32],
     list: &mut [u32],
     scope: &mut [u32],
     sizes: &mut [u8],
     p: Place,
 ) -> Sizing
     requires { ⌜ Room (p .levels) (length (now scope)) (length (now sizes)) p ⌝ }
-    ensures { λ r. ⌜ Sizes ExprPart (lent (now (text .entry)) (now (frames .entry)) (now (types .entry)) (now (functions .entry)) (now (channels .entry))) (buffers (now (list .entry)) (now (scope .entry)) (now (sizes .entry))) p r (buffers (now (list .exit)) (now (scope .exit)) (now (sizes .exit))) ⌝ }
+    ensures { λ r. ⌜ Sizes ExprPart (lent (now (text .entry)) (now (frames .entry)) (now (types .entry)) (now (functions .entry))) (buffers (now (list .entry)) (now (scope .entry)) (now (sizes .entry))) p r (buffers (now (list .exit)) (now (scope .exit)) (now (sizes .exit))) ⌝ }
 {
     if p.levels == 0 {
         return Sizing::Refused(7, p.line + 1);
@@ -98,28 +100,9 @@ pub fn expr(
         Form::Bool(_) => leaf(SizedType::Bool, one_cell(), q),
         Form::Int(_) => leaf(SizedType::Int, one_cell(), q),
         Form::Variable(v) => leaf(type_in(scope, v as usize), nothing(), q),
-        Form::Now(c) => leaf(
-            type_in(channels, CHANNEL_WORDS * (c as usize)),
-            nothing(),
-            q,
-        ),
-        Form::Last(c) => leaf(
-            type_in(channels, CHANNEL_WORDS * (c as usize)),
-            nothing(),
-            q,
-        ),
-        _ => compound(
-            text,
-            frames,
-            types,
-            functions,
-            channels,
-            list,
-            scope,
-            sizes,
-            q,
-            form,
-        ),
+        Form::Now(c) => leaf(channel_type(text, frames, p, c), nothing(), q),
+        Form::Last(c) => leaf(channel_type(text, frames, p, c), nothing(), q),
+        _ => compound(text, frames, types, functions, list, scope, sizes, q, form),
     }
 }
 
@@ -129,7 +112,6 @@ fn compound(
     frames: &[u32],
     types: &[u32],
     functions: &[u32],
-    channels: &[u32],
     list: &mut [u32],
     scope: &mut [u32],
     sizes: &mut [u8],
@@ -138,107 +120,19 @@ fn compound(
 ) -> Sizing
     requires { ⌜ Room (suc (p .levels)) (length (now scope)) (length (now sizes)) p ⌝ }
     requires { ⌜ Operands form ⌝ }
-    ensures { λ r. ⌜ Sizes (CompoundPart form) (lent (now (text .entry)) (now (frames .entry)) (now (types .entry)) (now (functions .entry)) (now (channels .entry))) (buffers (now (list .entry)) (now (scope .entry)) (now (sizes .entry))) p r (buffers (now (list .exit)) (now (scope .exit)) (now (sizes .exit))) ⌝ }
+    ensures { λ r. ⌜ Sizes (CompoundPart form) (lent (now (text .entry)) (now (frames .entry)) (now (types .entry)) (now (functions .entry))) (buffers (now (list .entry)) (now (scope .entry)) (now (sizes .entry))) p r (buffers (now (list .exit)) (now (scope .exit)) (now (sizes .exit))) ⌝ }
 {
     match form {
-        Form::Let => binding(
-            text,
-            frames,
-            types,
-            functions,
-            channels,
-            list,
-            scope,
-            sizes,
-            p,
-        ),
-        Form::If => choice(
-            text,
-            frames,
-            types,
-            functions,
-            channels,
-            list,
-            scope,
-            sizes,
-            p,
-        ),
-        Form::Operator(o) => {
-            operation(
-                text,
-                frames,
-                types,
-                functions,
-                channels,
-                list,
-                scope,
-                sizes,
-                p,
-                o,
-            )
-        }
-        Form::Call(f) => call(
-            text,
-            frames,
-            types,
-            functions,
-            channels,
-            list,
-            scope,
-            sizes,
-            p,
-            f,
-        ),
+        Form::Let => binding(text, frames, types, functions, list, scope, sizes, p),
+        Form::If => choice(text, frames, types, functions, list, scope, sizes, p),
+        Form::Operator(o) => { operation(text, frames, types, functions, list, scope, sizes, p, o) }
+        Form::Call(f) => call(text, frames, types, functions, list, scope, sizes, p, f),
         Form::Construct(t, c) => {
-            construct(
-                text,
-                frames,
-                types,
-                functions,
-                channels,
-                list,
-                scope,
-                sizes,
-                p,
-                t,
-                c,
-            )
+            construct(text, frames, types, functions, list, scope, sizes, p, t, c)
         }
-        Form::Case(t) => case_of(
-            text,
-            frames,
-            types,
-            functions,
-            channels,
-            list,
-            scope,
-            sizes,
-            p,
-            t,
-        ),
-        Form::Adjust => adjust(
-            text,
-            frames,
-            types,
-            functions,
-            channels,
-            list,
-            scope,
-            sizes,
-            p,
-        ),
-        Form::Fit(k) => fit(
-            text,
-            frames,
-            types,
-            functions,
-            channels,
-            list,
-            scope,
-            sizes,
-            p,
-            k,
-        ),
+        Form::Case(t) => case_of(text, frames, types, functions, list, scope, sizes, p, t),
+        Form::Adjust => adjust(text, frames, types, functions, list, scope, sizes, p),
+        Form::Fit(k) => fit(text, frames, types, functions, list, scope, sizes, p, k),
         _ => Sizing::Refused(5, p.line + 1),
     }
 }
@@ -249,42 +143,21 @@ fn binding(
     frames: &[u32],
     types: &[u32],
     functions: &[u32],
-    channels: &[u32],
     list: &mut [u32],
     scope: &mut [u32],
     sizes: &mut [u8],
     p: Place,
 ) -> Sizing
     requires { ⌜ Room (suc (p .levels)) (length (now scope)) (length (now sizes)) p ⌝ }
-    ensures { λ r. ⌜ Sizes LetPart (lent (now (text .entry)) (now (frames .entry)) (now (types .entry)) (now (functions .entry)) (now (channels .entry))) (buffers (now (list .entry)) (now (scope .entry)) (now (sizes .entry))) p r (buffers (now (list .exit)) (now (scope .exit)) (now (sizes .exit))) ⌝ }
+    ensures { λ r. ⌜ Sizes LetPart (lent (now (text .entry)) (now (frames .entry)) (now (types .entry)) (now (functions .entry))) (buffers (now (list .entry)) (now (scope .entry)) (now (sizes .entry))) p r (buffers (now (list .exit)) (now (scope .exit)) (now (sizes .exit))) ⌝ }
 {
-    let x = expr(
-        text,
-        frames,
-        types,
-        functions,
-        channels,
-        list,
-        scope,
-        sizes,
-        p,
-    );
+    let x = expr(text, frames, types, functions, list, scope, sizes, p);
     let Sizing::Is(a) = x else {
         return x;
     };
     put(scope, p.variables as usize, kind_word(a));
     let q = widen(behind(p, a), 1, 0);
-    let y = expr(
-        text,
-        frames,
-        types,
-        functions,
-        channels,
-        list,
-        scope,
-        sizes,
-        q,
-    );
+    let y = expr(text, frames, types, functions, list, scope, sizes, q);
     let Sizing::Is(b) = y else {
         return y;
     };
@@ -297,54 +170,25 @@ fn choice(
     frames: &[u32],
     types: &[u32],
     functions: &[u32],
-    channels: &[u32],
     list: &mut [u32],
     scope: &mut [u32],
     sizes: &mut [u8],
     p: Place,
 ) -> Sizing
     requires { ⌜ Room (suc (p .levels)) (length (now scope)) (length (now sizes)) p ⌝ }
-    ensures { λ r. ⌜ Sizes IfPart (lent (now (text .entry)) (now (frames .entry)) (now (types .entry)) (now (functions .entry)) (now (channels .entry))) (buffers (now (list .entry)) (now (scope .entry)) (now (sizes .entry))) p r (buffers (now (list .exit)) (now (scope .exit)) (now (sizes .exit))) ⌝ }
+    ensures { λ r. ⌜ Sizes IfPart (lent (now (text .entry)) (now (frames .entry)) (now (types .entry)) (now (functions .entry))) (buffers (now (list .entry)) (now (scope .entry)) (now (sizes .entry))) p r (buffers (now (list .exit)) (now (scope .exit)) (now (sizes .exit))) ⌝ }
 {
-    let x = expr(
-        text,
-        frames,
-        types,
-        functions,
-        channels,
-        list,
-        scope,
-        sizes,
-        p,
-    );
+    let x = expr(text, frames, types, functions, list, scope, sizes, p);
     let Sizing::Is(a) = x else {
         return x;
     };
-    let y = expr(
-        text,
-        frames,
-        types,
-        functions,
-        channels,
-        list,
-        scope,
-        sizes,
-        behind(p, a),
-    );
+    let q = behind(p, a);
+    let y = expr(text, frames, types, functions, list, scope, sizes, q);
     let Sizing::Is(b) = y else {
         return y;
     };
-    let z = expr(
-        text,
-        frames,
-        types,
-        functions,
-        channels,
-        list,
-        scope,
-        sizes,
-        behind(p, b),
-    );
+    let r = behind(p, b);
+    let z = expr(text, frames, types, functions, list, scope, sizes, r);
     let Sizing::Is(d) = z else {
         return z;
     };
@@ -360,7 +204,6 @@ fn operation(
     frames: &[u32],
     types: &[u32],
     functions: &[u32],
-    channels: &[u32],
     list: &mut [u32],
     scope: &mut [u32],
     sizes: &mut [u8],
@@ -368,33 +211,14 @@ fn operation(
     o: u32,
 ) -> Sizing
     requires { ⌜ Room (suc (p .levels)) (length (now scope)) (length (now sizes)) p ⌝ }
-    ensures { λ r. ⌜ Sizes (OpPart o) (lent (now (text .entry)) (now (frames .entry)) (now (types .entry)) (now (functions .entry)) (now (channels .entry))) (buffers (now (list .entry)) (now (scope .entry)) (now (sizes .entry))) p r (buffers (now (list .exit)) (now (scope .exit)) (now (sizes .exit))) ⌝ }
+    ensures { λ r. ⌜ Sizes (OpPart o) (lent (now (text .entry)) (now (frames .entry)) (now (types .entry)) (now (functions .entry))) (buffers (now (list .entry)) (now (scope .entry)) (now (sizes .entry))) p r (buffers (now (list .exit)) (now (scope .exit)) (now (sizes .exit))) ⌝ }
 {
-    let x = expr(
-        text,
-        frames,
-        types,
-        functions,
-        channels,
-        list,
-        scope,
-        sizes,
-        p,
-    );
+    let x = expr(text, frames, types, functions, list, scope, sizes, p);
     let Sizing::Is(a) = x else {
         return x;
     };
-    let y = expr(
-        text,
-        frames,
-        types,
-        functions,
-        channels,
-        list,
-        scope,
-        sizes,
-        behind(p, a),
-    );
+    let q = behind(p, a);
+    let y = expr(text, frames, types, functions, list, scope, sizes, q);
     let Sizing::Is(b) = y else {
         return y;
     };
@@ -407,7 +231,6 @@ fn several(
     frames: &[u32],
     types: &[u32],
     functions: &[u32],
-    channels: &[u32],
     list: &mut [u32],
     scope: &mut [u32],
     sizes: &mut [u8],
@@ -416,48 +239,31 @@ fn several(
     i: u32,
     n: u32,
 ) -> Counting
-    requires { ⌜ Room (suc (p .levels)) (length (now scope)) (length (now sizes)) p ⌝ }
-    requires { ⌜ n < byteRange ⌝ }
-    ensures { λ r. ⌜ SizesAll (lent (now (text .entry)) (now (frames .entry)) (now (types .entry)) (now (functions .entry)) (now (channels .entry))) (buffers (now (list .entry)) (now (scope .entry)) (now (sizes .entry))) p i n (now (row .entry)) r (buffers (now (list .exit)) (now (scope .exit)) (now (sizes .exit))) (now (row .exit)) ⌝ }
+    requires { ⌜ Room (suc (p .levels)) (length (now scope)) (length (now sizes)) p × (n < byteRange) ⌝ }
+    ensures { λ r. ⌜ SizesAll (lent (now (text .entry)) (now (frames .entry)) (now (types .entry)) (now (functions .entry))) (buffers (now (list .entry)) (now (scope .entry)) (now (sizes .entry))) p i n (now (row .entry)) r (buffers (now (list .exit)) (now (scope .exit)) (now (sizes .exit))) (now (row .exit)) ⌝ }
 {
     if n <= i {
         return none(p);
     }
-    let x = expr(
+    let x = expr(text, frames, types, functions, list, scope, sizes, p);
+    let Sizing::Is(a) = x else {
+        return refused_all(x);
+    };
+    put(row, i as usize, kind_word(a));
+    let y = several(
         text,
         frames,
         types,
         functions,
-        channels,
         list,
         scope,
         sizes,
-        p,
+        behind(p, a),
+        row,
+        i + 1,
+        n,
     );
-    match x {
-        Sizing::Refused(m, frame) => Counting::Refused(m, frame),
-        Sizing::Is(a) => {
-            put(row, i as usize, kind_word(a));
-            let y = several(
-                text,
-                frames,
-                types,
-                functions,
-                channels,
-                list,
-                scope,
-                sizes,
-                behind(p, a),
-                row,
-                i + 1,
-                n,
-            );
-            let Counting::Are(b) = y else {
-                return y;
-            };
-            one_more(a, b)
-        }
-    }
+    one_more(a, y)
 }
 
 // `18`: a call and its arguments, which are the scope of its body.
@@ -466,7 +272,6 @@ fn call(
     frames: &[u32],
     types: &[u32],
     functions: &[u32],
-    channels: &[u32],
     list: &mut [u32],
     scope: &mut [u32],
     sizes: &mut [u8],
@@ -475,47 +280,55 @@ fn call(
 ) -> Sizing
     requires { ⌜ Room (suc (p .levels)) (length (now scope)) (length (now sizes)) p ⌝ }
     requires { ⌜ f < byteRange ⌝ }
-    ensures { λ r. ⌜ Sizes (CallPart f) (lent (now (text .entry)) (now (frames .entry)) (now (types .entry)) (now (functions .entry)) (now (channels .entry))) (buffers (now (list .entry)) (now (scope .entry)) (now (sizes .entry))) p r (buffers (now (list .exit)) (now (scope .exit)) (now (sizes .exit))) ⌝ }
+    ensures { λ r. ⌜ Sizes (CallPart f) (lent (now (text .entry)) (now (frames .entry)) (now (types .entry)) (now (functions .entry))) (buffers (now (list .entry)) (now (scope .entry)) (now (sizes .entry))) p r (buffers (now (list .exit)) (now (scope .exit)) (now (sizes .exit))) ⌝ }
 {
     let n = arity(functions, f);
-    let mut inner = [0u32; VARIABLES_MOST as usize];
-    let mut named = [0u8; SIZE_VARIABLES_MOST as usize];
+    let mut row = [0u32; VARIABLES_MOST as usize];
     let x = several(
         text,
         frames,
         types,
         functions,
-        channels,
         list,
         scope,
         sizes,
         p,
-        &mut inner,
+        &mut row,
         0,
         n,
     );
     let Counting::Are(a) = x else {
         return refused(x);
     };
-    let m = named_sizes(&inner, n, &mut named);
+    apply(text, frames, types, functions, list, &mut row, p, a, f, n)
+}
+
+// A call whose n arguments were checked: their types, which scope holds, and the sizes of the named ones are the scope of its body.
+fn apply(
+    text: &[u8],
+    frames: &[u32],
+    types: &[u32],
+    functions: &[u32],
+    list: &mut [u32],
+    scope: &mut [u32],
+    p: Place,
+    a: Counted,
+    f: u32,
+    n: u32,
+) -> Sizing
+    requires { ⌜ Room (suc (p .levels)) (length (now scope)) sizeVariablesMost p ⌝ }
+    requires { ⌜ (p .used ≤ a .used) × ((f < byteRange) × (n < byteRange)) ⌝ }
+    ensures { λ r. ⌜ Applies f n a (lent (now (text .entry)) (now (frames .entry)) (now (types .entry)) (now (functions .entry))) (now (list .entry)) (now (scope .entry)) p r (now (list .exit)) ⌝ }
+{
+    let mut held = [0u8; SIZE_VARIABLES_MOST as usize];
+    let m = named_sizes(scope, n, &mut held);
     let next = a.next;
     let q = moved(p, next, a.used);
-    let y = prepare(text, frames, functions, &named, q, f, n, m);
+    let y = prepare(text, frames, functions, &held, q, f, n, m);
     let Entering::Ready(e) = y else {
         return not_entered(y);
     };
-    let z = enter(
-        text,
-        frames,
-        types,
-        functions,
-        channels,
-        list,
-        &mut inner,
-        &mut named,
-        q,
-        e,
-    );
+    let z = enter(text, frames, types, functions, list, scope, &mut held, q, e);
     let Sizing::Is(b) = z else {
         return z;
     };
@@ -528,7 +341,6 @@ fn enter(
     frames: &[u32],
     types: &[u32],
     functions: &[u32],
-    channels: &[u32],
     list: &mut [u32],
     scope: &mut [u32],
     sizes: &mut [u8],
@@ -537,24 +349,13 @@ fn enter(
 ) -> Sizing
     requires { ⌜ Room (suc (p .levels)) (length (now scope)) (length (now sizes)) p ⌝ }
     requires { ⌜ Entered e ⌝ }
-    ensures { λ r. ⌜ Enters e (lent (now (text .entry)) (now (frames .entry)) (now (types .entry)) (now (functions .entry)) (now (channels .entry))) (buffers (now (list .entry)) (now (scope .entry)) (now (sizes .entry))) p r (buffers (now (list .exit)) (now (scope .exit)) (now (sizes .exit))) ⌝ }
+    ensures { λ r. ⌜ Enters e (lent (now (text .entry)) (now (frames .entry)) (now (types .entry)) (now (functions .entry))) (buffers (now (list .entry)) (now (scope .entry)) (now (sizes .entry))) p r (buffers (now (list .exit)) (now (scope .exit)) (now (sizes .exit))) ⌝ }
 {
     let x = find(list, p.used, e.function, sizes);
     let kind = e.kind;
     match x {
         Search::Found(numbers) => leaf(kind, numbers, p),
-        Search::Absent => body(
-            text,
-            frames,
-            types,
-            functions,
-            channels,
-            list,
-            scope,
-            sizes,
-            p,
-            e,
-        ),
+        Search::Absent => body(text, frames, types, functions, list, scope, sizes, p, e),
     }
 }
 
@@ -564,7 +365,6 @@ fn body(
     frames: &[u32],
     types: &[u32],
     functions: &[u32],
-    channels: &[u32],
     list: &mut [u32],
     scope: &mut [u32],
     sizes: &mut [u8],
@@ -573,24 +373,14 @@ fn body(
 ) -> Sizing
     requires { ⌜ Room (suc (p .levels)) (length (now scope)) (length (now sizes)) p ⌝ }
     requires { ⌜ Entered e ⌝ }
-    ensures { λ r. ⌜ EntersNew e (lent (now (text .entry)) (now (frames .entry)) (now (types .entry)) (now (functions .entry)) (now (channels .entry))) (buffers (now (list .entry)) (now (scope .entry)) (now (sizes .entry))) p r (buffers (now (list .exit)) (now (scope .exit)) (now (sizes .exit))) ⌝ }
+    ensures { λ r. ⌜ EntersNew e (lent (now (text .entry)) (now (frames .entry)) (now (types .entry)) (now (functions .entry))) (buffers (now (list .entry)) (now (scope .entry)) (now (sizes .entry))) p r (buffers (now (list .exit)) (now (scope .exit)) (now (sizes .exit))) ⌝ }
 {
     if INSTANCES_MOST <= p.used as usize {
         return Sizing::Refused(14, p.line + 1);
     }
     add(list, p.used, e.function, sizes);
     let q = body_place(functions, p, e);
-    let x = expr(
-        text,
-        frames,
-        types,
-        functions,
-        channels,
-        list,
-        scope,
-        sizes,
-        q,
-    );
+    let x = expr(text, frames, types, functions, list, scope, sizes, q);
     let Sizing::Is(a) = x else {
         return x;
     };
@@ -610,7 +400,6 @@ fn construct(
     frames: &[u32],
     types: &[u32],
     functions: &[u32],
-    channels: &[u32],
     list: &mut [u32],
     scope: &mut [u32],
     sizes: &mut [u8],
@@ -620,7 +409,7 @@ fn construct(
 ) -> Sizing
     requires { ⌜ Room (suc (p .levels)) (length (now scope)) (length (now sizes)) p ⌝ }
     requires { ⌜ (t < byteRange) × (c < byteRange) ⌝ }
-    ensures { λ r. ⌜ Sizes (ConPart t c) (lent (now (text .entry)) (now (frames .entry)) (now (types .entry)) (now (functions .entry)) (now (channels .entry))) (buffers (now (list .entry)) (now (scope .entry)) (now (sizes .entry))) p r (buffers (now (list .exit)) (now (scope .exit)) (now (sizes .exit))) ⌝ }
+    ensures { λ r. ⌜ Sizes (ConPart t c) (lent (now (text .entry)) (now (frames .entry)) (now (types .entry)) (now (functions .entry))) (buffers (now (list .entry)) (now (scope .entry)) (now (sizes .entry))) p r (buffers (now (list .exit)) (now (scope .exit)) (now (sizes .exit))) ⌝ }
 {
     let n = fields(types, t, c);
     let mut row = [0u32; FIELDS_MOST];
@@ -629,7 +418,6 @@ fn construct(
         frames,
         types,
         functions,
-        channels,
         list,
         scope,
         sizes,
@@ -650,7 +438,6 @@ fn case_of(
     frames: &[u32],
     types: &[u32],
     functions: &[u32],
-    channels: &[u32],
     list: &mut [u32],
     scope: &mut [u32],
     sizes: &mut [u8],
@@ -659,19 +446,9 @@ fn case_of(
 ) -> Sizing
     requires { ⌜ Room (suc (p .levels)) (length (now scope)) (length (now sizes)) p ⌝ }
     requires { ⌜ t < byteRange ⌝ }
-    ensures { λ r. ⌜ Sizes (CasePart t) (lent (now (text .entry)) (now (frames .entry)) (now (types .entry)) (now (functions .entry)) (now (channels .entry))) (buffers (now (list .entry)) (now (scope .entry)) (now (sizes .entry))) p r (buffers (now (list .exit)) (now (scope .exit)) (now (sizes .exit))) ⌝ }
+    ensures { λ r. ⌜ Sizes (CasePart t) (lent (now (text .entry)) (now (frames .entry)) (now (types .entry)) (now (functions .entry))) (buffers (now (list .entry)) (now (scope .entry)) (now (sizes .entry))) p r (buffers (now (list .exit)) (now (scope .exit)) (now (sizes .exit))) ⌝ }
 {
-    let x = expr(
-        text,
-        frames,
-        types,
-        functions,
-        channels,
-        list,
-        scope,
-        sizes,
-        p,
-    );
+    let x = expr(text, frames, types, functions, list, scope, sizes, p);
     let Sizing::Is(a) = x else {
         return x;
     };
@@ -685,25 +462,9 @@ fn case_of(
     let TypeAt::Is(wanted, next) = y else {
         return Sizing::Refused(10, p.line + 1);
     };
-    let s = Subject {
-        of: t,
-        size: m,
-        kind: wanted,
-    };
+    let s = subject(t, m, wanted);
     let q = moved(p, next, a.used);
-    let z = branches(
-        text,
-        frames,
-        types,
-        functions,
-        channels,
-        list,
-        scope,
-        sizes,
-        q,
-        s,
-        0,
-    );
+    let z = branches(text, frames, types, functions, list, scope, sizes, q, s, 0);
     let Sizing::Is(b) = z else {
         return z;
     };
@@ -716,7 +477,6 @@ fn branches(
     frames: &[u32],
     types: &[u32],
     functions: &[u32],
-    channels: &[u32],
     list: &mut [u32],
     scope: &mut [u32],
     sizes: &mut [u8],
@@ -726,41 +486,19 @@ fn branches(
 ) -> Sizing
     requires { ⌜ Room (suc (p .levels)) (length (now scope)) (length (now sizes)) p ⌝ }
     requires { ⌜ (s .of < byteRange) × (k ≤ byteRange) ⌝ }
-    ensures { λ r. ⌜ SizesBranches s k (lent (now (text .entry)) (now (frames .entry)) (now (types .entry)) (now (functions .entry)) (now (channels .entry))) (buffers (now (list .entry)) (now (scope .entry)) (now (sizes .entry))) p r (buffers (now (list .exit)) (now (scope .exit)) (now (sizes .exit))) ⌝ }
+    ensures { λ r. ⌜ SizesBranches s k (lent (now (text .entry)) (now (frames .entry)) (now (types .entry)) (now (functions .entry))) (buffers (now (list .entry)) (now (scope .entry)) (now (sizes .entry))) p r (buffers (now (list .exit)) (now (scope .exit)) (now (sizes .exit))) ⌝ }
 {
     if constructors(types, s.of) <= k {
         let kind = s.kind;
         return leaf(kind, nothing(), p);
     }
-    let x = branch(
-        text,
-        frames,
-        types,
-        functions,
-        channels,
-        list,
-        scope,
-        sizes,
-        p,
-        s,
-        k,
-    );
+    let x = branch(text, frames, types, functions, list, scope, sizes, p, s, k);
     let Sizing::Is(a) = x else {
         return x;
     };
-    let y = branches(
-        text,
-        frames,
-        types,
-        functions,
-        channels,
-        list,
-        scope,
-        sizes,
-        behind(p, a),
-        s,
-        k + 1,
-    );
+    let q = behind(p, a);
+    let j = k + 1;
+    let y = branches(text, frames, types, functions, list, scope, sizes, q, s, j);
     let Sizing::Is(b) = y else {
         return y;
     };
@@ -773,7 +511,6 @@ fn branch(
     frames: &[u32],
     types: &[u32],
     functions: &[u32],
-    channels: &[u32],
     list: &mut [u32],
     scope: &mut [u32],
     sizes: &mut [u8],
@@ -783,7 +520,7 @@ fn branch(
 ) -> Sizing
     requires { ⌜ Room (suc (p .levels)) (length (now scope)) (length (now sizes)) p ⌝ }
     requires { ⌜ (s .of < byteRange) × (k < byteRange) ⌝ }
-    ensures { λ r. ⌜ SizesBranch s k (lent (now (text .entry)) (now (frames .entry)) (now (types .entry)) (now (functions .entry)) (now (channels .entry))) (buffers (now (list .entry)) (now (scope .entry)) (now (sizes .entry))) p r (buffers (now (list .exit)) (now (scope .exit)) (now (sizes .exit))) ⌝ }
+    ensures { λ r. ⌜ SizesBranch s k (lent (now (text .entry)) (now (frames .entry)) (now (types .entry)) (now (functions .entry))) (buffers (now (list .entry)) (now (scope .entry)) (now (sizes .entry))) p r (buffers (now (list .exit)) (now (scope .exit)) (now (sizes .exit))) ⌝ }
 {
     let own = own_fields(types, s.of, k);
     let m = s.size;
@@ -795,19 +532,7 @@ fn branch(
         return leaf(kind, nothing(), moved(p, next, p.used));
     }
     first_split(sizes, p.sizes as usize, own, m - 1);
-    at_splits(
-        text,
-        frames,
-        types,
-        functions,
-        channels,
-        list,
-        scope,
-        sizes,
-        p,
-        s,
-        k,
-    )
+    at_splits(text, frames, types, functions, list, scope, sizes, p, s, k)
 }
 
 // A branch for every split from the one on that stands among the sizes.
@@ -816,7 +541,6 @@ fn at_splits(
     frames: &[u32],
     types: &[u32],
     functions: &[u32],
-    channels: &[u32],
     list: &mut [u32],
     scope: &mut [u32],
     sizes: &mut [u8],
@@ -826,33 +550,18 @@ fn at_splits(
 ) -> Sizing
     requires { ⌜ Room (suc (p .levels)) (length (now scope)) (length (now sizes)) p ⌝ }
     requires { ⌜ (s .of < byteRange) × (k < byteRange) ⌝ }
-    ensures { λ r. ⌜ SizesSplits s k (lent (now (text .entry)) (now (frames .entry)) (now (types .entry)) (now (functions .entry)) (now (channels .entry))) (buffers (now (list .entry)) (now (scope .entry)) (now (sizes .entry))) p r (buffers (now (list .exit)) (now (scope .exit)) (now (sizes .exit))) ⌝ }
+    ensures { λ r. ⌜ SizesSplits s k (lent (now (text .entry)) (now (frames .entry)) (now (types .entry)) (now (functions .entry))) (buffers (now (list .entry)) (now (scope .entry)) (now (sizes .entry))) p r (buffers (now (list .exit)) (now (scope .exit)) (now (sizes .exit))) ⌝ }
 {
     let n = fields(types, s.of, k);
     let own = own_fields(types, s.of, k);
     let at = p.at;
     let kind = s.kind;
-    let mut all = Checked {
-        kind: kind,
-        numbers: nothing(),
-        next: at,
-        used: p.used,
-    };
+    let mut all = nothing_yet(kind, p);
     let mut more = true;
     while more {
         bind_fields(types, scope, sizes, s.of, k, p.variables, p.sizes);
         let q = widen(moved(p, at, all.used), n, own);
-        let x = expr(
-            text,
-            frames,
-            types,
-            functions,
-            channels,
-            list,
-            scope,
-            sizes,
-            q,
-        );
+        let x = expr(text, frames, types, functions, list, scope, sizes, q);
         let Sizing::Is(a) = x else {
             return x;
         };
@@ -871,14 +580,13 @@ fn adjust(
     frames: &[u32],
     types: &[u32],
     functions: &[u32],
-    channels: &[u32],
     list: &mut [u32],
     scope: &mut [u32],
     sizes: &mut [u8],
     p: Place,
 ) -> Sizing
     requires { ⌜ Room (suc (p .levels)) (length (now scope)) (length (now sizes)) p ⌝ }
-    ensures { λ r. ⌜ Sizes AdjPart (lent (now (text .entry)) (now (frames .entry)) (now (types .entry)) (now (functions .entry)) (now (channels .entry))) (buffers (now (list .entry)) (now (scope .entry)) (now (sizes .entry))) p r (buffers (now (list .exit)) (now (scope .exit)) (now (sizes .exit))) ⌝ }
+    ensures { λ r. ⌜ Sizes AdjPart (lent (now (text .entry)) (now (frames .entry)) (now (types .entry)) (now (functions .entry))) (buffers (now (list .entry)) (now (scope .entry)) (now (sizes .entry))) p r (buffers (now (list .exit)) (now (scope .exit)) (now (sizes .exit))) ⌝ }
 {
     let at = p.at;
     let line = frame_line(text, frames, p.line);
@@ -887,17 +595,7 @@ fn adjust(
         return Sizing::Refused(10, p.line + 1);
     };
     let q = moved(p, next, p.used);
-    let x = expr(
-        text,
-        frames,
-        types,
-        functions,
-        channels,
-        list,
-        scope,
-        sizes,
-        q,
-    );
+    let x = expr(text, frames, types, functions, list, scope, sizes, q);
     let Sizing::Is(a) = x else {
         return x;
     };
@@ -917,28 +615,16 @@ fn fit(
     frames: &[u32],
     types: &[u32],
     functions: &[u32],
-    channels: &[u32],
     list: &mut [u32],
     scope: &mut [u32],
     sizes: &mut [u8],
     p: Place,
     k: u32,
 ) -> Sizing
-    requires { ⌜ Room (suc (p .levels)) (length (now scope)) (length (now sizes)) p ⌝ }
-    requires { ⌜ k < byteRange ⌝ }
-    ensures { λ r. ⌜ Sizes (FitPart k) (lent (now (text .entry)) (now (frames .entry)) (now (types .entry)) (now (functions .entry)) (now (channels .entry))) (buffers (now (list .entry)) (now (scope .entry)) (now (sizes .entry))) p r (buffers (now (list .exit)) (now (scope .exit)) (now (sizes .exit))) ⌝ }
+    requires { ⌜ Room (suc (p .levels)) (length (now scope)) (length (now sizes)) p × (k < byteRange) ⌝ }
+    ensures { λ r. ⌜ Sizes (FitPart k) (lent (now (text .entry)) (now (frames .entry)) (now (types .entry)) (now (functions .entry))) (buffers (now (list .entry)) (now (scope .entry)) (now (sizes .entry))) p r (buffers (now (list .exit)) (now (scope .exit)) (now (sizes .exit))) ⌝ }
 {
-    let x = expr(
-        text,
-        frames,
-        types,
-        functions,
-        channels,
-        list,
-        scope,
-        sizes,
-        p,
-    );
+    let x = expr(text, frames, types, functions, list, scope, sizes, p);
     let Sizing::Is(a) = x else {
         return x;
     };
@@ -946,37 +632,15 @@ fn fit(
     let SizedType::Named(t, _) = kind else {
         return Sizing::Refused(9, p.line + 1);
     };
-    put(
-        scope,
-        p.variables as usize,
-        word_of(SizedType::Named(t, k as u8)),
-    );
+    let word = word_of(SizedType::Named(t, k as u8));
+    put(scope, p.variables as usize, word);
     let q = widen(behind(p, a), 1, 0);
-    let y = expr(
-        text,
-        frames,
-        types,
-        functions,
-        channels,
-        list,
-        scope,
-        sizes,
-        q,
-    );
+    let y = expr(text, frames, types, functions, list, scope, sizes, q);
     let Sizing::Is(b) = y else {
         return y;
     };
-    let z = expr(
-        text,
-        frames,
-        types,
-        functions,
-        channels,
-        list,
-        scope,
-        sizes,
-        behind(p, b),
-    );
+    let r = behind(p, b);
+    let z = expr(text, frames, types, functions, list, scope, sizes, r);
     let Sizing::Is(d) = z else {
         return z;
     };

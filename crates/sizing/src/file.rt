@@ -12,8 +12,9 @@ use super::Counting;
 use super::Place;
 use super::Sizing;
 use super::cycle::expr;
-use super::leaves::is_kind;
-use super::leaves::type_in;
+use super::leaves::channel_type;
+use super::numbers::is_kind;
+use super::numbers::refused_all;
 use estimate::after;
 use estimate::nothing;
 use index::CHANNEL_WORDS;
@@ -59,6 +60,7 @@ fn outer_place(n: Counts, c: u32, at: usize, used: u32) -> Place
         at: Cursor { at: at },
         levels: NESTING_MOST,
         types: n.types,
+        first: n.types + n.functions,
         line: n.types + n.functions + c,
         around: 0,
         weight: 0,
@@ -82,19 +84,17 @@ fn channel(
     used: u32,
 ) -> Sizing
     requires { ⌜ Few n × ((c < channelsMost) × (word < channelWords)) ⌝ }
-    ensures { λ r. ⌜ SizesChannel (lent (now (text .entry)) (now (frames .entry)) (now (types .entry)) (now (functions .entry)) (now (channels .entry))) (now (list .entry)) n c word used r (now (list .exit)) ⌝ }
+    ensures { λ r. ⌜ SizesChannel (lent (now (text .entry)) (now (frames .entry)) (now (types .entry)) (now (functions .entry))) (now (channels .entry)) (now (list .entry)) n c word used r (now (list .exit)) ⌝ }
 {
     let mut scope = [0u32; VARIABLES_MOST as usize];
     let mut sizes = [0u8; SIZE_VARIABLES_MOST as usize];
-    let entry = CHANNEL_WORDS * (c as usize);
-    let at = word_at(channels, entry + word) as usize;
+    let at = word_at(channels, CHANNEL_WORDS * (c as usize) + word) as usize;
     let p = outer_place(n, c, at, used);
     let x = expr(
         text,
         frames,
         types,
         functions,
-        channels,
         list,
         &mut scope,
         &mut sizes,
@@ -103,7 +103,7 @@ fn channel(
     let Sizing::Is(a) = x else {
         return x;
     };
-    if !is_kind(a, type_in(channels, entry)) {
+    if !is_kind(a, channel_type(text, frames, p, c)) {
         return Sizing::Refused(11, p.line + 1);
     }
     x
@@ -149,7 +149,7 @@ fn channels_from(
     used: u32,
 ) -> Counting
     requires { ⌜ Few n × (word < channelWords) ⌝ }
-    ensures { λ r. ⌜ SizesChannels (lent (now (text .entry)) (now (frames .entry)) (now (types .entry)) (now (functions .entry)) (now (channels .entry))) (now (list .entry)) n from word used r (now (list .exit)) ⌝ }
+    ensures { λ r. ⌜ SizesChannels (lent (now (text .entry)) (now (frames .entry)) (now (types .entry)) (now (functions .entry))) (now (channels .entry)) (now (list .entry)) n from word used r (now (list .exit)) ⌝ }
 {
     let last = n.inputs + n.nodes;
     let mut all = none_yet(used);
@@ -167,14 +167,10 @@ fn channels_from(
             word,
             all.used,
         );
-        match x {
-            Sizing::Refused(m, frame) => {
-                return Counting::Refused(m, frame);
-            }
-            Sizing::Is(a) => {
-                all = joined(all, a);
-            }
-        }
+        let Sizing::Is(a) = x else {
+            return refused_all(x);
+        };
+        all = joined(all, a);
         c += 1;
     }
     Counting::Are(all)
@@ -190,7 +186,7 @@ fn initials(
     list: &mut [u32],
     counts: Counts,
 ) -> Counting
-    ensures { λ r. ⌜ SizesInitials (lent (now (text .entry)) (now (frames .entry)) (now (types .entry)) (now (functions .entry)) (now (channels .entry))) (now (list .entry)) counts r (now (list .exit)) ⌝ }
+    ensures { λ r. ⌜ SizesInitials (lent (now (text .entry)) (now (frames .entry)) (now (types .entry)) (now (functions .entry))) (now (channels .entry)) (now (list .entry)) counts r (now (list .exit)) ⌝ }
 {
     clear(list);
     if !limited(counts) {
@@ -220,7 +216,7 @@ pub fn sized_file(
     list: &mut [u32],
     counts: Counts,
 ) -> Counting
-    ensures { λ r. ⌜ SizesFile (lent (now (text .entry)) (now (frames .entry)) (now (types .entry)) (now (functions .entry)) (now (channels .entry))) (now (list .entry)) counts r (now (list .exit)) ⌝ }
+    ensures { λ r. ⌜ SizesFile (lent (now (text .entry)) (now (frames .entry)) (now (types .entry)) (now (functions .entry))) (now (channels .entry)) (now (list .entry)) counts r (now (list .exit)) ⌝ }
 {
     let x = initials(text, frames, types, functions, channels, list, counts);
     let Counting::Are(a) = x else {

@@ -2,18 +2,21 @@
 mod cycle;
 pub mod file;
 mod leaves;
+mod numbers;
+mod places;
 
 use estimate::Estimate;
 use sizes::SizedType;
 use text::Cursor;
 
-// Where an expression stands: its place in the line of a frame, the levels left, how many types the file has, the line counted
-// from 0, the function around it and one (0 where there is none) at its summed measure, how many variables and size variables
-// are in scope, and how many instances have been entered.
+// Where an expression stands: its place in the line of a frame, the levels left, how many types the file has, the line of the
+// first channel and its own line, both counted from 0, the function around it and one (0 where there is none) at its summed
+// measure, how many variables and size variables are in scope, and how many instances have been entered.
 pub struct Place {
     pub at: Cursor,
     pub levels: u32,
     pub types: u32,
+    pub first: u32,
     pub line: u32,
     pub around: u32,
     pub weight: u32,

@@ -2,7 +2,6 @@
 pub mod lines;
 
 ghost use mathlib.Core.Path.{_≡_};
-ghost use mathlib.Core.Bool.{true, false};
 ghost use Prim.Native.Nat.{_<_, _^_};
 ghost use Rattle.language.specs.Limits.{byteRange};
 ghost use Rattle.language.specs.Parser.{byte as byteRead, index as indexRead, count as countRead};

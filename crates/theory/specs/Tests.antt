@@ -1,25 +1,16 @@
--- What a test that passed, or a partial answer that exists, says of its parts: laws of not, of chain and when, of needEach.
+-- What a test that passed, or a partial answer that exists, says of its parts: laws of chain and when, of needEach.
 use Prim.Native.Nat.{ℕ, suc}
 use mathlib.Core.List.{List, [], _∷_}
-use mathlib.Core.Bool.{Bool, true, false, not}
+use mathlib.Core.Bool.{Bool, true, false}
 use mathlib.Core.Option.{Option, none, some}
-use mathlib.Core.Path.{_≡_, refl, sym}
+use mathlib.Core.Path.{_≡_, refl}
 use native.Mathlib.Omega.{arith}
 use Rattle.language.specs.Result.{Result, ok, no, need, when, chain, needEach}
 use Rattle.language.specs.Within.{All, all-nil, all-cons}
-use Rattle.theory.specs.Lists.{none-is-not-some, false-is-not-true}
+use Rattle.theory.specs.Lists.{none-is-not-some}
 
 pub no-ok : {A : Type 0} {n frame : ℕ} {a : A} → no n frame ≡ ok a → ⊥
 no-ok e = let z : _≡_ {A = ℕ} 0 1 = cc in omega arith
-
--- ---- a negated test
-pub negated : (b : Bool) → not b ≡ true → b ≡ false
-negated true e = false-is-not-true e
-negated false e = refl
-
-pub affirmed : (b : Bool) → not b ≡ false → b ≡ true
-affirmed true e = refl
-affirmed false e = false-is-not-true (sym e)
 
 -- ---- partial answers: Whenever Q o says that the answer o, if there is one, satisfies Q
 pub data Whenever {A : Type 0} (Q : A → Type 0) : Option A → Type 0 where

@@ -1,5 +1,5 @@
 -- A frame's end: its refusal, 4 where bytes go on, or taken.
-use Rattle.reader.specs.FrameLaws.{ended-stops, ended-goes-on, ended-there}
+use Rattle.reader.specs.EndedLaws.{ended-stops, ended-goes-on, ended-there}
 use borrow.Author.Needs.{needs}
 use Rattle.reader.proofs.frames.ended.Statement.{statement}
 use Rattle.reader.proofs.frames.ended.Tie as tie

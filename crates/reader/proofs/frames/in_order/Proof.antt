@@ -1,5 +1,5 @@
 -- A frame is in order: kind by kind, from the last.
-use Rattle.reader.specs.FrameLaws.{node-order, nodes-before, input-order, inputs-before, function-order, functions-before, type-order, unknown-kind}
+use Rattle.reader.specs.OrderLaws.{node-order, nodes-before, input-order, inputs-before, function-order, functions-before, type-order, unknown-kind}
 use borrow.Author.Needs.{needs}
 use Rattle.reader.proofs.frames.in_order.Statement.{statement}
 use Rattle.reader.proofs.frames.in_order.Tie as tie

@@ -2,13 +2,13 @@
 use native.Mathlib.Omega.{arith}
 use mathlib.Core.Path.{refl, ap}
 use borrow.Author.Tests.{not-true, not-false}
-use Rattle.sizing.specs.ChannelLaws.{room-outer, channel-refused, channel-differs, channel-done}
+use Rattle.sizing.specs.ChannelLaws.{room-outer, line-counted, channel-refused, channel-differs, channel-done}
 use borrow.Author.Needs.{needs}
 use Rattle.sizing.proofs.file.channel.Statement.{statement}
 use Rattle.sizing.proofs.file.channel.Tie as tie
 
-mul-entry : tie.Need-mul-entry
-mul-entry c = omega (arith, (c .before .before .before .before .before .before .pre .1 .0))
+mul-word-at : tie.Need-mul-word-at
+mul-word-at c = omega (arith, (c .before .before .before .before .before .before .pre .1 .0))
 
 add-word-at : tie.Need-add-word-at
 add-word-at c = omega (arith, (c .before .before .before .before .before .before .pre .1 .0), (c .before .before .before .before .before .before .pre .1 .1))
@@ -38,37 +38,37 @@ enum-told : tie.Need-enum-told
 enum-told c = (c .match .keys2)
 
 same-length : tie.Need-same-length
-same-length c = (c .before .before .before .before .before .before .expr .kept .1 .1 .1 .1 .1 .0)
+same-length c = (c .before .before .before .before .before .before .expr .kept .1 .1 .1 .1 .0)
 
 returns : tie.Need-returns
 returns c = channel-refused (c .before .before .before .before .before .before .before .before .before .before .before .word-at .ensures) (c .before .before .before .before .before .before .before .before .before .before .outer-place .ensures) (c .before .before .before .before .before .before .expr .ensures) (c .enum-told .given .1)
 
-type-in-requires : tie.Need-type-in-requires
-type-in-requires c κs = tt
+channel-type-requires : tie.Need-channel-type-requires
+channel-type-requires c κs = line-counted (c .before .before .before .before .before .before .before .before .before .before .before .before .before .before .before .before .before .before .before .pre .0) (c .before .before .before .before .before .before .before .before .before .before .before .before .before .before .before .before .before .before .before .pre .1 .0) (c .before .before .before .before .before .before .before .before .before .before .before .outer-place .ensures)
 
 is-kind-requires : tie.Need-is-kind-requires
 is-kind-requires c κs = tt
 
-add-t29 : tie.Need-add-t29
-add-t29 c = omega (arith, ap (λ z. z .line) (c .before .before .before .before .before .before .before .before .before .before .before .before .before .before .before .outer-place .ensures), (c .before .before .before .before .before .before .before .before .before .before .before .before .before .before .before .before .before .before .before .before .before .before .before .pre .0 .types), (c .before .before .before .before .before .before .before .before .before .before .before .before .before .before .before .before .before .before .before .before .before .before .before .pre .0 .functions), (c .before .before .before .before .before .before .before .before .before .before .before .before .before .before .before .before .before .before .before .before .before .before .before .pre .1 .0))
+add-t30 : tie.Need-add-t30
+add-t30 c = omega (arith, ap (λ z. z .line) (c .before .before .before .before .before .before .before .before .before .before .before .before .before .before .before .outer-place .ensures), (c .before .before .before .before .before .before .before .before .before .before .before .before .before .before .before .before .before .before .before .before .before .before .before .pre .0 .types), (c .before .before .before .before .before .before .before .before .before .before .before .before .before .before .before .before .before .before .before .before .before .before .before .pre .0 .functions), (c .before .before .before .before .before .before .before .before .before .before .before .before .before .before .before .before .before .before .before .before .before .before .before .pre .1 .0))
 
 same-length-2 : tie.Need-same-length-2
-same-length-2 c = (c .before .before .before .before .before .before .before .before .before .before .before .expr .kept .1 .1 .1 .1 .1 .0)
+same-length-2 c = (c .before .before .before .before .before .before .before .before .before .before .before .expr .kept .1 .1 .1 .1 .0)
 
 returns-2 : tie.Need-returns-2
-returns-2 c = channel-differs (c .before .before .before .before .before .before .before .before .before .before .before .before .before .before .before .before .word-at .ensures) (c .before .before .before .before .before .before .before .before .before .before .before .before .before .before .before .outer-place .ensures) (c .before .before .before .before .before .before .before .before .before .before .before .expr .ensures) (c .before .before .before .before .before .x .given .1) (c .before .before .before .type-in .ensures) (c .before .before .is-kind .ensures) (not-true _ (c .before .if1 .taken))
+returns-2 c = channel-differs (c .before .before .before .before .before .before .before .before .before .before .before .before .before .before .before .before .word-at .ensures) (c .before .before .before .before .before .before .before .before .before .before .before .before .before .before .before .outer-place .ensures) (c .before .before .before .before .before .before .before .before .before .before .before .expr .ensures) (c .before .before .before .before .before .x .given .1) (c .before .before .before .channel-type .ensures) (c .before .before .is-kind .ensures) (not-true _ (c .before .if1 .taken))
 
 same-length-3 : tie.Need-same-length-3
-same-length-3 c = (c .before .before .before .before .before .before .before .before .before .before .expr .kept .1 .1 .1 .1 .1 .0)
+same-length-3 c = (c .before .before .before .before .before .before .before .before .before .before .expr .kept .1 .1 .1 .1 .0)
 
 returns-3 : tie.Need-returns-3
-returns-3 c = channel-done (c .before .before .before .before .before .before .before .before .before .before .before .before .before .before .before .word-at .ensures) (c .before .before .before .before .before .before .before .before .before .before .before .before .before .before .outer-place .ensures) (c .before .before .before .before .before .before .before .before .before .before .expr .ensures) (c .before .before .before .before .x .given .1) (c .before .before .type-in .ensures) (c .before .is-kind .ensures) (not-false _ (c .if1 .left)) refl
+returns-3 c = channel-done (c .before .before .before .before .before .before .before .before .before .before .before .before .before .before .before .word-at .ensures) (c .before .before .before .before .before .before .before .before .before .before .before .before .before .before .outer-place .ensures) (c .before .before .before .before .before .before .before .before .before .before .expr .ensures) (c .before .before .before .before .x .given .1) (c .before .before .channel-type .ensures) (c .before .is-kind .ensures) (not-false _ (c .if1 .left)) refl
 
 pub channel-spec : {M : Type 1} → statement M
 channel-spec =
     tie.close
     (tie.spec
-    mul-entry
+    mul-word-at
     add-word-at
     word-at-requires
     cast-at
@@ -80,9 +80,9 @@ channel-spec =
     enum-told
     same-length
     returns
-    type-in-requires
+    channel-type-requires
     is-kind-requires
-    add-t29
+    add-t30
     same-length-2
     returns-2
     same-length-3

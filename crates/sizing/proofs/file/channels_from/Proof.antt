@@ -9,7 +9,7 @@ use Rattle.sizing.proofs.file.channels_from.Statement.{statement}
 use Rattle.sizing.proofs.file.channels_from.Tie as tie
 
 abbrev Inv-loop : tie.InvT-loop
-Inv-loop text frames types functions channels list₀ n from word used last all₀ c₀ list all c = Along (lent text frames types functions channels) list₀ n from word used c list all × (length list ≡ length list₀)
+Inv-loop text frames types functions channels list₀ n from word used last all₀ c₀ list all c = Along (lent text frames types functions) channels list₀ n from word used c list all × (length list ≡ length list₀)
 
 abbrev μ-loop : tie.MeasureT-loop
 μ-loop text frames types functions channels list₀ n from word used last all₀ c₀ list all c = last - c
@@ -29,14 +29,17 @@ channel-requires c κs = ((c .before .before .before .before .before .before .be
 enum-known-x : tie.Need-enum-known-x Inv-loop μ-loop
 enum-known-x c = (c .match .keys1)
 
+enum-told : tie.Need-enum-told Inv-loop μ-loop
+enum-told c = (c .match .keys2)
+
+refused-all-requires : tie.Need-refused-all-requires Inv-loop μ-loop
+refused-all-requires c κs = tt
+
 same-length : tie.Need-same-length Inv-loop μ-loop
 same-length c = (c .before .before .before .before .before .channel .kept .1 .1 .1 .1 .1 .0) ∙ (c .before .before .before .before .before .before .before .before .loop .inv .1)
 
 returns : tie.Need-returns Inv-loop μ-loop
-returns c = along-no (c .before .before .before .before .before .before .before .before .loop .inv .0) (c .before .before .before .before .before .before .before .loop-test .taken) (c .before .before .before .before .before .channel .ensures) (c .before .x .given .1)
-
-enum-known-x-2 : tie.Need-enum-known-x-2 Inv-loop μ-loop
-enum-known-x-2 c = (c .match .keys2)
+returns c = along-no (c .before .before .before .before .before .before .before .before .loop .inv .0) (c .before .before .before .before .before .before .before .loop-test .taken) (c .before .before .before .before .before .channel .ensures) (c .before .enum-told .given .1) (c .refused-all .ensures)
 
 joined-requires : tie.Need-joined-requires Inv-loop μ-loop
 joined-requires c κs = tt
@@ -48,7 +51,7 @@ loop-less : tie.Need-loop-less Inv-loop μ-loop
 loop-less c = omega (arith, (c .before .before .before .before .before .before .before .before .loop-test .taken))
 
 loop-again : tie.Need-loop-again Inv-loop μ-loop
-loop-again c = (along-on (c .before .before .before .before .before .before .before .before .before .loop .inv .0) (c .before .before .before .before .before .before .before .before .loop-test .taken) (c .before .before .before .before .before .before .channel .ensures) (c .before .before .x2 .given .1) (c .joined .ensures), (c .before .before .before .before .before .before .channel .kept .1 .1 .1 .1 .1 .0) ∙ (c .before .before .before .before .before .before .before .before .before .loop .inv .1))
+loop-again c = (along-on (c .before .before .before .before .before .before .before .before .before .loop .inv .0) (c .before .before .before .before .before .before .before .before .loop-test .taken) (c .before .before .before .before .before .before .channel .ensures) (c .before .before .x .given .1) (c .joined .ensures), (c .before .before .before .before .before .before .channel .kept .1 .1 .1 .1 .1 .0) ∙ (c .before .before .before .before .before .before .before .before .before .loop .inv .1))
 
 same-length-2 : tie.Need-same-length-2 Inv-loop μ-loop
 same-length-2 c = (c .before .loop .inv .1)
@@ -67,9 +70,10 @@ channels-from-spec =
     loop-holds
     channel-requires
     enum-known-x
+    enum-told
+    refused-all-requires
     same-length
     returns
-    enum-known-x-2
     joined-requires
     add-c
     loop-less

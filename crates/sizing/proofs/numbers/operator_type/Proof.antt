@@ -1,7 +1,7 @@
 use native.Mathlib.Omega.{arith}
 use Rattle.sizing.specs.LeafLaws.{operator-int, operator-bool}
-use Rattle.sizing.proofs.leaves.operator_type.Statement.{statement}
-use Rattle.sizing.proofs.leaves.operator_type.Tie as tie
+use Rattle.sizing.proofs.numbers.operator_type.Statement.{statement}
+use Rattle.sizing.proofs.numbers.operator_type.Tie as tie
 
 returns : tie.Need-returns
 returns c = operator-int (c .if1 .taken)

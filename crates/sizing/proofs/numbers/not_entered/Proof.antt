@@ -1,8 +1,8 @@
 use mathlib.Core.Path.{sym, ap}
 use Rattle.sizing.specs.Leaves.{notEntered}
 use borrow.Author.Needs.{needs}
-use Rattle.sizing.proofs.leaves.not_entered.Statement.{statement}
-use Rattle.sizing.proofs.leaves.not_entered.Tie as tie
+use Rattle.sizing.proofs.numbers.not_entered.Statement.{statement}
+use Rattle.sizing.proofs.numbers.not_entered.Tie as tie
 
 enum-told : tie.Need-enum-told
 enum-told c = search needs

@@ -1,7 +1,7 @@
 use Rattle.sizing.specs.LeafLaws.{place-at}
 use borrow.Author.Needs.{needs}
-use Rattle.sizing.proofs.leaves.body_place.Statement.{statement}
-use Rattle.sizing.proofs.leaves.body_place.Tie as tie
+use Rattle.sizing.proofs.places.body_place.Statement.{statement}
+use Rattle.sizing.proofs.places.body_place.Tie as tie
 
 cast-cursor-in : tie.Need-cast-cursor-in
 cast-cursor-in c = search needs

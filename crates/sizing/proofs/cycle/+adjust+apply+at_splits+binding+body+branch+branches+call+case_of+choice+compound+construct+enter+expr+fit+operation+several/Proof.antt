@@ -1,8 +1,10 @@
+-- The cycle of the size checker meets its contracts: each need is answered by a law of the form's file; the measure is the load (`Loads`).
 use Prim.Native.Nat.{ℕ, _+_, _-_, _<_, _≤_}
 use mathlib.Core.Path.{_≡_, refl, ap, _∙_, subst}
 use native.Mathlib.Omega.{arith}
 use lib.ListN.{length, take, drop}
-use Rattle.sizing.specs.Loads.{load, load-same, load-moved, load-wide, load-down, load-body, room-same, room-wide, room-down, room-widens, scope-long, sizes-long, room-behind, room-rest, room-kept, room-body, room-inner, prepares, grows-behind, grows-wide}
+use borrow.Author.Tests.{not-true, not-false}
+use Rattle.sizing.specs.Loads.{load, load-same, load-moved, load-wide, load-down, load-body, room-same, room-wide, room-down, room-widens, scope-long, sizes-long, room-behind, room-rest, room-kept, room-body, room-inner, room-row, prepares, grows-behind, grows-wide}
 use Rattle.sizing.specs.TurnLaws.{put-is}
 use Rattle.sizing.specs.Agreement.{grows-to, grows-all-to}
 use mathlib.Core.Bool.{false}
@@ -17,10 +19,9 @@ use Rattle.sizes.specs.declared.SizedType.{SizedType}
 use Rattle.sizing.specs.KindLaws.{NotNamed}
 use Rattle.sizing.specs.Leaves.{Operands}
 use Rattle.language.specs.Limits.{byteRange}
-use Rattle.theory.specs.Tests.{negated, affirmed}
-use Rattle.sizing.specs.ExprLaws.{isLeaf, hasParts, expr-deep, expr-bool, expr-int, expr-variable, expr-now, expr-last, expr-compound, compound-is, compound-none, operands-of}
-use Rattle.sizing.specs.SeveralLaws.{several-none, several-first, several-rest, several-done}
-use Rattle.sizing.specs.CallLaws.{call-arguments, call-not-entered, call-body, call-done, entry-numbers}
+use Rattle.sizing.specs.ExprLaws.{isLeaf, hasParts, expr-deep, expr-bool, expr-int, expr-variable, expr-now, expr-last, expr-compound, now-counted, last-counted, compound-is, compound-none, operands-of}
+use Rattle.sizing.specs.SeveralLaws.{several-none, several-first, several-more}
+use Rattle.sizing.specs.CallLaws.{call-arguments, call-applied, apply-not-entered, apply-body, apply-done, entry-numbers}
 use Rattle.sizing.specs.EnterLaws.{enter-found, enter-absent, body-full, body-refused, body-differs, body-done}
 use Rattle.sizing.specs.ConLaws.{con-fields, con-made}
 use Rattle.sizing.specs.CaseLaws.{case-first, case-plain, case-outside, case-branches, case-done}
@@ -40,52 +41,55 @@ use borrow.Fn.Kinds.{In}
 use borrow.Fn.PlainCycle.{Measures, is, falls, and}
 use Rattle.sizing.proofs.cycle.adjust.Reads as adjust
 use Rattle.sizing.proofs.cycle.adjust.Kinds as adjust-kinds
-use Rattle.sizing.proofs.cycle.+adjust+at_splits+binding+body+branch+branches+call+case_of+choice+compound+construct+enter+expr+fit+operation+several.Lts-adjust as adjust-lts
+use Rattle.sizing.proofs.cycle.+adjust+apply+at_splits+binding+body+branch+branches+call+case_of+choice+compound+construct+enter+expr+fit+operation+several.Lts-adjust as adjust-lts
+use Rattle.sizing.proofs.cycle.apply.Reads as apply
+use Rattle.sizing.proofs.cycle.apply.Kinds as apply-kinds
+use Rattle.sizing.proofs.cycle.+adjust+apply+at_splits+binding+body+branch+branches+call+case_of+choice+compound+construct+enter+expr+fit+operation+several.Lts-apply as apply-lts
 use Rattle.sizing.proofs.cycle.at_splits.Reads as at-splits
 use Rattle.sizing.proofs.cycle.at_splits.Kinds as at-splits-kinds
-use Rattle.sizing.proofs.cycle.+adjust+at_splits+binding+body+branch+branches+call+case_of+choice+compound+construct+enter+expr+fit+operation+several.Lts-at_splits as at-splits-lts
+use Rattle.sizing.proofs.cycle.+adjust+apply+at_splits+binding+body+branch+branches+call+case_of+choice+compound+construct+enter+expr+fit+operation+several.Lts-at_splits as at-splits-lts
 use Rattle.sizing.proofs.cycle.binding.Reads as binding
 use Rattle.sizing.proofs.cycle.binding.Kinds as binding-kinds
-use Rattle.sizing.proofs.cycle.+adjust+at_splits+binding+body+branch+branches+call+case_of+choice+compound+construct+enter+expr+fit+operation+several.Lts-binding as binding-lts
+use Rattle.sizing.proofs.cycle.+adjust+apply+at_splits+binding+body+branch+branches+call+case_of+choice+compound+construct+enter+expr+fit+operation+several.Lts-binding as binding-lts
 use Rattle.sizing.proofs.cycle.body.Reads as body
 use Rattle.sizing.proofs.cycle.body.Kinds as body-kinds
-use Rattle.sizing.proofs.cycle.+adjust+at_splits+binding+body+branch+branches+call+case_of+choice+compound+construct+enter+expr+fit+operation+several.Lts-body as body-lts
+use Rattle.sizing.proofs.cycle.+adjust+apply+at_splits+binding+body+branch+branches+call+case_of+choice+compound+construct+enter+expr+fit+operation+several.Lts-body as body-lts
 use Rattle.sizing.proofs.cycle.branch.Reads as branch
 use Rattle.sizing.proofs.cycle.branch.Kinds as branch-kinds
-use Rattle.sizing.proofs.cycle.+adjust+at_splits+binding+body+branch+branches+call+case_of+choice+compound+construct+enter+expr+fit+operation+several.Lts-branch as branch-lts
+use Rattle.sizing.proofs.cycle.+adjust+apply+at_splits+binding+body+branch+branches+call+case_of+choice+compound+construct+enter+expr+fit+operation+several.Lts-branch as branch-lts
 use Rattle.sizing.proofs.cycle.branches.Reads as branches
 use Rattle.sizing.proofs.cycle.branches.Kinds as branches-kinds
-use Rattle.sizing.proofs.cycle.+adjust+at_splits+binding+body+branch+branches+call+case_of+choice+compound+construct+enter+expr+fit+operation+several.Lts-branches as branches-lts
+use Rattle.sizing.proofs.cycle.+adjust+apply+at_splits+binding+body+branch+branches+call+case_of+choice+compound+construct+enter+expr+fit+operation+several.Lts-branches as branches-lts
 use Rattle.sizing.proofs.cycle.call.Reads as call
 use Rattle.sizing.proofs.cycle.call.Kinds as call-kinds
-use Rattle.sizing.proofs.cycle.+adjust+at_splits+binding+body+branch+branches+call+case_of+choice+compound+construct+enter+expr+fit+operation+several.Lts-call as call-lts
+use Rattle.sizing.proofs.cycle.+adjust+apply+at_splits+binding+body+branch+branches+call+case_of+choice+compound+construct+enter+expr+fit+operation+several.Lts-call as call-lts
 use Rattle.sizing.proofs.cycle.case_of.Reads as case-of
 use Rattle.sizing.proofs.cycle.case_of.Kinds as case-of-kinds
-use Rattle.sizing.proofs.cycle.+adjust+at_splits+binding+body+branch+branches+call+case_of+choice+compound+construct+enter+expr+fit+operation+several.Lts-case_of as case-of-lts
+use Rattle.sizing.proofs.cycle.+adjust+apply+at_splits+binding+body+branch+branches+call+case_of+choice+compound+construct+enter+expr+fit+operation+several.Lts-case_of as case-of-lts
 use Rattle.sizing.proofs.cycle.choice.Reads as choice
 use Rattle.sizing.proofs.cycle.choice.Kinds as choice-kinds
-use Rattle.sizing.proofs.cycle.+adjust+at_splits+binding+body+branch+branches+call+case_of+choice+compound+construct+enter+expr+fit+operation+several.Lts-choice as choice-lts
+use Rattle.sizing.proofs.cycle.+adjust+apply+at_splits+binding+body+branch+branches+call+case_of+choice+compound+construct+enter+expr+fit+operation+several.Lts-choice as choice-lts
 use Rattle.sizing.proofs.cycle.compound.Reads as compound
 use Rattle.sizing.proofs.cycle.compound.Kinds as compound-kinds
-use Rattle.sizing.proofs.cycle.+adjust+at_splits+binding+body+branch+branches+call+case_of+choice+compound+construct+enter+expr+fit+operation+several.Lts-compound as compound-lts
+use Rattle.sizing.proofs.cycle.+adjust+apply+at_splits+binding+body+branch+branches+call+case_of+choice+compound+construct+enter+expr+fit+operation+several.Lts-compound as compound-lts
 use Rattle.sizing.proofs.cycle.construct.Reads as construct
 use Rattle.sizing.proofs.cycle.construct.Kinds as construct-kinds
-use Rattle.sizing.proofs.cycle.+adjust+at_splits+binding+body+branch+branches+call+case_of+choice+compound+construct+enter+expr+fit+operation+several.Lts-construct as construct-lts
+use Rattle.sizing.proofs.cycle.+adjust+apply+at_splits+binding+body+branch+branches+call+case_of+choice+compound+construct+enter+expr+fit+operation+several.Lts-construct as construct-lts
 use Rattle.sizing.proofs.cycle.enter.Reads as enter
 use Rattle.sizing.proofs.cycle.enter.Kinds as enter-kinds
-use Rattle.sizing.proofs.cycle.+adjust+at_splits+binding+body+branch+branches+call+case_of+choice+compound+construct+enter+expr+fit+operation+several.Lts-enter as enter-lts
+use Rattle.sizing.proofs.cycle.+adjust+apply+at_splits+binding+body+branch+branches+call+case_of+choice+compound+construct+enter+expr+fit+operation+several.Lts-enter as enter-lts
 use Rattle.sizing.proofs.cycle.expr.Reads as expr
 use Rattle.sizing.proofs.cycle.expr.Kinds as expr-kinds
-use Rattle.sizing.proofs.cycle.+adjust+at_splits+binding+body+branch+branches+call+case_of+choice+compound+construct+enter+expr+fit+operation+several.Lts-expr as expr-lts
+use Rattle.sizing.proofs.cycle.+adjust+apply+at_splits+binding+body+branch+branches+call+case_of+choice+compound+construct+enter+expr+fit+operation+several.Lts-expr as expr-lts
 use Rattle.sizing.proofs.cycle.fit.Reads as fit
 use Rattle.sizing.proofs.cycle.fit.Kinds as fit-kinds
-use Rattle.sizing.proofs.cycle.+adjust+at_splits+binding+body+branch+branches+call+case_of+choice+compound+construct+enter+expr+fit+operation+several.Lts-fit as fit-lts
+use Rattle.sizing.proofs.cycle.+adjust+apply+at_splits+binding+body+branch+branches+call+case_of+choice+compound+construct+enter+expr+fit+operation+several.Lts-fit as fit-lts
 use Rattle.sizing.proofs.cycle.operation.Reads as operation
 use Rattle.sizing.proofs.cycle.operation.Kinds as operation-kinds
-use Rattle.sizing.proofs.cycle.+adjust+at_splits+binding+body+branch+branches+call+case_of+choice+compound+construct+enter+expr+fit+operation+several.Lts-operation as operation-lts
+use Rattle.sizing.proofs.cycle.+adjust+apply+at_splits+binding+body+branch+branches+call+case_of+choice+compound+construct+enter+expr+fit+operation+several.Lts-operation as operation-lts
 use Rattle.sizing.proofs.cycle.several.Reads as several
 use Rattle.sizing.proofs.cycle.several.Kinds as several-kinds
-use Rattle.sizing.proofs.cycle.+adjust+at_splits+binding+body+branch+branches+call+case_of+choice+compound+construct+enter+expr+fit+operation+several.Lts-several as several-lts
+use Rattle.sizing.proofs.cycle.+adjust+apply+at_splits+binding+body+branch+branches+call+case_of+choice+compound+construct+enter+expr+fit+operation+several.Lts-several as several-lts
 use Rattle.estimate.proofs.nothing.Reads as nothing-reads
 use Rattle.estimate.proofs.one_cell.Reads as one-cell-reads
 use Rattle.forms.proofs.head_at.Reads as head-at-reads
@@ -103,39 +107,43 @@ use Rattle.rows.proofs.named_sizes.Reads as named-sizes-reads
 use Rattle.sizes.proofs.size_at.Reads as size-at-reads
 use Rattle.sizes.proofs.type_at.Reads as type-at-reads
 use Rattle.sizes.proofs.word_of.Reads as word-of-reads
-use Rattle.sizing.proofs.leaves.adjusted.Reads as adjusted-reads
-use Rattle.sizing.proofs.leaves.agree.Reads as agree-reads
-use Rattle.sizing.proofs.leaves.behind.Reads as behind-reads
-use Rattle.sizing.proofs.leaves.body_place.Reads as body-place-reads
-use Rattle.sizing.proofs.leaves.branched.Reads as branched-reads
-use Rattle.sizing.proofs.leaves.called.Reads as called-reads
-use Rattle.sizing.proofs.leaves.cased.Reads as cased-reads
-use Rattle.sizing.proofs.leaves.chosen.Reads as chosen-reads
-use Rattle.sizing.proofs.leaves.down.Reads as down-reads
-use Rattle.sizing.proofs.leaves.fitted.Reads as fitted-reads
-use Rattle.sizing.proofs.leaves.is_kind.Reads as is-kind-reads
-use Rattle.sizing.proofs.leaves.kind_word.Reads as kind-word-reads
-use Rattle.sizing.proofs.leaves.larger.Reads as larger-reads
-use Rattle.sizing.proofs.leaves.leaf.Reads as leaf-reads
+use Rattle.sizing.proofs.numbers.adjusted.Reads as adjusted-reads
+use Rattle.sizing.proofs.numbers.agree.Reads as agree-reads
+use Rattle.sizing.proofs.places.behind.Reads as behind-reads
+use Rattle.sizing.proofs.places.body_place.Reads as body-place-reads
+use Rattle.sizing.proofs.numbers.branched.Reads as branched-reads
+use Rattle.sizing.proofs.numbers.called.Reads as called-reads
+use Rattle.sizing.proofs.numbers.cased.Reads as cased-reads
+use Rattle.sizing.proofs.leaves.channel_type.Reads as channel-type-reads
+use Rattle.sizing.proofs.numbers.chosen.Reads as chosen-reads
+use Rattle.sizing.proofs.places.down.Reads as down-reads
+use Rattle.sizing.proofs.numbers.fitted.Reads as fitted-reads
+use Rattle.sizing.proofs.numbers.is_kind.Reads as is-kind-reads
+use Rattle.sizing.proofs.numbers.kind_word.Reads as kind-word-reads
+use Rattle.sizing.proofs.numbers.larger.Reads as larger-reads
+use Rattle.sizing.proofs.numbers.leaf.Reads as leaf-reads
 use Rattle.sizing.proofs.leaves.made.Reads as made-reads
-use Rattle.sizing.proofs.leaves.moved.Reads as moved-reads
-use Rattle.sizing.proofs.leaves.none.Reads as none-reads
-use Rattle.sizing.proofs.leaves.not_entered.Reads as not-entered-reads
-use Rattle.sizing.proofs.leaves.one_more.Reads as one-more-reads
-use Rattle.sizing.proofs.leaves.operated.Reads as operated-reads
+use Rattle.sizing.proofs.places.moved.Reads as moved-reads
+use Rattle.sizing.proofs.numbers.none.Reads as none-reads
+use Rattle.sizing.proofs.numbers.not_entered.Reads as not-entered-reads
+use Rattle.sizing.proofs.numbers.nothing_yet.Reads as nothing-yet-reads
+use Rattle.sizing.proofs.numbers.one_more.Reads as one-more-reads
+use Rattle.sizing.proofs.numbers.operated.Reads as operated-reads
 use Rattle.sizing.proofs.leaves.prepare.Reads as prepare-reads
-use Rattle.sizing.proofs.leaves.refused.Reads as refused-reads
-use Rattle.sizing.proofs.leaves.slotted.Reads as slotted-reads
+use Rattle.sizing.proofs.numbers.refused.Reads as refused-reads
+use Rattle.sizing.proofs.numbers.refused_all.Reads as refused-all-reads
+use Rattle.sizing.proofs.numbers.slotted.Reads as slotted-reads
+use Rattle.sizing.proofs.numbers.subject.Reads as subject-reads
 use Rattle.sizing.proofs.leaves.type_in.Reads as type-in-reads
-use Rattle.sizing.proofs.leaves.widen.Reads as widen-reads
-use Rattle.sizing.proofs.leaves.with_let.Reads as with-let-reads
+use Rattle.sizing.proofs.places.widen.Reads as widen-reads
+use Rattle.sizing.proofs.numbers.with_let.Reads as with-let-reads
 use Rattle.skipping.proofs.skip.Reads as skip-reads
 use Rattle.splits.proofs.first_split.Reads as first-split-reads
 use Rattle.splits.proofs.next_split.Reads as next-split-reads
-use Rattle.sizing.proofs.cycle.+adjust+at_splits+binding+body+branch+branches+call+case_of+choice+compound+construct+enter+expr+fit+operation+several.{
+use Rattle.sizing.proofs.cycle.+adjust+apply+at_splits+binding+body+branch+branches+call+case_of+choice+compound+construct+enter+expr+fit+operation+several.{
   statement,
 }
-use Rattle.sizing.proofs.cycle.+adjust+at_splits+binding+body+branch+branches+call+case_of+choice+compound+construct+enter+expr+fit+operation+several.Tie.{
+use Rattle.sizing.proofs.cycle.+adjust+apply+at_splits+binding+body+branch+branches+call+case_of+choice+compound+construct+enter+expr+fit+operation+several.Tie.{
   close,
 }
 
@@ -188,154 +196,163 @@ no-parts Adjust s = absurd (⊎-elim (λ z. omega (arith, z)) (λ z. omega (arit
 no-parts (Fit k) s = absurd (⊎-elim (λ z. omega (arith, z)) (λ z. omega (arith, z)) s)
 no-parts Missing s = refl
 
-abbrev μ-adjust : Measures 8 adjust-kinds.ps ℕ
-μ-adjust κs a = load (a .1 .1 .1 .1 .1 .1 .1 .1 .0) 900
+abbrev μ-adjust : Measures 7 adjust-kinds.ps ℕ
+μ-adjust κs a = load (a .1 .1 .1 .1 .1 .1 .1 .0) 900
 
-abbrev μ-at-splits : Measures 8 at-splits-kinds.ps ℕ
-μ-at-splits κs a = load (a .1 .1 .1 .1 .1 .1 .1 .1 .0) 100
+abbrev μ-apply : Measures 6 apply-kinds.ps ℕ
+μ-apply κs a = load (a .1 .1 .1 .1 .1 .1 .0) 800
 
-abbrev μ-binding : Measures 8 binding-kinds.ps ℕ
-μ-binding κs a = load (a .1 .1 .1 .1 .1 .1 .1 .1 .0) 900
+abbrev μ-at-splits : Measures 7 at-splits-kinds.ps ℕ
+μ-at-splits κs a = load (a .1 .1 .1 .1 .1 .1 .1 .0) 100
 
-abbrev μ-body : Measures 8 body-kinds.ps ℕ
-μ-body κs a = load (a .1 .1 .1 .1 .1 .1 .1 .1 .0) 80
+abbrev μ-binding : Measures 7 binding-kinds.ps ℕ
+μ-binding κs a = load (a .1 .1 .1 .1 .1 .1 .1 .0) 900
 
-abbrev μ-branch : Measures 8 branch-kinds.ps ℕ
-μ-branch κs a = load (a .1 .1 .1 .1 .1 .1 .1 .1 .0) 200
+abbrev μ-body : Measures 7 body-kinds.ps ℕ
+μ-body κs a = load (a .1 .1 .1 .1 .1 .1 .1 .0) 80
 
-abbrev μ-branches : Measures 8 branches-kinds.ps ℕ
-μ-branches κs a = load (a .1 .1 .1 .1 .1 .1 .1 .1 .0) (300 + (byteRange - a .1 .1 .1 .1 .1 .1 .1 .1 .1 .1 .0))
+abbrev μ-branch : Measures 7 branch-kinds.ps ℕ
+μ-branch κs a = load (a .1 .1 .1 .1 .1 .1 .1 .0) 200
 
-abbrev μ-call : Measures 8 call-kinds.ps ℕ
-μ-call κs a = load (a .1 .1 .1 .1 .1 .1 .1 .1 .0) 900
+abbrev μ-branches : Measures 7 branches-kinds.ps ℕ
+μ-branches κs a = load (a .1 .1 .1 .1 .1 .1 .1 .0) (300 + (byteRange - a .1 .1 .1 .1 .1 .1 .1 .1 .1 .0))
 
-abbrev μ-case-of : Measures 8 case-of-kinds.ps ℕ
-μ-case-of κs a = load (a .1 .1 .1 .1 .1 .1 .1 .1 .0) 900
+abbrev μ-call : Measures 7 call-kinds.ps ℕ
+μ-call κs a = load (a .1 .1 .1 .1 .1 .1 .1 .0) 900
 
-abbrev μ-choice : Measures 8 choice-kinds.ps ℕ
-μ-choice κs a = load (a .1 .1 .1 .1 .1 .1 .1 .1 .0) 900
+abbrev μ-case-of : Measures 7 case-of-kinds.ps ℕ
+μ-case-of κs a = load (a .1 .1 .1 .1 .1 .1 .1 .0) 900
 
-abbrev μ-compound : Measures 8 compound-kinds.ps ℕ
-μ-compound κs a = load (a .1 .1 .1 .1 .1 .1 .1 .1 .0) 1000
+abbrev μ-choice : Measures 7 choice-kinds.ps ℕ
+μ-choice κs a = load (a .1 .1 .1 .1 .1 .1 .1 .0) 900
 
-abbrev μ-construct : Measures 8 construct-kinds.ps ℕ
-μ-construct κs a = load (a .1 .1 .1 .1 .1 .1 .1 .1 .0) 900
+abbrev μ-compound : Measures 7 compound-kinds.ps ℕ
+μ-compound κs a = load (a .1 .1 .1 .1 .1 .1 .1 .0) 1000
 
-abbrev μ-enter : Measures 8 enter-kinds.ps ℕ
-μ-enter κs a = load (a .1 .1 .1 .1 .1 .1 .1 .1 .0) 90
+abbrev μ-construct : Measures 7 construct-kinds.ps ℕ
+μ-construct κs a = load (a .1 .1 .1 .1 .1 .1 .1 .0) 900
 
-abbrev μ-expr : Measures 8 expr-kinds.ps ℕ
-μ-expr κs a = load (a .1 .1 .1 .1 .1 .1 .1 .1 .0) 0
+abbrev μ-enter : Measures 7 enter-kinds.ps ℕ
+μ-enter κs a = load (a .1 .1 .1 .1 .1 .1 .1 .0) 90
 
-abbrev μ-fit : Measures 8 fit-kinds.ps ℕ
-μ-fit κs a = load (a .1 .1 .1 .1 .1 .1 .1 .1 .0) 900
+abbrev μ-expr : Measures 7 expr-kinds.ps ℕ
+μ-expr κs a = load (a .1 .1 .1 .1 .1 .1 .1 .0) 0
 
-abbrev μ-operation : Measures 8 operation-kinds.ps ℕ
-μ-operation κs a = load (a .1 .1 .1 .1 .1 .1 .1 .1 .0) 900
+abbrev μ-fit : Measures 7 fit-kinds.ps ℕ
+μ-fit κs a = load (a .1 .1 .1 .1 .1 .1 .1 .0) 900
 
-abbrev μ-several : Measures 9 several-kinds.ps ℕ
-μ-several κs a = load (a .1 .1 .1 .1 .1 .1 .1 .1 .0) (300 + (a .1 .1 .1 .1 .1 .1 .1 .1 .1 .1 .1 .0 - a .1 .1 .1 .1 .1 .1 .1 .1 .1 .1 .0))
+abbrev μ-operation : Measures 7 operation-kinds.ps ℕ
+μ-operation κs a = load (a .1 .1 .1 .1 .1 .1 .1 .0) 900
 
-abbrev adjust-at : ℕ → In 8 adjust-kinds.ps
-adjust-at t = and 8 adjust-kinds.ps (is 8 adjust-kinds.ps μ-adjust t) adjust.Pre
+abbrev μ-several : Measures 8 several-kinds.ps ℕ
+μ-several κs a = load (a .1 .1 .1 .1 .1 .1 .1 .0) (300 + (a .1 .1 .1 .1 .1 .1 .1 .1 .1 .1 .0 - a .1 .1 .1 .1 .1 .1 .1 .1 .1 .0))
 
-abbrev adjust-below : ℕ → In 8 adjust-kinds.ps
-adjust-below t = and 8 adjust-kinds.ps (falls 8 adjust-kinds.ps _<_ μ-adjust t) adjust.Pre
+abbrev adjust-at : ℕ → In 7 adjust-kinds.ps
+adjust-at t = and 7 adjust-kinds.ps (is 7 adjust-kinds.ps μ-adjust t) adjust.Pre
 
-abbrev at-splits-at : ℕ → In 8 at-splits-kinds.ps
-at-splits-at t = and 8 at-splits-kinds.ps (is 8 at-splits-kinds.ps μ-at-splits t) at-splits.Pre
+abbrev adjust-below : ℕ → In 7 adjust-kinds.ps
+adjust-below t = and 7 adjust-kinds.ps (falls 7 adjust-kinds.ps _<_ μ-adjust t) adjust.Pre
 
-abbrev at-splits-below : ℕ → In 8 at-splits-kinds.ps
+abbrev apply-at : ℕ → In 6 apply-kinds.ps
+apply-at t = and 6 apply-kinds.ps (is 6 apply-kinds.ps μ-apply t) apply.Pre
+
+abbrev apply-below : ℕ → In 6 apply-kinds.ps
+apply-below t = and 6 apply-kinds.ps (falls 6 apply-kinds.ps _<_ μ-apply t) apply.Pre
+
+abbrev at-splits-at : ℕ → In 7 at-splits-kinds.ps
+at-splits-at t = and 7 at-splits-kinds.ps (is 7 at-splits-kinds.ps μ-at-splits t) at-splits.Pre
+
+abbrev at-splits-below : ℕ → In 7 at-splits-kinds.ps
 at-splits-below t =
-    and 8 at-splits-kinds.ps (falls 8 at-splits-kinds.ps _<_ μ-at-splits t) at-splits.Pre
+    and 7 at-splits-kinds.ps (falls 7 at-splits-kinds.ps _<_ μ-at-splits t) at-splits.Pre
 
-abbrev binding-at : ℕ → In 8 binding-kinds.ps
-binding-at t = and 8 binding-kinds.ps (is 8 binding-kinds.ps μ-binding t) binding.Pre
+abbrev binding-at : ℕ → In 7 binding-kinds.ps
+binding-at t = and 7 binding-kinds.ps (is 7 binding-kinds.ps μ-binding t) binding.Pre
 
-abbrev binding-below : ℕ → In 8 binding-kinds.ps
-binding-below t = and 8 binding-kinds.ps (falls 8 binding-kinds.ps _<_ μ-binding t) binding.Pre
+abbrev binding-below : ℕ → In 7 binding-kinds.ps
+binding-below t = and 7 binding-kinds.ps (falls 7 binding-kinds.ps _<_ μ-binding t) binding.Pre
 
-abbrev body-at : ℕ → In 8 body-kinds.ps
-body-at t = and 8 body-kinds.ps (is 8 body-kinds.ps μ-body t) body.Pre
+abbrev body-at : ℕ → In 7 body-kinds.ps
+body-at t = and 7 body-kinds.ps (is 7 body-kinds.ps μ-body t) body.Pre
 
-abbrev body-below : ℕ → In 8 body-kinds.ps
-body-below t = and 8 body-kinds.ps (falls 8 body-kinds.ps _<_ μ-body t) body.Pre
+abbrev body-below : ℕ → In 7 body-kinds.ps
+body-below t = and 7 body-kinds.ps (falls 7 body-kinds.ps _<_ μ-body t) body.Pre
 
-abbrev branch-at : ℕ → In 8 branch-kinds.ps
-branch-at t = and 8 branch-kinds.ps (is 8 branch-kinds.ps μ-branch t) branch.Pre
+abbrev branch-at : ℕ → In 7 branch-kinds.ps
+branch-at t = and 7 branch-kinds.ps (is 7 branch-kinds.ps μ-branch t) branch.Pre
 
-abbrev branch-below : ℕ → In 8 branch-kinds.ps
-branch-below t = and 8 branch-kinds.ps (falls 8 branch-kinds.ps _<_ μ-branch t) branch.Pre
+abbrev branch-below : ℕ → In 7 branch-kinds.ps
+branch-below t = and 7 branch-kinds.ps (falls 7 branch-kinds.ps _<_ μ-branch t) branch.Pre
 
-abbrev branches-at : ℕ → In 8 branches-kinds.ps
-branches-at t = and 8 branches-kinds.ps (is 8 branches-kinds.ps μ-branches t) branches.Pre
+abbrev branches-at : ℕ → In 7 branches-kinds.ps
+branches-at t = and 7 branches-kinds.ps (is 7 branches-kinds.ps μ-branches t) branches.Pre
 
-abbrev branches-below : ℕ → In 8 branches-kinds.ps
+abbrev branches-below : ℕ → In 7 branches-kinds.ps
 branches-below t =
-    and 8 branches-kinds.ps (falls 8 branches-kinds.ps _<_ μ-branches t) branches.Pre
+    and 7 branches-kinds.ps (falls 7 branches-kinds.ps _<_ μ-branches t) branches.Pre
 
-abbrev call-at : ℕ → In 8 call-kinds.ps
-call-at t = and 8 call-kinds.ps (is 8 call-kinds.ps μ-call t) call.Pre
+abbrev call-at : ℕ → In 7 call-kinds.ps
+call-at t = and 7 call-kinds.ps (is 7 call-kinds.ps μ-call t) call.Pre
 
-abbrev call-below : ℕ → In 8 call-kinds.ps
-call-below t = and 8 call-kinds.ps (falls 8 call-kinds.ps _<_ μ-call t) call.Pre
+abbrev call-below : ℕ → In 7 call-kinds.ps
+call-below t = and 7 call-kinds.ps (falls 7 call-kinds.ps _<_ μ-call t) call.Pre
 
-abbrev case-of-at : ℕ → In 8 case-of-kinds.ps
-case-of-at t = and 8 case-of-kinds.ps (is 8 case-of-kinds.ps μ-case-of t) case-of.Pre
+abbrev case-of-at : ℕ → In 7 case-of-kinds.ps
+case-of-at t = and 7 case-of-kinds.ps (is 7 case-of-kinds.ps μ-case-of t) case-of.Pre
 
-abbrev case-of-below : ℕ → In 8 case-of-kinds.ps
-case-of-below t = and 8 case-of-kinds.ps (falls 8 case-of-kinds.ps _<_ μ-case-of t) case-of.Pre
+abbrev case-of-below : ℕ → In 7 case-of-kinds.ps
+case-of-below t = and 7 case-of-kinds.ps (falls 7 case-of-kinds.ps _<_ μ-case-of t) case-of.Pre
 
-abbrev choice-at : ℕ → In 8 choice-kinds.ps
-choice-at t = and 8 choice-kinds.ps (is 8 choice-kinds.ps μ-choice t) choice.Pre
+abbrev choice-at : ℕ → In 7 choice-kinds.ps
+choice-at t = and 7 choice-kinds.ps (is 7 choice-kinds.ps μ-choice t) choice.Pre
 
-abbrev choice-below : ℕ → In 8 choice-kinds.ps
-choice-below t = and 8 choice-kinds.ps (falls 8 choice-kinds.ps _<_ μ-choice t) choice.Pre
+abbrev choice-below : ℕ → In 7 choice-kinds.ps
+choice-below t = and 7 choice-kinds.ps (falls 7 choice-kinds.ps _<_ μ-choice t) choice.Pre
 
-abbrev compound-at : ℕ → In 8 compound-kinds.ps
-compound-at t = and 8 compound-kinds.ps (is 8 compound-kinds.ps μ-compound t) compound.Pre
+abbrev compound-at : ℕ → In 7 compound-kinds.ps
+compound-at t = and 7 compound-kinds.ps (is 7 compound-kinds.ps μ-compound t) compound.Pre
 
-abbrev compound-below : ℕ → In 8 compound-kinds.ps
+abbrev compound-below : ℕ → In 7 compound-kinds.ps
 compound-below t =
-    and 8 compound-kinds.ps (falls 8 compound-kinds.ps _<_ μ-compound t) compound.Pre
+    and 7 compound-kinds.ps (falls 7 compound-kinds.ps _<_ μ-compound t) compound.Pre
 
-abbrev construct-at : ℕ → In 8 construct-kinds.ps
-construct-at t = and 8 construct-kinds.ps (is 8 construct-kinds.ps μ-construct t) construct.Pre
+abbrev construct-at : ℕ → In 7 construct-kinds.ps
+construct-at t = and 7 construct-kinds.ps (is 7 construct-kinds.ps μ-construct t) construct.Pre
 
-abbrev construct-below : ℕ → In 8 construct-kinds.ps
+abbrev construct-below : ℕ → In 7 construct-kinds.ps
 construct-below t =
-    and 8 construct-kinds.ps (falls 8 construct-kinds.ps _<_ μ-construct t) construct.Pre
+    and 7 construct-kinds.ps (falls 7 construct-kinds.ps _<_ μ-construct t) construct.Pre
 
-abbrev enter-at : ℕ → In 8 enter-kinds.ps
-enter-at t = and 8 enter-kinds.ps (is 8 enter-kinds.ps μ-enter t) enter.Pre
+abbrev enter-at : ℕ → In 7 enter-kinds.ps
+enter-at t = and 7 enter-kinds.ps (is 7 enter-kinds.ps μ-enter t) enter.Pre
 
-abbrev enter-below : ℕ → In 8 enter-kinds.ps
-enter-below t = and 8 enter-kinds.ps (falls 8 enter-kinds.ps _<_ μ-enter t) enter.Pre
+abbrev enter-below : ℕ → In 7 enter-kinds.ps
+enter-below t = and 7 enter-kinds.ps (falls 7 enter-kinds.ps _<_ μ-enter t) enter.Pre
 
-abbrev expr-at : ℕ → In 8 expr-kinds.ps
-expr-at t = and 8 expr-kinds.ps (is 8 expr-kinds.ps μ-expr t) expr.Pre
+abbrev expr-at : ℕ → In 7 expr-kinds.ps
+expr-at t = and 7 expr-kinds.ps (is 7 expr-kinds.ps μ-expr t) expr.Pre
 
-abbrev expr-below : ℕ → In 8 expr-kinds.ps
-expr-below t = and 8 expr-kinds.ps (falls 8 expr-kinds.ps _<_ μ-expr t) expr.Pre
+abbrev expr-below : ℕ → In 7 expr-kinds.ps
+expr-below t = and 7 expr-kinds.ps (falls 7 expr-kinds.ps _<_ μ-expr t) expr.Pre
 
-abbrev fit-at : ℕ → In 8 fit-kinds.ps
-fit-at t = and 8 fit-kinds.ps (is 8 fit-kinds.ps μ-fit t) fit.Pre
+abbrev fit-at : ℕ → In 7 fit-kinds.ps
+fit-at t = and 7 fit-kinds.ps (is 7 fit-kinds.ps μ-fit t) fit.Pre
 
-abbrev fit-below : ℕ → In 8 fit-kinds.ps
-fit-below t = and 8 fit-kinds.ps (falls 8 fit-kinds.ps _<_ μ-fit t) fit.Pre
+abbrev fit-below : ℕ → In 7 fit-kinds.ps
+fit-below t = and 7 fit-kinds.ps (falls 7 fit-kinds.ps _<_ μ-fit t) fit.Pre
 
-abbrev operation-at : ℕ → In 8 operation-kinds.ps
-operation-at t = and 8 operation-kinds.ps (is 8 operation-kinds.ps μ-operation t) operation.Pre
+abbrev operation-at : ℕ → In 7 operation-kinds.ps
+operation-at t = and 7 operation-kinds.ps (is 7 operation-kinds.ps μ-operation t) operation.Pre
 
-abbrev operation-below : ℕ → In 8 operation-kinds.ps
+abbrev operation-below : ℕ → In 7 operation-kinds.ps
 operation-below t =
-    and 8 operation-kinds.ps (falls 8 operation-kinds.ps _<_ μ-operation t) operation.Pre
+    and 7 operation-kinds.ps (falls 7 operation-kinds.ps _<_ μ-operation t) operation.Pre
 
-abbrev several-at : ℕ → In 9 several-kinds.ps
-several-at t = and 9 several-kinds.ps (is 9 several-kinds.ps μ-several t) several.Pre
+abbrev several-at : ℕ → In 8 several-kinds.ps
+several-at t = and 8 several-kinds.ps (is 8 several-kinds.ps μ-several t) several.Pre
 
-abbrev several-below : ℕ → In 9 several-kinds.ps
-several-below t = and 9 several-kinds.ps (falls 9 several-kinds.ps _<_ μ-several t) several.Pre
+abbrev several-below : ℕ → In 8 several-kinds.ps
+several-below t = and 8 several-kinds.ps (falls 8 several-kinds.ps _<_ μ-several t) several.Pre
 
 adjust-frame-line-requires : (t : ℕ) → adjust-lts.Need-frame-line-requires (
   frame-line-reads.Asked,
@@ -393,7 +410,7 @@ adjust-enum-told : (t : ℕ) → adjust-lts.Need-enum-told (
 ) (adjust-at t) adjust.Post
 adjust-enum-told t c = (c .match .keys2)
 
-adjust-add-t23 : (t : ℕ) → adjust-lts.Need-add-t23 (
+adjust-add-t22 : (t : ℕ) → adjust-lts.Need-add-t22 (
   frame-line-reads.Asked,
   frame-line-reads.Learnt,
   size-at-reads.Asked,
@@ -405,7 +422,7 @@ adjust-add-t23 : (t : ℕ) → adjust-lts.Need-add-t23 (
   adjusted-reads.Asked,
   adjusted-reads.Learnt,
 ) (adjust-at t) adjust.Post
-adjust-add-t23 t c = omega (arith, (c .before .before .before .before .before .before .before .before .before .before .before .before .before .before .before .pre .1 .line))
+adjust-add-t22 t c = omega (arith, (c .before .before .before .before .before .before .before .before .before .before .before .before .before .before .pre .1 .line))
 
 adjust-same-length : (t : ℕ) → adjust-lts.Need-same-length (
   frame-line-reads.Asked,
@@ -461,7 +478,7 @@ adjust-expr-requires : (t : ℕ) → adjust-lts.Need-expr-requires (
   adjusted-reads.Asked,
   adjusted-reads.Learnt,
 ) (adjust-at t) adjust.Post
-adjust-expr-requires t c κs = (load-moved _ 900 (c .before .before .before .before .before .before .before .before .before .before .before .before .before .before .before .before .before .before .before .pre .0) _ 0 (c .before .before .before .moved .ensures) (omega arith) (omega arith), room-behind (c .before .before .before .before .before .before .before .before .before .before .before .before .before .before .before .before .before .before .before .pre .1) (c .before .before .before .moved .ensures) (refl) (refl))
+adjust-expr-requires t c κs = (load-moved _ 900 (c .before .before .before .before .before .before .before .before .before .before .before .before .before .before .before .before .before .before .pre .0) _ 0 (c .before .before .before .moved .ensures) (omega arith) (omega arith), room-behind (c .before .before .before .before .before .before .before .before .before .before .before .before .before .before .before .before .before .before .pre .1) (c .before .before .before .moved .ensures) (refl) (refl))
 
 adjust-enum-known-x : (t : ℕ) → adjust-lts.Need-enum-known-x (
   frame-line-reads.Asked,
@@ -503,7 +520,7 @@ adjust-same-length-2 : (t : ℕ) → adjust-lts.Need-same-length-2 (
   adjusted-reads.Asked,
   adjusted-reads.Learnt,
 ) (adjust-at t) adjust.Post
-adjust-same-length-2 t c = (c .before .before .before .before .before .before .before .before .expr .kept .1 .1 .1 .1 .1 .0)
+adjust-same-length-2 t c = (c .before .before .before .before .before .before .before .before .expr .kept .1 .1 .1 .1 .0)
 
 adjust-same-length-3 : (t : ℕ) → adjust-lts.Need-same-length-3 (
   frame-line-reads.Asked,
@@ -517,7 +534,7 @@ adjust-same-length-3 : (t : ℕ) → adjust-lts.Need-same-length-3 (
   adjusted-reads.Asked,
   adjusted-reads.Learnt,
 ) (adjust-at t) adjust.Post
-adjust-same-length-3 t c = (c .before .before .before .before .before .before .before .before .expr .kept .1 .1 .1 .1 .1 .1 .0)
+adjust-same-length-3 t c = (c .before .before .before .before .before .before .before .before .expr .kept .1 .1 .1 .1 .1 .0)
 
 adjust-same-length-4 : (t : ℕ) → adjust-lts.Need-same-length-4 (
   frame-line-reads.Asked,
@@ -531,7 +548,7 @@ adjust-same-length-4 : (t : ℕ) → adjust-lts.Need-same-length-4 (
   adjusted-reads.Asked,
   adjusted-reads.Learnt,
 ) (adjust-at t) adjust.Post
-adjust-same-length-4 t c = (c .before .before .before .before .before .before .before .before .expr .kept .1 .1 .1 .1 .1 .1 .1 .0)
+adjust-same-length-4 t c = (c .before .before .before .before .before .before .before .before .expr .kept .1 .1 .1 .1 .1 .1 .0)
 
 adjust-returns-2 : (t : ℕ) → adjust-lts.Need-returns-2 (
   frame-line-reads.Asked,
@@ -561,7 +578,7 @@ adjust-enum-known-kind : (t : ℕ) → adjust-lts.Need-enum-known-kind (
 ) (adjust-at t) adjust.Post
 adjust-enum-known-kind t c = (c .match3 .keys1)
 
-adjust-add-t30 : (t : ℕ) → adjust-lts.Need-add-t30 (
+adjust-add-t29 : (t : ℕ) → adjust-lts.Need-add-t29 (
   frame-line-reads.Asked,
   frame-line-reads.Learnt,
   size-at-reads.Asked,
@@ -573,7 +590,7 @@ adjust-add-t30 : (t : ℕ) → adjust-lts.Need-add-t30 (
   adjusted-reads.Asked,
   adjusted-reads.Learnt,
 ) (adjust-at t) adjust.Post
-adjust-add-t30 t c = omega (arith, (c .before .before .before .before .before .before .before .before .before .before .before .before .before .before .before .before .before .before .before .before .before .before .before .before .before .before .before .before .before .before .before .pre .1 .line))
+adjust-add-t29 t c = omega (arith, (c .before .before .before .before .before .before .before .before .before .before .before .before .before .before .before .before .before .before .before .before .before .before .before .before .before .before .before .before .before .before .pre .1 .line))
 
 adjust-same-length-5 : (t : ℕ) → adjust-lts.Need-same-length-5 (
   frame-line-reads.Asked,
@@ -587,7 +604,7 @@ adjust-same-length-5 : (t : ℕ) → adjust-lts.Need-same-length-5 (
   adjusted-reads.Asked,
   adjusted-reads.Learnt,
 ) (adjust-at t) adjust.Post
-adjust-same-length-5 t c = (c .before .before .before .before .before .before .before .before .before .before .before .expr .kept .1 .1 .1 .1 .1 .0)
+adjust-same-length-5 t c = (c .before .before .before .before .before .before .before .before .before .before .before .expr .kept .1 .1 .1 .1 .0)
 
 adjust-same-length-6 : (t : ℕ) → adjust-lts.Need-same-length-6 (
   frame-line-reads.Asked,
@@ -601,7 +618,7 @@ adjust-same-length-6 : (t : ℕ) → adjust-lts.Need-same-length-6 (
   adjusted-reads.Asked,
   adjusted-reads.Learnt,
 ) (adjust-at t) adjust.Post
-adjust-same-length-6 t c = (c .before .before .before .before .before .before .before .before .before .before .before .expr .kept .1 .1 .1 .1 .1 .1 .0)
+adjust-same-length-6 t c = (c .before .before .before .before .before .before .before .before .before .before .before .expr .kept .1 .1 .1 .1 .1 .0)
 
 adjust-same-length-7 : (t : ℕ) → adjust-lts.Need-same-length-7 (
   frame-line-reads.Asked,
@@ -615,7 +632,7 @@ adjust-same-length-7 : (t : ℕ) → adjust-lts.Need-same-length-7 (
   adjusted-reads.Asked,
   adjusted-reads.Learnt,
 ) (adjust-at t) adjust.Post
-adjust-same-length-7 t c = (c .before .before .before .before .before .before .before .before .before .before .before .expr .kept .1 .1 .1 .1 .1 .1 .1 .0)
+adjust-same-length-7 t c = (c .before .before .before .before .before .before .before .before .before .before .before .expr .kept .1 .1 .1 .1 .1 .1 .0)
 
 adjust-returns-3 : (t : ℕ) → adjust-lts.Need-returns-3 (
   frame-line-reads.Asked,
@@ -631,7 +648,7 @@ adjust-returns-3 : (t : ℕ) → adjust-lts.Need-returns-3 (
 ) (adjust-at t) adjust.Post
 adjust-returns-3 t c = adj-plain (c .before .before .before .before .before .before .before .before .before .before .before .before .before .before .before .before .before .before .before .size-at .ensures) (c .before .before .before .before .before .before .before .before .before .before .before .before .before .before .before .before .before .before .before .before .before .frame-line .ensures) (c .before .before .before .before .before .before .before .before .before .before .before .before .before .before .before .before .before .s .given .1) (c .before .before .before .before .before .before .before .before .before .before .before .before .before .before .before .moved .ensures) (c .before .before .before .before .before .before .before .before .before .before .before .expr .ensures) (c .before .before .before .x .given .1) (not-named _ (c .before .match3 .keys2))
 
-adjust-add-t32 : (t : ℕ) → adjust-lts.Need-add-t32 (
+adjust-add-t31 : (t : ℕ) → adjust-lts.Need-add-t31 (
   frame-line-reads.Asked,
   frame-line-reads.Learnt,
   size-at-reads.Asked,
@@ -643,7 +660,7 @@ adjust-add-t32 : (t : ℕ) → adjust-lts.Need-add-t32 (
   adjusted-reads.Asked,
   adjusted-reads.Learnt,
 ) (adjust-at t) adjust.Post
-adjust-add-t32 t c = omega (arith, (c .before .before .before .before .before .before .before .before .before .before .before .before .before .before .before .before .before .before .before .before .before .before .before .before .before .before .before .before .before .before .before .before .before .before .pre .1 .line))
+adjust-add-t31 t c = omega (arith, (c .before .before .before .before .before .before .before .before .before .before .before .before .before .before .before .before .before .before .before .before .before .before .before .before .before .before .before .before .before .before .before .before .before .pre .1 .line))
 
 adjust-same-length-8 : (t : ℕ) → adjust-lts.Need-same-length-8 (
   frame-line-reads.Asked,
@@ -657,7 +674,7 @@ adjust-same-length-8 : (t : ℕ) → adjust-lts.Need-same-length-8 (
   adjusted-reads.Asked,
   adjusted-reads.Learnt,
 ) (adjust-at t) adjust.Post
-adjust-same-length-8 t c = (c .before .before .before .before .before .before .before .before .before .before .before .before .before .before .expr .kept .1 .1 .1 .1 .1 .0)
+adjust-same-length-8 t c = (c .before .before .before .before .before .before .before .before .before .before .before .before .before .before .expr .kept .1 .1 .1 .1 .0)
 
 adjust-same-length-9 : (t : ℕ) → adjust-lts.Need-same-length-9 (
   frame-line-reads.Asked,
@@ -671,7 +688,7 @@ adjust-same-length-9 : (t : ℕ) → adjust-lts.Need-same-length-9 (
   adjusted-reads.Asked,
   adjusted-reads.Learnt,
 ) (adjust-at t) adjust.Post
-adjust-same-length-9 t c = (c .before .before .before .before .before .before .before .before .before .before .before .before .before .before .expr .kept .1 .1 .1 .1 .1 .1 .0)
+adjust-same-length-9 t c = (c .before .before .before .before .before .before .before .before .before .before .before .before .before .before .expr .kept .1 .1 .1 .1 .1 .0)
 
 adjust-same-length-10 : (t : ℕ) → adjust-lts.Need-same-length-10 (
   frame-line-reads.Asked,
@@ -685,7 +702,7 @@ adjust-same-length-10 : (t : ℕ) → adjust-lts.Need-same-length-10 (
   adjusted-reads.Asked,
   adjusted-reads.Learnt,
 ) (adjust-at t) adjust.Post
-adjust-same-length-10 t c = (c .before .before .before .before .before .before .before .before .before .before .before .before .before .before .expr .kept .1 .1 .1 .1 .1 .1 .1 .0)
+adjust-same-length-10 t c = (c .before .before .before .before .before .before .before .before .before .before .before .before .before .before .expr .kept .1 .1 .1 .1 .1 .1 .0)
 
 adjust-returns-4 : (t : ℕ) → adjust-lts.Need-returns-4 (
   frame-line-reads.Asked,
@@ -727,7 +744,7 @@ adjust-same-length-11 : (t : ℕ) → adjust-lts.Need-same-length-11 (
   adjusted-reads.Asked,
   adjusted-reads.Learnt,
 ) (adjust-at t) adjust.Post
-adjust-same-length-11 t c = (c .before .before .before .before .before .before .before .before .before .before .before .before .before .before .expr .kept .1 .1 .1 .1 .1 .0)
+adjust-same-length-11 t c = (c .before .before .before .before .before .before .before .before .before .before .before .before .before .before .expr .kept .1 .1 .1 .1 .0)
 
 adjust-same-length-12 : (t : ℕ) → adjust-lts.Need-same-length-12 (
   frame-line-reads.Asked,
@@ -741,7 +758,7 @@ adjust-same-length-12 : (t : ℕ) → adjust-lts.Need-same-length-12 (
   adjusted-reads.Asked,
   adjusted-reads.Learnt,
 ) (adjust-at t) adjust.Post
-adjust-same-length-12 t c = (c .before .before .before .before .before .before .before .before .before .before .before .before .before .before .expr .kept .1 .1 .1 .1 .1 .1 .0)
+adjust-same-length-12 t c = (c .before .before .before .before .before .before .before .before .before .before .before .before .before .before .expr .kept .1 .1 .1 .1 .1 .0)
 
 adjust-same-length-13 : (t : ℕ) → adjust-lts.Need-same-length-13 (
   frame-line-reads.Asked,
@@ -755,7 +772,7 @@ adjust-same-length-13 : (t : ℕ) → adjust-lts.Need-same-length-13 (
   adjusted-reads.Asked,
   adjusted-reads.Learnt,
 ) (adjust-at t) adjust.Post
-adjust-same-length-13 t c = (c .before .before .before .before .before .before .before .before .before .before .before .before .before .before .expr .kept .1 .1 .1 .1 .1 .1 .1 .0)
+adjust-same-length-13 t c = (c .before .before .before .before .before .before .before .before .before .before .before .before .before .before .expr .kept .1 .1 .1 .1 .1 .1 .0)
 
 adjust-returns-5 : (t : ℕ) → adjust-lts.Need-returns-5 (
   frame-line-reads.Asked,
@@ -771,12 +788,348 @@ adjust-returns-5 : (t : ℕ) → adjust-lts.Need-returns-5 (
 ) (adjust-at t) adjust.Post
 adjust-returns-5 t c = adj-done (c .before .before .before .before .before .before .before .before .before .before .before .before .before .before .before .before .before .before .before .before .before .before .size-at .ensures) (c .before .before .before .before .before .before .before .before .before .before .before .before .before .before .before .before .before .before .before .before .before .before .before .before .frame-line .ensures) (c .before .before .before .before .before .before .before .before .before .before .before .before .before .before .before .before .before .before .before .before .s .given .1) (c .before .before .before .before .before .before .before .before .before .before .before .before .before .before .before .before .before .before .moved .ensures) (c .before .before .before .before .before .before .before .before .before .before .before .before .before .before .expr .ensures) (c .before .before .before .before .before .before .x .given .1) (c .before .before .before .kind .given .1) (c .before .if1 .left) (c .adjusted .ensures)
 
+apply-slice-aggregate-named-sizes : (t : ℕ) → apply-lts.Need-slice-aggregate-named-sizes (
+  named-sizes-reads.Asked,
+  named-sizes-reads.Learnt,
+  moved-reads.Asked,
+  moved-reads.Learnt,
+  prepare-reads.Asked,
+  prepare-reads.Learnt,
+  not-entered-reads.Asked,
+  not-entered-reads.Learnt,
+  enter-below t,
+  enter.Post,
+  called-reads.Asked,
+  called-reads.Learnt,
+) (apply-at t) apply.Post
+apply-slice-aggregate-named-sizes t c = search needs
+
+apply-named-sizes-requires : (t : ℕ) → apply-lts.Need-named-sizes-requires (
+  named-sizes-reads.Asked,
+  named-sizes-reads.Learnt,
+  moved-reads.Asked,
+  moved-reads.Learnt,
+  prepare-reads.Asked,
+  prepare-reads.Learnt,
+  not-entered-reads.Asked,
+  not-entered-reads.Learnt,
+  enter-below t,
+  enter.Post,
+  called-reads.Asked,
+  called-reads.Learnt,
+) (apply-at t) apply.Post
+apply-named-sizes-requires t c κs = tt
+
+apply-moved-requires : (t : ℕ) → apply-lts.Need-moved-requires (
+  named-sizes-reads.Asked,
+  named-sizes-reads.Learnt,
+  moved-reads.Asked,
+  moved-reads.Learnt,
+  prepare-reads.Asked,
+  prepare-reads.Learnt,
+  not-entered-reads.Asked,
+  not-entered-reads.Learnt,
+  enter-below t,
+  enter.Post,
+  called-reads.Asked,
+  called-reads.Learnt,
+) (apply-at t) apply.Post
+apply-moved-requires t c κs = tt
+
+apply-slice-aggregate-prepare : (t : ℕ) → apply-lts.Need-slice-aggregate-prepare (
+  named-sizes-reads.Asked,
+  named-sizes-reads.Learnt,
+  moved-reads.Asked,
+  moved-reads.Learnt,
+  prepare-reads.Asked,
+  prepare-reads.Learnt,
+  not-entered-reads.Asked,
+  not-entered-reads.Learnt,
+  enter-below t,
+  enter.Post,
+  called-reads.Asked,
+  called-reads.Learnt,
+) (apply-at t) apply.Post
+apply-slice-aggregate-prepare t c = search needs
+
+apply-prepare-requires : (t : ℕ) → apply-lts.Need-prepare-requires (
+  named-sizes-reads.Asked,
+  named-sizes-reads.Learnt,
+  moved-reads.Asked,
+  moved-reads.Learnt,
+  prepare-reads.Asked,
+  prepare-reads.Learnt,
+  not-entered-reads.Asked,
+  not-entered-reads.Learnt,
+  enter-below t,
+  enter.Post,
+  called-reads.Asked,
+  called-reads.Learnt,
+) (apply-at t) apply.Post
+apply-prepare-requires t c κs = prepares (c .before .before .before .before .before .before .before .before .before .before .before .before .before .pre .1 .0) (c .before .moved .ensures) (c .before .before .before .before .before .before .before .before .before .before .before .before .before .pre .1 .1 .1 .0)
+
+apply-enum-known-y : (t : ℕ) → apply-lts.Need-enum-known-y (
+  named-sizes-reads.Asked,
+  named-sizes-reads.Learnt,
+  moved-reads.Asked,
+  moved-reads.Learnt,
+  prepare-reads.Asked,
+  prepare-reads.Learnt,
+  not-entered-reads.Asked,
+  not-entered-reads.Learnt,
+  enter-below t,
+  enter.Post,
+  called-reads.Asked,
+  called-reads.Learnt,
+) (apply-at t) apply.Post
+apply-enum-known-y t c = (c .match .keys1)
+
+apply-enum-told : (t : ℕ) → apply-lts.Need-enum-told (
+  named-sizes-reads.Asked,
+  named-sizes-reads.Learnt,
+  moved-reads.Asked,
+  moved-reads.Learnt,
+  prepare-reads.Asked,
+  prepare-reads.Learnt,
+  not-entered-reads.Asked,
+  not-entered-reads.Learnt,
+  enter-below t,
+  enter.Post,
+  called-reads.Asked,
+  called-reads.Learnt,
+) (apply-at t) apply.Post
+apply-enum-told t c = (c .match .keys2)
+
+apply-not-entered-requires : (t : ℕ) → apply-lts.Need-not-entered-requires (
+  named-sizes-reads.Asked,
+  named-sizes-reads.Learnt,
+  moved-reads.Asked,
+  moved-reads.Learnt,
+  prepare-reads.Asked,
+  prepare-reads.Learnt,
+  not-entered-reads.Asked,
+  not-entered-reads.Learnt,
+  enter-below t,
+  enter.Post,
+  called-reads.Asked,
+  called-reads.Learnt,
+) (apply-at t) apply.Post
+apply-not-entered-requires t c κs = tt
+
+apply-same-length : (t : ℕ) → apply-lts.Need-same-length (
+  named-sizes-reads.Asked,
+  named-sizes-reads.Learnt,
+  moved-reads.Asked,
+  moved-reads.Learnt,
+  prepare-reads.Asked,
+  prepare-reads.Learnt,
+  not-entered-reads.Asked,
+  not-entered-reads.Learnt,
+  enter-below t,
+  enter.Post,
+  called-reads.Asked,
+  called-reads.Learnt,
+) (apply-at t) apply.Post
+apply-same-length t c = refl
+
+apply-returns : (t : ℕ) → apply-lts.Need-returns (
+  named-sizes-reads.Asked,
+  named-sizes-reads.Learnt,
+  moved-reads.Asked,
+  moved-reads.Learnt,
+  prepare-reads.Asked,
+  prepare-reads.Learnt,
+  not-entered-reads.Asked,
+  not-entered-reads.Learnt,
+  enter-below t,
+  enter.Post,
+  called-reads.Asked,
+  called-reads.Learnt,
+) (apply-at t) apply.Post
+apply-returns t c = apply-not-entered (c .before .before .before .before .before .before .before .before .before .before .before .before .before .before .before .before .before .args .p) (c .before .before .before .before .before .before .before .before .before .before .before .before .before .before .before .before .before .args .a) refl (c .before .before .before .before .before .before .before .before .named-sizes .ensures) (c .before .before .before .before .before .moved .ensures) (c .before .before .before .prepare .ensures) (c .before .enum-told .given .1) (c .not-entered .ensures)
+
+apply-slice-aggregate-enter : (t : ℕ) → apply-lts.Need-slice-aggregate-enter (
+  named-sizes-reads.Asked,
+  named-sizes-reads.Learnt,
+  moved-reads.Asked,
+  moved-reads.Learnt,
+  prepare-reads.Asked,
+  prepare-reads.Learnt,
+  not-entered-reads.Asked,
+  not-entered-reads.Learnt,
+  enter-below t,
+  enter.Post,
+  called-reads.Asked,
+  called-reads.Learnt,
+) (apply-at t) apply.Post
+apply-slice-aggregate-enter t c = search needs
+
+apply-enter-requires : (t : ℕ) → apply-lts.Need-enter-requires (
+  named-sizes-reads.Asked,
+  named-sizes-reads.Learnt,
+  moved-reads.Asked,
+  moved-reads.Learnt,
+  prepare-reads.Asked,
+  prepare-reads.Learnt,
+  not-entered-reads.Asked,
+  not-entered-reads.Learnt,
+  enter-below t,
+  enter.Post,
+  called-reads.Asked,
+  called-reads.Learnt,
+) (apply-at t) apply.Post
+apply-enter-requires t c κs = (load-moved _ 800 (c .before .before .before .before .before .before .before .before .before .before .before .before .before .before .before .before .before .before .before .before .pre .0) _ 90 (c .before .before .before .before .before .before .before .before .moved .ensures) (c .before .before .before .before .before .before .before .before .before .before .before .before .before .before .before .before .before .before .before .before .pre .1 .1 .0) (omega arith), (room-inner (c .before .before .before .before .before .before .before .before .before .before .before .before .before .before .before .before .before .before .before .before .pre .1 .0) (c .before .before .before .before .before .before .before .before .moved .ensures) (c .before .before .before .before .before .before .before .before .before .before .before .before .before .before .before .before .before .before .before .before .pre .1 .0 .scope) (omega (arith, (c .before .before .before .before .before .before .before .before .before .before .before .named-sizes .kept .1 .1 .0))), entry-numbers (c .before .before .before .before .before .before .prepare .ensures .of) (c .before .before .before .before .y .given .1) (c .before .before .before .before .before .before .before .before .before .before .before .before .before .before .before .before .before .before .before .before .pre .1 .1 .1 .0) (c .before .before .before .before .before .before .before .before .before .before .before .before .before .before .before .before .before .before .before .before .pre .1 .1 .1 .1) (c .before .before .before .before .before .before .before .before .before .before .before .named-sizes .ensures .few)))
+
+apply-enum-known-z : (t : ℕ) → apply-lts.Need-enum-known-z (
+  named-sizes-reads.Asked,
+  named-sizes-reads.Learnt,
+  moved-reads.Asked,
+  moved-reads.Learnt,
+  prepare-reads.Asked,
+  prepare-reads.Learnt,
+  not-entered-reads.Asked,
+  not-entered-reads.Learnt,
+  enter-below t,
+  enter.Post,
+  called-reads.Asked,
+  called-reads.Learnt,
+) (apply-at t) apply.Post
+apply-enum-known-z t c = (c .match2 .keys1)
+
+apply-enum-told-2 : (t : ℕ) → apply-lts.Need-enum-told-2 (
+  named-sizes-reads.Asked,
+  named-sizes-reads.Learnt,
+  moved-reads.Asked,
+  moved-reads.Learnt,
+  prepare-reads.Asked,
+  prepare-reads.Learnt,
+  not-entered-reads.Asked,
+  not-entered-reads.Learnt,
+  enter-below t,
+  enter.Post,
+  called-reads.Asked,
+  called-reads.Learnt,
+) (apply-at t) apply.Post
+apply-enum-told-2 t c = (c .match2 .keys2)
+
+apply-same-length-2 : (t : ℕ) → apply-lts.Need-same-length-2 (
+  named-sizes-reads.Asked,
+  named-sizes-reads.Learnt,
+  moved-reads.Asked,
+  moved-reads.Learnt,
+  prepare-reads.Asked,
+  prepare-reads.Learnt,
+  not-entered-reads.Asked,
+  not-entered-reads.Learnt,
+  enter-below t,
+  enter.Post,
+  called-reads.Asked,
+  called-reads.Learnt,
+) (apply-at t) apply.Post
+apply-same-length-2 t c = (c .before .before .before .before .before .before .before .enter .kept .1 .1 .1 .1 .0)
+
+apply-same-length-3 : (t : ℕ) → apply-lts.Need-same-length-3 (
+  named-sizes-reads.Asked,
+  named-sizes-reads.Learnt,
+  moved-reads.Asked,
+  moved-reads.Learnt,
+  prepare-reads.Asked,
+  prepare-reads.Learnt,
+  not-entered-reads.Asked,
+  not-entered-reads.Learnt,
+  enter-below t,
+  enter.Post,
+  called-reads.Asked,
+  called-reads.Learnt,
+) (apply-at t) apply.Post
+apply-same-length-3 t c = (c .before .before .before .before .before .before .before .enter .kept .1 .1 .1 .1 .1 .0)
+
+apply-returns-2 : (t : ℕ) → apply-lts.Need-returns-2 (
+  named-sizes-reads.Asked,
+  named-sizes-reads.Learnt,
+  moved-reads.Asked,
+  moved-reads.Learnt,
+  prepare-reads.Asked,
+  prepare-reads.Learnt,
+  not-entered-reads.Asked,
+  not-entered-reads.Learnt,
+  enter-below t,
+  enter.Post,
+  called-reads.Asked,
+  called-reads.Learnt,
+) (apply-at t) apply.Post
+apply-returns-2 t c = apply-body (c .before .before .before .before .before .before .before .before .before .before .before .before .before .before .before .before .before .before .before .before .before .before .before .before .before .before .before .before .args .p) (c .before .before .before .before .before .before .before .before .before .before .before .before .before .before .before .before .before .before .before .before .before .before .before .before .before .before .before .before .args .a) refl (c .before .before .before .before .before .before .before .before .before .before .before .before .before .before .before .before .before .before .before .named-sizes .ensures) (c .before .before .before .before .before .before .before .before .before .before .before .before .before .before .before .before .moved .ensures) (c .before .before .before .before .before .before .before .before .before .before .before .before .before .before .prepare .ensures) (c .before .before .before .before .before .before .before .before .before .before .before .before .y .given .1) (c .before .before .before .before .before .before .before .enter .ensures) (c .enum-told2 .given .1)
+
+apply-called-requires : (t : ℕ) → apply-lts.Need-called-requires (
+  named-sizes-reads.Asked,
+  named-sizes-reads.Learnt,
+  moved-reads.Asked,
+  moved-reads.Learnt,
+  prepare-reads.Asked,
+  prepare-reads.Learnt,
+  not-entered-reads.Asked,
+  not-entered-reads.Learnt,
+  enter-below t,
+  enter.Post,
+  called-reads.Asked,
+  called-reads.Learnt,
+) (apply-at t) apply.Post
+apply-called-requires t c κs = tt
+
+apply-same-length-4 : (t : ℕ) → apply-lts.Need-same-length-4 (
+  named-sizes-reads.Asked,
+  named-sizes-reads.Learnt,
+  moved-reads.Asked,
+  moved-reads.Learnt,
+  prepare-reads.Asked,
+  prepare-reads.Learnt,
+  not-entered-reads.Asked,
+  not-entered-reads.Learnt,
+  enter-below t,
+  enter.Post,
+  called-reads.Asked,
+  called-reads.Learnt,
+) (apply-at t) apply.Post
+apply-same-length-4 t c = (c .before .before .before .before .before .before .before .before .before .enter .kept .1 .1 .1 .1 .0)
+
+apply-same-length-5 : (t : ℕ) → apply-lts.Need-same-length-5 (
+  named-sizes-reads.Asked,
+  named-sizes-reads.Learnt,
+  moved-reads.Asked,
+  moved-reads.Learnt,
+  prepare-reads.Asked,
+  prepare-reads.Learnt,
+  not-entered-reads.Asked,
+  not-entered-reads.Learnt,
+  enter-below t,
+  enter.Post,
+  called-reads.Asked,
+  called-reads.Learnt,
+) (apply-at t) apply.Post
+apply-same-length-5 t c = (c .before .before .before .before .before .before .before .before .before .enter .kept .1 .1 .1 .1 .1 .0)
+
+apply-returns-3 : (t : ℕ) → apply-lts.Need-returns-3 (
+  named-sizes-reads.Asked,
+  named-sizes-reads.Learnt,
+  moved-reads.Asked,
+  moved-reads.Learnt,
+  prepare-reads.Asked,
+  prepare-reads.Learnt,
+  not-entered-reads.Asked,
+  not-entered-reads.Learnt,
+  enter-below t,
+  enter.Post,
+  called-reads.Asked,
+  called-reads.Learnt,
+) (apply-at t) apply.Post
+apply-returns-3 t c = apply-done (c .before .before .before .before .before .before .before .before .before .before .before .before .before .before .before .before .before .before .before .before .before .before .before .before .before .before .before .before .before .before .args .p) (c .before .before .before .before .before .before .before .before .before .before .before .before .before .before .before .before .before .before .before .before .before .before .before .before .before .before .before .before .before .before .args .a) refl (c .before .before .before .before .before .before .before .before .before .before .before .before .before .before .before .before .before .before .before .before .before .named-sizes .ensures) (c .before .before .before .before .before .before .before .before .before .before .before .before .before .before .before .before .before .before .moved .ensures) (c .before .before .before .before .before .before .before .before .before .before .before .before .before .before .before .before .prepare .ensures) (c .before .before .before .before .before .before .before .before .before .before .before .before .before .before .y .given .1) (c .before .before .before .before .before .before .before .before .before .enter .ensures) (c .before .before .z .given .1) (c .called .ensures .body) (c .called .ensures .both) (c .called .ensures .all) (c .called .ensures .is)
+
 abbrev at-splits-Inv-loop : at-splits-lts.InvT-loop
-at-splits-Inv-loop text frames types functions channels list₀ scope₀ sizes₀ p s k n own at kind all₀ more₀ list scope sizes all more =
-    Walks s k (lent text frames types functions channels) (buffers list₀ scope₀ sizes₀) p more (buffers list scope sizes) all × ((length list ≡ length list₀) × ((length scope ≡ length scope₀) × (length sizes ≡ length sizes₀)))
+at-splits-Inv-loop text frames types functions list₀ scope₀ sizes₀ p s k n own at kind all₀ more₀ list scope sizes all more =
+    Walks s k (lent text frames types functions) (buffers list₀ scope₀ sizes₀) p more (buffers list scope sizes) all × ((length list ≡ length list₀) × ((length scope ≡ length scope₀) × (length sizes ≡ length sizes₀)))
 
 abbrev at-splits-μ-loop : at-splits-lts.MeasureT-loop
-at-splits-μ-loop text frames types functions channels list₀ scope₀ sizes₀ p s k n own at kind all₀ more₀ list scope sizes all more =
+at-splits-μ-loop text frames types functions list₀ scope₀ sizes₀ p s k n own at kind all₀ more₀ list scope sizes all more =
     walkLeft more (take own (drop (p .sizes) sizes))
 
 at-splits-fields-requires : (t : ℕ) → at-splits-lts.Need-fields-requires (
@@ -784,8 +1137,8 @@ at-splits-fields-requires : (t : ℕ) → at-splits-lts.Need-fields-requires (
   fields-reads.Learnt,
   own-fields-reads.Asked,
   own-fields-reads.Learnt,
-  nothing-reads.Asked,
-  nothing-reads.Learnt,
+  nothing-yet-reads.Asked,
+  nothing-yet-reads.Learnt,
   bind-fields-reads.Asked,
   bind-fields-reads.Learnt,
   moved-reads.Asked,
@@ -810,8 +1163,8 @@ at-splits-own-fields-requires : (t : ℕ) → at-splits-lts.Need-own-fields-requ
   fields-reads.Learnt,
   own-fields-reads.Asked,
   own-fields-reads.Learnt,
-  nothing-reads.Asked,
-  nothing-reads.Learnt,
+  nothing-yet-reads.Asked,
+  nothing-yet-reads.Learnt,
   bind-fields-reads.Asked,
   bind-fields-reads.Learnt,
   moved-reads.Asked,
@@ -831,13 +1184,13 @@ at-splits-own-fields-requires : (t : ℕ) → at-splits-lts.Need-own-fields-requ
 ) (at-splits-at t) at-splits.Post at-splits-Inv-loop at-splits-μ-loop
 at-splits-own-fields-requires t c κs = tt
 
-at-splits-nothing-requires : (t : ℕ) → at-splits-lts.Need-nothing-requires (
+at-splits-nothing-yet-requires : (t : ℕ) → at-splits-lts.Need-nothing-yet-requires (
   fields-reads.Asked,
   fields-reads.Learnt,
   own-fields-reads.Asked,
   own-fields-reads.Learnt,
-  nothing-reads.Asked,
-  nothing-reads.Learnt,
+  nothing-yet-reads.Asked,
+  nothing-yet-reads.Learnt,
   bind-fields-reads.Asked,
   bind-fields-reads.Learnt,
   moved-reads.Asked,
@@ -855,15 +1208,15 @@ at-splits-nothing-requires : (t : ℕ) → at-splits-lts.Need-nothing-requires (
   slotted-reads.Asked,
   slotted-reads.Learnt,
 ) (at-splits-at t) at-splits.Post at-splits-Inv-loop at-splits-μ-loop
-at-splits-nothing-requires t c κs = tt
+at-splits-nothing-yet-requires t c κs = tt
 
 at-splits-loop-holds : (t : ℕ) → at-splits-lts.Need-loop-holds (
   fields-reads.Asked,
   fields-reads.Learnt,
   own-fields-reads.Asked,
   own-fields-reads.Learnt,
-  nothing-reads.Asked,
-  nothing-reads.Learnt,
+  nothing-yet-reads.Asked,
+  nothing-yet-reads.Learnt,
   bind-fields-reads.Asked,
   bind-fields-reads.Learnt,
   moved-reads.Asked,
@@ -881,15 +1234,15 @@ at-splits-loop-holds : (t : ℕ) → at-splits-lts.Need-loop-holds (
   slotted-reads.Asked,
   slotted-reads.Learnt,
 ) (at-splits-at t) at-splits.Post at-splits-Inv-loop at-splits-μ-loop
-at-splits-loop-holds t c = (walks-start (c .nothing .ensures) refl, (refl, (refl, refl)))
+at-splits-loop-holds t c = (walks-start (c .nothing-yet .ensures .none) (c .nothing-yet .ensures .is), (refl, (refl, refl)))
 
 at-splits-bind-fields-requires : (t : ℕ) → at-splits-lts.Need-bind-fields-requires (
   fields-reads.Asked,
   fields-reads.Learnt,
   own-fields-reads.Asked,
   own-fields-reads.Learnt,
-  nothing-reads.Asked,
-  nothing-reads.Learnt,
+  nothing-yet-reads.Asked,
+  nothing-yet-reads.Learnt,
   bind-fields-reads.Asked,
   bind-fields-reads.Learnt,
   moved-reads.Asked,
@@ -914,8 +1267,8 @@ at-splits-moved-requires : (t : ℕ) → at-splits-lts.Need-moved-requires (
   fields-reads.Learnt,
   own-fields-reads.Asked,
   own-fields-reads.Learnt,
-  nothing-reads.Asked,
-  nothing-reads.Learnt,
+  nothing-yet-reads.Asked,
+  nothing-yet-reads.Learnt,
   bind-fields-reads.Asked,
   bind-fields-reads.Learnt,
   moved-reads.Asked,
@@ -940,8 +1293,8 @@ at-splits-widen-requires : (t : ℕ) → at-splits-lts.Need-widen-requires (
   fields-reads.Learnt,
   own-fields-reads.Asked,
   own-fields-reads.Learnt,
-  nothing-reads.Asked,
-  nothing-reads.Learnt,
+  nothing-yet-reads.Asked,
+  nothing-yet-reads.Learnt,
   bind-fields-reads.Asked,
   bind-fields-reads.Learnt,
   moved-reads.Asked,
@@ -959,15 +1312,15 @@ at-splits-widen-requires : (t : ℕ) → at-splits-lts.Need-widen-requires (
   slotted-reads.Asked,
   slotted-reads.Learnt,
 ) (at-splits-at t) at-splits.Post at-splits-Inv-loop at-splits-μ-loop
-at-splits-widen-requires t c κs = room-widens (c .before .before .before .before .before .before .before .before .before .before .before .before .before .before .before .before .before .before .before .before .pre .1 .0) (c .moved .ensures) (omega (arith, (c .before .before .before .before .before .before .before .before .before .before .before .fields .ensures .1))) (omega (arith, (c .before .before .before .before .before .before .before .before .before .before .own-fields .ensures .1)))
+at-splits-widen-requires t c κs = room-widens (c .before .before .before .before .before .before .before .before .before .before .before .before .before .before .before .before .before .before .before .pre .1 .0) (c .moved .ensures) (omega (arith, (c .before .before .before .before .before .before .before .before .before .before .before .fields .ensures .1))) (omega (arith, (c .before .before .before .before .before .before .before .before .before .before .own-fields .ensures .1)))
 
 at-splits-expr-requires : (t : ℕ) → at-splits-lts.Need-expr-requires (
   fields-reads.Asked,
   fields-reads.Learnt,
   own-fields-reads.Asked,
   own-fields-reads.Learnt,
-  nothing-reads.Asked,
-  nothing-reads.Learnt,
+  nothing-yet-reads.Asked,
+  nothing-yet-reads.Learnt,
   bind-fields-reads.Asked,
   bind-fields-reads.Learnt,
   moved-reads.Asked,
@@ -985,15 +1338,15 @@ at-splits-expr-requires : (t : ℕ) → at-splits-lts.Need-expr-requires (
   slotted-reads.Asked,
   slotted-reads.Learnt,
 ) (at-splits-at t) at-splits.Post at-splits-Inv-loop at-splits-μ-loop
-at-splits-expr-requires t c κs = (load-wide _ 100 (c .before .before .before .before .before .before .before .before .before .before .before .before .before .before .before .before .before .before .before .before .before .before .before .before .pre .0) _ _ _ _ 0 (c .before .before .before .before .moved .ensures) (c .before .before .before .widen .ensures) (c .before .before .before .before .before .before .before .before .before .before .before .loop .inv .0 .grown) (omega arith), room-wide (c .before .before .before .before .before .before .before .before .before .before .before .before .before .before .before .before .before .before .before .before .before .before .before .before .pre .1 .0) (c .before .before .before .before .moved .ensures) (c .before .before .before .widen .ensures) ((c .before .before .before .before .before .before .before .bind-fields .kept .1 .0) ∙ (c .before .before .before .before .before .before .before .before .before .before .before .loop .inv .1 .1 .0)) (c .before .before .before .before .before .before .before .before .before .before .before .loop .inv .1 .1 .1) (omega (arith, (c .before .before .before .before .before .before .before .before .before .before .before .before .before .before .before .fields .ensures .1))) (omega (arith, (c .before .before .before .before .before .before .before .before .before .before .before .before .before .before .own-fields .ensures .1))))
+at-splits-expr-requires t c κs = (load-wide _ 100 (c .before .before .before .before .before .before .before .before .before .before .before .before .before .before .before .before .before .before .before .before .before .before .before .pre .0) _ _ _ _ 0 (c .before .before .before .before .moved .ensures) (c .before .before .before .widen .ensures) (c .before .before .before .before .before .before .before .before .before .before .before .loop .inv .0 .grown) (omega arith), room-wide (c .before .before .before .before .before .before .before .before .before .before .before .before .before .before .before .before .before .before .before .before .before .before .before .pre .1 .0) (c .before .before .before .before .moved .ensures) (c .before .before .before .widen .ensures) ((c .before .before .before .before .before .before .before .bind-fields .kept .1 .0) ∙ (c .before .before .before .before .before .before .before .before .before .before .before .loop .inv .1 .1 .0)) (c .before .before .before .before .before .before .before .before .before .before .before .loop .inv .1 .1 .1) (omega (arith, (c .before .before .before .before .before .before .before .before .before .before .before .before .before .before .before .fields .ensures .1))) (omega (arith, (c .before .before .before .before .before .before .before .before .before .before .before .before .before .before .own-fields .ensures .1))))
 
 at-splits-enum-known-x : (t : ℕ) → at-splits-lts.Need-enum-known-x (
   fields-reads.Asked,
   fields-reads.Learnt,
   own-fields-reads.Asked,
   own-fields-reads.Learnt,
-  nothing-reads.Asked,
-  nothing-reads.Learnt,
+  nothing-yet-reads.Asked,
+  nothing-yet-reads.Learnt,
   bind-fields-reads.Asked,
   bind-fields-reads.Learnt,
   moved-reads.Asked,
@@ -1018,8 +1371,8 @@ at-splits-enum-told : (t : ℕ) → at-splits-lts.Need-enum-told (
   fields-reads.Learnt,
   own-fields-reads.Asked,
   own-fields-reads.Learnt,
-  nothing-reads.Asked,
-  nothing-reads.Learnt,
+  nothing-yet-reads.Asked,
+  nothing-yet-reads.Learnt,
   bind-fields-reads.Asked,
   bind-fields-reads.Learnt,
   moved-reads.Asked,
@@ -1044,8 +1397,8 @@ at-splits-same-length : (t : ℕ) → at-splits-lts.Need-same-length (
   fields-reads.Learnt,
   own-fields-reads.Asked,
   own-fields-reads.Learnt,
-  nothing-reads.Asked,
-  nothing-reads.Learnt,
+  nothing-yet-reads.Asked,
+  nothing-yet-reads.Learnt,
   bind-fields-reads.Asked,
   bind-fields-reads.Learnt,
   moved-reads.Asked,
@@ -1063,15 +1416,15 @@ at-splits-same-length : (t : ℕ) → at-splits-lts.Need-same-length (
   slotted-reads.Asked,
   slotted-reads.Learnt,
 ) (at-splits-at t) at-splits.Post at-splits-Inv-loop at-splits-μ-loop
-at-splits-same-length t c = ((c .before .before .before .before .before .before .before .before .expr .kept .1 .1 .1 .1 .1 .0) ∙ (c .before .before .before .before .before .before .before .before .before .before .before .before .before .before .before .before .before .before .before .before .loop .inv .1 .0))
+at-splits-same-length t c = ((c .before .before .before .before .before .before .before .before .expr .kept .1 .1 .1 .1 .0) ∙ (c .before .before .before .before .before .before .before .before .before .before .before .before .before .before .before .before .before .before .before .before .loop .inv .1 .0))
 
 at-splits-same-length-2 : (t : ℕ) → at-splits-lts.Need-same-length-2 (
   fields-reads.Asked,
   fields-reads.Learnt,
   own-fields-reads.Asked,
   own-fields-reads.Learnt,
-  nothing-reads.Asked,
-  nothing-reads.Learnt,
+  nothing-yet-reads.Asked,
+  nothing-yet-reads.Learnt,
   bind-fields-reads.Asked,
   bind-fields-reads.Learnt,
   moved-reads.Asked,
@@ -1089,15 +1442,15 @@ at-splits-same-length-2 : (t : ℕ) → at-splits-lts.Need-same-length-2 (
   slotted-reads.Asked,
   slotted-reads.Learnt,
 ) (at-splits-at t) at-splits.Post at-splits-Inv-loop at-splits-μ-loop
-at-splits-same-length-2 t c = ((c .before .before .before .before .before .before .before .before .expr .kept .1 .1 .1 .1 .1 .1 .0) ∙ (c .before .before .before .before .before .before .before .before .before .before .before .before .before .before .before .before .bind-fields .kept .1 .0) ∙ (c .before .before .before .before .before .before .before .before .before .before .before .before .before .before .before .before .before .before .before .before .loop .inv .1 .1 .0))
+at-splits-same-length-2 t c = ((c .before .before .before .before .before .before .before .before .expr .kept .1 .1 .1 .1 .1 .0) ∙ (c .before .before .before .before .before .before .before .before .before .before .before .before .before .before .before .before .bind-fields .kept .1 .0) ∙ (c .before .before .before .before .before .before .before .before .before .before .before .before .before .before .before .before .before .before .before .before .loop .inv .1 .1 .0))
 
 at-splits-same-length-3 : (t : ℕ) → at-splits-lts.Need-same-length-3 (
   fields-reads.Asked,
   fields-reads.Learnt,
   own-fields-reads.Asked,
   own-fields-reads.Learnt,
-  nothing-reads.Asked,
-  nothing-reads.Learnt,
+  nothing-yet-reads.Asked,
+  nothing-yet-reads.Learnt,
   bind-fields-reads.Asked,
   bind-fields-reads.Learnt,
   moved-reads.Asked,
@@ -1115,15 +1468,15 @@ at-splits-same-length-3 : (t : ℕ) → at-splits-lts.Need-same-length-3 (
   slotted-reads.Asked,
   slotted-reads.Learnt,
 ) (at-splits-at t) at-splits.Post at-splits-Inv-loop at-splits-μ-loop
-at-splits-same-length-3 t c = ((c .before .before .before .before .before .before .before .before .expr .kept .1 .1 .1 .1 .1 .1 .1 .0) ∙ (c .before .before .before .before .before .before .before .before .before .before .before .before .before .before .before .before .before .before .before .before .loop .inv .1 .1 .1))
+at-splits-same-length-3 t c = ((c .before .before .before .before .before .before .before .before .expr .kept .1 .1 .1 .1 .1 .1 .0) ∙ (c .before .before .before .before .before .before .before .before .before .before .before .before .before .before .before .before .before .before .before .before .loop .inv .1 .1 .1))
 
 at-splits-returns : (t : ℕ) → at-splits-lts.Need-returns (
   fields-reads.Asked,
   fields-reads.Learnt,
   own-fields-reads.Asked,
   own-fields-reads.Learnt,
-  nothing-reads.Asked,
-  nothing-reads.Learnt,
+  nothing-yet-reads.Asked,
+  nothing-yet-reads.Learnt,
   bind-fields-reads.Asked,
   bind-fields-reads.Learnt,
   moved-reads.Asked,
@@ -1141,15 +1494,15 @@ at-splits-returns : (t : ℕ) → at-splits-lts.Need-returns (
   slotted-reads.Asked,
   slotted-reads.Learnt,
 ) (at-splits-at t) at-splits.Post at-splits-Inv-loop at-splits-μ-loop
-at-splits-returns t c = splits-part (walks-are (c .before .before .before .before .before .before .before .before .before .before .before .before .before .before .before .before .before .before .before .loop-test .taken) (c .before .before .before .before .before .before .before .before .before .before .before .before .before .before .before .before .before .before .before .before .loop .inv .0)) (c .before .before .before .before .before .before .before .before .before .before .before .before .before .before .before .before .before .before .before .before .before .before .before .before .fields .ensures) (c .before .before .before .before .before .before .before .before .before .before .before .before .before .before .before .before .before .before .before .before .before .before .before .own-fields .ensures) (scope-long (c .before .before .before .before .before .before .before .before .before .before .before .before .before .before .before .before .before .before .before .before .before .before .before .before .before .before .before .before .before .before .before .before .before .pre .1 .0) ((c .before .before .before .before .before .before .before .before .before .before .before .before .before .before .before .before .before .before .before .before .loop .inv .1 .1 .0))) (sizes-long (c .before .before .before .before .before .before .before .before .before .before .before .before .before .before .before .before .before .before .before .before .before .before .before .before .before .before .before .before .before .before .before .before .before .pre .1 .0) ((c .before .before .before .before .before .before .before .before .before .before .before .before .before .before .before .before .before .before .before .before .loop .inv .1 .1 .1))) (c .before .before .before .before .before .before .before .before .before .before .before .before .before .before .before .before .bind-fields .ensures) (c .before .before .before .before .before .before .before .before .before .before .before .before .before .moved .ensures) (c .before .before .before .before .before .before .before .before .before .before .before .before .widen .ensures) (c .before .before .before .before .before .before .before .before .expr .ensures) (c .enum-told .given .1)
+at-splits-returns t c = splits-part (walks-are (c .before .before .before .before .before .before .before .before .before .before .before .before .before .before .before .before .before .before .before .loop-test .taken) (c .before .before .before .before .before .before .before .before .before .before .before .before .before .before .before .before .before .before .before .before .loop .inv .0)) (c .before .before .before .before .before .before .before .before .before .before .before .before .before .before .before .before .before .before .before .before .before .before .before .before .fields .ensures) (c .before .before .before .before .before .before .before .before .before .before .before .before .before .before .before .before .before .before .before .before .before .before .before .own-fields .ensures) (scope-long (c .before .before .before .before .before .before .before .before .before .before .before .before .before .before .before .before .before .before .before .before .before .before .before .before .before .before .before .before .before .before .before .before .pre .1 .0) ((c .before .before .before .before .before .before .before .before .before .before .before .before .before .before .before .before .before .before .before .before .loop .inv .1 .1 .0))) (sizes-long (c .before .before .before .before .before .before .before .before .before .before .before .before .before .before .before .before .before .before .before .before .before .before .before .before .before .before .before .before .before .before .before .before .pre .1 .0) ((c .before .before .before .before .before .before .before .before .before .before .before .before .before .before .before .before .before .before .before .before .loop .inv .1 .1 .1))) (c .before .before .before .before .before .before .before .before .before .before .before .before .before .before .before .before .bind-fields .ensures) (c .before .before .before .before .before .before .before .before .before .before .before .before .before .moved .ensures) (c .before .before .before .before .before .before .before .before .before .before .before .before .widen .ensures) (c .before .before .before .before .before .before .before .before .expr .ensures) (c .enum-told .given .1)
 
 at-splits-is-kind-requires : (t : ℕ) → at-splits-lts.Need-is-kind-requires (
   fields-reads.Asked,
   fields-reads.Learnt,
   own-fields-reads.Asked,
   own-fields-reads.Learnt,
-  nothing-reads.Asked,
-  nothing-reads.Learnt,
+  nothing-yet-reads.Asked,
+  nothing-yet-reads.Learnt,
   bind-fields-reads.Asked,
   bind-fields-reads.Learnt,
   moved-reads.Asked,
@@ -1169,13 +1522,13 @@ at-splits-is-kind-requires : (t : ℕ) → at-splits-lts.Need-is-kind-requires (
 ) (at-splits-at t) at-splits.Post at-splits-Inv-loop at-splits-μ-loop
 at-splits-is-kind-requires t c κs = tt
 
-at-splits-add-t36 : (t : ℕ) → at-splits-lts.Need-add-t36 (
+at-splits-add-t34 : (t : ℕ) → at-splits-lts.Need-add-t34 (
   fields-reads.Asked,
   fields-reads.Learnt,
   own-fields-reads.Asked,
   own-fields-reads.Learnt,
-  nothing-reads.Asked,
-  nothing-reads.Learnt,
+  nothing-yet-reads.Asked,
+  nothing-yet-reads.Learnt,
   bind-fields-reads.Asked,
   bind-fields-reads.Learnt,
   moved-reads.Asked,
@@ -1193,15 +1546,15 @@ at-splits-add-t36 : (t : ℕ) → at-splits-lts.Need-add-t36 (
   slotted-reads.Asked,
   slotted-reads.Learnt,
 ) (at-splits-at t) at-splits.Post at-splits-Inv-loop at-splits-μ-loop
-at-splits-add-t36 t c = omega (arith, (c .before .before .before .before .before .before .before .before .before .before .before .before .before .before .before .before .before .before .before .before .before .before .before .before .before .before .before .before .before .before .before .before .before .before .before .before .before .pre .1 .0 .line))
+at-splits-add-t34 t c = omega (arith, (c .before .before .before .before .before .before .before .before .before .before .before .before .before .before .before .before .before .before .before .before .before .before .before .before .before .before .before .before .before .before .before .before .before .before .before .before .pre .1 .0 .line))
 
 at-splits-same-length-4 : (t : ℕ) → at-splits-lts.Need-same-length-4 (
   fields-reads.Asked,
   fields-reads.Learnt,
   own-fields-reads.Asked,
   own-fields-reads.Learnt,
-  nothing-reads.Asked,
-  nothing-reads.Learnt,
+  nothing-yet-reads.Asked,
+  nothing-yet-reads.Learnt,
   bind-fields-reads.Asked,
   bind-fields-reads.Learnt,
   moved-reads.Asked,
@@ -1219,15 +1572,15 @@ at-splits-same-length-4 : (t : ℕ) → at-splits-lts.Need-same-length-4 (
   slotted-reads.Asked,
   slotted-reads.Learnt,
 ) (at-splits-at t) at-splits.Post at-splits-Inv-loop at-splits-μ-loop
-at-splits-same-length-4 t c = ((c .before .before .before .before .before .before .before .before .before .before .before .before .expr .kept .1 .1 .1 .1 .1 .0) ∙ (c .before .before .before .before .before .before .before .before .before .before .before .before .before .before .before .before .before .before .before .before .before .before .before .before .loop .inv .1 .0))
+at-splits-same-length-4 t c = ((c .before .before .before .before .before .before .before .before .before .before .before .before .expr .kept .1 .1 .1 .1 .0) ∙ (c .before .before .before .before .before .before .before .before .before .before .before .before .before .before .before .before .before .before .before .before .before .before .before .before .loop .inv .1 .0))
 
 at-splits-same-length-5 : (t : ℕ) → at-splits-lts.Need-same-length-5 (
   fields-reads.Asked,
   fields-reads.Learnt,
   own-fields-reads.Asked,
   own-fields-reads.Learnt,
-  nothing-reads.Asked,
-  nothing-reads.Learnt,
+  nothing-yet-reads.Asked,
+  nothing-yet-reads.Learnt,
   bind-fields-reads.Asked,
   bind-fields-reads.Learnt,
   moved-reads.Asked,
@@ -1245,15 +1598,15 @@ at-splits-same-length-5 : (t : ℕ) → at-splits-lts.Need-same-length-5 (
   slotted-reads.Asked,
   slotted-reads.Learnt,
 ) (at-splits-at t) at-splits.Post at-splits-Inv-loop at-splits-μ-loop
-at-splits-same-length-5 t c = ((c .before .before .before .before .before .before .before .before .before .before .before .before .expr .kept .1 .1 .1 .1 .1 .1 .0) ∙ (c .before .before .before .before .before .before .before .before .before .before .before .before .before .before .before .before .before .before .before .before .bind-fields .kept .1 .0) ∙ (c .before .before .before .before .before .before .before .before .before .before .before .before .before .before .before .before .before .before .before .before .before .before .before .before .loop .inv .1 .1 .0))
+at-splits-same-length-5 t c = ((c .before .before .before .before .before .before .before .before .before .before .before .before .expr .kept .1 .1 .1 .1 .1 .0) ∙ (c .before .before .before .before .before .before .before .before .before .before .before .before .before .before .before .before .before .before .before .before .bind-fields .kept .1 .0) ∙ (c .before .before .before .before .before .before .before .before .before .before .before .before .before .before .before .before .before .before .before .before .before .before .before .before .loop .inv .1 .1 .0))
 
 at-splits-same-length-6 : (t : ℕ) → at-splits-lts.Need-same-length-6 (
   fields-reads.Asked,
   fields-reads.Learnt,
   own-fields-reads.Asked,
   own-fields-reads.Learnt,
-  nothing-reads.Asked,
-  nothing-reads.Learnt,
+  nothing-yet-reads.Asked,
+  nothing-yet-reads.Learnt,
   bind-fields-reads.Asked,
   bind-fields-reads.Learnt,
   moved-reads.Asked,
@@ -1271,15 +1624,15 @@ at-splits-same-length-6 : (t : ℕ) → at-splits-lts.Need-same-length-6 (
   slotted-reads.Asked,
   slotted-reads.Learnt,
 ) (at-splits-at t) at-splits.Post at-splits-Inv-loop at-splits-μ-loop
-at-splits-same-length-6 t c = ((c .before .before .before .before .before .before .before .before .before .before .before .before .expr .kept .1 .1 .1 .1 .1 .1 .1 .0) ∙ (c .before .before .before .before .before .before .before .before .before .before .before .before .before .before .before .before .before .before .before .before .before .before .before .before .loop .inv .1 .1 .1))
+at-splits-same-length-6 t c = ((c .before .before .before .before .before .before .before .before .before .before .before .before .expr .kept .1 .1 .1 .1 .1 .1 .0) ∙ (c .before .before .before .before .before .before .before .before .before .before .before .before .before .before .before .before .before .before .before .before .before .before .before .before .loop .inv .1 .1 .1))
 
 at-splits-returns-2 : (t : ℕ) → at-splits-lts.Need-returns-2 (
   fields-reads.Asked,
   fields-reads.Learnt,
   own-fields-reads.Asked,
   own-fields-reads.Learnt,
-  nothing-reads.Asked,
-  nothing-reads.Learnt,
+  nothing-yet-reads.Asked,
+  nothing-yet-reads.Learnt,
   bind-fields-reads.Asked,
   bind-fields-reads.Learnt,
   moved-reads.Asked,
@@ -1297,15 +1650,15 @@ at-splits-returns-2 : (t : ℕ) → at-splits-lts.Need-returns-2 (
   slotted-reads.Asked,
   slotted-reads.Learnt,
 ) (at-splits-at t) at-splits.Post at-splits-Inv-loop at-splits-μ-loop
-at-splits-returns-2 t c = splits-differ (walks-are (c .before .before .before .before .before .before .before .before .before .before .before .before .before .before .before .before .before .before .before .before .before .before .before .loop-test .taken) (c .before .before .before .before .before .before .before .before .before .before .before .before .before .before .before .before .before .before .before .before .before .before .before .before .loop .inv .0)) (c .before .before .before .before .before .before .before .before .before .before .before .before .before .before .before .before .before .before .before .before .before .before .before .before .before .before .before .before .fields .ensures) (c .before .before .before .before .before .before .before .before .before .before .before .before .before .before .before .before .before .before .before .before .before .before .before .before .before .before .before .own-fields .ensures) (scope-long (c .before .before .before .before .before .before .before .before .before .before .before .before .before .before .before .before .before .before .before .before .before .before .before .before .before .before .before .before .before .before .before .before .before .before .before .before .before .pre .1 .0) ((c .before .before .before .before .before .before .before .before .before .before .before .before .before .before .before .before .before .before .before .before .before .before .before .before .loop .inv .1 .1 .0))) (sizes-long (c .before .before .before .before .before .before .before .before .before .before .before .before .before .before .before .before .before .before .before .before .before .before .before .before .before .before .before .before .before .before .before .before .before .before .before .before .before .pre .1 .0) ((c .before .before .before .before .before .before .before .before .before .before .before .before .before .before .before .before .before .before .before .before .before .before .before .before .loop .inv .1 .1 .1))) (c .before .before .before .before .before .before .before .before .before .before .before .before .before .before .before .before .before .before .before .before .bind-fields .ensures) (c .before .before .before .before .before .before .before .before .before .before .before .before .before .before .before .before .before .moved .ensures) (c .before .before .before .before .before .before .before .before .before .before .before .before .before .before .before .before .widen .ensures) (c .before .before .before .before .before .before .before .before .before .before .before .before .expr .ensures) (c .before .before .before .before .x .given .1) (c .before .before .is-kind .ensures) (negated _ (c .before .if1 .taken))
+at-splits-returns-2 t c = splits-differ (walks-are (c .before .before .before .before .before .before .before .before .before .before .before .before .before .before .before .before .before .before .before .before .before .before .before .loop-test .taken) (c .before .before .before .before .before .before .before .before .before .before .before .before .before .before .before .before .before .before .before .before .before .before .before .before .loop .inv .0)) (c .before .before .before .before .before .before .before .before .before .before .before .before .before .before .before .before .before .before .before .before .before .before .before .before .before .before .before .before .fields .ensures) (c .before .before .before .before .before .before .before .before .before .before .before .before .before .before .before .before .before .before .before .before .before .before .before .before .before .before .before .own-fields .ensures) (scope-long (c .before .before .before .before .before .before .before .before .before .before .before .before .before .before .before .before .before .before .before .before .before .before .before .before .before .before .before .before .before .before .before .before .before .before .before .before .pre .1 .0) ((c .before .before .before .before .before .before .before .before .before .before .before .before .before .before .before .before .before .before .before .before .before .before .before .before .loop .inv .1 .1 .0))) (sizes-long (c .before .before .before .before .before .before .before .before .before .before .before .before .before .before .before .before .before .before .before .before .before .before .before .before .before .before .before .before .before .before .before .before .before .before .before .before .pre .1 .0) ((c .before .before .before .before .before .before .before .before .before .before .before .before .before .before .before .before .before .before .before .before .before .before .before .before .loop .inv .1 .1 .1))) (c .before .before .before .before .before .before .before .before .before .before .before .before .before .before .before .before .before .before .before .before .bind-fields .ensures) (c .before .before .before .before .before .before .before .before .before .before .before .before .before .before .before .before .before .moved .ensures) (c .before .before .before .before .before .before .before .before .before .before .before .before .before .before .before .before .widen .ensures) (c .before .before .before .before .before .before .before .before .before .before .before .before .expr .ensures) (c .before .before .before .before .x .given .1) (c .before .before .is-kind .ensures) (not-true _ (c .before .if1 .taken))
 
 at-splits-larger-requires : (t : ℕ) → at-splits-lts.Need-larger-requires (
   fields-reads.Asked,
   fields-reads.Learnt,
   own-fields-reads.Asked,
   own-fields-reads.Learnt,
-  nothing-reads.Asked,
-  nothing-reads.Learnt,
+  nothing-yet-reads.Asked,
+  nothing-yet-reads.Learnt,
   bind-fields-reads.Asked,
   bind-fields-reads.Learnt,
   moved-reads.Asked,
@@ -1330,8 +1683,8 @@ at-splits-cast-next-split : (t : ℕ) → at-splits-lts.Need-cast-next-split (
   fields-reads.Learnt,
   own-fields-reads.Asked,
   own-fields-reads.Learnt,
-  nothing-reads.Asked,
-  nothing-reads.Learnt,
+  nothing-yet-reads.Asked,
+  nothing-yet-reads.Learnt,
   bind-fields-reads.Asked,
   bind-fields-reads.Learnt,
   moved-reads.Asked,
@@ -1356,8 +1709,8 @@ at-splits-next-split-requires : (t : ℕ) → at-splits-lts.Need-next-split-requ
   fields-reads.Learnt,
   own-fields-reads.Asked,
   own-fields-reads.Learnt,
-  nothing-reads.Asked,
-  nothing-reads.Learnt,
+  nothing-yet-reads.Asked,
+  nothing-yet-reads.Learnt,
   bind-fields-reads.Asked,
   bind-fields-reads.Learnt,
   moved-reads.Asked,
@@ -1382,8 +1735,8 @@ at-splits-loop-less : (t : ℕ) → at-splits-lts.Need-loop-less (
   fields-reads.Learnt,
   own-fields-reads.Asked,
   own-fields-reads.Learnt,
-  nothing-reads.Asked,
-  nothing-reads.Learnt,
+  nothing-yet-reads.Asked,
+  nothing-yet-reads.Learnt,
   bind-fields-reads.Asked,
   bind-fields-reads.Learnt,
   moved-reads.Asked,
@@ -1401,15 +1754,15 @@ at-splits-loop-less : (t : ℕ) → at-splits-lts.Need-loop-less (
   slotted-reads.Asked,
   slotted-reads.Learnt,
 ) (at-splits-at t) at-splits.Post at-splits-Inv-loop at-splits-μ-loop
-at-splits-loop-less t c = less-as _ (c .before .before .before .before .before .before .before .before .before .before .before .before .before .before .before .before .before .before .before .before .before .before .before .before .before .before .before .before .loop-test .taken) (turn-falls (c .before .before .before .before .before .before .before .before .before .before .before .before .before .before .before .before .before .before .before .before .before .before .before .before .before .before .before .before .before .before .before .before .before .before .before .before .before .before .before .before .before .before .args .p) _ _ (c .before .before .before .before .before .before .before .before .before .before .before .before .before .before .before .before .before .before .before .before .before .before .moved .ensures) (c .before .before .before .before .before .before .before .before .before .before .before .before .before .before .before .before .before .before .before .before .before .widen .ensures) (c .before .before .before .before .before .before .before .before .before .before .before .before .before .before .before .before .before .expr .ensures .kept) (c .before .before .next-split .ensures))
+at-splits-loop-less t c = less-as _ (c .before .before .before .before .before .before .before .before .before .before .before .before .before .before .before .before .before .before .before .before .before .before .before .before .before .before .before .before .loop-test .taken) (turn-falls (c .before .before .before .before .before .before .before .before .before .before .before .before .before .before .before .before .before .before .before .before .before .before .before .before .before .before .before .before .before .before .before .before .before .before .before .before .before .before .before .before .before .args .p) _ _ (c .before .before .before .before .before .before .before .before .before .before .before .before .before .before .before .before .before .before .before .before .before .before .moved .ensures) (c .before .before .before .before .before .before .before .before .before .before .before .before .before .before .before .before .before .before .before .before .before .widen .ensures) (c .before .before .before .before .before .before .before .before .before .before .before .before .before .before .before .before .before .expr .ensures .kept) (c .before .before .next-split .ensures))
 
 at-splits-loop-again : (t : ℕ) → at-splits-lts.Need-loop-again (
   fields-reads.Asked,
   fields-reads.Learnt,
   own-fields-reads.Asked,
   own-fields-reads.Learnt,
-  nothing-reads.Asked,
-  nothing-reads.Learnt,
+  nothing-yet-reads.Asked,
+  nothing-yet-reads.Learnt,
   bind-fields-reads.Asked,
   bind-fields-reads.Learnt,
   moved-reads.Asked,
@@ -1427,15 +1780,15 @@ at-splits-loop-again : (t : ℕ) → at-splits-lts.Need-loop-again (
   slotted-reads.Asked,
   slotted-reads.Learnt,
 ) (at-splits-at t) at-splits.Post at-splits-Inv-loop at-splits-μ-loop
-at-splits-loop-again t c = (splits-turn (walks-are (c .before .before .before .before .before .before .before .before .before .before .before .before .before .before .before .before .before .before .before .before .before .before .before .before .before .before .before .before .loop-test .taken) (c .before .before .before .before .before .before .before .before .before .before .before .before .before .before .before .before .before .before .before .before .before .before .before .before .before .before .before .before .before .loop .inv .0)) (c .before .before .before .before .before .before .before .before .before .before .before .before .before .before .before .before .before .before .before .before .before .before .before .before .before .before .before .before .before .before .before .before .before .fields .ensures) (c .before .before .before .before .before .before .before .before .before .before .before .before .before .before .before .before .before .before .before .before .before .before .before .before .before .before .before .before .before .before .before .before .own-fields .ensures) (scope-long (c .before .before .before .before .before .before .before .before .before .before .before .before .before .before .before .before .before .before .before .before .before .before .before .before .before .before .before .before .before .before .before .before .before .before .before .before .before .before .before .before .before .before .pre .1 .0) ((c .before .before .before .before .before .before .before .before .before .before .before .before .before .before .before .before .before .before .before .before .before .before .before .before .before .before .before .before .before .loop .inv .1 .1 .0))) (sizes-long (c .before .before .before .before .before .before .before .before .before .before .before .before .before .before .before .before .before .before .before .before .before .before .before .before .before .before .before .before .before .before .before .before .before .before .before .before .before .before .before .before .before .before .pre .1 .0) ((c .before .before .before .before .before .before .before .before .before .before .before .before .before .before .before .before .before .before .before .before .before .before .before .before .before .before .before .before .before .loop .inv .1 .1 .1))) (c .before .before .before .before .before .before .before .before .before .before .before .before .before .before .before .before .before .before .before .before .before .before .before .before .before .bind-fields .ensures) (c .before .before .before .before .before .before .before .before .before .before .before .before .before .before .before .before .before .before .before .before .before .before .moved .ensures) (c .before .before .before .before .before .before .before .before .before .before .before .before .before .before .before .before .before .before .before .before .before .widen .ensures) (c .before .before .before .before .before .before .before .before .before .before .before .before .before .before .before .before .before .expr .ensures) (c .before .before .before .before .before .before .before .before .before .x .given .1) (c .before .before .before .before .before .before .before .is-kind .ensures) (affirmed _ (c .before .before .before .before .before .before .if1 .left)) (sizes-long (c .before .before .before .before .before .before .before .before .before .before .before .before .before .before .before .before .before .before .before .before .before .before .before .before .before .before .before .before .before .before .before .before .before .before .before .before .before .before .before .before .before .before .pre .1 .0) ((c .before .before .before .before .before .before .before .before .before .before .before .before .before .before .before .before .before .expr .kept .1 .1 .1 .1 .1 .1 .1 .0) ∙ (c .before .before .before .before .before .before .before .before .before .before .before .before .before .before .before .before .before .before .before .before .before .before .before .before .before .before .before .before .before .loop .inv .1 .1 .1))) (c .before .before .before .before .before .larger .ensures .both) (c .before .before .before .before .before .larger .ensures .is) (c .before .before .next-split .ensures), (((c .before .before .before .before .before .before .before .before .before .before .before .before .before .before .before .before .before .expr .kept .1 .1 .1 .1 .1 .0) ∙ (c .before .before .before .before .before .before .before .before .before .before .before .before .before .before .before .before .before .before .before .before .before .before .before .before .before .before .before .before .before .loop .inv .1 .0)), (((c .before .before .before .before .before .before .before .before .before .before .before .before .before .before .before .before .before .expr .kept .1 .1 .1 .1 .1 .1 .0) ∙ (c .before .before .before .before .before .before .before .before .before .before .before .before .before .before .before .before .before .before .before .before .before .before .before .before .before .bind-fields .kept .1 .0) ∙ (c .before .before .before .before .before .before .before .before .before .before .before .before .before .before .before .before .before .before .before .before .before .before .before .before .before .before .before .before .before .loop .inv .1 .1 .0)), (c .before .before .next-split .kept .0) ∙ ((c .before .before .before .before .before .before .before .before .before .before .before .before .before .before .before .before .before .expr .kept .1 .1 .1 .1 .1 .1 .1 .0) ∙ (c .before .before .before .before .before .before .before .before .before .before .before .before .before .before .before .before .before .before .before .before .before .before .before .before .before .before .before .before .before .loop .inv .1 .1 .1)))))
+at-splits-loop-again t c = (splits-turn (walks-are (c .before .before .before .before .before .before .before .before .before .before .before .before .before .before .before .before .before .before .before .before .before .before .before .before .before .before .before .before .loop-test .taken) (c .before .before .before .before .before .before .before .before .before .before .before .before .before .before .before .before .before .before .before .before .before .before .before .before .before .before .before .before .before .loop .inv .0)) (c .before .before .before .before .before .before .before .before .before .before .before .before .before .before .before .before .before .before .before .before .before .before .before .before .before .before .before .before .before .before .before .before .before .fields .ensures) (c .before .before .before .before .before .before .before .before .before .before .before .before .before .before .before .before .before .before .before .before .before .before .before .before .before .before .before .before .before .before .before .before .own-fields .ensures) (scope-long (c .before .before .before .before .before .before .before .before .before .before .before .before .before .before .before .before .before .before .before .before .before .before .before .before .before .before .before .before .before .before .before .before .before .before .before .before .before .before .before .before .before .pre .1 .0) ((c .before .before .before .before .before .before .before .before .before .before .before .before .before .before .before .before .before .before .before .before .before .before .before .before .before .before .before .before .before .loop .inv .1 .1 .0))) (sizes-long (c .before .before .before .before .before .before .before .before .before .before .before .before .before .before .before .before .before .before .before .before .before .before .before .before .before .before .before .before .before .before .before .before .before .before .before .before .before .before .before .before .before .pre .1 .0) ((c .before .before .before .before .before .before .before .before .before .before .before .before .before .before .before .before .before .before .before .before .before .before .before .before .before .before .before .before .before .loop .inv .1 .1 .1))) (c .before .before .before .before .before .before .before .before .before .before .before .before .before .before .before .before .before .before .before .before .before .before .before .before .before .bind-fields .ensures) (c .before .before .before .before .before .before .before .before .before .before .before .before .before .before .before .before .before .before .before .before .before .before .moved .ensures) (c .before .before .before .before .before .before .before .before .before .before .before .before .before .before .before .before .before .before .before .before .before .widen .ensures) (c .before .before .before .before .before .before .before .before .before .before .before .before .before .before .before .before .before .expr .ensures) (c .before .before .before .before .before .before .before .before .before .x .given .1) (c .before .before .before .before .before .before .before .is-kind .ensures) (not-false _ (c .before .before .before .before .before .before .if1 .left)) (sizes-long (c .before .before .before .before .before .before .before .before .before .before .before .before .before .before .before .before .before .before .before .before .before .before .before .before .before .before .before .before .before .before .before .before .before .before .before .before .before .before .before .before .before .pre .1 .0) ((c .before .before .before .before .before .before .before .before .before .before .before .before .before .before .before .before .before .expr .kept .1 .1 .1 .1 .1 .1 .0) ∙ (c .before .before .before .before .before .before .before .before .before .before .before .before .before .before .before .before .before .before .before .before .before .before .before .before .before .before .before .before .before .loop .inv .1 .1 .1))) (c .before .before .before .before .before .larger .ensures .both) (c .before .before .before .before .before .larger .ensures .is) (c .before .before .next-split .ensures), (((c .before .before .before .before .before .before .before .before .before .before .before .before .before .before .before .before .before .expr .kept .1 .1 .1 .1 .0) ∙ (c .before .before .before .before .before .before .before .before .before .before .before .before .before .before .before .before .before .before .before .before .before .before .before .before .before .before .before .before .before .loop .inv .1 .0)), (((c .before .before .before .before .before .before .before .before .before .before .before .before .before .before .before .before .before .expr .kept .1 .1 .1 .1 .1 .0) ∙ (c .before .before .before .before .before .before .before .before .before .before .before .before .before .before .before .before .before .before .before .before .before .before .before .before .before .bind-fields .kept .1 .0) ∙ (c .before .before .before .before .before .before .before .before .before .before .before .before .before .before .before .before .before .before .before .before .before .before .before .before .before .before .before .before .before .loop .inv .1 .1 .0)), (c .before .before .next-split .kept .0) ∙ ((c .before .before .before .before .before .before .before .before .before .before .before .before .before .before .before .before .before .expr .kept .1 .1 .1 .1 .1 .1 .0) ∙ (c .before .before .before .before .before .before .before .before .before .before .before .before .before .before .before .before .before .before .before .before .before .before .before .before .before .before .before .before .before .loop .inv .1 .1 .1)))))
 
 at-splits-slotted-requires : (t : ℕ) → at-splits-lts.Need-slotted-requires (
   fields-reads.Asked,
   fields-reads.Learnt,
   own-fields-reads.Asked,
   own-fields-reads.Learnt,
-  nothing-reads.Asked,
-  nothing-reads.Learnt,
+  nothing-yet-reads.Asked,
+  nothing-yet-reads.Learnt,
   bind-fields-reads.Asked,
   bind-fields-reads.Learnt,
   moved-reads.Asked,
@@ -1460,8 +1813,8 @@ at-splits-same-length-7 : (t : ℕ) → at-splits-lts.Need-same-length-7 (
   fields-reads.Learnt,
   own-fields-reads.Asked,
   own-fields-reads.Learnt,
-  nothing-reads.Asked,
-  nothing-reads.Learnt,
+  nothing-yet-reads.Asked,
+  nothing-yet-reads.Learnt,
   bind-fields-reads.Asked,
   bind-fields-reads.Learnt,
   moved-reads.Asked,
@@ -1486,8 +1839,8 @@ at-splits-same-length-8 : (t : ℕ) → at-splits-lts.Need-same-length-8 (
   fields-reads.Learnt,
   own-fields-reads.Asked,
   own-fields-reads.Learnt,
-  nothing-reads.Asked,
-  nothing-reads.Learnt,
+  nothing-yet-reads.Asked,
+  nothing-yet-reads.Learnt,
   bind-fields-reads.Asked,
   bind-fields-reads.Learnt,
   moved-reads.Asked,
@@ -1512,8 +1865,8 @@ at-splits-same-length-9 : (t : ℕ) → at-splits-lts.Need-same-length-9 (
   fields-reads.Learnt,
   own-fields-reads.Asked,
   own-fields-reads.Learnt,
-  nothing-reads.Asked,
-  nothing-reads.Learnt,
+  nothing-yet-reads.Asked,
+  nothing-yet-reads.Learnt,
   bind-fields-reads.Asked,
   bind-fields-reads.Learnt,
   moved-reads.Asked,
@@ -1538,8 +1891,8 @@ at-splits-returns-3 : (t : ℕ) → at-splits-lts.Need-returns-3 (
   fields-reads.Learnt,
   own-fields-reads.Asked,
   own-fields-reads.Learnt,
-  nothing-reads.Asked,
-  nothing-reads.Learnt,
+  nothing-yet-reads.Asked,
+  nothing-yet-reads.Learnt,
   bind-fields-reads.Asked,
   bind-fields-reads.Learnt,
   moved-reads.Asked,
@@ -1573,7 +1926,7 @@ binding-expr-requires : (t : ℕ) → binding-lts.Need-expr-requires (
   with-let-reads.Asked,
   with-let-reads.Learnt,
 ) (binding-at t) binding.Post
-binding-expr-requires t c κs = (load-same _ 900 (c .before .before .before .before .before .before .before .before .before .before .before .pre .0) 0 (omega arith), room-same (c .before .before .before .before .before .before .before .before .before .before .before .pre .1) (omega arith))
+binding-expr-requires t c κs = (load-same _ 900 (c .before .before .before .before .before .before .before .before .before .before .pre .0) 0 (omega arith), room-same (c .before .before .before .before .before .before .before .before .before .before .pre .1) (omega arith))
 
 binding-enum-known-x : (t : ℕ) → binding-lts.Need-enum-known-x (
   expr-below t,
@@ -1621,7 +1974,7 @@ binding-same-length : (t : ℕ) → binding-lts.Need-same-length (
   with-let-reads.Asked,
   with-let-reads.Learnt,
 ) (binding-at t) binding.Post
-binding-same-length t c = (c .before .before .before .before .before .before .before .before .expr .kept .1 .1 .1 .1 .1 .0)
+binding-same-length t c = (c .before .before .before .before .before .before .before .before .expr .kept .1 .1 .1 .1 .0)
 
 binding-same-length-2 : (t : ℕ) → binding-lts.Need-same-length-2 (
   expr-below t,
@@ -1637,7 +1990,7 @@ binding-same-length-2 : (t : ℕ) → binding-lts.Need-same-length-2 (
   with-let-reads.Asked,
   with-let-reads.Learnt,
 ) (binding-at t) binding.Post
-binding-same-length-2 t c = (c .before .before .before .before .before .before .before .before .expr .kept .1 .1 .1 .1 .1 .1 .0)
+binding-same-length-2 t c = (c .before .before .before .before .before .before .before .before .expr .kept .1 .1 .1 .1 .1 .0)
 
 binding-same-length-3 : (t : ℕ) → binding-lts.Need-same-length-3 (
   expr-below t,
@@ -1653,7 +2006,7 @@ binding-same-length-3 : (t : ℕ) → binding-lts.Need-same-length-3 (
   with-let-reads.Asked,
   with-let-reads.Learnt,
 ) (binding-at t) binding.Post
-binding-same-length-3 t c = (c .before .before .before .before .before .before .before .before .expr .kept .1 .1 .1 .1 .1 .1 .1 .0)
+binding-same-length-3 t c = (c .before .before .before .before .before .before .before .before .expr .kept .1 .1 .1 .1 .1 .1 .0)
 
 binding-returns : (t : ℕ) → binding-lts.Need-returns (
   expr-below t,
@@ -1749,7 +2102,7 @@ binding-widen-requires : (t : ℕ) → binding-lts.Need-widen-requires (
   with-let-reads.Asked,
   with-let-reads.Learnt,
 ) (binding-at t) binding.Post
-binding-widen-requires t c κs = room-widens (c .before .before .before .before .before .before .before .before .before .before .before .before .before .before .before .before .before .before .before .before .before .before .before .before .before .before .before .before .pre .1) (c .behind .ensures) (omega arith) (omega arith)
+binding-widen-requires t c κs = room-widens (c .before .before .before .before .before .before .before .before .before .before .before .before .before .before .before .before .before .before .before .before .before .before .before .before .before .before .before .pre .1) (c .behind .ensures) (omega arith) (omega arith)
 
 binding-expr-requires-2 : (t : ℕ) → binding-lts.Need-expr-requires-2 (
   expr-below t,
@@ -1765,7 +2118,7 @@ binding-expr-requires-2 : (t : ℕ) → binding-lts.Need-expr-requires-2 (
   with-let-reads.Asked,
   with-let-reads.Learnt,
 ) (binding-at t) binding.Post
-binding-expr-requires-2 t c κs = (load-wide _ 900 (c .before .before .before .before .before .before .before .before .before .before .before .before .before .before .before .before .before .before .before .before .before .before .before .before .before .before .before .before .before .before .before .before .pre .0) _ _ 1 0 0 (c .before .before .before .before .behind .ensures) (c .before .before .before .widen .ensures) (grows-to (c .before .before .before .before .before .before .before .before .before .before .before .before .before .before .before .before .before .before .before .before .expr .ensures .grows) (c .before .before .before .before .before .before .before .before .before .before .before .before .x .given .1)) (omega arith), room-wide (c .before .before .before .before .before .before .before .before .before .before .before .before .before .before .before .before .before .before .before .before .before .before .before .before .before .before .before .before .before .before .before .before .pre .1) (c .before .before .before .before .behind .ensures) (c .before .before .before .widen .ensures) ((c .before .before .before .before .before .before .before .put .kept .0) ∙ (c .before .before .before .before .before .before .before .before .before .before .before .before .before .before .before .before .before .before .before .before .expr .kept .1 .1 .1 .1 .1 .1 .0)) ((c .before .before .before .before .before .before .before .before .before .before .before .before .before .before .before .before .before .before .before .before .expr .kept .1 .1 .1 .1 .1 .1 .1 .0)) (omega arith) (omega arith))
+binding-expr-requires-2 t c κs = (load-wide _ 900 (c .before .before .before .before .before .before .before .before .before .before .before .before .before .before .before .before .before .before .before .before .before .before .before .before .before .before .before .before .before .before .before .pre .0) _ _ 1 0 0 (c .before .before .before .before .behind .ensures) (c .before .before .before .widen .ensures) (grows-to (c .before .before .before .before .before .before .before .before .before .before .before .before .before .before .before .before .before .before .before .before .expr .ensures .grows) (c .before .before .before .before .before .before .before .before .before .before .before .before .x .given .1)) (omega arith), room-wide (c .before .before .before .before .before .before .before .before .before .before .before .before .before .before .before .before .before .before .before .before .before .before .before .before .before .before .before .before .before .before .before .pre .1) (c .before .before .before .before .behind .ensures) (c .before .before .before .widen .ensures) ((c .before .before .before .before .before .before .before .put .kept .0) ∙ (c .before .before .before .before .before .before .before .before .before .before .before .before .before .before .before .before .before .before .before .before .expr .kept .1 .1 .1 .1 .1 .0)) ((c .before .before .before .before .before .before .before .before .before .before .before .before .before .before .before .before .before .before .before .before .expr .kept .1 .1 .1 .1 .1 .1 .0)) (omega arith) (omega arith))
 
 binding-enum-known-y : (t : ℕ) → binding-lts.Need-enum-known-y (
   expr-below t,
@@ -1813,7 +2166,7 @@ binding-same-length-4 : (t : ℕ) → binding-lts.Need-same-length-4 (
   with-let-reads.Asked,
   with-let-reads.Learnt,
 ) (binding-at t) binding.Post
-binding-same-length-4 t c = (c .before .before .before .before .before .before .before .before .expr2 .kept .1 .1 .1 .1 .1 .0) ∙ (c .before .before .before .before .before .before .before .before .before .before .before .before .before .before .before .before .before .before .before .before .before .before .before .before .before .before .before .before .before .expr .kept .1 .1 .1 .1 .1 .0)
+binding-same-length-4 t c = (c .before .before .before .before .before .before .before .before .expr2 .kept .1 .1 .1 .1 .0) ∙ (c .before .before .before .before .before .before .before .before .before .before .before .before .before .before .before .before .before .before .before .before .before .before .before .before .before .before .before .before .before .expr .kept .1 .1 .1 .1 .0)
 
 binding-same-length-5 : (t : ℕ) → binding-lts.Need-same-length-5 (
   expr-below t,
@@ -1829,7 +2182,7 @@ binding-same-length-5 : (t : ℕ) → binding-lts.Need-same-length-5 (
   with-let-reads.Asked,
   with-let-reads.Learnt,
 ) (binding-at t) binding.Post
-binding-same-length-5 t c = (c .before .before .before .before .before .before .before .before .expr2 .kept .1 .1 .1 .1 .1 .1 .0) ∙ (c .before .before .before .before .before .before .before .before .before .before .before .before .before .before .before .before .put .kept .0) ∙ (c .before .before .before .before .before .before .before .before .before .before .before .before .before .before .before .before .before .before .before .before .before .before .before .before .before .before .before .before .before .expr .kept .1 .1 .1 .1 .1 .1 .0)
+binding-same-length-5 t c = (c .before .before .before .before .before .before .before .before .expr2 .kept .1 .1 .1 .1 .1 .0) ∙ (c .before .before .before .before .before .before .before .before .before .before .before .before .before .before .before .before .put .kept .0) ∙ (c .before .before .before .before .before .before .before .before .before .before .before .before .before .before .before .before .before .before .before .before .before .before .before .before .before .before .before .before .before .expr .kept .1 .1 .1 .1 .1 .0)
 
 binding-same-length-6 : (t : ℕ) → binding-lts.Need-same-length-6 (
   expr-below t,
@@ -1845,7 +2198,7 @@ binding-same-length-6 : (t : ℕ) → binding-lts.Need-same-length-6 (
   with-let-reads.Asked,
   with-let-reads.Learnt,
 ) (binding-at t) binding.Post
-binding-same-length-6 t c = (c .before .before .before .before .before .before .before .before .expr2 .kept .1 .1 .1 .1 .1 .1 .1 .0) ∙ (c .before .before .before .before .before .before .before .before .before .before .before .before .before .before .before .before .before .before .before .before .before .before .before .before .before .before .before .before .before .expr .kept .1 .1 .1 .1 .1 .1 .1 .0)
+binding-same-length-6 t c = (c .before .before .before .before .before .before .before .before .expr2 .kept .1 .1 .1 .1 .1 .1 .0) ∙ (c .before .before .before .before .before .before .before .before .before .before .before .before .before .before .before .before .before .before .before .before .before .before .before .before .before .before .before .before .before .expr .kept .1 .1 .1 .1 .1 .1 .0)
 
 binding-returns-2 : (t : ℕ) → binding-lts.Need-returns-2 (
   expr-below t,
@@ -1861,7 +2214,7 @@ binding-returns-2 : (t : ℕ) → binding-lts.Need-returns-2 (
   with-let-reads.Asked,
   with-let-reads.Learnt,
 ) (binding-at t) binding.Post
-binding-returns-2 t c = let-second (c .before .before .before .before .before .before .before .before .before .before .before .before .before .before .before .before .before .before .before .before .before .before .before .before .before .before .before .before .before .expr .ensures) (scope-long (c .before .before .before .before .before .before .before .before .before .before .before .before .before .before .before .before .before .before .before .before .before .before .before .before .before .before .before .before .before .before .before .before .before .before .before .before .before .before .before .before .before .pre .1) ((c .before .before .before .before .before .before .before .before .before .before .before .before .before .before .before .before .before .before .before .before .before .before .before .before .before .before .before .before .before .expr .kept .1 .1 .1 .1 .1 .1 .0))) (c .before .before .before .before .before .before .before .before .before .before .before .before .before .before .before .before .before .before .before .before .before .x .given .1) (c .before .before .before .before .before .before .before .before .before .before .before .before .before .before .before .before .before .kind-word .ensures .is) (c .before .before .before .before .before .before .before .before .before .before .before .before .before .behind .ensures) (c .before .before .before .before .before .before .before .before .before .before .before .before .widen .ensures) (put-is (c .before .before .before .before .before .before .before .before .before .before .before .before .before .before .before .before .put .ensures) (c .before .before .before .before .before .before .before .before .expr2 .ensures)) (c .enum-told2 .given .1)
+binding-returns-2 t c = let-second (c .before .before .before .before .before .before .before .before .before .before .before .before .before .before .before .before .before .before .before .before .before .before .before .before .before .before .before .before .before .expr .ensures) (scope-long (c .before .before .before .before .before .before .before .before .before .before .before .before .before .before .before .before .before .before .before .before .before .before .before .before .before .before .before .before .before .before .before .before .before .before .before .before .before .before .before .before .pre .1) ((c .before .before .before .before .before .before .before .before .before .before .before .before .before .before .before .before .before .before .before .before .before .before .before .before .before .before .before .before .before .expr .kept .1 .1 .1 .1 .1 .0))) (c .before .before .before .before .before .before .before .before .before .before .before .before .before .before .before .before .before .before .before .before .before .x .given .1) (c .before .before .before .before .before .before .before .before .before .before .before .before .before .before .before .before .before .kind-word .ensures .is) (c .before .before .before .before .before .before .before .before .before .before .before .before .before .behind .ensures) (c .before .before .before .before .before .before .before .before .before .before .before .before .widen .ensures) (put-is (c .before .before .before .before .before .before .before .before .before .before .before .before .before .before .before .before .put .ensures) (c .before .before .before .before .before .before .before .before .expr2 .ensures)) (c .enum-told2 .given .1)
 
 binding-with-let-requires : (t : ℕ) → binding-lts.Need-with-let-requires (
   expr-below t,
@@ -1893,7 +2246,7 @@ binding-same-length-7 : (t : ℕ) → binding-lts.Need-same-length-7 (
   with-let-reads.Asked,
   with-let-reads.Learnt,
 ) (binding-at t) binding.Post
-binding-same-length-7 t c = (c .before .before .before .before .before .before .before .before .before .before .expr2 .kept .1 .1 .1 .1 .1 .0) ∙ (c .before .before .before .before .before .before .before .before .before .before .before .before .before .before .before .before .before .before .before .before .before .before .before .before .before .before .before .before .before .before .before .expr .kept .1 .1 .1 .1 .1 .0)
+binding-same-length-7 t c = (c .before .before .before .before .before .before .before .before .before .before .expr2 .kept .1 .1 .1 .1 .0) ∙ (c .before .before .before .before .before .before .before .before .before .before .before .before .before .before .before .before .before .before .before .before .before .before .before .before .before .before .before .before .before .before .before .expr .kept .1 .1 .1 .1 .0)
 
 binding-same-length-8 : (t : ℕ) → binding-lts.Need-same-length-8 (
   expr-below t,
@@ -1909,7 +2262,7 @@ binding-same-length-8 : (t : ℕ) → binding-lts.Need-same-length-8 (
   with-let-reads.Asked,
   with-let-reads.Learnt,
 ) (binding-at t) binding.Post
-binding-same-length-8 t c = (c .before .before .before .before .before .before .before .before .before .before .expr2 .kept .1 .1 .1 .1 .1 .1 .0) ∙ (c .before .before .before .before .before .before .before .before .before .before .before .before .before .before .before .before .before .before .put .kept .0) ∙ (c .before .before .before .before .before .before .before .before .before .before .before .before .before .before .before .before .before .before .before .before .before .before .before .before .before .before .before .before .before .before .before .expr .kept .1 .1 .1 .1 .1 .1 .0)
+binding-same-length-8 t c = (c .before .before .before .before .before .before .before .before .before .before .expr2 .kept .1 .1 .1 .1 .1 .0) ∙ (c .before .before .before .before .before .before .before .before .before .before .before .before .before .before .before .before .before .before .put .kept .0) ∙ (c .before .before .before .before .before .before .before .before .before .before .before .before .before .before .before .before .before .before .before .before .before .before .before .before .before .before .before .before .before .before .before .expr .kept .1 .1 .1 .1 .1 .0)
 
 binding-same-length-9 : (t : ℕ) → binding-lts.Need-same-length-9 (
   expr-below t,
@@ -1925,7 +2278,7 @@ binding-same-length-9 : (t : ℕ) → binding-lts.Need-same-length-9 (
   with-let-reads.Asked,
   with-let-reads.Learnt,
 ) (binding-at t) binding.Post
-binding-same-length-9 t c = (c .before .before .before .before .before .before .before .before .before .before .expr2 .kept .1 .1 .1 .1 .1 .1 .1 .0) ∙ (c .before .before .before .before .before .before .before .before .before .before .before .before .before .before .before .before .before .before .before .before .before .before .before .before .before .before .before .before .before .before .before .expr .kept .1 .1 .1 .1 .1 .1 .1 .0)
+binding-same-length-9 t c = (c .before .before .before .before .before .before .before .before .before .before .expr2 .kept .1 .1 .1 .1 .1 .1 .0) ∙ (c .before .before .before .before .before .before .before .before .before .before .before .before .before .before .before .before .before .before .before .before .before .before .before .before .before .before .before .before .before .before .before .expr .kept .1 .1 .1 .1 .1 .1 .0)
 
 binding-returns-3 : (t : ℕ) → binding-lts.Need-returns-3 (
   expr-below t,
@@ -1941,7 +2294,7 @@ binding-returns-3 : (t : ℕ) → binding-lts.Need-returns-3 (
   with-let-reads.Asked,
   with-let-reads.Learnt,
 ) (binding-at t) binding.Post
-binding-returns-3 t c = let-done (c .before .before .before .before .before .before .before .before .before .before .before .before .before .before .before .before .before .before .before .before .before .before .before .before .before .before .before .before .before .before .before .expr .ensures) (scope-long (c .before .before .before .before .before .before .before .before .before .before .before .before .before .before .before .before .before .before .before .before .before .before .before .before .before .before .before .before .before .before .before .before .before .before .before .before .before .before .before .before .before .before .before .pre .1) ((c .before .before .before .before .before .before .before .before .before .before .before .before .before .before .before .before .before .before .before .before .before .before .before .before .before .before .before .before .before .before .before .expr .kept .1 .1 .1 .1 .1 .1 .0))) (c .before .before .before .before .before .before .before .before .before .before .before .before .before .before .before .before .before .before .before .before .before .before .before .x .given .1) (c .before .before .before .before .before .before .before .before .before .before .before .before .before .before .before .before .before .before .before .kind-word .ensures .is) (c .before .before .before .before .before .before .before .before .before .before .before .before .before .before .before .behind .ensures) (c .before .before .before .before .before .before .before .before .before .before .before .before .before .before .widen .ensures) (put-is (c .before .before .before .before .before .before .before .before .before .before .before .before .before .before .before .before .before .before .put .ensures) (c .before .before .before .before .before .before .before .before .before .before .expr2 .ensures)) (c .before .before .y .given .1) (c .with-let .ensures .held) (c .with-let .ensures .all) (c .with-let .ensures .is)
+binding-returns-3 t c = let-done (c .before .before .before .before .before .before .before .before .before .before .before .before .before .before .before .before .before .before .before .before .before .before .before .before .before .before .before .before .before .before .before .expr .ensures) (scope-long (c .before .before .before .before .before .before .before .before .before .before .before .before .before .before .before .before .before .before .before .before .before .before .before .before .before .before .before .before .before .before .before .before .before .before .before .before .before .before .before .before .before .before .pre .1) ((c .before .before .before .before .before .before .before .before .before .before .before .before .before .before .before .before .before .before .before .before .before .before .before .before .before .before .before .before .before .before .before .expr .kept .1 .1 .1 .1 .1 .0))) (c .before .before .before .before .before .before .before .before .before .before .before .before .before .before .before .before .before .before .before .before .before .before .before .x .given .1) (c .before .before .before .before .before .before .before .before .before .before .before .before .before .before .before .before .before .before .before .kind-word .ensures .is) (c .before .before .before .before .before .before .before .before .before .before .before .before .before .before .before .behind .ensures) (c .before .before .before .before .before .before .before .before .before .before .before .before .before .before .widen .ensures) (put-is (c .before .before .before .before .before .before .before .before .before .before .before .before .before .before .before .before .before .before .put .ensures) (c .before .before .before .before .before .before .before .before .before .before .expr2 .ensures)) (c .before .before .y .given .1) (c .with-let .ensures .held) (c .with-let .ensures .all) (c .with-let .ensures .is)
 
 body-cast-if1 : (t : ℕ) → body-lts.Need-cast-if1 (
   add-reads.Asked,
@@ -1961,7 +2314,7 @@ body-cast-if1 : (t : ℕ) → body-lts.Need-cast-if1 (
 ) (body-at t) body.Post
 body-cast-if1 t c = omega arith
 
-body-add-t19 : (t : ℕ) → body-lts.Need-add-t19 (
+body-add-t18 : (t : ℕ) → body-lts.Need-add-t18 (
   add-reads.Asked,
   add-reads.Learnt,
   body-place-reads.Asked,
@@ -1977,7 +2330,7 @@ body-add-t19 : (t : ℕ) → body-lts.Need-add-t19 (
   leaf-reads.Asked,
   leaf-reads.Learnt,
 ) (body-at t) body.Post
-body-add-t19 t c = omega (arith, (c .before .before .before .before .before .before .before .before .before .before .before .pre .1 .0 .line))
+body-add-t18 t c = omega (arith, (c .before .before .before .before .before .before .before .before .before .before .pre .1 .0 .line))
 
 body-returns : (t : ℕ) → body-lts.Need-returns (
   add-reads.Asked,
@@ -2031,7 +2384,7 @@ body-body-place-requires : (t : ℕ) → body-lts.Need-body-place-requires (
   leaf-reads.Asked,
   leaf-reads.Learnt,
 ) (body-at t) body.Post
-body-body-place-requires t c κs = ((c .before .before .before .before .before .before .before .before .before .before .before .before .before .before .before .pre .1 .0 .types), (omega (arith, (c .before .before .before .before .before .if1 .left)), (c .before .before .before .before .before .before .before .before .before .before .before .before .before .before .before .pre .1 .1 .function)))
+body-body-place-requires t c κs = ((c .before .before .before .before .before .before .before .before .before .before .before .before .before .before .pre .1 .0 .types), (omega (arith, (c .before .before .before .before .before .if1 .left)), (c .before .before .before .before .before .before .before .before .before .before .before .before .before .before .pre .1 .1 .function)))
 
 body-expr-requires : (t : ℕ) → body-lts.Need-expr-requires (
   add-reads.Asked,
@@ -2049,7 +2402,7 @@ body-expr-requires : (t : ℕ) → body-lts.Need-expr-requires (
   leaf-reads.Asked,
   leaf-reads.Learnt,
 ) (body-at t) body.Post
-body-expr-requires t c κs = (load-body _ 80 (c .before .before .before .before .before .before .before .before .before .before .before .before .before .before .before .before .before .before .before .pre .0) (now (c .before .before .before .before .before .before .before .before .before .before .before .before .before .before .before .before .before .before .before .args .functions)) (c .before .before .before .before .before .before .before .before .before .before .before .before .before .before .before .before .before .before .before .args .e) _ (c .before .before .before .body-place .ensures) (omega (arith, (c .before .before .before .before .before .before .before .before .before .if1 .left))), room-body (now (c .before .before .before .before .before .before .before .before .before .before .before .before .before .before .before .before .before .before .before .args .functions)) (c .before .before .before .before .before .before .before .before .before .before .before .before .before .before .before .before .before .before .before .pre .1 .0) (c .before .before .before .before .before .before .before .before .before .before .before .before .before .before .before .before .before .before .before .pre .1 .1) (c .before .before .before .body-place .ensures))
+body-expr-requires t c κs = (load-body _ 80 (c .before .before .before .before .before .before .before .before .before .before .before .before .before .before .before .before .before .before .pre .0) (now (c .before .before .before .before .before .before .before .before .before .before .before .before .before .before .before .before .before .before .args .functions)) (c .before .before .before .before .before .before .before .before .before .before .before .before .before .before .before .before .before .before .args .e) _ (c .before .before .before .body-place .ensures) (omega (arith, (c .before .before .before .before .before .before .before .before .before .if1 .left))), room-body (now (c .before .before .before .before .before .before .before .before .before .before .before .before .before .before .before .before .before .before .args .functions)) (c .before .before .before .before .before .before .before .before .before .before .before .before .before .before .before .before .before .before .pre .1 .0) (c .before .before .before .before .before .before .before .before .before .before .before .before .before .before .before .before .before .before .pre .1 .1) (c .before .before .before .body-place .ensures))
 
 body-enum-known-x : (t : ℕ) → body-lts.Need-enum-known-x (
   add-reads.Asked,
@@ -2103,7 +2456,7 @@ body-same-length : (t : ℕ) → body-lts.Need-same-length (
   leaf-reads.Asked,
   leaf-reads.Learnt,
 ) (body-at t) body.Post
-body-same-length t c = (c .before .before .before .before .before .before .before .before .expr .kept .1 .1 .1 .1 .1 .0) ∙ (c .before .before .before .before .before .before .before .before .before .before .before .before .before .before .before .add .kept .0)
+body-same-length t c = (c .before .before .before .before .before .before .before .before .expr .kept .1 .1 .1 .1 .0) ∙ (c .before .before .before .before .before .before .before .before .before .before .before .before .before .before .before .add .kept .0)
 
 body-same-length-2 : (t : ℕ) → body-lts.Need-same-length-2 (
   add-reads.Asked,
@@ -2121,7 +2474,7 @@ body-same-length-2 : (t : ℕ) → body-lts.Need-same-length-2 (
   leaf-reads.Asked,
   leaf-reads.Learnt,
 ) (body-at t) body.Post
-body-same-length-2 t c = (c .before .before .before .before .before .before .before .before .expr .kept .1 .1 .1 .1 .1 .1 .0)
+body-same-length-2 t c = (c .before .before .before .before .before .before .before .before .expr .kept .1 .1 .1 .1 .1 .0)
 
 body-same-length-3 : (t : ℕ) → body-lts.Need-same-length-3 (
   add-reads.Asked,
@@ -2139,7 +2492,7 @@ body-same-length-3 : (t : ℕ) → body-lts.Need-same-length-3 (
   leaf-reads.Asked,
   leaf-reads.Learnt,
 ) (body-at t) body.Post
-body-same-length-3 t c = (c .before .before .before .before .before .before .before .before .expr .kept .1 .1 .1 .1 .1 .1 .1 .0)
+body-same-length-3 t c = (c .before .before .before .before .before .before .before .before .expr .kept .1 .1 .1 .1 .1 .1 .0)
 
 body-returns-2 : (t : ℕ) → body-lts.Need-returns-2 (
   add-reads.Asked,
@@ -2177,7 +2530,7 @@ body-is-kind-requires : (t : ℕ) → body-lts.Need-is-kind-requires (
 ) (body-at t) body.Post
 body-is-kind-requires t c κs = tt
 
-body-add-t32 : (t : ℕ) → body-lts.Need-add-t32 (
+body-add-t31 : (t : ℕ) → body-lts.Need-add-t31 (
   add-reads.Asked,
   add-reads.Learnt,
   body-place-reads.Asked,
@@ -2193,7 +2546,7 @@ body-add-t32 : (t : ℕ) → body-lts.Need-add-t32 (
   leaf-reads.Asked,
   leaf-reads.Learnt,
 ) (body-at t) body.Post
-body-add-t32 t c = omega (arith, ap (λ z. z .line) (c .before .before .before .before .before .before .before .before .before .before .before .before .before .before .before .before .body-place .ensures), (c .before .before .before .before .before .before .before .before .before .before .before .before .before .before .before .before .before .before .before .before .before .before .before .before .before .before .before .before .before .before .before .before .pre .1 .0 .types), (c .before .before .before .before .before .before .before .before .before .before .before .before .before .before .before .before .before .before .before .before .before .before .before .before .before .before .before .before .before .before .before .before .pre .1 .1 .function))
+body-add-t31 t c = omega (arith, ap (λ z. z .line) (c .before .before .before .before .before .before .before .before .before .before .before .before .before .before .before .before .body-place .ensures), (c .before .before .before .before .before .before .before .before .before .before .before .before .before .before .before .before .before .before .before .before .before .before .before .before .before .before .before .before .before .before .before .pre .1 .0 .types), (c .before .before .before .before .before .before .before .before .before .before .before .before .before .before .before .before .before .before .before .before .before .before .before .before .before .before .before .before .before .before .before .pre .1 .1 .function))
 
 body-same-length-4 : (t : ℕ) → body-lts.Need-same-length-4 (
   add-reads.Asked,
@@ -2211,7 +2564,7 @@ body-same-length-4 : (t : ℕ) → body-lts.Need-same-length-4 (
   leaf-reads.Asked,
   leaf-reads.Learnt,
 ) (body-at t) body.Post
-body-same-length-4 t c = (c .before .before .before .before .before .before .before .before .before .before .before .before .expr .kept .1 .1 .1 .1 .1 .0) ∙ (c .before .before .before .before .before .before .before .before .before .before .before .before .before .before .before .before .before .before .before .add .kept .0)
+body-same-length-4 t c = (c .before .before .before .before .before .before .before .before .before .before .before .before .expr .kept .1 .1 .1 .1 .0) ∙ (c .before .before .before .before .before .before .before .before .before .before .before .before .before .before .before .before .before .before .before .add .kept .0)
 
 body-same-length-5 : (t : ℕ) → body-lts.Need-same-length-5 (
   add-reads.Asked,
@@ -2229,7 +2582,7 @@ body-same-length-5 : (t : ℕ) → body-lts.Need-same-length-5 (
   leaf-reads.Asked,
   leaf-reads.Learnt,
 ) (body-at t) body.Post
-body-same-length-5 t c = (c .before .before .before .before .before .before .before .before .before .before .before .before .expr .kept .1 .1 .1 .1 .1 .1 .0)
+body-same-length-5 t c = (c .before .before .before .before .before .before .before .before .before .before .before .before .expr .kept .1 .1 .1 .1 .1 .0)
 
 body-same-length-6 : (t : ℕ) → body-lts.Need-same-length-6 (
   add-reads.Asked,
@@ -2247,7 +2600,7 @@ body-same-length-6 : (t : ℕ) → body-lts.Need-same-length-6 (
   leaf-reads.Asked,
   leaf-reads.Learnt,
 ) (body-at t) body.Post
-body-same-length-6 t c = (c .before .before .before .before .before .before .before .before .before .before .before .before .expr .kept .1 .1 .1 .1 .1 .1 .1 .0)
+body-same-length-6 t c = (c .before .before .before .before .before .before .before .before .before .before .before .before .expr .kept .1 .1 .1 .1 .1 .1 .0)
 
 body-returns-3 : (t : ℕ) → body-lts.Need-returns-3 (
   add-reads.Asked,
@@ -2265,7 +2618,7 @@ body-returns-3 : (t : ℕ) → body-lts.Need-returns-3 (
   leaf-reads.Asked,
   leaf-reads.Learnt,
 ) (body-at t) body.Post
-body-returns-3 t c = body-differs _ _ (omega (arith, (c .before .before .before .before .before .before .before .before .before .before .before .before .before .before .before .before .before .before .before .before .before .before .if1 .left))) (c .before .before .before .before .before .before .before .before .before .before .before .before .before .before .before .before .before .before .before .add .ensures) (c .before .before .before .before .before .before .before .before .before .before .before .before .before .before .before .before .body-place .ensures) (c .before .before .before .before .before .before .before .before .before .before .before .before .expr .ensures) (c .before .before .before .before .x .given .1) (c .before .before .is-kind .ensures) (negated _ (c .before .if2 .taken))
+body-returns-3 t c = body-differs _ _ (omega (arith, (c .before .before .before .before .before .before .before .before .before .before .before .before .before .before .before .before .before .before .before .before .before .before .if1 .left))) (c .before .before .before .before .before .before .before .before .before .before .before .before .before .before .before .before .before .before .before .add .ensures) (c .before .before .before .before .before .before .before .before .before .before .before .before .before .before .before .before .body-place .ensures) (c .before .before .before .before .before .before .before .before .before .before .before .before .expr .ensures) (c .before .before .before .before .x .given .1) (c .before .before .is-kind .ensures) (not-true _ (c .before .if2 .taken))
 
 body-finish-requires : (t : ℕ) → body-lts.Need-finish-requires (
   add-reads.Asked,
@@ -2337,7 +2690,7 @@ body-same-length-7 : (t : ℕ) → body-lts.Need-same-length-7 (
   leaf-reads.Asked,
   leaf-reads.Learnt,
 ) (body-at t) body.Post
-body-same-length-7 t c = (c .before .before .before .before .before .finish .kept .0) ∙ (c .before .before .before .before .before .before .before .before .before .before .before .before .before .before .before .before .before .before .before .expr .kept .1 .1 .1 .1 .1 .0) ∙ (c .before .before .before .before .before .before .before .before .before .before .before .before .before .before .before .before .before .before .before .before .before .before .before .before .before .before .add .kept .0)
+body-same-length-7 t c = (c .before .before .before .before .before .finish .kept .0) ∙ (c .before .before .before .before .before .before .before .before .before .before .before .before .before .before .before .before .before .before .before .expr .kept .1 .1 .1 .1 .0) ∙ (c .before .before .before .before .before .before .before .before .before .before .before .before .before .before .before .before .before .before .before .before .before .before .before .before .before .before .add .kept .0)
 
 body-same-length-8 : (t : ℕ) → body-lts.Need-same-length-8 (
   add-reads.Asked,
@@ -2355,7 +2708,7 @@ body-same-length-8 : (t : ℕ) → body-lts.Need-same-length-8 (
   leaf-reads.Asked,
   leaf-reads.Learnt,
 ) (body-at t) body.Post
-body-same-length-8 t c = (c .before .before .before .before .before .before .before .before .before .before .before .before .before .before .before .before .before .before .before .expr .kept .1 .1 .1 .1 .1 .1 .0)
+body-same-length-8 t c = (c .before .before .before .before .before .before .before .before .before .before .before .before .before .before .before .before .before .before .before .expr .kept .1 .1 .1 .1 .1 .0)
 
 body-same-length-9 : (t : ℕ) → body-lts.Need-same-length-9 (
   add-reads.Asked,
@@ -2373,7 +2726,7 @@ body-same-length-9 : (t : ℕ) → body-lts.Need-same-length-9 (
   leaf-reads.Asked,
   leaf-reads.Learnt,
 ) (body-at t) body.Post
-body-same-length-9 t c = (c .before .before .before .before .before .before .before .before .before .before .before .before .before .before .before .before .before .before .before .expr .kept .1 .1 .1 .1 .1 .1 .1 .0)
+body-same-length-9 t c = (c .before .before .before .before .before .before .before .before .before .before .before .before .before .before .before .before .before .before .before .expr .kept .1 .1 .1 .1 .1 .1 .0)
 
 body-returns-4 : (t : ℕ) → body-lts.Need-returns-4 (
   add-reads.Asked,
@@ -2391,7 +2744,7 @@ body-returns-4 : (t : ℕ) → body-lts.Need-returns-4 (
   leaf-reads.Asked,
   leaf-reads.Learnt,
 ) (body-at t) body.Post
-body-returns-4 t c = body-done _ _ (omega (arith, (c .before .before .before .before .before .before .before .before .before .before .before .before .before .before .before .before .before .before .before .before .before .before .before .before .before .before .before .before .before .if1 .left))) (c .before .before .before .before .before .before .before .before .before .before .before .before .before .before .before .before .before .before .before .before .before .before .before .before .before .before .add .ensures) (c .before .before .before .before .before .before .before .before .before .before .before .before .before .before .before .before .before .before .before .before .before .before .before .body-place .ensures) (c .before .before .before .before .before .before .before .before .before .before .before .before .before .before .before .before .before .before .before .expr .ensures) (c .before .before .before .before .before .before .before .before .before .before .before .x .given .1) (c .before .before .before .before .before .before .before .before .before .is-kind .ensures) (affirmed _ (c .before .before .before .before .before .before .before .before .if2 .left)) (c .before .before .before .before .before .finish .ensures) (c .before .moved .ensures) (c .leaf .ensures)
+body-returns-4 t c = body-done _ _ (omega (arith, (c .before .before .before .before .before .before .before .before .before .before .before .before .before .before .before .before .before .before .before .before .before .before .before .before .before .before .before .before .before .if1 .left))) (c .before .before .before .before .before .before .before .before .before .before .before .before .before .before .before .before .before .before .before .before .before .before .before .before .before .before .add .ensures) (c .before .before .before .before .before .before .before .before .before .before .before .before .before .before .before .before .before .before .before .before .before .before .before .body-place .ensures) (c .before .before .before .before .before .before .before .before .before .before .before .before .before .before .before .before .before .before .before .expr .ensures) (c .before .before .before .before .before .before .before .before .before .before .before .x .given .1) (c .before .before .before .before .before .before .before .before .before .is-kind .ensures) (not-false _ (c .before .before .before .before .before .before .before .before .if2 .left)) (c .before .before .before .before .before .finish .ensures) (c .before .moved .ensures) (c .leaf .ensures)
 
 branch-own-fields-requires : (t : ℕ) → branch-lts.Need-own-fields-requires (
   own-fields-reads.Asked,
@@ -2631,7 +2984,7 @@ branch-at-splits-requires : (t : ℕ) → branch-lts.Need-at-splits-requires (
   at-splits-below t,
   at-splits.Post,
 ) (branch-at t) branch.Post
-branch-at-splits-requires t c κs = (load-same _ 200 (c .before .before .before .before .before .before .before .before .before .before .before .before .before .before .before .before .before .before .pre .0) 100 (omega arith), (room-kept (c .before .before .before .before .before .before .before .before .before .before .before .before .before .before .before .before .before .before .pre .1 .0) (refl) ((c .before .before .before .before .before .first-split .kept .0)), (c .before .before .before .before .before .before .before .before .before .before .before .before .before .before .before .before .before .before .pre .1 .1)))
+branch-at-splits-requires t c κs = (load-same _ 200 (c .before .before .before .before .before .before .before .before .before .before .before .before .before .before .before .before .before .pre .0) 100 (omega arith), (room-kept (c .before .before .before .before .before .before .before .before .before .before .before .before .before .before .before .before .before .pre .1 .0) (refl) ((c .before .before .before .before .before .first-split .kept .0)), (c .before .before .before .before .before .before .before .before .before .before .before .before .before .before .before .before .before .pre .1 .1)))
 
 branch-same-length : (t : ℕ) → branch-lts.Need-same-length (
   own-fields-reads.Asked,
@@ -2651,7 +3004,7 @@ branch-same-length : (t : ℕ) → branch-lts.Need-same-length (
   at-splits-below t,
   at-splits.Post,
 ) (branch-at t) branch.Post
-branch-same-length t c = (c .before .before .before .before .before .before .at-splits .kept .1 .1 .1 .1 .1 .0)
+branch-same-length t c = (c .before .before .before .before .before .before .at-splits .kept .1 .1 .1 .1 .0)
 
 branch-same-length-2 : (t : ℕ) → branch-lts.Need-same-length-2 (
   own-fields-reads.Asked,
@@ -2671,7 +3024,7 @@ branch-same-length-2 : (t : ℕ) → branch-lts.Need-same-length-2 (
   at-splits-below t,
   at-splits.Post,
 ) (branch-at t) branch.Post
-branch-same-length-2 t c = (c .before .before .before .before .before .before .at-splits .kept .1 .1 .1 .1 .1 .1 .0)
+branch-same-length-2 t c = (c .before .before .before .before .before .before .at-splits .kept .1 .1 .1 .1 .1 .0)
 
 branch-same-length-3 : (t : ℕ) → branch-lts.Need-same-length-3 (
   own-fields-reads.Asked,
@@ -2691,7 +3044,7 @@ branch-same-length-3 : (t : ℕ) → branch-lts.Need-same-length-3 (
   at-splits-below t,
   at-splits.Post,
 ) (branch-at t) branch.Post
-branch-same-length-3 t c = (c .before .before .before .before .before .before .at-splits .kept .1 .1 .1 .1 .1 .1 .1 .0) ∙ (c .before .before .before .before .before .before .before .before .before .before .before .before .first-split .kept .0)
+branch-same-length-3 t c = (c .before .before .before .before .before .before .at-splits .kept .1 .1 .1 .1 .1 .1 .0) ∙ (c .before .before .before .before .before .before .before .before .before .before .before .before .first-split .kept .0)
 
 branch-returns-2 : (t : ℕ) → branch-lts.Need-returns-2 (
   own-fields-reads.Asked,
@@ -2711,7 +3064,7 @@ branch-returns-2 : (t : ℕ) → branch-lts.Need-returns-2 (
   at-splits-below t,
   at-splits.Post,
 ) (branch-at t) branch.Post
-branch-returns-2 t c = branch-split (c .before .before .before .before .before .before .before .before .before .before .before .before .before .before .before .before .own-fields .ensures) (c .before .before .before .before .before .before .before .before .before .before .before .before .before .before .before .if1 .left) (sizes-long (c .before .before .before .before .before .before .before .before .before .before .before .before .before .before .before .before .before .before .before .before .before .before .before .before .before .pre .1 .0) refl) (c .before .before .before .before .before .before .before .before .before .before .before .before .first-split .ensures) (c .before .before .before .before .before .before .at-splits .ensures)
+branch-returns-2 t c = branch-split (c .before .before .before .before .before .before .before .before .before .before .before .before .before .before .before .before .own-fields .ensures) (c .before .before .before .before .before .before .before .before .before .before .before .before .before .before .before .if1 .left) (sizes-long (c .before .before .before .before .before .before .before .before .before .before .before .before .before .before .before .before .before .before .before .before .before .before .before .before .pre .1 .0) refl) (c .before .before .before .before .before .before .before .before .before .before .before .before .first-split .ensures) (c .before .before .before .before .before .before .at-splits .ensures)
 
 branches-constructors-requires : (t : ℕ) → branches-lts.Need-constructors-requires (
   constructors-reads.Asked,
@@ -2801,7 +3154,7 @@ branches-branch-requires : (t : ℕ) → branches-lts.Need-branch-requires (
   branched-reads.Asked,
   branched-reads.Learnt,
 ) (branches-at t) branches.Post
-branches-branch-requires t c κs = (load-same _ _ (c .before .before .before .before .before .before .before .before .before .before .before .before .before .pre .0) 200 (omega arith), ((c .before .before .before .before .before .before .before .before .before .before .before .before .before .pre .1 .0), ((c .before .before .before .before .before .before .before .before .before .before .before .before .before .pre .1 .1 .0), omega (arith, (c .before .before .before .if1 .left), (c .before .before .before .before .constructors .ensures .1)))))
+branches-branch-requires t c κs = (load-same _ _ (c .before .before .before .before .before .before .before .before .before .before .before .before .pre .0) 200 (omega arith), ((c .before .before .before .before .before .before .before .before .before .before .before .before .pre .1 .0), ((c .before .before .before .before .before .before .before .before .before .before .before .before .pre .1 .1 .0), omega (arith, (c .before .before .before .if1 .left), (c .before .before .before .before .constructors .ensures .1)))))
 
 branches-enum-known-x : (t : ℕ) → branches-lts.Need-enum-known-x (
   constructors-reads.Asked,
@@ -2855,7 +3208,7 @@ branches-same-length : (t : ℕ) → branches-lts.Need-same-length (
   branched-reads.Asked,
   branched-reads.Learnt,
 ) (branches-at t) branches.Post
-branches-same-length t c = (c .before .before .before .before .before .before .before .before .branch .kept .1 .1 .1 .1 .1 .0)
+branches-same-length t c = (c .before .before .before .before .before .before .before .before .branch .kept .1 .1 .1 .1 .0)
 
 branches-same-length-2 : (t : ℕ) → branches-lts.Need-same-length-2 (
   constructors-reads.Asked,
@@ -2873,7 +3226,7 @@ branches-same-length-2 : (t : ℕ) → branches-lts.Need-same-length-2 (
   branched-reads.Asked,
   branched-reads.Learnt,
 ) (branches-at t) branches.Post
-branches-same-length-2 t c = (c .before .before .before .before .before .before .before .before .branch .kept .1 .1 .1 .1 .1 .1 .0)
+branches-same-length-2 t c = (c .before .before .before .before .before .before .before .before .branch .kept .1 .1 .1 .1 .1 .0)
 
 branches-same-length-3 : (t : ℕ) → branches-lts.Need-same-length-3 (
   constructors-reads.Asked,
@@ -2891,7 +3244,7 @@ branches-same-length-3 : (t : ℕ) → branches-lts.Need-same-length-3 (
   branched-reads.Asked,
   branched-reads.Learnt,
 ) (branches-at t) branches.Post
-branches-same-length-3 t c = (c .before .before .before .before .before .before .before .before .branch .kept .1 .1 .1 .1 .1 .1 .1 .0)
+branches-same-length-3 t c = (c .before .before .before .before .before .before .before .before .branch .kept .1 .1 .1 .1 .1 .1 .0)
 
 branches-returns-2 : (t : ℕ) → branches-lts.Need-returns-2 (
   constructors-reads.Asked,
@@ -2929,7 +3282,7 @@ branches-behind-requires : (t : ℕ) → branches-lts.Need-behind-requires (
 ) (branches-at t) branches.Post
 branches-behind-requires t c κs = tt
 
-branches-add-branches : (t : ℕ) → branches-lts.Need-add-branches (
+branches-add-j : (t : ℕ) → branches-lts.Need-add-j (
   constructors-reads.Asked,
   constructors-reads.Learnt,
   nothing-reads.Asked,
@@ -2945,7 +3298,7 @@ branches-add-branches : (t : ℕ) → branches-lts.Need-add-branches (
   branched-reads.Asked,
   branched-reads.Learnt,
 ) (branches-at t) branches.Post
-branches-add-branches t c = omega (arith, (c .before .before .before .before .before .before .before .before .before .before .before .before .before .before .before .before .before .if1 .left), (c .before .before .before .before .before .before .before .before .before .before .before .before .before .before .before .before .before .before .constructors .ensures .1))
+branches-add-j t c = omega (arith, (c .before .before .before .before .before .before .before .before .before .before .before .before .before .before .if1 .left), (c .before .before .before .before .before .before .before .before .before .before .before .before .before .before .before .constructors .ensures .1))
 
 branches-branches-requires : (t : ℕ) → branches-lts.Need-branches-requires (
   constructors-reads.Asked,
@@ -2963,7 +3316,7 @@ branches-branches-requires : (t : ℕ) → branches-lts.Need-branches-requires (
   branched-reads.Asked,
   branched-reads.Learnt,
 ) (branches-at t) branches.Post
-branches-branches-requires t c κs = (load-moved _ _ (c .before .before .before .before .before .before .before .before .before .before .before .before .before .before .before .before .before .before .before .before .before .before .before .before .before .before .before .pre .0) _ _ (c .behind .ensures) (grows-to (c .before .before .before .before .before .before .before .before .before .before .before .before .before .branch .ensures .grows) (c .before .before .before .before .before .x .given .1)) (omega (arith, (c .before .before .before .before .before .before .before .before .before .before .before .before .before .before .before .before .before .if1 .left), (c .before .before .before .before .before .before .before .before .before .before .before .before .before .before .before .before .before .before .constructors .ensures .1))), (room-rest (c .before .before .before .before .before .before .before .before .before .before .before .before .before .before .before .before .before .before .before .before .before .before .before .before .before .before .before .pre .1 .0) (c .behind .ensures) ((c .before .before .before .before .before .before .before .before .before .before .before .before .before .branch .kept .1 .1 .1 .1 .1 .1 .0)) ((c .before .before .before .before .before .before .before .before .before .before .before .before .before .branch .kept .1 .1 .1 .1 .1 .1 .1 .0)), ((c .before .before .before .before .before .before .before .before .before .before .before .before .before .before .before .before .before .before .before .before .before .before .before .before .before .before .before .pre .1 .1 .0), omega (arith, (c .before .before .before .before .before .before .before .before .before .before .before .before .before .before .before .before .before .if1 .left), (c .before .before .before .before .before .before .before .before .before .before .before .before .before .before .before .before .before .before .constructors .ensures .1)))))
+branches-branches-requires t c κs = (load-moved _ _ (c .before .before .before .before .before .before .before .before .before .before .before .before .before .before .before .before .before .before .before .before .before .before .before .before .before .before .pre .0) _ _ (c .before .before .before .behind .ensures) (grows-to (c .before .before .before .before .before .before .before .before .before .before .before .before .before .branch .ensures .grows) (c .before .before .before .before .before .x .given .1)) (omega (arith, (c .before .before .before .before .before .before .before .before .before .before .before .before .before .before .before .before .before .if1 .left), (c .before .before .before .before .before .before .before .before .before .before .before .before .before .before .before .before .before .before .constructors .ensures .1))), (room-rest (c .before .before .before .before .before .before .before .before .before .before .before .before .before .before .before .before .before .before .before .before .before .before .before .before .before .before .pre .1 .0) (c .before .before .before .behind .ensures) ((c .before .before .before .before .before .before .before .before .before .before .before .before .before .branch .kept .1 .1 .1 .1 .1 .0)) ((c .before .before .before .before .before .before .before .before .before .before .before .before .before .branch .kept .1 .1 .1 .1 .1 .1 .0)), ((c .before .before .before .before .before .before .before .before .before .before .before .before .before .before .before .before .before .before .before .before .before .before .before .before .before .before .pre .1 .1 .0), omega (arith, (c .before .before .before .before .before .before .before .before .before .before .before .before .before .before .before .before .before .if1 .left), (c .before .before .before .before .before .before .before .before .before .before .before .before .before .before .before .before .before .before .constructors .ensures .1)))))
 
 branches-enum-known-y : (t : ℕ) → branches-lts.Need-enum-known-y (
   constructors-reads.Asked,
@@ -3017,7 +3370,7 @@ branches-same-length-4 : (t : ℕ) → branches-lts.Need-same-length-4 (
   branched-reads.Asked,
   branched-reads.Learnt,
 ) (branches-at t) branches.Post
-branches-same-length-4 t c = (c .before .before .before .before .before .before .before .before .branches .kept .1 .1 .1 .1 .1 .0) ∙ (c .before .before .before .before .before .before .before .before .before .before .before .before .before .before .before .before .before .before .before .before .before .before .branch .kept .1 .1 .1 .1 .1 .0)
+branches-same-length-4 t c = (c .before .before .before .before .before .before .before .before .branches .kept .1 .1 .1 .1 .0) ∙ (c .before .before .before .before .before .before .before .before .before .before .before .before .before .before .before .before .before .before .before .before .before .before .branch .kept .1 .1 .1 .1 .0)
 
 branches-same-length-5 : (t : ℕ) → branches-lts.Need-same-length-5 (
   constructors-reads.Asked,
@@ -3035,7 +3388,7 @@ branches-same-length-5 : (t : ℕ) → branches-lts.Need-same-length-5 (
   branched-reads.Asked,
   branched-reads.Learnt,
 ) (branches-at t) branches.Post
-branches-same-length-5 t c = (c .before .before .before .before .before .before .before .before .branches .kept .1 .1 .1 .1 .1 .1 .0) ∙ (c .before .before .before .before .before .before .before .before .before .before .before .before .before .before .before .before .before .before .before .before .before .before .branch .kept .1 .1 .1 .1 .1 .1 .0)
+branches-same-length-5 t c = (c .before .before .before .before .before .before .before .before .branches .kept .1 .1 .1 .1 .1 .0) ∙ (c .before .before .before .before .before .before .before .before .before .before .before .before .before .before .before .before .before .before .before .before .before .before .branch .kept .1 .1 .1 .1 .1 .0)
 
 branches-same-length-6 : (t : ℕ) → branches-lts.Need-same-length-6 (
   constructors-reads.Asked,
@@ -3053,7 +3406,7 @@ branches-same-length-6 : (t : ℕ) → branches-lts.Need-same-length-6 (
   branched-reads.Asked,
   branched-reads.Learnt,
 ) (branches-at t) branches.Post
-branches-same-length-6 t c = (c .before .before .before .before .before .before .before .before .branches .kept .1 .1 .1 .1 .1 .1 .1 .0) ∙ (c .before .before .before .before .before .before .before .before .before .before .before .before .before .before .before .before .before .before .before .before .before .before .branch .kept .1 .1 .1 .1 .1 .1 .1 .0)
+branches-same-length-6 t c = (c .before .before .before .before .before .before .before .before .branches .kept .1 .1 .1 .1 .1 .1 .0) ∙ (c .before .before .before .before .before .before .before .before .before .before .before .before .before .before .before .before .before .before .before .before .before .before .branch .kept .1 .1 .1 .1 .1 .1 .0)
 
 branches-returns-3 : (t : ℕ) → branches-lts.Need-returns-3 (
   constructors-reads.Asked,
@@ -3071,7 +3424,7 @@ branches-returns-3 : (t : ℕ) → branches-lts.Need-returns-3 (
   branched-reads.Asked,
   branched-reads.Learnt,
 ) (branches-at t) branches.Post
-branches-returns-3 t c = branches-rest (c .before .before .before .before .before .before .before .before .before .before .before .before .before .before .before .before .before .before .before .before .before .before .before .before .before .before .before .constructors .ensures) (c .before .before .before .before .before .before .before .before .before .before .before .before .before .before .before .before .before .before .before .before .before .before .before .before .before .before .if1 .left) (c .before .before .before .before .before .before .before .before .before .before .before .before .before .before .before .before .before .before .before .before .before .before .branch .ensures) (c .before .before .before .before .before .before .before .before .before .before .before .before .before .before .x .given .1) (c .before .before .before .before .before .before .before .before .before .behind .ensures) (c .before .before .before .before .before .before .before .before .branches .ensures) (c .enum-told2 .given .1)
+branches-returns-3 t c = branches-rest (c .before .before .before .before .before .before .before .before .before .before .before .before .before .before .before .before .before .before .before .before .before .before .before .before .before .before .before .constructors .ensures) (c .before .before .before .before .before .before .before .before .before .before .before .before .before .before .before .before .before .before .before .before .before .before .before .before .before .before .if1 .left) (c .before .before .before .before .before .before .before .before .before .before .before .before .before .before .before .before .before .before .before .before .before .before .branch .ensures) (c .before .before .before .before .before .before .before .before .before .before .before .before .before .before .x .given .1) (c .before .before .before .before .before .before .before .before .before .before .before .before .behind .ensures) (c .before .before .before .before .before .before .before .before .branches .ensures) (c .enum-told2 .given .1)
 
 branches-branched-requires : (t : ℕ) → branches-lts.Need-branched-requires (
   constructors-reads.Asked,
@@ -3107,7 +3460,7 @@ branches-same-length-7 : (t : ℕ) → branches-lts.Need-same-length-7 (
   branched-reads.Asked,
   branched-reads.Learnt,
 ) (branches-at t) branches.Post
-branches-same-length-7 t c = (c .before .before .before .before .before .before .before .before .before .before .branches .kept .1 .1 .1 .1 .1 .0) ∙ (c .before .before .before .before .before .before .before .before .before .before .before .before .before .before .before .before .before .before .before .before .before .before .before .before .branch .kept .1 .1 .1 .1 .1 .0)
+branches-same-length-7 t c = (c .before .before .before .before .before .before .before .before .before .before .branches .kept .1 .1 .1 .1 .0) ∙ (c .before .before .before .before .before .before .before .before .before .before .before .before .before .before .before .before .before .before .before .before .before .before .before .before .branch .kept .1 .1 .1 .1 .0)
 
 branches-same-length-8 : (t : ℕ) → branches-lts.Need-same-length-8 (
   constructors-reads.Asked,
@@ -3125,7 +3478,7 @@ branches-same-length-8 : (t : ℕ) → branches-lts.Need-same-length-8 (
   branched-reads.Asked,
   branched-reads.Learnt,
 ) (branches-at t) branches.Post
-branches-same-length-8 t c = (c .before .before .before .before .before .before .before .before .before .before .branches .kept .1 .1 .1 .1 .1 .1 .0) ∙ (c .before .before .before .before .before .before .before .before .before .before .before .before .before .before .before .before .before .before .before .before .before .before .before .before .branch .kept .1 .1 .1 .1 .1 .1 .0)
+branches-same-length-8 t c = (c .before .before .before .before .before .before .before .before .before .before .branches .kept .1 .1 .1 .1 .1 .0) ∙ (c .before .before .before .before .before .before .before .before .before .before .before .before .before .before .before .before .before .before .before .before .before .before .before .before .branch .kept .1 .1 .1 .1 .1 .0)
 
 branches-same-length-9 : (t : ℕ) → branches-lts.Need-same-length-9 (
   constructors-reads.Asked,
@@ -3143,7 +3496,7 @@ branches-same-length-9 : (t : ℕ) → branches-lts.Need-same-length-9 (
   branched-reads.Asked,
   branched-reads.Learnt,
 ) (branches-at t) branches.Post
-branches-same-length-9 t c = (c .before .before .before .before .before .before .before .before .before .before .branches .kept .1 .1 .1 .1 .1 .1 .1 .0) ∙ (c .before .before .before .before .before .before .before .before .before .before .before .before .before .before .before .before .before .before .before .before .before .before .before .before .branch .kept .1 .1 .1 .1 .1 .1 .1 .0)
+branches-same-length-9 t c = (c .before .before .before .before .before .before .before .before .before .before .branches .kept .1 .1 .1 .1 .1 .1 .0) ∙ (c .before .before .before .before .before .before .before .before .before .before .before .before .before .before .before .before .before .before .before .before .before .before .before .before .branch .kept .1 .1 .1 .1 .1 .1 .0)
 
 branches-returns-4 : (t : ℕ) → branches-lts.Need-returns-4 (
   constructors-reads.Asked,
@@ -3161,7 +3514,7 @@ branches-returns-4 : (t : ℕ) → branches-lts.Need-returns-4 (
   branched-reads.Asked,
   branched-reads.Learnt,
 ) (branches-at t) branches.Post
-branches-returns-4 t c = branches-done (c .before .before .before .before .before .before .before .before .before .before .before .before .before .before .before .before .before .before .before .before .before .before .before .before .before .before .before .before .before .constructors .ensures) (c .before .before .before .before .before .before .before .before .before .before .before .before .before .before .before .before .before .before .before .before .before .before .before .before .before .before .before .before .if1 .left) (c .before .before .before .before .before .before .before .before .before .before .before .before .before .before .before .before .before .before .before .before .before .before .before .before .branch .ensures) (c .before .before .before .before .before .before .before .before .before .before .before .before .before .before .before .before .x .given .1) (c .before .before .before .before .before .before .before .before .before .before .before .behind .ensures) (c .before .before .before .before .before .before .before .before .before .before .branches .ensures) (c .before .before .y .given .1) (c .branched .ensures .all) (c .branched .ensures .is)
+branches-returns-4 t c = branches-done (c .before .before .before .before .before .before .before .before .before .before .before .before .before .before .before .before .before .before .before .before .before .before .before .before .before .before .before .before .before .constructors .ensures) (c .before .before .before .before .before .before .before .before .before .before .before .before .before .before .before .before .before .before .before .before .before .before .before .before .before .before .before .before .if1 .left) (c .before .before .before .before .before .before .before .before .before .before .before .before .before .before .before .before .before .before .before .before .before .before .before .before .branch .ensures) (c .before .before .before .before .before .before .before .before .before .before .before .before .before .before .before .before .x .given .1) (c .before .before .before .before .before .before .before .before .before .before .before .before .before .before .behind .ensures) (c .before .before .before .before .before .before .before .before .before .before .branches .ensures) (c .before .before .y .given .1) (c .branched .ensures .all) (c .branched .ensures .is)
 
 call-arity-requires : (t : ℕ) → call-lts.Need-arity-requires (
   arity-reads.Asked,
@@ -3170,18 +3523,8 @@ call-arity-requires : (t : ℕ) → call-lts.Need-arity-requires (
   several.Post,
   refused-reads.Asked,
   refused-reads.Learnt,
-  named-sizes-reads.Asked,
-  named-sizes-reads.Learnt,
-  moved-reads.Asked,
-  moved-reads.Learnt,
-  prepare-reads.Asked,
-  prepare-reads.Learnt,
-  not-entered-reads.Asked,
-  not-entered-reads.Learnt,
-  enter-below t,
-  enter.Post,
-  called-reads.Asked,
-  called-reads.Learnt,
+  apply-below t,
+  apply.Post,
 ) (call-at t) call.Post
 call-arity-requires t c κs = tt
 
@@ -3192,18 +3535,8 @@ call-slice-aggregate-several : (t : ℕ) → call-lts.Need-slice-aggregate-sever
   several.Post,
   refused-reads.Asked,
   refused-reads.Learnt,
-  named-sizes-reads.Asked,
-  named-sizes-reads.Learnt,
-  moved-reads.Asked,
-  moved-reads.Learnt,
-  prepare-reads.Asked,
-  prepare-reads.Learnt,
-  not-entered-reads.Asked,
-  not-entered-reads.Learnt,
-  enter-below t,
-  enter.Post,
-  called-reads.Asked,
-  called-reads.Learnt,
+  apply-below t,
+  apply.Post,
 ) (call-at t) call.Post
 call-slice-aggregate-several t c = refl
 
@@ -3214,20 +3547,10 @@ call-several-requires : (t : ℕ) → call-lts.Need-several-requires (
   several.Post,
   refused-reads.Asked,
   refused-reads.Learnt,
-  named-sizes-reads.Asked,
-  named-sizes-reads.Learnt,
-  moved-reads.Asked,
-  moved-reads.Learnt,
-  prepare-reads.Asked,
-  prepare-reads.Learnt,
-  not-entered-reads.Asked,
-  not-entered-reads.Learnt,
-  enter-below t,
-  enter.Post,
-  called-reads.Asked,
-  called-reads.Learnt,
+  apply-below t,
+  apply.Post,
 ) (call-at t) call.Post
-call-several-requires t c κs = (load-same _ 900 (c .before .before .before .before .before .before .before .before .before .before .before .before .before .pre .0) _ (omega (arith, (c .before .before .before .before .arity .ensures .1))), ((c .before .before .before .before .before .before .before .before .before .before .before .before .before .pre .1 .0), (c .before .before .before .before .arity .ensures .1)))
+call-several-requires t c κs = (load-same _ 900 (c .before .before .before .before .before .before .before .before .before .before .before .before .pre .0) _ (omega (arith, (c .before .before .before .before .arity .ensures .1))), ((c .before .before .before .before .before .before .before .before .before .before .before .before .pre .1 .0), (c .before .before .before .before .arity .ensures .1)))
 
 call-enum-known-x : (t : ℕ) → call-lts.Need-enum-known-x (
   arity-reads.Asked,
@@ -3236,18 +3559,8 @@ call-enum-known-x : (t : ℕ) → call-lts.Need-enum-known-x (
   several.Post,
   refused-reads.Asked,
   refused-reads.Learnt,
-  named-sizes-reads.Asked,
-  named-sizes-reads.Learnt,
-  moved-reads.Asked,
-  moved-reads.Learnt,
-  prepare-reads.Asked,
-  prepare-reads.Learnt,
-  not-entered-reads.Asked,
-  not-entered-reads.Learnt,
-  enter-below t,
-  enter.Post,
-  called-reads.Asked,
-  called-reads.Learnt,
+  apply-below t,
+  apply.Post,
 ) (call-at t) call.Post
 call-enum-known-x t c = (c .match .keys1)
 
@@ -3258,18 +3571,8 @@ call-enum-told : (t : ℕ) → call-lts.Need-enum-told (
   several.Post,
   refused-reads.Asked,
   refused-reads.Learnt,
-  named-sizes-reads.Asked,
-  named-sizes-reads.Learnt,
-  moved-reads.Asked,
-  moved-reads.Learnt,
-  prepare-reads.Asked,
-  prepare-reads.Learnt,
-  not-entered-reads.Asked,
-  not-entered-reads.Learnt,
-  enter-below t,
-  enter.Post,
-  called-reads.Asked,
-  called-reads.Learnt,
+  apply-below t,
+  apply.Post,
 ) (call-at t) call.Post
 call-enum-told t c = (c .match .keys2)
 
@@ -3280,18 +3583,8 @@ call-refused-requires : (t : ℕ) → call-lts.Need-refused-requires (
   several.Post,
   refused-reads.Asked,
   refused-reads.Learnt,
-  named-sizes-reads.Asked,
-  named-sizes-reads.Learnt,
-  moved-reads.Asked,
-  moved-reads.Learnt,
-  prepare-reads.Asked,
-  prepare-reads.Learnt,
-  not-entered-reads.Asked,
-  not-entered-reads.Learnt,
-  enter-below t,
-  enter.Post,
-  called-reads.Asked,
-  called-reads.Learnt,
+  apply-below t,
+  apply.Post,
 ) (call-at t) call.Post
 call-refused-requires t c κs = tt
 
@@ -3302,20 +3595,10 @@ call-same-length : (t : ℕ) → call-lts.Need-same-length (
   several.Post,
   refused-reads.Asked,
   refused-reads.Learnt,
-  named-sizes-reads.Asked,
-  named-sizes-reads.Learnt,
-  moved-reads.Asked,
-  moved-reads.Learnt,
-  prepare-reads.Asked,
-  prepare-reads.Learnt,
-  not-entered-reads.Asked,
-  not-entered-reads.Learnt,
-  enter-below t,
-  enter.Post,
-  called-reads.Asked,
-  called-reads.Learnt,
+  apply-below t,
+  apply.Post,
 ) (call-at t) call.Post
-call-same-length t c = (c .before .before .before .before .before .before .before .before .before .before .several .kept .1 .1 .1 .1 .1 .0)
+call-same-length t c = (c .before .before .before .before .before .before .before .before .before .before .several .kept .1 .1 .1 .1 .0)
 
 call-same-length-2 : (t : ℕ) → call-lts.Need-same-length-2 (
   arity-reads.Asked,
@@ -3324,20 +3607,10 @@ call-same-length-2 : (t : ℕ) → call-lts.Need-same-length-2 (
   several.Post,
   refused-reads.Asked,
   refused-reads.Learnt,
-  named-sizes-reads.Asked,
-  named-sizes-reads.Learnt,
-  moved-reads.Asked,
-  moved-reads.Learnt,
-  prepare-reads.Asked,
-  prepare-reads.Learnt,
-  not-entered-reads.Asked,
-  not-entered-reads.Learnt,
-  enter-below t,
-  enter.Post,
-  called-reads.Asked,
-  called-reads.Learnt,
+  apply-below t,
+  apply.Post,
 ) (call-at t) call.Post
-call-same-length-2 t c = (c .before .before .before .before .before .before .before .before .before .before .several .kept .1 .1 .1 .1 .1 .1 .0)
+call-same-length-2 t c = (c .before .before .before .before .before .before .before .before .before .before .several .kept .1 .1 .1 .1 .1 .0)
 
 call-same-length-3 : (t : ℕ) → call-lts.Need-same-length-3 (
   arity-reads.Asked,
@@ -3346,20 +3619,10 @@ call-same-length-3 : (t : ℕ) → call-lts.Need-same-length-3 (
   several.Post,
   refused-reads.Asked,
   refused-reads.Learnt,
-  named-sizes-reads.Asked,
-  named-sizes-reads.Learnt,
-  moved-reads.Asked,
-  moved-reads.Learnt,
-  prepare-reads.Asked,
-  prepare-reads.Learnt,
-  not-entered-reads.Asked,
-  not-entered-reads.Learnt,
-  enter-below t,
-  enter.Post,
-  called-reads.Asked,
-  called-reads.Learnt,
+  apply-below t,
+  apply.Post,
 ) (call-at t) call.Post
-call-same-length-3 t c = (c .before .before .before .before .before .before .before .before .before .before .several .kept .1 .1 .1 .1 .1 .1 .1 .0)
+call-same-length-3 t c = (c .before .before .before .before .before .before .before .before .before .before .several .kept .1 .1 .1 .1 .1 .1 .0)
 
 call-returns : (t : ℕ) → call-lts.Need-returns (
   arity-reads.Asked,
@@ -3368,218 +3631,34 @@ call-returns : (t : ℕ) → call-lts.Need-returns (
   several.Post,
   refused-reads.Asked,
   refused-reads.Learnt,
-  named-sizes-reads.Asked,
-  named-sizes-reads.Learnt,
-  moved-reads.Asked,
-  moved-reads.Learnt,
-  prepare-reads.Asked,
-  prepare-reads.Learnt,
-  not-entered-reads.Asked,
-  not-entered-reads.Learnt,
-  enter-below t,
-  enter.Post,
-  called-reads.Asked,
-  called-reads.Learnt,
+  apply-below t,
+  apply.Post,
 ) (call-at t) call.Post
 call-returns t c = call-arguments (c .before .before .before .before .before .before .before .before .before .before .before .before .before .before .before .arity .ensures) (omega arith) (c .before .before .before .before .before .before .before .before .before .before .several .ensures) (c .before .enum-told .given .1) (c .refused .ensures)
 
-call-slice-aggregate-named-sizes : (t : ℕ) → call-lts.Need-slice-aggregate-named-sizes (
+call-slice-aggregate-apply : (t : ℕ) → call-lts.Need-slice-aggregate-apply (
   arity-reads.Asked,
   arity-reads.Learnt,
   several-below t,
   several.Post,
   refused-reads.Asked,
   refused-reads.Learnt,
-  named-sizes-reads.Asked,
-  named-sizes-reads.Learnt,
-  moved-reads.Asked,
-  moved-reads.Learnt,
-  prepare-reads.Asked,
-  prepare-reads.Learnt,
-  not-entered-reads.Asked,
-  not-entered-reads.Learnt,
-  enter-below t,
-  enter.Post,
-  called-reads.Asked,
-  called-reads.Learnt,
+  apply-below t,
+  apply.Post,
 ) (call-at t) call.Post
-call-slice-aggregate-named-sizes t c = search needs
+call-slice-aggregate-apply t c = search needs
 
-call-slice-aggregate-named-sizes-2 : (t : ℕ) → call-lts.Need-slice-aggregate-named-sizes-2 (
+call-apply-requires : (t : ℕ) → call-lts.Need-apply-requires (
   arity-reads.Asked,
   arity-reads.Learnt,
   several-below t,
   several.Post,
   refused-reads.Asked,
   refused-reads.Learnt,
-  named-sizes-reads.Asked,
-  named-sizes-reads.Learnt,
-  moved-reads.Asked,
-  moved-reads.Learnt,
-  prepare-reads.Asked,
-  prepare-reads.Learnt,
-  not-entered-reads.Asked,
-  not-entered-reads.Learnt,
-  enter-below t,
-  enter.Post,
-  called-reads.Asked,
-  called-reads.Learnt,
+  apply-below t,
+  apply.Post,
 ) (call-at t) call.Post
-call-slice-aggregate-named-sizes-2 t c = search needs
-
-call-named-sizes-requires : (t : ℕ) → call-lts.Need-named-sizes-requires (
-  arity-reads.Asked,
-  arity-reads.Learnt,
-  several-below t,
-  several.Post,
-  refused-reads.Asked,
-  refused-reads.Learnt,
-  named-sizes-reads.Asked,
-  named-sizes-reads.Learnt,
-  moved-reads.Asked,
-  moved-reads.Learnt,
-  prepare-reads.Asked,
-  prepare-reads.Learnt,
-  not-entered-reads.Asked,
-  not-entered-reads.Learnt,
-  enter-below t,
-  enter.Post,
-  called-reads.Asked,
-  called-reads.Learnt,
-) (call-at t) call.Post
-call-named-sizes-requires t c κs = tt
-
-call-moved-requires : (t : ℕ) → call-lts.Need-moved-requires (
-  arity-reads.Asked,
-  arity-reads.Learnt,
-  several-below t,
-  several.Post,
-  refused-reads.Asked,
-  refused-reads.Learnt,
-  named-sizes-reads.Asked,
-  named-sizes-reads.Learnt,
-  moved-reads.Asked,
-  moved-reads.Learnt,
-  prepare-reads.Asked,
-  prepare-reads.Learnt,
-  not-entered-reads.Asked,
-  not-entered-reads.Learnt,
-  enter-below t,
-  enter.Post,
-  called-reads.Asked,
-  called-reads.Learnt,
-) (call-at t) call.Post
-call-moved-requires t c κs = tt
-
-call-slice-aggregate-prepare : (t : ℕ) → call-lts.Need-slice-aggregate-prepare (
-  arity-reads.Asked,
-  arity-reads.Learnt,
-  several-below t,
-  several.Post,
-  refused-reads.Asked,
-  refused-reads.Learnt,
-  named-sizes-reads.Asked,
-  named-sizes-reads.Learnt,
-  moved-reads.Asked,
-  moved-reads.Learnt,
-  prepare-reads.Asked,
-  prepare-reads.Learnt,
-  not-entered-reads.Asked,
-  not-entered-reads.Learnt,
-  enter-below t,
-  enter.Post,
-  called-reads.Asked,
-  called-reads.Learnt,
-) (call-at t) call.Post
-call-slice-aggregate-prepare t c = search needs
-
-call-prepare-requires : (t : ℕ) → call-lts.Need-prepare-requires (
-  arity-reads.Asked,
-  arity-reads.Learnt,
-  several-below t,
-  several.Post,
-  refused-reads.Asked,
-  refused-reads.Learnt,
-  named-sizes-reads.Asked,
-  named-sizes-reads.Learnt,
-  moved-reads.Asked,
-  moved-reads.Learnt,
-  prepare-reads.Asked,
-  prepare-reads.Learnt,
-  not-entered-reads.Asked,
-  not-entered-reads.Learnt,
-  enter-below t,
-  enter.Post,
-  called-reads.Asked,
-  called-reads.Learnt,
-) (call-at t) call.Post
-call-prepare-requires t c κs = prepares (c .before .before .before .before .before .before .before .before .before .before .before .before .before .before .before .before .before .before .before .before .before .before .before .before .before .before .before .before .before .before .before .pre .1 .0) (c .before .moved .ensures) (c .before .before .before .before .before .before .before .before .before .before .before .before .before .before .before .before .before .before .before .before .before .before .before .before .before .before .before .before .before .before .before .pre .1 .1)
-
-call-enum-known-y : (t : ℕ) → call-lts.Need-enum-known-y (
-  arity-reads.Asked,
-  arity-reads.Learnt,
-  several-below t,
-  several.Post,
-  refused-reads.Asked,
-  refused-reads.Learnt,
-  named-sizes-reads.Asked,
-  named-sizes-reads.Learnt,
-  moved-reads.Asked,
-  moved-reads.Learnt,
-  prepare-reads.Asked,
-  prepare-reads.Learnt,
-  not-entered-reads.Asked,
-  not-entered-reads.Learnt,
-  enter-below t,
-  enter.Post,
-  called-reads.Asked,
-  called-reads.Learnt,
-) (call-at t) call.Post
-call-enum-known-y t c = (c .match2 .keys1)
-
-call-enum-told-2 : (t : ℕ) → call-lts.Need-enum-told-2 (
-  arity-reads.Asked,
-  arity-reads.Learnt,
-  several-below t,
-  several.Post,
-  refused-reads.Asked,
-  refused-reads.Learnt,
-  named-sizes-reads.Asked,
-  named-sizes-reads.Learnt,
-  moved-reads.Asked,
-  moved-reads.Learnt,
-  prepare-reads.Asked,
-  prepare-reads.Learnt,
-  not-entered-reads.Asked,
-  not-entered-reads.Learnt,
-  enter-below t,
-  enter.Post,
-  called-reads.Asked,
-  called-reads.Learnt,
-) (call-at t) call.Post
-call-enum-told-2 t c = (c .match2 .keys2)
-
-call-not-entered-requires : (t : ℕ) → call-lts.Need-not-entered-requires (
-  arity-reads.Asked,
-  arity-reads.Learnt,
-  several-below t,
-  several.Post,
-  refused-reads.Asked,
-  refused-reads.Learnt,
-  named-sizes-reads.Asked,
-  named-sizes-reads.Learnt,
-  moved-reads.Asked,
-  moved-reads.Learnt,
-  prepare-reads.Asked,
-  prepare-reads.Learnt,
-  not-entered-reads.Asked,
-  not-entered-reads.Learnt,
-  enter-below t,
-  enter.Post,
-  called-reads.Asked,
-  called-reads.Learnt,
-) (call-at t) call.Post
-call-not-entered-requires t c κs = tt
+call-apply-requires t c κs = (load-same _ 900 (c .before .before .before .before .before .before .before .before .before .before .before .before .before .before .before .before .before .before .before .before .before .before .before .before .before .pre .0) 800 (omega arith), (room-row (c .before .before .before .before .before .before .before .before .before .before .before .before .before .before .before .before .before .before .before .before .before .before .before .before .before .pre .1 .0) (omega (arith, (c .before .before .before .before .before .before .before .before .before .before .before .before .several .kept .1 .1 .1 .1 .1 .1 .1 .1 .0))), (grows-all-to (c .before .before .before .before .before .before .before .before .before .before .before .before .several .ensures .grows) (c .before .before .before .x .given .1), ((c .before .before .before .before .before .before .before .before .before .before .before .before .before .before .before .before .before .before .before .before .before .before .before .before .before .pre .1 .1), (c .before .before .before .before .before .before .before .before .before .before .before .before .before .before .before .before .before .arity .ensures .1)))))
 
 call-same-length-4 : (t : ℕ) → call-lts.Need-same-length-4 (
   arity-reads.Asked,
@@ -3588,20 +3667,10 @@ call-same-length-4 : (t : ℕ) → call-lts.Need-same-length-4 (
   several.Post,
   refused-reads.Asked,
   refused-reads.Learnt,
-  named-sizes-reads.Asked,
-  named-sizes-reads.Learnt,
-  moved-reads.Asked,
-  moved-reads.Learnt,
-  prepare-reads.Asked,
-  prepare-reads.Learnt,
-  not-entered-reads.Asked,
-  not-entered-reads.Learnt,
-  enter-below t,
-  enter.Post,
-  called-reads.Asked,
-  called-reads.Learnt,
+  apply-below t,
+  apply.Post,
 ) (call-at t) call.Post
-call-same-length-4 t c = (c .before .before .before .before .before .before .before .before .before .before .before .before .before .before .before .before .before .before .before .before .before .several .kept .1 .1 .1 .1 .1 .0)
+call-same-length-4 t c = (c .before .before .before .apply .kept .1 .1 .1 .1 .0) ∙ (c .before .before .before .before .before .before .before .before .before .before .before .before .before .before .before .before .several .kept .1 .1 .1 .1 .0)
 
 call-same-length-5 : (t : ℕ) → call-lts.Need-same-length-5 (
   arity-reads.Asked,
@@ -3610,20 +3679,10 @@ call-same-length-5 : (t : ℕ) → call-lts.Need-same-length-5 (
   several.Post,
   refused-reads.Asked,
   refused-reads.Learnt,
-  named-sizes-reads.Asked,
-  named-sizes-reads.Learnt,
-  moved-reads.Asked,
-  moved-reads.Learnt,
-  prepare-reads.Asked,
-  prepare-reads.Learnt,
-  not-entered-reads.Asked,
-  not-entered-reads.Learnt,
-  enter-below t,
-  enter.Post,
-  called-reads.Asked,
-  called-reads.Learnt,
+  apply-below t,
+  apply.Post,
 ) (call-at t) call.Post
-call-same-length-5 t c = (c .before .before .before .before .before .before .before .before .before .before .before .before .before .before .before .before .before .before .before .before .before .several .kept .1 .1 .1 .1 .1 .1 .0)
+call-same-length-5 t c = (c .before .before .before .before .before .before .before .before .before .before .before .before .before .before .before .before .several .kept .1 .1 .1 .1 .1 .0)
 
 call-same-length-6 : (t : ℕ) → call-lts.Need-same-length-6 (
   arity-reads.Asked,
@@ -3632,20 +3691,10 @@ call-same-length-6 : (t : ℕ) → call-lts.Need-same-length-6 (
   several.Post,
   refused-reads.Asked,
   refused-reads.Learnt,
-  named-sizes-reads.Asked,
-  named-sizes-reads.Learnt,
-  moved-reads.Asked,
-  moved-reads.Learnt,
-  prepare-reads.Asked,
-  prepare-reads.Learnt,
-  not-entered-reads.Asked,
-  not-entered-reads.Learnt,
-  enter-below t,
-  enter.Post,
-  called-reads.Asked,
-  called-reads.Learnt,
+  apply-below t,
+  apply.Post,
 ) (call-at t) call.Post
-call-same-length-6 t c = (c .before .before .before .before .before .before .before .before .before .before .before .before .before .before .before .before .before .before .before .before .before .several .kept .1 .1 .1 .1 .1 .1 .1 .0)
+call-same-length-6 t c = (c .before .before .before .before .before .before .before .before .before .before .before .before .before .before .before .before .several .kept .1 .1 .1 .1 .1 .1 .0)
 
 call-returns-2 : (t : ℕ) → call-lts.Need-returns-2 (
   arity-reads.Asked,
@@ -3654,328 +3703,10 @@ call-returns-2 : (t : ℕ) → call-lts.Need-returns-2 (
   several.Post,
   refused-reads.Asked,
   refused-reads.Learnt,
-  named-sizes-reads.Asked,
-  named-sizes-reads.Learnt,
-  moved-reads.Asked,
-  moved-reads.Learnt,
-  prepare-reads.Asked,
-  prepare-reads.Learnt,
-  not-entered-reads.Asked,
-  not-entered-reads.Learnt,
-  enter-below t,
-  enter.Post,
-  called-reads.Asked,
-  called-reads.Learnt,
+  apply-below t,
+  apply.Post,
 ) (call-at t) call.Post
-call-returns-2 t c = call-not-entered (c .before .before .before .before .before .before .before .before .before .before .before .before .before .before .before .before .before .before .before .before .before .before .before .before .before .before .arity .ensures) (omega arith) (c .before .before .before .before .before .before .before .before .before .before .before .before .before .before .before .before .before .before .before .before .before .several .ensures) (c .before .before .before .before .before .before .before .before .before .before .before .before .x .given .1) refl (c .before .before .before .before .before .before .before .before .named-sizes .ensures) (c .before .before .before .before .before .moved .ensures) (c .before .before .before .prepare .ensures) (c .before .enum-told2 .given .1) (c .not-entered .ensures)
-
-call-slice-aggregate-enter : (t : ℕ) → call-lts.Need-slice-aggregate-enter (
-  arity-reads.Asked,
-  arity-reads.Learnt,
-  several-below t,
-  several.Post,
-  refused-reads.Asked,
-  refused-reads.Learnt,
-  named-sizes-reads.Asked,
-  named-sizes-reads.Learnt,
-  moved-reads.Asked,
-  moved-reads.Learnt,
-  prepare-reads.Asked,
-  prepare-reads.Learnt,
-  not-entered-reads.Asked,
-  not-entered-reads.Learnt,
-  enter-below t,
-  enter.Post,
-  called-reads.Asked,
-  called-reads.Learnt,
-) (call-at t) call.Post
-call-slice-aggregate-enter t c = search needs
-
-call-slice-aggregate-enter-2 : (t : ℕ) → call-lts.Need-slice-aggregate-enter-2 (
-  arity-reads.Asked,
-  arity-reads.Learnt,
-  several-below t,
-  several.Post,
-  refused-reads.Asked,
-  refused-reads.Learnt,
-  named-sizes-reads.Asked,
-  named-sizes-reads.Learnt,
-  moved-reads.Asked,
-  moved-reads.Learnt,
-  prepare-reads.Asked,
-  prepare-reads.Learnt,
-  not-entered-reads.Asked,
-  not-entered-reads.Learnt,
-  enter-below t,
-  enter.Post,
-  called-reads.Asked,
-  called-reads.Learnt,
-) (call-at t) call.Post
-call-slice-aggregate-enter-2 t c = search needs
-
-call-enter-requires : (t : ℕ) → call-lts.Need-enter-requires (
-  arity-reads.Asked,
-  arity-reads.Learnt,
-  several-below t,
-  several.Post,
-  refused-reads.Asked,
-  refused-reads.Learnt,
-  named-sizes-reads.Asked,
-  named-sizes-reads.Learnt,
-  moved-reads.Asked,
-  moved-reads.Learnt,
-  prepare-reads.Asked,
-  prepare-reads.Learnt,
-  not-entered-reads.Asked,
-  not-entered-reads.Learnt,
-  enter-below t,
-  enter.Post,
-  called-reads.Asked,
-  called-reads.Learnt,
-) (call-at t) call.Post
-call-enter-requires t c κs = (load-moved _ 900 (c .before .before .before .before .before .before .before .before .before .before .before .before .before .before .before .before .before .before .before .before .before .before .before .before .before .before .before .before .before .before .before .before .before .before .before .before .before .before .pre .0) _ 90 (c .before .before .before .before .before .before .before .before .moved .ensures) (grows-all-to (c .before .before .before .before .before .before .before .before .before .before .before .before .before .before .before .before .before .before .before .before .before .before .before .before .several .ensures .grows) (c .before .before .before .before .before .before .before .before .before .before .before .before .before .before .before .x .given .1)) (omega arith), (room-inner (c .before .before .before .before .before .before .before .before .before .before .before .before .before .before .before .before .before .before .before .before .before .before .before .before .before .before .before .before .before .before .before .before .before .before .before .before .before .before .pre .1 .0) (c .before .before .before .before .before .before .before .before .moved .ensures) (omega (arith, (c .before .before .before .before .before .before .before .before .before .before .before .before .before .before .before .before .before .before .before .before .before .before .before .before .several .kept .1 .1 .1 .1 .1 .1 .1 .1 .1 .0))) (omega (arith, (c .before .before .before .before .before .before .before .before .before .before .before .named-sizes .kept .1 .1 .0))), entry-numbers (c .before .before .before .before .before .before .prepare .ensures .of) (c .before .before .before .before .y .given .1) (c .before .before .before .before .before .before .before .before .before .before .before .before .before .before .before .before .before .before .before .before .before .before .before .before .before .before .before .before .before .before .before .before .before .before .before .before .before .before .pre .1 .1) (c .before .before .before .before .before .before .before .before .before .before .before .before .before .before .before .before .before .before .before .before .before .before .before .before .before .before .before .before .before .arity .ensures .1) (c .before .before .before .before .before .before .before .before .before .before .before .named-sizes .ensures .few)))
-
-call-enum-known-z : (t : ℕ) → call-lts.Need-enum-known-z (
-  arity-reads.Asked,
-  arity-reads.Learnt,
-  several-below t,
-  several.Post,
-  refused-reads.Asked,
-  refused-reads.Learnt,
-  named-sizes-reads.Asked,
-  named-sizes-reads.Learnt,
-  moved-reads.Asked,
-  moved-reads.Learnt,
-  prepare-reads.Asked,
-  prepare-reads.Learnt,
-  not-entered-reads.Asked,
-  not-entered-reads.Learnt,
-  enter-below t,
-  enter.Post,
-  called-reads.Asked,
-  called-reads.Learnt,
-) (call-at t) call.Post
-call-enum-known-z t c = (c .match3 .keys1)
-
-call-enum-told-3 : (t : ℕ) → call-lts.Need-enum-told-3 (
-  arity-reads.Asked,
-  arity-reads.Learnt,
-  several-below t,
-  several.Post,
-  refused-reads.Asked,
-  refused-reads.Learnt,
-  named-sizes-reads.Asked,
-  named-sizes-reads.Learnt,
-  moved-reads.Asked,
-  moved-reads.Learnt,
-  prepare-reads.Asked,
-  prepare-reads.Learnt,
-  not-entered-reads.Asked,
-  not-entered-reads.Learnt,
-  enter-below t,
-  enter.Post,
-  called-reads.Asked,
-  called-reads.Learnt,
-) (call-at t) call.Post
-call-enum-told-3 t c = (c .match3 .keys2)
-
-call-same-length-7 : (t : ℕ) → call-lts.Need-same-length-7 (
-  arity-reads.Asked,
-  arity-reads.Learnt,
-  several-below t,
-  several.Post,
-  refused-reads.Asked,
-  refused-reads.Learnt,
-  named-sizes-reads.Asked,
-  named-sizes-reads.Learnt,
-  moved-reads.Asked,
-  moved-reads.Learnt,
-  prepare-reads.Asked,
-  prepare-reads.Learnt,
-  not-entered-reads.Asked,
-  not-entered-reads.Learnt,
-  enter-below t,
-  enter.Post,
-  called-reads.Asked,
-  called-reads.Learnt,
-) (call-at t) call.Post
-call-same-length-7 t c = (c .before .before .before .before .before .before .enter .kept .1 .1 .1 .1 .1 .0) ∙ (c .before .before .before .before .before .before .before .before .before .before .before .before .before .before .before .before .before .before .before .before .before .before .before .before .before .before .before .before .before .before .before .several .kept .1 .1 .1 .1 .1 .0)
-
-call-same-length-8 : (t : ℕ) → call-lts.Need-same-length-8 (
-  arity-reads.Asked,
-  arity-reads.Learnt,
-  several-below t,
-  several.Post,
-  refused-reads.Asked,
-  refused-reads.Learnt,
-  named-sizes-reads.Asked,
-  named-sizes-reads.Learnt,
-  moved-reads.Asked,
-  moved-reads.Learnt,
-  prepare-reads.Asked,
-  prepare-reads.Learnt,
-  not-entered-reads.Asked,
-  not-entered-reads.Learnt,
-  enter-below t,
-  enter.Post,
-  called-reads.Asked,
-  called-reads.Learnt,
-) (call-at t) call.Post
-call-same-length-8 t c = (c .before .before .before .before .before .before .before .before .before .before .before .before .before .before .before .before .before .before .before .before .before .before .before .before .before .before .before .before .before .before .before .several .kept .1 .1 .1 .1 .1 .1 .0)
-
-call-same-length-9 : (t : ℕ) → call-lts.Need-same-length-9 (
-  arity-reads.Asked,
-  arity-reads.Learnt,
-  several-below t,
-  several.Post,
-  refused-reads.Asked,
-  refused-reads.Learnt,
-  named-sizes-reads.Asked,
-  named-sizes-reads.Learnt,
-  moved-reads.Asked,
-  moved-reads.Learnt,
-  prepare-reads.Asked,
-  prepare-reads.Learnt,
-  not-entered-reads.Asked,
-  not-entered-reads.Learnt,
-  enter-below t,
-  enter.Post,
-  called-reads.Asked,
-  called-reads.Learnt,
-) (call-at t) call.Post
-call-same-length-9 t c = (c .before .before .before .before .before .before .before .before .before .before .before .before .before .before .before .before .before .before .before .before .before .before .before .before .before .before .before .before .before .before .before .several .kept .1 .1 .1 .1 .1 .1 .1 .0)
-
-call-returns-3 : (t : ℕ) → call-lts.Need-returns-3 (
-  arity-reads.Asked,
-  arity-reads.Learnt,
-  several-below t,
-  several.Post,
-  refused-reads.Asked,
-  refused-reads.Learnt,
-  named-sizes-reads.Asked,
-  named-sizes-reads.Learnt,
-  moved-reads.Asked,
-  moved-reads.Learnt,
-  prepare-reads.Asked,
-  prepare-reads.Learnt,
-  not-entered-reads.Asked,
-  not-entered-reads.Learnt,
-  enter-below t,
-  enter.Post,
-  called-reads.Asked,
-  called-reads.Learnt,
-) (call-at t) call.Post
-call-returns-3 t c = call-body (c .before .before .before .before .before .before .before .before .before .before .before .before .before .before .before .before .before .before .before .before .before .before .before .before .before .before .before .before .before .before .before .before .before .before .before .before .arity .ensures) (omega arith) (c .before .before .before .before .before .before .before .before .before .before .before .before .before .before .before .before .before .before .before .before .before .before .before .before .before .before .before .before .before .before .before .several .ensures) (c .before .before .before .before .before .before .before .before .before .before .before .before .before .before .before .before .before .before .before .before .before .before .x .given .1) refl (c .before .before .before .before .before .before .before .before .before .before .before .before .before .before .before .before .before .before .named-sizes .ensures) (c .before .before .before .before .before .before .before .before .before .before .before .before .before .before .before .moved .ensures) (c .before .before .before .before .before .before .before .before .before .before .before .before .before .prepare .ensures) (c .before .before .before .before .before .before .before .before .before .before .before .y .given .1) (c .before .before .before .before .before .before .enter .ensures) (c .enum-told3 .given .1)
-
-call-called-requires : (t : ℕ) → call-lts.Need-called-requires (
-  arity-reads.Asked,
-  arity-reads.Learnt,
-  several-below t,
-  several.Post,
-  refused-reads.Asked,
-  refused-reads.Learnt,
-  named-sizes-reads.Asked,
-  named-sizes-reads.Learnt,
-  moved-reads.Asked,
-  moved-reads.Learnt,
-  prepare-reads.Asked,
-  prepare-reads.Learnt,
-  not-entered-reads.Asked,
-  not-entered-reads.Learnt,
-  enter-below t,
-  enter.Post,
-  called-reads.Asked,
-  called-reads.Learnt,
-) (call-at t) call.Post
-call-called-requires t c κs = tt
-
-call-same-length-10 : (t : ℕ) → call-lts.Need-same-length-10 (
-  arity-reads.Asked,
-  arity-reads.Learnt,
-  several-below t,
-  several.Post,
-  refused-reads.Asked,
-  refused-reads.Learnt,
-  named-sizes-reads.Asked,
-  named-sizes-reads.Learnt,
-  moved-reads.Asked,
-  moved-reads.Learnt,
-  prepare-reads.Asked,
-  prepare-reads.Learnt,
-  not-entered-reads.Asked,
-  not-entered-reads.Learnt,
-  enter-below t,
-  enter.Post,
-  called-reads.Asked,
-  called-reads.Learnt,
-) (call-at t) call.Post
-call-same-length-10 t c = (c .before .before .before .before .before .before .before .before .enter .kept .1 .1 .1 .1 .1 .0) ∙ (c .before .before .before .before .before .before .before .before .before .before .before .before .before .before .before .before .before .before .before .before .before .before .before .before .before .before .before .before .before .before .before .before .before .several .kept .1 .1 .1 .1 .1 .0)
-
-call-same-length-11 : (t : ℕ) → call-lts.Need-same-length-11 (
-  arity-reads.Asked,
-  arity-reads.Learnt,
-  several-below t,
-  several.Post,
-  refused-reads.Asked,
-  refused-reads.Learnt,
-  named-sizes-reads.Asked,
-  named-sizes-reads.Learnt,
-  moved-reads.Asked,
-  moved-reads.Learnt,
-  prepare-reads.Asked,
-  prepare-reads.Learnt,
-  not-entered-reads.Asked,
-  not-entered-reads.Learnt,
-  enter-below t,
-  enter.Post,
-  called-reads.Asked,
-  called-reads.Learnt,
-) (call-at t) call.Post
-call-same-length-11 t c = (c .before .before .before .before .before .before .before .before .before .before .before .before .before .before .before .before .before .before .before .before .before .before .before .before .before .before .before .before .before .before .before .before .before .several .kept .1 .1 .1 .1 .1 .1 .0)
-
-call-same-length-12 : (t : ℕ) → call-lts.Need-same-length-12 (
-  arity-reads.Asked,
-  arity-reads.Learnt,
-  several-below t,
-  several.Post,
-  refused-reads.Asked,
-  refused-reads.Learnt,
-  named-sizes-reads.Asked,
-  named-sizes-reads.Learnt,
-  moved-reads.Asked,
-  moved-reads.Learnt,
-  prepare-reads.Asked,
-  prepare-reads.Learnt,
-  not-entered-reads.Asked,
-  not-entered-reads.Learnt,
-  enter-below t,
-  enter.Post,
-  called-reads.Asked,
-  called-reads.Learnt,
-) (call-at t) call.Post
-call-same-length-12 t c = (c .before .before .before .before .before .before .before .before .before .before .before .before .before .before .before .before .before .before .before .before .before .before .before .before .before .before .before .before .before .before .before .before .before .several .kept .1 .1 .1 .1 .1 .1 .1 .0)
-
-call-returns-4 : (t : ℕ) → call-lts.Need-returns-4 (
-  arity-reads.Asked,
-  arity-reads.Learnt,
-  several-below t,
-  several.Post,
-  refused-reads.Asked,
-  refused-reads.Learnt,
-  named-sizes-reads.Asked,
-  named-sizes-reads.Learnt,
-  moved-reads.Asked,
-  moved-reads.Learnt,
-  prepare-reads.Asked,
-  prepare-reads.Learnt,
-  not-entered-reads.Asked,
-  not-entered-reads.Learnt,
-  enter-below t,
-  enter.Post,
-  called-reads.Asked,
-  called-reads.Learnt,
-) (call-at t) call.Post
-call-returns-4 t c = call-done (c .before .before .before .before .before .before .before .before .before .before .before .before .before .before .before .before .before .before .before .before .before .before .before .before .before .before .before .before .before .before .before .before .before .before .before .before .before .before .arity .ensures) (omega arith) (c .before .before .before .before .before .before .before .before .before .before .before .before .before .before .before .before .before .before .before .before .before .before .before .before .before .before .before .before .before .before .before .before .before .several .ensures) (c .before .before .before .before .before .before .before .before .before .before .before .before .before .before .before .before .before .before .before .before .before .before .before .before .x .given .1) refl (c .before .before .before .before .before .before .before .before .before .before .before .before .before .before .before .before .before .before .before .before .named-sizes .ensures) (c .before .before .before .before .before .before .before .before .before .before .before .before .before .before .before .before .before .moved .ensures) (c .before .before .before .before .before .before .before .before .before .before .before .before .before .before .before .prepare .ensures) (c .before .before .before .before .before .before .before .before .before .before .before .before .before .y .given .1) (c .before .before .before .before .before .before .before .before .enter .ensures) (c .before .before .z .given .1) (c .called .ensures .body) (c .called .ensures .both) (c .called .ensures .all) (c .called .ensures .is)
+call-returns-2 t c = call-applied (c .before .before .before .before .before .before .before .before .before .before .before .before .before .before .before .before .before .before .before .before .before .arity .ensures) (omega arith) (c .before .before .before .before .before .before .before .before .before .before .before .before .before .before .before .before .several .ensures) (c .before .before .before .before .before .before .before .x .given .1) (c .before .before .before .apply .ensures)
 
 case-of-expr-requires : (t : ℕ) → case-of-lts.Need-expr-requires (
   expr-below t,
@@ -3984,6 +3715,8 @@ case-of-expr-requires : (t : ℕ) → case-of-lts.Need-expr-requires (
   frame-line-reads.Learnt,
   type-at-reads.Asked,
   type-at-reads.Learnt,
+  subject-reads.Asked,
+  subject-reads.Learnt,
   moved-reads.Asked,
   moved-reads.Learnt,
   branches-below t,
@@ -3991,7 +3724,7 @@ case-of-expr-requires : (t : ℕ) → case-of-lts.Need-expr-requires (
   cased-reads.Asked,
   cased-reads.Learnt,
 ) (case-of-at t) case-of.Post
-case-of-expr-requires t c κs = (load-same _ 900 (c .before .before .before .before .before .before .before .before .before .before .before .pre .0) 0 (omega arith), room-same (c .before .before .before .before .before .before .before .before .before .before .before .pre .1 .0) (omega arith))
+case-of-expr-requires t c κs = (load-same _ 900 (c .before .before .before .before .before .before .before .before .before .before .pre .0) 0 (omega arith), room-same (c .before .before .before .before .before .before .before .before .before .before .pre .1 .0) (omega arith))
 
 case-of-enum-known-x : (t : ℕ) → case-of-lts.Need-enum-known-x (
   expr-below t,
@@ -4000,6 +3733,8 @@ case-of-enum-known-x : (t : ℕ) → case-of-lts.Need-enum-known-x (
   frame-line-reads.Learnt,
   type-at-reads.Asked,
   type-at-reads.Learnt,
+  subject-reads.Asked,
+  subject-reads.Learnt,
   moved-reads.Asked,
   moved-reads.Learnt,
   branches-below t,
@@ -4016,6 +3751,8 @@ case-of-enum-told : (t : ℕ) → case-of-lts.Need-enum-told (
   frame-line-reads.Learnt,
   type-at-reads.Asked,
   type-at-reads.Learnt,
+  subject-reads.Asked,
+  subject-reads.Learnt,
   moved-reads.Asked,
   moved-reads.Learnt,
   branches-below t,
@@ -4032,6 +3769,8 @@ case-of-same-length : (t : ℕ) → case-of-lts.Need-same-length (
   frame-line-reads.Learnt,
   type-at-reads.Asked,
   type-at-reads.Learnt,
+  subject-reads.Asked,
+  subject-reads.Learnt,
   moved-reads.Asked,
   moved-reads.Learnt,
   branches-below t,
@@ -4039,7 +3778,7 @@ case-of-same-length : (t : ℕ) → case-of-lts.Need-same-length (
   cased-reads.Asked,
   cased-reads.Learnt,
 ) (case-of-at t) case-of.Post
-case-of-same-length t c = (c .before .before .before .before .before .before .before .before .expr .kept .1 .1 .1 .1 .1 .0)
+case-of-same-length t c = (c .before .before .before .before .before .before .before .before .expr .kept .1 .1 .1 .1 .0)
 
 case-of-same-length-2 : (t : ℕ) → case-of-lts.Need-same-length-2 (
   expr-below t,
@@ -4048,6 +3787,8 @@ case-of-same-length-2 : (t : ℕ) → case-of-lts.Need-same-length-2 (
   frame-line-reads.Learnt,
   type-at-reads.Asked,
   type-at-reads.Learnt,
+  subject-reads.Asked,
+  subject-reads.Learnt,
   moved-reads.Asked,
   moved-reads.Learnt,
   branches-below t,
@@ -4055,7 +3796,7 @@ case-of-same-length-2 : (t : ℕ) → case-of-lts.Need-same-length-2 (
   cased-reads.Asked,
   cased-reads.Learnt,
 ) (case-of-at t) case-of.Post
-case-of-same-length-2 t c = (c .before .before .before .before .before .before .before .before .expr .kept .1 .1 .1 .1 .1 .1 .0)
+case-of-same-length-2 t c = (c .before .before .before .before .before .before .before .before .expr .kept .1 .1 .1 .1 .1 .0)
 
 case-of-same-length-3 : (t : ℕ) → case-of-lts.Need-same-length-3 (
   expr-below t,
@@ -4064,6 +3805,8 @@ case-of-same-length-3 : (t : ℕ) → case-of-lts.Need-same-length-3 (
   frame-line-reads.Learnt,
   type-at-reads.Asked,
   type-at-reads.Learnt,
+  subject-reads.Asked,
+  subject-reads.Learnt,
   moved-reads.Asked,
   moved-reads.Learnt,
   branches-below t,
@@ -4071,7 +3814,7 @@ case-of-same-length-3 : (t : ℕ) → case-of-lts.Need-same-length-3 (
   cased-reads.Asked,
   cased-reads.Learnt,
 ) (case-of-at t) case-of.Post
-case-of-same-length-3 t c = (c .before .before .before .before .before .before .before .before .expr .kept .1 .1 .1 .1 .1 .1 .1 .0)
+case-of-same-length-3 t c = (c .before .before .before .before .before .before .before .before .expr .kept .1 .1 .1 .1 .1 .1 .0)
 
 case-of-returns : (t : ℕ) → case-of-lts.Need-returns (
   expr-below t,
@@ -4080,6 +3823,8 @@ case-of-returns : (t : ℕ) → case-of-lts.Need-returns (
   frame-line-reads.Learnt,
   type-at-reads.Asked,
   type-at-reads.Learnt,
+  subject-reads.Asked,
+  subject-reads.Learnt,
   moved-reads.Asked,
   moved-reads.Learnt,
   branches-below t,
@@ -4096,6 +3841,8 @@ case-of-enum-known-kind : (t : ℕ) → case-of-lts.Need-enum-known-kind (
   frame-line-reads.Learnt,
   type-at-reads.Asked,
   type-at-reads.Learnt,
+  subject-reads.Asked,
+  subject-reads.Learnt,
   moved-reads.Asked,
   moved-reads.Learnt,
   branches-below t,
@@ -4105,13 +3852,15 @@ case-of-enum-known-kind : (t : ℕ) → case-of-lts.Need-enum-known-kind (
 ) (case-of-at t) case-of.Post
 case-of-enum-known-kind t c = (c .match2 .keys1)
 
-case-of-add-t30 : (t : ℕ) → case-of-lts.Need-add-t30 (
+case-of-add-t29 : (t : ℕ) → case-of-lts.Need-add-t29 (
   expr-below t,
   expr.Post,
   frame-line-reads.Asked,
   frame-line-reads.Learnt,
   type-at-reads.Asked,
   type-at-reads.Learnt,
+  subject-reads.Asked,
+  subject-reads.Learnt,
   moved-reads.Asked,
   moved-reads.Learnt,
   branches-below t,
@@ -4119,7 +3868,7 @@ case-of-add-t30 : (t : ℕ) → case-of-lts.Need-add-t30 (
   cased-reads.Asked,
   cased-reads.Learnt,
 ) (case-of-at t) case-of.Post
-case-of-add-t30 t c = omega (arith, (c .before .before .before .before .before .before .before .before .before .before .before .before .before .before .before .before .before .before .before .before .before .before .before .pre .1 .0 .line))
+case-of-add-t29 t c = omega (arith, (c .before .before .before .before .before .before .before .before .before .before .before .before .before .before .before .before .before .before .before .before .before .before .pre .1 .0 .line))
 
 case-of-same-length-4 : (t : ℕ) → case-of-lts.Need-same-length-4 (
   expr-below t,
@@ -4128,6 +3877,8 @@ case-of-same-length-4 : (t : ℕ) → case-of-lts.Need-same-length-4 (
   frame-line-reads.Learnt,
   type-at-reads.Asked,
   type-at-reads.Learnt,
+  subject-reads.Asked,
+  subject-reads.Learnt,
   moved-reads.Asked,
   moved-reads.Learnt,
   branches-below t,
@@ -4135,7 +3886,7 @@ case-of-same-length-4 : (t : ℕ) → case-of-lts.Need-same-length-4 (
   cased-reads.Asked,
   cased-reads.Learnt,
 ) (case-of-at t) case-of.Post
-case-of-same-length-4 t c = (c .before .before .before .before .before .before .before .before .before .before .before .expr .kept .1 .1 .1 .1 .1 .0)
+case-of-same-length-4 t c = (c .before .before .before .before .before .before .before .before .before .before .before .expr .kept .1 .1 .1 .1 .0)
 
 case-of-same-length-5 : (t : ℕ) → case-of-lts.Need-same-length-5 (
   expr-below t,
@@ -4144,6 +3895,8 @@ case-of-same-length-5 : (t : ℕ) → case-of-lts.Need-same-length-5 (
   frame-line-reads.Learnt,
   type-at-reads.Asked,
   type-at-reads.Learnt,
+  subject-reads.Asked,
+  subject-reads.Learnt,
   moved-reads.Asked,
   moved-reads.Learnt,
   branches-below t,
@@ -4151,7 +3904,7 @@ case-of-same-length-5 : (t : ℕ) → case-of-lts.Need-same-length-5 (
   cased-reads.Asked,
   cased-reads.Learnt,
 ) (case-of-at t) case-of.Post
-case-of-same-length-5 t c = (c .before .before .before .before .before .before .before .before .before .before .before .expr .kept .1 .1 .1 .1 .1 .1 .0)
+case-of-same-length-5 t c = (c .before .before .before .before .before .before .before .before .before .before .before .expr .kept .1 .1 .1 .1 .1 .0)
 
 case-of-same-length-6 : (t : ℕ) → case-of-lts.Need-same-length-6 (
   expr-below t,
@@ -4160,6 +3913,8 @@ case-of-same-length-6 : (t : ℕ) → case-of-lts.Need-same-length-6 (
   frame-line-reads.Learnt,
   type-at-reads.Asked,
   type-at-reads.Learnt,
+  subject-reads.Asked,
+  subject-reads.Learnt,
   moved-reads.Asked,
   moved-reads.Learnt,
   branches-below t,
@@ -4167,7 +3922,7 @@ case-of-same-length-6 : (t : ℕ) → case-of-lts.Need-same-length-6 (
   cased-reads.Asked,
   cased-reads.Learnt,
 ) (case-of-at t) case-of.Post
-case-of-same-length-6 t c = (c .before .before .before .before .before .before .before .before .before .before .before .expr .kept .1 .1 .1 .1 .1 .1 .1 .0)
+case-of-same-length-6 t c = (c .before .before .before .before .before .before .before .before .before .before .before .expr .kept .1 .1 .1 .1 .1 .1 .0)
 
 case-of-returns-2 : (t : ℕ) → case-of-lts.Need-returns-2 (
   expr-below t,
@@ -4176,6 +3931,8 @@ case-of-returns-2 : (t : ℕ) → case-of-lts.Need-returns-2 (
   frame-line-reads.Learnt,
   type-at-reads.Asked,
   type-at-reads.Learnt,
+  subject-reads.Asked,
+  subject-reads.Learnt,
   moved-reads.Asked,
   moved-reads.Learnt,
   branches-below t,
@@ -4192,6 +3949,8 @@ case-of-frame-line-requires : (t : ℕ) → case-of-lts.Need-frame-line-requires
   frame-line-reads.Learnt,
   type-at-reads.Asked,
   type-at-reads.Learnt,
+  subject-reads.Asked,
+  subject-reads.Learnt,
   moved-reads.Asked,
   moved-reads.Learnt,
   branches-below t,
@@ -4208,6 +3967,8 @@ case-of-type-at-requires : (t : ℕ) → case-of-lts.Need-type-at-requires (
   frame-line-reads.Learnt,
   type-at-reads.Asked,
   type-at-reads.Learnt,
+  subject-reads.Asked,
+  subject-reads.Learnt,
   moved-reads.Asked,
   moved-reads.Learnt,
   branches-below t,
@@ -4224,6 +3985,8 @@ case-of-enum-known-y : (t : ℕ) → case-of-lts.Need-enum-known-y (
   frame-line-reads.Learnt,
   type-at-reads.Asked,
   type-at-reads.Learnt,
+  subject-reads.Asked,
+  subject-reads.Learnt,
   moved-reads.Asked,
   moved-reads.Learnt,
   branches-below t,
@@ -4240,6 +4003,8 @@ case-of-enum-told-2 : (t : ℕ) → case-of-lts.Need-enum-told-2 (
   frame-line-reads.Learnt,
   type-at-reads.Asked,
   type-at-reads.Learnt,
+  subject-reads.Asked,
+  subject-reads.Learnt,
   moved-reads.Asked,
   moved-reads.Learnt,
   branches-below t,
@@ -4249,13 +4014,15 @@ case-of-enum-told-2 : (t : ℕ) → case-of-lts.Need-enum-told-2 (
 ) (case-of-at t) case-of.Post
 case-of-enum-told-2 t c = (c .match3 .keys2)
 
-case-of-add-t33 : (t : ℕ) → case-of-lts.Need-add-t33 (
+case-of-add-t32 : (t : ℕ) → case-of-lts.Need-add-t32 (
   expr-below t,
   expr.Post,
   frame-line-reads.Asked,
   frame-line-reads.Learnt,
   type-at-reads.Asked,
   type-at-reads.Learnt,
+  subject-reads.Asked,
+  subject-reads.Learnt,
   moved-reads.Asked,
   moved-reads.Learnt,
   branches-below t,
@@ -4263,7 +4030,7 @@ case-of-add-t33 : (t : ℕ) → case-of-lts.Need-add-t33 (
   cased-reads.Asked,
   cased-reads.Learnt,
 ) (case-of-at t) case-of.Post
-case-of-add-t33 t c = omega (arith, (c .before .before .before .before .before .before .before .before .before .before .before .before .before .before .before .before .before .before .before .before .before .before .before .before .before .before .before .before .before .before .before .pre .1 .0 .line))
+case-of-add-t32 t c = omega (arith, (c .before .before .before .before .before .before .before .before .before .before .before .before .before .before .before .before .before .before .before .before .before .before .before .before .before .before .before .before .before .before .pre .1 .0 .line))
 
 case-of-same-length-7 : (t : ℕ) → case-of-lts.Need-same-length-7 (
   expr-below t,
@@ -4272,6 +4039,8 @@ case-of-same-length-7 : (t : ℕ) → case-of-lts.Need-same-length-7 (
   frame-line-reads.Learnt,
   type-at-reads.Asked,
   type-at-reads.Learnt,
+  subject-reads.Asked,
+  subject-reads.Learnt,
   moved-reads.Asked,
   moved-reads.Learnt,
   branches-below t,
@@ -4279,7 +4048,7 @@ case-of-same-length-7 : (t : ℕ) → case-of-lts.Need-same-length-7 (
   cased-reads.Asked,
   cased-reads.Learnt,
 ) (case-of-at t) case-of.Post
-case-of-same-length-7 t c = (c .before .before .before .before .before .before .before .before .before .before .before .before .before .before .before .before .before .before .before .expr .kept .1 .1 .1 .1 .1 .0)
+case-of-same-length-7 t c = (c .before .before .before .before .before .before .before .before .before .before .before .before .before .before .before .before .before .before .before .expr .kept .1 .1 .1 .1 .0)
 
 case-of-same-length-8 : (t : ℕ) → case-of-lts.Need-same-length-8 (
   expr-below t,
@@ -4288,6 +4057,8 @@ case-of-same-length-8 : (t : ℕ) → case-of-lts.Need-same-length-8 (
   frame-line-reads.Learnt,
   type-at-reads.Asked,
   type-at-reads.Learnt,
+  subject-reads.Asked,
+  subject-reads.Learnt,
   moved-reads.Asked,
   moved-reads.Learnt,
   branches-below t,
@@ -4295,7 +4066,7 @@ case-of-same-length-8 : (t : ℕ) → case-of-lts.Need-same-length-8 (
   cased-reads.Asked,
   cased-reads.Learnt,
 ) (case-of-at t) case-of.Post
-case-of-same-length-8 t c = (c .before .before .before .before .before .before .before .before .before .before .before .before .before .before .before .before .before .before .before .expr .kept .1 .1 .1 .1 .1 .1 .0)
+case-of-same-length-8 t c = (c .before .before .before .before .before .before .before .before .before .before .before .before .before .before .before .before .before .before .before .expr .kept .1 .1 .1 .1 .1 .0)
 
 case-of-same-length-9 : (t : ℕ) → case-of-lts.Need-same-length-9 (
   expr-below t,
@@ -4304,6 +4075,8 @@ case-of-same-length-9 : (t : ℕ) → case-of-lts.Need-same-length-9 (
   frame-line-reads.Learnt,
   type-at-reads.Asked,
   type-at-reads.Learnt,
+  subject-reads.Asked,
+  subject-reads.Learnt,
   moved-reads.Asked,
   moved-reads.Learnt,
   branches-below t,
@@ -4311,7 +4084,7 @@ case-of-same-length-9 : (t : ℕ) → case-of-lts.Need-same-length-9 (
   cased-reads.Asked,
   cased-reads.Learnt,
 ) (case-of-at t) case-of.Post
-case-of-same-length-9 t c = (c .before .before .before .before .before .before .before .before .before .before .before .before .before .before .before .before .before .before .before .expr .kept .1 .1 .1 .1 .1 .1 .1 .0)
+case-of-same-length-9 t c = (c .before .before .before .before .before .before .before .before .before .before .before .before .before .before .before .before .before .before .before .expr .kept .1 .1 .1 .1 .1 .1 .0)
 
 case-of-returns-3 : (t : ℕ) → case-of-lts.Need-returns-3 (
   expr-below t,
@@ -4320,6 +4093,8 @@ case-of-returns-3 : (t : ℕ) → case-of-lts.Need-returns-3 (
   frame-line-reads.Learnt,
   type-at-reads.Asked,
   type-at-reads.Learnt,
+  subject-reads.Asked,
+  subject-reads.Learnt,
   moved-reads.Asked,
   moved-reads.Learnt,
   branches-below t,
@@ -4329,6 +4104,24 @@ case-of-returns-3 : (t : ℕ) → case-of-lts.Need-returns-3 (
 ) (case-of-at t) case-of.Post
 case-of-returns-3 t c = case-outside (c .before .before .before .before .before .before .before .before .before .before .before .before .before .before .before .before .before .before .before .expr .ensures) (c .before .before .before .before .before .before .before .before .before .before .before .x .given .1) (c .before .before .before .before .before .before .before .before .kind .given .1) (c .before .before .before .before .before .frame-line .ensures) (c .before .before .before .type-at .ensures) (c .before .enum-told2 .given .1)
 
+case-of-subject-requires : (t : ℕ) → case-of-lts.Need-subject-requires (
+  expr-below t,
+  expr.Post,
+  frame-line-reads.Asked,
+  frame-line-reads.Learnt,
+  type-at-reads.Asked,
+  type-at-reads.Learnt,
+  subject-reads.Asked,
+  subject-reads.Learnt,
+  moved-reads.Asked,
+  moved-reads.Learnt,
+  branches-below t,
+  branches.Post,
+  cased-reads.Asked,
+  cased-reads.Learnt,
+) (case-of-at t) case-of.Post
+case-of-subject-requires t c κs = tt
+
 case-of-moved-requires : (t : ℕ) → case-of-lts.Need-moved-requires (
   expr-below t,
   expr.Post,
@@ -4336,6 +4129,8 @@ case-of-moved-requires : (t : ℕ) → case-of-lts.Need-moved-requires (
   frame-line-reads.Learnt,
   type-at-reads.Asked,
   type-at-reads.Learnt,
+  subject-reads.Asked,
+  subject-reads.Learnt,
   moved-reads.Asked,
   moved-reads.Learnt,
   branches-below t,
@@ -4352,6 +4147,8 @@ case-of-branches-requires : (t : ℕ) → case-of-lts.Need-branches-requires (
   frame-line-reads.Learnt,
   type-at-reads.Asked,
   type-at-reads.Learnt,
+  subject-reads.Asked,
+  subject-reads.Learnt,
   moved-reads.Asked,
   moved-reads.Learnt,
   branches-below t,
@@ -4359,7 +4156,7 @@ case-of-branches-requires : (t : ℕ) → case-of-lts.Need-branches-requires (
   cased-reads.Asked,
   cased-reads.Learnt,
 ) (case-of-at t) case-of.Post
-case-of-branches-requires t c κs = (load-moved _ 900 (c .before .before .before .before .before .before .before .before .before .before .before .before .before .before .before .before .before .before .before .before .before .before .before .before .before .before .before .before .before .before .before .before .before .before .before .pre .0) _ _ (c .before .before .before .moved .ensures) (grows-to (c .before .before .before .before .before .before .before .before .before .before .before .before .before .before .before .before .before .before .before .before .before .before .before .expr .ensures .grows) (c .before .before .before .before .before .before .before .before .before .before .before .before .before .before .before .x .given .1)) (omega arith), (room-rest (c .before .before .before .before .before .before .before .before .before .before .before .before .before .before .before .before .before .before .before .before .before .before .before .before .before .before .before .before .before .before .before .before .before .before .before .pre .1 .0) (c .before .before .before .moved .ensures) ((c .before .before .before .before .before .before .before .before .before .before .before .before .before .before .before .before .before .before .before .before .before .before .before .expr .kept .1 .1 .1 .1 .1 .1 .0)) ((c .before .before .before .before .before .before .before .before .before .before .before .before .before .before .before .before .before .before .before .before .before .before .before .expr .kept .1 .1 .1 .1 .1 .1 .1 .0)), ((c .before .before .before .before .before .before .before .before .before .before .before .before .before .before .before .before .before .before .before .before .before .before .before .before .before .before .before .before .before .before .before .before .before .before .before .pre .1 .1), omega arith)))
+case-of-branches-requires t c κs = (load-moved _ 900 (c .before .before .before .before .before .before .before .before .before .before .before .before .before .before .before .before .before .before .before .before .before .before .before .before .before .before .before .before .before .before .before .before .before .before .before .pre .0) _ _ (c .before .before .before .moved .ensures) (grows-to (c .before .before .before .before .before .before .before .before .before .before .before .before .before .before .before .before .before .before .before .before .before .before .before .before .expr .ensures .grows) (c .before .before .before .before .before .before .before .before .before .before .before .before .before .before .before .before .x .given .1)) (omega arith), (room-rest (c .before .before .before .before .before .before .before .before .before .before .before .before .before .before .before .before .before .before .before .before .before .before .before .before .before .before .before .before .before .before .before .before .before .before .before .pre .1 .0) (c .before .before .before .moved .ensures) ((c .before .before .before .before .before .before .before .before .before .before .before .before .before .before .before .before .before .before .before .before .before .before .before .before .expr .kept .1 .1 .1 .1 .1 .0)) ((c .before .before .before .before .before .before .before .before .before .before .before .before .before .before .before .before .before .before .before .before .before .before .before .before .expr .kept .1 .1 .1 .1 .1 .1 .0)), (omega (arith, ap (λ z. z .of) (c .before .before .before .before .subject .ensures), (c .before .before .before .before .before .before .before .before .before .before .before .before .before .before .before .before .before .before .before .before .before .before .before .before .before .before .before .before .before .before .before .before .before .before .before .pre .1 .1)), omega arith)))
 
 case-of-enum-known-z : (t : ℕ) → case-of-lts.Need-enum-known-z (
   expr-below t,
@@ -4368,6 +4165,8 @@ case-of-enum-known-z : (t : ℕ) → case-of-lts.Need-enum-known-z (
   frame-line-reads.Learnt,
   type-at-reads.Asked,
   type-at-reads.Learnt,
+  subject-reads.Asked,
+  subject-reads.Learnt,
   moved-reads.Asked,
   moved-reads.Learnt,
   branches-below t,
@@ -4384,6 +4183,8 @@ case-of-enum-told-3 : (t : ℕ) → case-of-lts.Need-enum-told-3 (
   frame-line-reads.Learnt,
   type-at-reads.Asked,
   type-at-reads.Learnt,
+  subject-reads.Asked,
+  subject-reads.Learnt,
   moved-reads.Asked,
   moved-reads.Learnt,
   branches-below t,
@@ -4400,6 +4201,8 @@ case-of-same-length-10 : (t : ℕ) → case-of-lts.Need-same-length-10 (
   frame-line-reads.Learnt,
   type-at-reads.Asked,
   type-at-reads.Learnt,
+  subject-reads.Asked,
+  subject-reads.Learnt,
   moved-reads.Asked,
   moved-reads.Learnt,
   branches-below t,
@@ -4407,7 +4210,7 @@ case-of-same-length-10 : (t : ℕ) → case-of-lts.Need-same-length-10 (
   cased-reads.Asked,
   cased-reads.Learnt,
 ) (case-of-at t) case-of.Post
-case-of-same-length-10 t c = (c .before .before .before .before .before .before .before .before .branches .kept .1 .1 .1 .1 .1 .0) ∙ (c .before .before .before .before .before .before .before .before .before .before .before .before .before .before .before .before .before .before .before .before .before .before .before .before .before .before .before .before .before .before .before .before .expr .kept .1 .1 .1 .1 .1 .0)
+case-of-same-length-10 t c = (c .before .before .before .before .before .before .before .before .branches .kept .1 .1 .1 .1 .0) ∙ (c .before .before .before .before .before .before .before .before .before .before .before .before .before .before .before .before .before .before .before .before .before .before .before .before .before .before .before .before .before .before .before .before .before .expr .kept .1 .1 .1 .1 .0)
 
 case-of-same-length-11 : (t : ℕ) → case-of-lts.Need-same-length-11 (
   expr-below t,
@@ -4416,6 +4219,8 @@ case-of-same-length-11 : (t : ℕ) → case-of-lts.Need-same-length-11 (
   frame-line-reads.Learnt,
   type-at-reads.Asked,
   type-at-reads.Learnt,
+  subject-reads.Asked,
+  subject-reads.Learnt,
   moved-reads.Asked,
   moved-reads.Learnt,
   branches-below t,
@@ -4423,7 +4228,7 @@ case-of-same-length-11 : (t : ℕ) → case-of-lts.Need-same-length-11 (
   cased-reads.Asked,
   cased-reads.Learnt,
 ) (case-of-at t) case-of.Post
-case-of-same-length-11 t c = (c .before .before .before .before .before .before .before .before .branches .kept .1 .1 .1 .1 .1 .1 .0) ∙ (c .before .before .before .before .before .before .before .before .before .before .before .before .before .before .before .before .before .before .before .before .before .before .before .before .before .before .before .before .before .before .before .before .expr .kept .1 .1 .1 .1 .1 .1 .0)
+case-of-same-length-11 t c = (c .before .before .before .before .before .before .before .before .branches .kept .1 .1 .1 .1 .1 .0) ∙ (c .before .before .before .before .before .before .before .before .before .before .before .before .before .before .before .before .before .before .before .before .before .before .before .before .before .before .before .before .before .before .before .before .before .expr .kept .1 .1 .1 .1 .1 .0)
 
 case-of-same-length-12 : (t : ℕ) → case-of-lts.Need-same-length-12 (
   expr-below t,
@@ -4432,6 +4237,8 @@ case-of-same-length-12 : (t : ℕ) → case-of-lts.Need-same-length-12 (
   frame-line-reads.Learnt,
   type-at-reads.Asked,
   type-at-reads.Learnt,
+  subject-reads.Asked,
+  subject-reads.Learnt,
   moved-reads.Asked,
   moved-reads.Learnt,
   branches-below t,
@@ -4439,7 +4246,7 @@ case-of-same-length-12 : (t : ℕ) → case-of-lts.Need-same-length-12 (
   cased-reads.Asked,
   cased-reads.Learnt,
 ) (case-of-at t) case-of.Post
-case-of-same-length-12 t c = (c .before .before .before .before .before .before .before .before .branches .kept .1 .1 .1 .1 .1 .1 .1 .0) ∙ (c .before .before .before .before .before .before .before .before .before .before .before .before .before .before .before .before .before .before .before .before .before .before .before .before .before .before .before .before .before .before .before .before .expr .kept .1 .1 .1 .1 .1 .1 .1 .0)
+case-of-same-length-12 t c = (c .before .before .before .before .before .before .before .before .branches .kept .1 .1 .1 .1 .1 .1 .0) ∙ (c .before .before .before .before .before .before .before .before .before .before .before .before .before .before .before .before .before .before .before .before .before .before .before .before .before .before .before .before .before .before .before .before .before .expr .kept .1 .1 .1 .1 .1 .1 .0)
 
 case-of-returns-4 : (t : ℕ) → case-of-lts.Need-returns-4 (
   expr-below t,
@@ -4448,6 +4255,8 @@ case-of-returns-4 : (t : ℕ) → case-of-lts.Need-returns-4 (
   frame-line-reads.Learnt,
   type-at-reads.Asked,
   type-at-reads.Learnt,
+  subject-reads.Asked,
+  subject-reads.Learnt,
   moved-reads.Asked,
   moved-reads.Learnt,
   branches-below t,
@@ -4455,7 +4264,7 @@ case-of-returns-4 : (t : ℕ) → case-of-lts.Need-returns-4 (
   cased-reads.Asked,
   cased-reads.Learnt,
 ) (case-of-at t) case-of.Post
-case-of-returns-4 t c = case-branches (c .before .before .before .before .before .before .before .before .before .before .before .before .before .before .before .before .before .before .before .before .before .before .before .before .before .before .before .before .before .before .before .before .expr .ensures) (c .before .before .before .before .before .before .before .before .before .before .before .before .before .before .before .before .before .before .before .before .before .before .before .before .x .given .1) (c .before .before .before .before .before .before .before .before .before .before .before .before .before .before .before .before .before .before .before .before .before .kind .given .1) (c .before .before .before .before .before .before .before .before .before .before .before .before .before .before .before .before .before .before .frame-line .ensures) (c .before .before .before .before .before .before .before .before .before .before .before .before .before .before .before .before .type-at .ensures) (c .before .before .before .before .before .before .before .before .before .before .before .before .before .before .y .given .1) (c .before .before .before .before .before .before .before .before .before .before .before .before .moved .ensures) (c .before .before .before .before .before .before .before .before .branches .ensures) (c .enum-told3 .given .1)
+case-of-returns-4 t c = case-branches (c .before .before .before .before .before .before .before .before .before .before .before .before .before .before .before .before .before .before .before .before .before .before .before .before .before .before .before .before .before .before .before .before .before .expr .ensures) (c .before .before .before .before .before .before .before .before .before .before .before .before .before .before .before .before .before .before .before .before .before .before .before .before .before .x .given .1) (c .before .before .before .before .before .before .before .before .before .before .before .before .before .before .before .before .before .before .before .before .before .before .kind .given .1) (c .before .before .before .before .before .before .before .before .before .before .before .before .before .before .before .before .before .before .before .frame-line .ensures) (c .before .before .before .before .before .before .before .before .before .before .before .before .before .before .before .before .before .type-at .ensures) (c .before .before .before .before .before .before .before .before .before .before .before .before .before .before .before .y .given .1) (c .before .before .before .before .before .before .before .before .before .before .before .before .moved .ensures) (c .before .before .before .before .before .before .before .before .before .before .before .before .before .subject .ensures) (c .before .before .before .before .before .before .before .before .branches .ensures) (c .enum-told3 .given .1)
 
 case-of-cased-requires : (t : ℕ) → case-of-lts.Need-cased-requires (
   expr-below t,
@@ -4464,6 +4273,8 @@ case-of-cased-requires : (t : ℕ) → case-of-lts.Need-cased-requires (
   frame-line-reads.Learnt,
   type-at-reads.Asked,
   type-at-reads.Learnt,
+  subject-reads.Asked,
+  subject-reads.Learnt,
   moved-reads.Asked,
   moved-reads.Learnt,
   branches-below t,
@@ -4480,6 +4291,8 @@ case-of-same-length-13 : (t : ℕ) → case-of-lts.Need-same-length-13 (
   frame-line-reads.Learnt,
   type-at-reads.Asked,
   type-at-reads.Learnt,
+  subject-reads.Asked,
+  subject-reads.Learnt,
   moved-reads.Asked,
   moved-reads.Learnt,
   branches-below t,
@@ -4487,7 +4300,7 @@ case-of-same-length-13 : (t : ℕ) → case-of-lts.Need-same-length-13 (
   cased-reads.Asked,
   cased-reads.Learnt,
 ) (case-of-at t) case-of.Post
-case-of-same-length-13 t c = (c .before .before .before .before .before .before .before .before .before .before .branches .kept .1 .1 .1 .1 .1 .0) ∙ (c .before .before .before .before .before .before .before .before .before .before .before .before .before .before .before .before .before .before .before .before .before .before .before .before .before .before .before .before .before .before .before .before .before .before .expr .kept .1 .1 .1 .1 .1 .0)
+case-of-same-length-13 t c = (c .before .before .before .before .before .before .before .before .before .before .branches .kept .1 .1 .1 .1 .0) ∙ (c .before .before .before .before .before .before .before .before .before .before .before .before .before .before .before .before .before .before .before .before .before .before .before .before .before .before .before .before .before .before .before .before .before .before .before .expr .kept .1 .1 .1 .1 .0)
 
 case-of-same-length-14 : (t : ℕ) → case-of-lts.Need-same-length-14 (
   expr-below t,
@@ -4496,6 +4309,8 @@ case-of-same-length-14 : (t : ℕ) → case-of-lts.Need-same-length-14 (
   frame-line-reads.Learnt,
   type-at-reads.Asked,
   type-at-reads.Learnt,
+  subject-reads.Asked,
+  subject-reads.Learnt,
   moved-reads.Asked,
   moved-reads.Learnt,
   branches-below t,
@@ -4503,7 +4318,7 @@ case-of-same-length-14 : (t : ℕ) → case-of-lts.Need-same-length-14 (
   cased-reads.Asked,
   cased-reads.Learnt,
 ) (case-of-at t) case-of.Post
-case-of-same-length-14 t c = (c .before .before .before .before .before .before .before .before .before .before .branches .kept .1 .1 .1 .1 .1 .1 .0) ∙ (c .before .before .before .before .before .before .before .before .before .before .before .before .before .before .before .before .before .before .before .before .before .before .before .before .before .before .before .before .before .before .before .before .before .before .expr .kept .1 .1 .1 .1 .1 .1 .0)
+case-of-same-length-14 t c = (c .before .before .before .before .before .before .before .before .before .before .branches .kept .1 .1 .1 .1 .1 .0) ∙ (c .before .before .before .before .before .before .before .before .before .before .before .before .before .before .before .before .before .before .before .before .before .before .before .before .before .before .before .before .before .before .before .before .before .before .before .expr .kept .1 .1 .1 .1 .1 .0)
 
 case-of-same-length-15 : (t : ℕ) → case-of-lts.Need-same-length-15 (
   expr-below t,
@@ -4512,6 +4327,8 @@ case-of-same-length-15 : (t : ℕ) → case-of-lts.Need-same-length-15 (
   frame-line-reads.Learnt,
   type-at-reads.Asked,
   type-at-reads.Learnt,
+  subject-reads.Asked,
+  subject-reads.Learnt,
   moved-reads.Asked,
   moved-reads.Learnt,
   branches-below t,
@@ -4519,7 +4336,7 @@ case-of-same-length-15 : (t : ℕ) → case-of-lts.Need-same-length-15 (
   cased-reads.Asked,
   cased-reads.Learnt,
 ) (case-of-at t) case-of.Post
-case-of-same-length-15 t c = (c .before .before .before .before .before .before .before .before .before .before .branches .kept .1 .1 .1 .1 .1 .1 .1 .0) ∙ (c .before .before .before .before .before .before .before .before .before .before .before .before .before .before .before .before .before .before .before .before .before .before .before .before .before .before .before .before .before .before .before .before .before .before .expr .kept .1 .1 .1 .1 .1 .1 .1 .0)
+case-of-same-length-15 t c = (c .before .before .before .before .before .before .before .before .before .before .branches .kept .1 .1 .1 .1 .1 .1 .0) ∙ (c .before .before .before .before .before .before .before .before .before .before .before .before .before .before .before .before .before .before .before .before .before .before .before .before .before .before .before .before .before .before .before .before .before .before .before .expr .kept .1 .1 .1 .1 .1 .1 .0)
 
 case-of-returns-5 : (t : ℕ) → case-of-lts.Need-returns-5 (
   expr-below t,
@@ -4528,6 +4345,8 @@ case-of-returns-5 : (t : ℕ) → case-of-lts.Need-returns-5 (
   frame-line-reads.Learnt,
   type-at-reads.Asked,
   type-at-reads.Learnt,
+  subject-reads.Asked,
+  subject-reads.Learnt,
   moved-reads.Asked,
   moved-reads.Learnt,
   branches-below t,
@@ -4535,7 +4354,7 @@ case-of-returns-5 : (t : ℕ) → case-of-lts.Need-returns-5 (
   cased-reads.Asked,
   cased-reads.Learnt,
 ) (case-of-at t) case-of.Post
-case-of-returns-5 t c = case-done (c .before .before .before .before .before .before .before .before .before .before .before .before .before .before .before .before .before .before .before .before .before .before .before .before .before .before .before .before .before .before .before .before .before .before .expr .ensures) (c .before .before .before .before .before .before .before .before .before .before .before .before .before .before .before .before .before .before .before .before .before .before .before .before .before .before .x .given .1) (c .before .before .before .before .before .before .before .before .before .before .before .before .before .before .before .before .before .before .before .before .before .before .before .kind .given .1) (c .before .before .before .before .before .before .before .before .before .before .before .before .before .before .before .before .before .before .before .before .frame-line .ensures) (c .before .before .before .before .before .before .before .before .before .before .before .before .before .before .before .before .before .before .type-at .ensures) (c .before .before .before .before .before .before .before .before .before .before .before .before .before .before .before .before .y .given .1) (c .before .before .before .before .before .before .before .before .before .before .before .before .before .before .moved .ensures) (c .before .before .before .before .before .before .before .before .before .before .branches .ensures) (c .before .before .z .given .1) (c .cased .ensures .all) (c .cased .ensures .is)
+case-of-returns-5 t c = case-done (c .before .before .before .before .before .before .before .before .before .before .before .before .before .before .before .before .before .before .before .before .before .before .before .before .before .before .before .before .before .before .before .before .before .before .before .expr .ensures) (c .before .before .before .before .before .before .before .before .before .before .before .before .before .before .before .before .before .before .before .before .before .before .before .before .before .before .before .x .given .1) (c .before .before .before .before .before .before .before .before .before .before .before .before .before .before .before .before .before .before .before .before .before .before .before .before .kind .given .1) (c .before .before .before .before .before .before .before .before .before .before .before .before .before .before .before .before .before .before .before .before .before .frame-line .ensures) (c .before .before .before .before .before .before .before .before .before .before .before .before .before .before .before .before .before .before .before .type-at .ensures) (c .before .before .before .before .before .before .before .before .before .before .before .before .before .before .before .before .before .y .given .1) (c .before .before .before .before .before .before .before .before .before .before .before .before .before .before .moved .ensures) (c .before .before .before .before .before .before .before .before .before .before .before .before .before .before .before .subject .ensures) (c .before .before .before .before .before .before .before .before .before .before .branches .ensures) (c .before .before .z .given .1) (c .cased .ensures .all) (c .cased .ensures .is)
 
 choice-expr-requires : (t : ℕ) → choice-lts.Need-expr-requires (
   expr-below t,
@@ -4547,7 +4366,7 @@ choice-expr-requires : (t : ℕ) → choice-lts.Need-expr-requires (
   chosen-reads.Asked,
   chosen-reads.Learnt,
 ) (choice-at t) choice.Post
-choice-expr-requires t c κs = (load-same _ 900 (c .before .before .before .before .before .before .before .before .before .before .before .pre .0) 0 (omega arith), room-same (c .before .before .before .before .before .before .before .before .before .before .before .pre .1) (omega arith))
+choice-expr-requires t c κs = (load-same _ 900 (c .before .before .before .before .before .before .before .before .before .before .pre .0) 0 (omega arith), room-same (c .before .before .before .before .before .before .before .before .before .before .pre .1) (omega arith))
 
 choice-enum-known-x : (t : ℕ) → choice-lts.Need-enum-known-x (
   expr-below t,
@@ -4583,7 +4402,7 @@ choice-same-length : (t : ℕ) → choice-lts.Need-same-length (
   chosen-reads.Asked,
   chosen-reads.Learnt,
 ) (choice-at t) choice.Post
-choice-same-length t c = (c .before .before .before .before .before .before .before .before .expr .kept .1 .1 .1 .1 .1 .0)
+choice-same-length t c = (c .before .before .before .before .before .before .before .before .expr .kept .1 .1 .1 .1 .0)
 
 choice-same-length-2 : (t : ℕ) → choice-lts.Need-same-length-2 (
   expr-below t,
@@ -4595,7 +4414,7 @@ choice-same-length-2 : (t : ℕ) → choice-lts.Need-same-length-2 (
   chosen-reads.Asked,
   chosen-reads.Learnt,
 ) (choice-at t) choice.Post
-choice-same-length-2 t c = (c .before .before .before .before .before .before .before .before .expr .kept .1 .1 .1 .1 .1 .1 .0)
+choice-same-length-2 t c = (c .before .before .before .before .before .before .before .before .expr .kept .1 .1 .1 .1 .1 .0)
 
 choice-same-length-3 : (t : ℕ) → choice-lts.Need-same-length-3 (
   expr-below t,
@@ -4607,7 +4426,7 @@ choice-same-length-3 : (t : ℕ) → choice-lts.Need-same-length-3 (
   chosen-reads.Asked,
   chosen-reads.Learnt,
 ) (choice-at t) choice.Post
-choice-same-length-3 t c = (c .before .before .before .before .before .before .before .before .expr .kept .1 .1 .1 .1 .1 .1 .1 .0)
+choice-same-length-3 t c = (c .before .before .before .before .before .before .before .before .expr .kept .1 .1 .1 .1 .1 .1 .0)
 
 choice-returns : (t : ℕ) → choice-lts.Need-returns (
   expr-below t,
@@ -4643,7 +4462,7 @@ choice-expr-requires-2 : (t : ℕ) → choice-lts.Need-expr-requires-2 (
   chosen-reads.Asked,
   chosen-reads.Learnt,
 ) (choice-at t) choice.Post
-choice-expr-requires-2 t c κs = (load-moved _ 900 (c .before .before .before .before .before .before .before .before .before .before .before .before .before .before .before .before .before .before .before .before .before .before .before .before .before .pre .0) _ 0 (c .behind .ensures) (grows-to (c .before .before .before .before .before .before .before .before .before .before .before .before .before .expr .ensures .grows) (c .before .before .before .before .before .x .given .1)) (omega arith), room-behind (c .before .before .before .before .before .before .before .before .before .before .before .before .before .before .before .before .before .before .before .before .before .before .before .before .before .pre .1) (c .behind .ensures) ((c .before .before .before .before .before .before .before .before .before .before .before .before .before .expr .kept .1 .1 .1 .1 .1 .1 .0)) ((c .before .before .before .before .before .before .before .before .before .before .before .before .before .expr .kept .1 .1 .1 .1 .1 .1 .1 .0)))
+choice-expr-requires-2 t c κs = (load-moved _ 900 (c .before .before .before .before .before .before .before .before .before .before .before .before .before .before .before .before .before .before .before .before .before .before .before .before .pre .0) _ 0 (c .before .before .before .behind .ensures) (grows-to (c .before .before .before .before .before .before .before .before .before .before .before .before .before .expr .ensures .grows) (c .before .before .before .before .before .x .given .1)) (omega arith), room-behind (c .before .before .before .before .before .before .before .before .before .before .before .before .before .before .before .before .before .before .before .before .before .before .before .before .pre .1) (c .before .before .before .behind .ensures) ((c .before .before .before .before .before .before .before .before .before .before .before .before .before .expr .kept .1 .1 .1 .1 .1 .0)) ((c .before .before .before .before .before .before .before .before .before .before .before .before .before .expr .kept .1 .1 .1 .1 .1 .1 .0)))
 
 choice-enum-known-y : (t : ℕ) → choice-lts.Need-enum-known-y (
   expr-below t,
@@ -4679,7 +4498,7 @@ choice-same-length-4 : (t : ℕ) → choice-lts.Need-same-length-4 (
   chosen-reads.Asked,
   chosen-reads.Learnt,
 ) (choice-at t) choice.Post
-choice-same-length-4 t c = (c .before .before .before .before .before .before .before .before .expr2 .kept .1 .1 .1 .1 .1 .0) ∙ (c .before .before .before .before .before .before .before .before .before .before .before .before .before .before .before .before .before .before .before .before .before .before .expr .kept .1 .1 .1 .1 .1 .0)
+choice-same-length-4 t c = (c .before .before .before .before .before .before .before .before .expr2 .kept .1 .1 .1 .1 .0) ∙ (c .before .before .before .before .before .before .before .before .before .before .before .before .before .before .before .before .before .before .before .before .before .before .expr .kept .1 .1 .1 .1 .0)
 
 choice-same-length-5 : (t : ℕ) → choice-lts.Need-same-length-5 (
   expr-below t,
@@ -4691,7 +4510,7 @@ choice-same-length-5 : (t : ℕ) → choice-lts.Need-same-length-5 (
   chosen-reads.Asked,
   chosen-reads.Learnt,
 ) (choice-at t) choice.Post
-choice-same-length-5 t c = (c .before .before .before .before .before .before .before .before .expr2 .kept .1 .1 .1 .1 .1 .1 .0) ∙ (c .before .before .before .before .before .before .before .before .before .before .before .before .before .before .before .before .before .before .before .before .before .before .expr .kept .1 .1 .1 .1 .1 .1 .0)
+choice-same-length-5 t c = (c .before .before .before .before .before .before .before .before .expr2 .kept .1 .1 .1 .1 .1 .0) ∙ (c .before .before .before .before .before .before .before .before .before .before .before .before .before .before .before .before .before .before .before .before .before .before .expr .kept .1 .1 .1 .1 .1 .0)
 
 choice-same-length-6 : (t : ℕ) → choice-lts.Need-same-length-6 (
   expr-below t,
@@ -4703,7 +4522,7 @@ choice-same-length-6 : (t : ℕ) → choice-lts.Need-same-length-6 (
   chosen-reads.Asked,
   chosen-reads.Learnt,
 ) (choice-at t) choice.Post
-choice-same-length-6 t c = (c .before .before .before .before .before .before .before .before .expr2 .kept .1 .1 .1 .1 .1 .1 .1 .0) ∙ (c .before .before .before .before .before .before .before .before .before .before .before .before .before .before .before .before .before .before .before .before .before .before .expr .kept .1 .1 .1 .1 .1 .1 .1 .0)
+choice-same-length-6 t c = (c .before .before .before .before .before .before .before .before .expr2 .kept .1 .1 .1 .1 .1 .1 .0) ∙ (c .before .before .before .before .before .before .before .before .before .before .before .before .before .before .before .before .before .before .before .before .before .before .expr .kept .1 .1 .1 .1 .1 .1 .0)
 
 choice-returns-2 : (t : ℕ) → choice-lts.Need-returns-2 (
   expr-below t,
@@ -4715,7 +4534,7 @@ choice-returns-2 : (t : ℕ) → choice-lts.Need-returns-2 (
   chosen-reads.Asked,
   chosen-reads.Learnt,
 ) (choice-at t) choice.Post
-choice-returns-2 t c = if-second (c .before .before .before .before .before .before .before .before .before .before .before .before .before .before .before .before .before .before .before .before .before .before .expr .ensures) (c .before .before .before .before .before .before .before .before .before .before .before .before .before .before .x .given .1) (c .before .before .before .before .before .before .before .before .before .behind .ensures) (c .before .before .before .before .before .before .before .before .expr2 .ensures) (c .enum-told2 .given .1)
+choice-returns-2 t c = if-second (c .before .before .before .before .before .before .before .before .before .before .before .before .before .before .before .before .before .before .before .before .before .before .expr .ensures) (c .before .before .before .before .before .before .before .before .before .before .before .before .before .before .x .given .1) (c .before .before .before .before .before .before .before .before .before .before .before .before .behind .ensures) (c .before .before .before .before .before .before .before .before .expr2 .ensures) (c .enum-told2 .given .1)
 
 choice-behind-requires-2 : (t : ℕ) → choice-lts.Need-behind-requires-2 (
   expr-below t,
@@ -4739,7 +4558,7 @@ choice-expr-requires-3 : (t : ℕ) → choice-lts.Need-expr-requires-3 (
   chosen-reads.Asked,
   chosen-reads.Learnt,
 ) (choice-at t) choice.Post
-choice-expr-requires-3 t c κs = (load-moved _ 900 (c .before .before .before .before .before .before .before .before .before .before .before .before .before .before .before .before .before .before .before .before .before .before .before .before .before .before .before .before .before .before .before .before .before .before .before .before .before .before .before .pre .0) _ 0 (c .behind2 .ensures) (grows-behind (c .before .before .before .before .before .before .before .before .before .before .before .before .before .before .before .before .before .before .before .before .before .before .before .before .before .before .before .before .before .before .before .before .before .before .before .before .before .before .before .args .p) (grows-to (c .before .before .before .before .before .before .before .before .before .before .before .before .before .before .before .before .before .before .before .before .before .before .before .before .before .before .before .expr .ensures .grows) (c .before .before .before .before .before .before .before .before .before .before .before .before .before .before .before .before .before .before .before .x .given .1)) (c .before .before .before .before .before .before .before .before .before .before .before .before .before .before .behind .ensures) (c .before .before .before .before .before .before .before .before .before .before .before .before .before .expr2 .ensures .grows) (c .before .before .before .before .before .y .given .1)) (omega arith), room-behind (c .before .before .before .before .before .before .before .before .before .before .before .before .before .before .before .before .before .before .before .before .before .before .before .before .before .before .before .before .before .before .before .before .before .before .before .before .before .before .before .pre .1) (c .behind2 .ensures) ((c .before .before .before .before .before .before .before .before .before .before .before .before .before .expr2 .kept .1 .1 .1 .1 .1 .1 .0) ∙ (c .before .before .before .before .before .before .before .before .before .before .before .before .before .before .before .before .before .before .before .before .before .before .before .before .before .before .before .expr .kept .1 .1 .1 .1 .1 .1 .0)) ((c .before .before .before .before .before .before .before .before .before .before .before .before .before .expr2 .kept .1 .1 .1 .1 .1 .1 .1 .0) ∙ (c .before .before .before .before .before .before .before .before .before .before .before .before .before .before .before .before .before .before .before .before .before .before .before .before .before .before .before .expr .kept .1 .1 .1 .1 .1 .1 .1 .0)))
+choice-expr-requires-3 t c κs = (load-moved _ 900 (c .before .before .before .before .before .before .before .before .before .before .before .before .before .before .before .before .before .before .before .before .before .before .before .before .before .before .before .before .before .before .before .before .before .before .before .before .before .before .pre .0) _ 0 (c .before .before .before .behind2 .ensures) (grows-behind (c .before .before .before .before .before .before .before .before .before .before .before .before .before .before .before .before .before .before .before .before .before .before .before .before .before .before .before .before .before .before .before .before .before .before .before .before .before .before .args .p) (grows-to (c .before .before .before .before .before .before .before .before .before .before .before .before .before .before .before .before .before .before .before .before .before .before .before .before .before .before .before .expr .ensures .grows) (c .before .before .before .before .before .before .before .before .before .before .before .before .before .before .before .before .before .before .before .x .given .1)) (c .before .before .before .before .before .before .before .before .before .before .before .before .before .before .before .before .before .behind .ensures) (c .before .before .before .before .before .before .before .before .before .before .before .before .before .expr2 .ensures .grows) (c .before .before .before .before .before .y .given .1)) (omega arith), room-behind (c .before .before .before .before .before .before .before .before .before .before .before .before .before .before .before .before .before .before .before .before .before .before .before .before .before .before .before .before .before .before .before .before .before .before .before .before .before .before .pre .1) (c .before .before .before .behind2 .ensures) ((c .before .before .before .before .before .before .before .before .before .before .before .before .before .expr2 .kept .1 .1 .1 .1 .1 .0) ∙ (c .before .before .before .before .before .before .before .before .before .before .before .before .before .before .before .before .before .before .before .before .before .before .before .before .before .before .before .expr .kept .1 .1 .1 .1 .1 .0)) ((c .before .before .before .before .before .before .before .before .before .before .before .before .before .expr2 .kept .1 .1 .1 .1 .1 .1 .0) ∙ (c .before .before .before .before .before .before .before .before .before .before .before .before .before .before .before .before .before .before .before .before .before .before .before .before .before .before .before .expr .kept .1 .1 .1 .1 .1 .1 .0)))
 
 choice-enum-known-z : (t : ℕ) → choice-lts.Need-enum-known-z (
   expr-below t,
@@ -4775,7 +4594,7 @@ choice-same-length-7 : (t : ℕ) → choice-lts.Need-same-length-7 (
   chosen-reads.Asked,
   chosen-reads.Learnt,
 ) (choice-at t) choice.Post
-choice-same-length-7 t c = (c .before .before .before .before .before .before .before .before .expr3 .kept .1 .1 .1 .1 .1 .0) ∙ (c .before .before .before .before .before .before .before .before .before .before .before .before .before .before .before .before .before .before .before .before .before .before .expr2 .kept .1 .1 .1 .1 .1 .0) ∙ (c .before .before .before .before .before .before .before .before .before .before .before .before .before .before .before .before .before .before .before .before .before .before .before .before .before .before .before .before .before .before .before .before .before .before .before .before .expr .kept .1 .1 .1 .1 .1 .0)
+choice-same-length-7 t c = (c .before .before .before .before .before .before .before .before .expr3 .kept .1 .1 .1 .1 .0) ∙ (c .before .before .before .before .before .before .before .before .before .before .before .before .before .before .before .before .before .before .before .before .before .before .expr2 .kept .1 .1 .1 .1 .0) ∙ (c .before .before .before .before .before .before .before .before .before .before .before .before .before .before .before .before .before .before .before .before .before .before .before .before .before .before .before .before .before .before .before .before .before .before .before .before .expr .kept .1 .1 .1 .1 .0)
 
 choice-same-length-8 : (t : ℕ) → choice-lts.Need-same-length-8 (
   expr-below t,
@@ -4787,7 +4606,7 @@ choice-same-length-8 : (t : ℕ) → choice-lts.Need-same-length-8 (
   chosen-reads.Asked,
   chosen-reads.Learnt,
 ) (choice-at t) choice.Post
-choice-same-length-8 t c = (c .before .before .before .before .before .before .before .before .expr3 .kept .1 .1 .1 .1 .1 .1 .0) ∙ (c .before .before .before .before .before .before .before .before .before .before .before .before .before .before .before .before .before .before .before .before .before .before .expr2 .kept .1 .1 .1 .1 .1 .1 .0) ∙ (c .before .before .before .before .before .before .before .before .before .before .before .before .before .before .before .before .before .before .before .before .before .before .before .before .before .before .before .before .before .before .before .before .before .before .before .before .expr .kept .1 .1 .1 .1 .1 .1 .0)
+choice-same-length-8 t c = (c .before .before .before .before .before .before .before .before .expr3 .kept .1 .1 .1 .1 .1 .0) ∙ (c .before .before .before .before .before .before .before .before .before .before .before .before .before .before .before .before .before .before .before .before .before .before .expr2 .kept .1 .1 .1 .1 .1 .0) ∙ (c .before .before .before .before .before .before .before .before .before .before .before .before .before .before .before .before .before .before .before .before .before .before .before .before .before .before .before .before .before .before .before .before .before .before .before .before .expr .kept .1 .1 .1 .1 .1 .0)
 
 choice-same-length-9 : (t : ℕ) → choice-lts.Need-same-length-9 (
   expr-below t,
@@ -4799,7 +4618,7 @@ choice-same-length-9 : (t : ℕ) → choice-lts.Need-same-length-9 (
   chosen-reads.Asked,
   chosen-reads.Learnt,
 ) (choice-at t) choice.Post
-choice-same-length-9 t c = (c .before .before .before .before .before .before .before .before .expr3 .kept .1 .1 .1 .1 .1 .1 .1 .0) ∙ (c .before .before .before .before .before .before .before .before .before .before .before .before .before .before .before .before .before .before .before .before .before .before .expr2 .kept .1 .1 .1 .1 .1 .1 .1 .0) ∙ (c .before .before .before .before .before .before .before .before .before .before .before .before .before .before .before .before .before .before .before .before .before .before .before .before .before .before .before .before .before .before .before .before .before .before .before .before .expr .kept .1 .1 .1 .1 .1 .1 .1 .0)
+choice-same-length-9 t c = (c .before .before .before .before .before .before .before .before .expr3 .kept .1 .1 .1 .1 .1 .1 .0) ∙ (c .before .before .before .before .before .before .before .before .before .before .before .before .before .before .before .before .before .before .before .before .before .before .expr2 .kept .1 .1 .1 .1 .1 .1 .0) ∙ (c .before .before .before .before .before .before .before .before .before .before .before .before .before .before .before .before .before .before .before .before .before .before .before .before .before .before .before .before .before .before .before .before .before .before .before .before .expr .kept .1 .1 .1 .1 .1 .1 .0)
 
 choice-returns-3 : (t : ℕ) → choice-lts.Need-returns-3 (
   expr-below t,
@@ -4811,7 +4630,7 @@ choice-returns-3 : (t : ℕ) → choice-lts.Need-returns-3 (
   chosen-reads.Asked,
   chosen-reads.Learnt,
 ) (choice-at t) choice.Post
-choice-returns-3 t c = if-third (c .before .before .before .before .before .before .before .before .before .before .before .before .before .before .before .before .before .before .before .before .before .before .before .before .before .before .before .before .before .before .before .before .before .before .before .before .expr .ensures) (c .before .before .before .before .before .before .before .before .before .before .before .before .before .before .before .before .before .before .before .before .before .before .before .before .before .before .before .before .x .given .1) (c .before .before .before .before .before .before .before .before .before .before .before .before .before .before .before .before .before .before .before .before .before .before .before .behind .ensures) (c .before .before .before .before .before .before .before .before .before .before .before .before .before .before .before .before .before .before .before .before .before .before .expr2 .ensures) (c .before .before .before .before .before .before .before .before .before .before .before .before .before .before .y .given .1) (c .before .before .before .before .before .before .before .before .before .behind2 .ensures) (c .before .before .before .before .before .before .before .before .expr3 .ensures) (c .enum-told3 .given .1)
+choice-returns-3 t c = if-third (c .before .before .before .before .before .before .before .before .before .before .before .before .before .before .before .before .before .before .before .before .before .before .before .before .before .before .before .before .before .before .before .before .before .before .before .before .expr .ensures) (c .before .before .before .before .before .before .before .before .before .before .before .before .before .before .before .before .before .before .before .before .before .before .before .before .before .before .before .before .x .given .1) (c .before .before .before .before .before .before .before .before .before .before .before .before .before .before .before .before .before .before .before .before .before .before .before .before .before .before .behind .ensures) (c .before .before .before .before .before .before .before .before .before .before .before .before .before .before .before .before .before .before .before .before .before .before .expr2 .ensures) (c .before .before .before .before .before .before .before .before .before .before .before .before .before .before .y .given .1) (c .before .before .before .before .before .before .before .before .before .before .before .before .behind2 .ensures) (c .before .before .before .before .before .before .before .before .expr3 .ensures) (c .enum-told3 .given .1)
 
 choice-agree-requires : (t : ℕ) → choice-lts.Need-agree-requires (
   expr-below t,
@@ -4835,7 +4654,7 @@ choice-add-t37 : (t : ℕ) → choice-lts.Need-add-t37 (
   chosen-reads.Asked,
   chosen-reads.Learnt,
 ) (choice-at t) choice.Post
-choice-add-t37 t c = omega (arith, (c .before .before .before .before .before .before .before .before .before .before .before .before .before .before .before .before .before .before .before .before .before .before .before .before .before .before .before .before .before .before .before .before .before .before .before .before .before .before .before .before .before .before .before .before .before .before .before .before .before .before .before .before .pre .1 .line))
+choice-add-t37 t c = omega (arith, (c .before .before .before .before .before .before .before .before .before .before .before .before .before .before .before .before .before .before .before .before .before .before .before .before .before .before .before .before .before .before .before .before .before .before .before .before .before .before .before .before .before .before .before .before .before .before .before .before .before .before .before .pre .1 .line))
 
 choice-same-length-10 : (t : ℕ) → choice-lts.Need-same-length-10 (
   expr-below t,
@@ -4847,7 +4666,7 @@ choice-same-length-10 : (t : ℕ) → choice-lts.Need-same-length-10 (
   chosen-reads.Asked,
   chosen-reads.Learnt,
 ) (choice-at t) choice.Post
-choice-same-length-10 t c = (c .before .before .before .before .before .before .before .before .before .before .before .before .expr3 .kept .1 .1 .1 .1 .1 .0) ∙ (c .before .before .before .before .before .before .before .before .before .before .before .before .before .before .before .before .before .before .before .before .before .before .before .before .before .before .expr2 .kept .1 .1 .1 .1 .1 .0) ∙ (c .before .before .before .before .before .before .before .before .before .before .before .before .before .before .before .before .before .before .before .before .before .before .before .before .before .before .before .before .before .before .before .before .before .before .before .before .before .before .before .before .expr .kept .1 .1 .1 .1 .1 .0)
+choice-same-length-10 t c = (c .before .before .before .before .before .before .before .before .before .before .before .before .expr3 .kept .1 .1 .1 .1 .0) ∙ (c .before .before .before .before .before .before .before .before .before .before .before .before .before .before .before .before .before .before .before .before .before .before .before .before .before .before .expr2 .kept .1 .1 .1 .1 .0) ∙ (c .before .before .before .before .before .before .before .before .before .before .before .before .before .before .before .before .before .before .before .before .before .before .before .before .before .before .before .before .before .before .before .before .before .before .before .before .before .before .before .before .expr .kept .1 .1 .1 .1 .0)
 
 choice-same-length-11 : (t : ℕ) → choice-lts.Need-same-length-11 (
   expr-below t,
@@ -4859,7 +4678,7 @@ choice-same-length-11 : (t : ℕ) → choice-lts.Need-same-length-11 (
   chosen-reads.Asked,
   chosen-reads.Learnt,
 ) (choice-at t) choice.Post
-choice-same-length-11 t c = (c .before .before .before .before .before .before .before .before .before .before .before .before .expr3 .kept .1 .1 .1 .1 .1 .1 .0) ∙ (c .before .before .before .before .before .before .before .before .before .before .before .before .before .before .before .before .before .before .before .before .before .before .before .before .before .before .expr2 .kept .1 .1 .1 .1 .1 .1 .0) ∙ (c .before .before .before .before .before .before .before .before .before .before .before .before .before .before .before .before .before .before .before .before .before .before .before .before .before .before .before .before .before .before .before .before .before .before .before .before .before .before .before .before .expr .kept .1 .1 .1 .1 .1 .1 .0)
+choice-same-length-11 t c = (c .before .before .before .before .before .before .before .before .before .before .before .before .expr3 .kept .1 .1 .1 .1 .1 .0) ∙ (c .before .before .before .before .before .before .before .before .before .before .before .before .before .before .before .before .before .before .before .before .before .before .before .before .before .before .expr2 .kept .1 .1 .1 .1 .1 .0) ∙ (c .before .before .before .before .before .before .before .before .before .before .before .before .before .before .before .before .before .before .before .before .before .before .before .before .before .before .before .before .before .before .before .before .before .before .before .before .before .before .before .before .expr .kept .1 .1 .1 .1 .1 .0)
 
 choice-same-length-12 : (t : ℕ) → choice-lts.Need-same-length-12 (
   expr-below t,
@@ -4871,7 +4690,7 @@ choice-same-length-12 : (t : ℕ) → choice-lts.Need-same-length-12 (
   chosen-reads.Asked,
   chosen-reads.Learnt,
 ) (choice-at t) choice.Post
-choice-same-length-12 t c = (c .before .before .before .before .before .before .before .before .before .before .before .before .expr3 .kept .1 .1 .1 .1 .1 .1 .1 .0) ∙ (c .before .before .before .before .before .before .before .before .before .before .before .before .before .before .before .before .before .before .before .before .before .before .before .before .before .before .expr2 .kept .1 .1 .1 .1 .1 .1 .1 .0) ∙ (c .before .before .before .before .before .before .before .before .before .before .before .before .before .before .before .before .before .before .before .before .before .before .before .before .before .before .before .before .before .before .before .before .before .before .before .before .before .before .before .before .expr .kept .1 .1 .1 .1 .1 .1 .1 .0)
+choice-same-length-12 t c = (c .before .before .before .before .before .before .before .before .before .before .before .before .expr3 .kept .1 .1 .1 .1 .1 .1 .0) ∙ (c .before .before .before .before .before .before .before .before .before .before .before .before .before .before .before .before .before .before .before .before .before .before .before .before .before .before .expr2 .kept .1 .1 .1 .1 .1 .1 .0) ∙ (c .before .before .before .before .before .before .before .before .before .before .before .before .before .before .before .before .before .before .before .before .before .before .before .before .before .before .before .before .before .before .before .before .before .before .before .before .before .before .before .before .expr .kept .1 .1 .1 .1 .1 .1 .0)
 
 choice-returns-4 : (t : ℕ) → choice-lts.Need-returns-4 (
   expr-below t,
@@ -4883,7 +4702,7 @@ choice-returns-4 : (t : ℕ) → choice-lts.Need-returns-4 (
   chosen-reads.Asked,
   chosen-reads.Learnt,
 ) (choice-at t) choice.Post
-choice-returns-4 t c = if-differ (c .before .before .before .before .before .before .before .before .before .before .before .before .before .before .before .before .before .before .before .before .before .before .before .before .before .before .before .before .before .before .before .before .before .before .before .before .before .before .before .before .expr .ensures) (c .before .before .before .before .before .before .before .before .before .before .before .before .before .before .before .before .before .before .before .before .before .before .before .before .before .before .before .before .before .before .before .before .x .given .1) (c .before .before .before .before .before .before .before .before .before .before .before .before .before .before .before .before .before .before .before .before .before .before .before .before .before .before .before .behind .ensures) (c .before .before .before .before .before .before .before .before .before .before .before .before .before .before .before .before .before .before .before .before .before .before .before .before .before .before .expr2 .ensures) (c .before .before .before .before .before .before .before .before .before .before .before .before .before .before .before .before .before .before .y .given .1) (c .before .before .before .before .before .before .before .before .before .before .before .before .before .behind2 .ensures) (c .before .before .before .before .before .before .before .before .before .before .before .before .expr3 .ensures) (c .before .before .before .before .z .given .1) (c .before .before .agree .ensures) (negated _ (c .before .if1 .taken))
+choice-returns-4 t c = if-differ (c .before .before .before .before .before .before .before .before .before .before .before .before .before .before .before .before .before .before .before .before .before .before .before .before .before .before .before .before .before .before .before .before .before .before .before .before .before .before .before .before .expr .ensures) (c .before .before .before .before .before .before .before .before .before .before .before .before .before .before .before .before .before .before .before .before .before .before .before .before .before .before .before .before .before .before .before .before .x .given .1) (c .before .before .before .before .before .before .before .before .before .before .before .before .before .before .before .before .before .before .before .before .before .before .before .before .before .before .before .before .before .before .behind .ensures) (c .before .before .before .before .before .before .before .before .before .before .before .before .before .before .before .before .before .before .before .before .before .before .before .before .before .before .expr2 .ensures) (c .before .before .before .before .before .before .before .before .before .before .before .before .before .before .before .before .before .before .y .given .1) (c .before .before .before .before .before .before .before .before .before .before .before .before .before .before .before .before .behind2 .ensures) (c .before .before .before .before .before .before .before .before .before .before .before .before .expr3 .ensures) (c .before .before .before .before .z .given .1) (c .before .before .agree .ensures) (not-true _ (c .before .if1 .taken))
 
 choice-chosen-requires : (t : ℕ) → choice-lts.Need-chosen-requires (
   expr-below t,
@@ -4907,7 +4726,7 @@ choice-same-length-13 : (t : ℕ) → choice-lts.Need-same-length-13 (
   chosen-reads.Asked,
   chosen-reads.Learnt,
 ) (choice-at t) choice.Post
-choice-same-length-13 t c = (c .before .before .before .before .before .before .before .before .before .before .before .before .expr3 .kept .1 .1 .1 .1 .1 .0) ∙ (c .before .before .before .before .before .before .before .before .before .before .before .before .before .before .before .before .before .before .before .before .before .before .before .before .before .before .expr2 .kept .1 .1 .1 .1 .1 .0) ∙ (c .before .before .before .before .before .before .before .before .before .before .before .before .before .before .before .before .before .before .before .before .before .before .before .before .before .before .before .before .before .before .before .before .before .before .before .before .before .before .before .before .expr .kept .1 .1 .1 .1 .1 .0)
+choice-same-length-13 t c = (c .before .before .before .before .before .before .before .before .before .before .before .before .expr3 .kept .1 .1 .1 .1 .0) ∙ (c .before .before .before .before .before .before .before .before .before .before .before .before .before .before .before .before .before .before .before .before .before .before .before .before .before .before .expr2 .kept .1 .1 .1 .1 .0) ∙ (c .before .before .before .before .before .before .before .before .before .before .before .before .before .before .before .before .before .before .before .before .before .before .before .before .before .before .before .before .before .before .before .before .before .before .before .before .before .before .before .before .expr .kept .1 .1 .1 .1 .0)
 
 choice-same-length-14 : (t : ℕ) → choice-lts.Need-same-length-14 (
   expr-below t,
@@ -4919,7 +4738,7 @@ choice-same-length-14 : (t : ℕ) → choice-lts.Need-same-length-14 (
   chosen-reads.Asked,
   chosen-reads.Learnt,
 ) (choice-at t) choice.Post
-choice-same-length-14 t c = (c .before .before .before .before .before .before .before .before .before .before .before .before .expr3 .kept .1 .1 .1 .1 .1 .1 .0) ∙ (c .before .before .before .before .before .before .before .before .before .before .before .before .before .before .before .before .before .before .before .before .before .before .before .before .before .before .expr2 .kept .1 .1 .1 .1 .1 .1 .0) ∙ (c .before .before .before .before .before .before .before .before .before .before .before .before .before .before .before .before .before .before .before .before .before .before .before .before .before .before .before .before .before .before .before .before .before .before .before .before .before .before .before .before .expr .kept .1 .1 .1 .1 .1 .1 .0)
+choice-same-length-14 t c = (c .before .before .before .before .before .before .before .before .before .before .before .before .expr3 .kept .1 .1 .1 .1 .1 .0) ∙ (c .before .before .before .before .before .before .before .before .before .before .before .before .before .before .before .before .before .before .before .before .before .before .before .before .before .before .expr2 .kept .1 .1 .1 .1 .1 .0) ∙ (c .before .before .before .before .before .before .before .before .before .before .before .before .before .before .before .before .before .before .before .before .before .before .before .before .before .before .before .before .before .before .before .before .before .before .before .before .before .before .before .before .expr .kept .1 .1 .1 .1 .1 .0)
 
 choice-same-length-15 : (t : ℕ) → choice-lts.Need-same-length-15 (
   expr-below t,
@@ -4931,7 +4750,7 @@ choice-same-length-15 : (t : ℕ) → choice-lts.Need-same-length-15 (
   chosen-reads.Asked,
   chosen-reads.Learnt,
 ) (choice-at t) choice.Post
-choice-same-length-15 t c = (c .before .before .before .before .before .before .before .before .before .before .before .before .expr3 .kept .1 .1 .1 .1 .1 .1 .1 .0) ∙ (c .before .before .before .before .before .before .before .before .before .before .before .before .before .before .before .before .before .before .before .before .before .before .before .before .before .before .expr2 .kept .1 .1 .1 .1 .1 .1 .1 .0) ∙ (c .before .before .before .before .before .before .before .before .before .before .before .before .before .before .before .before .before .before .before .before .before .before .before .before .before .before .before .before .before .before .before .before .before .before .before .before .before .before .before .before .expr .kept .1 .1 .1 .1 .1 .1 .1 .0)
+choice-same-length-15 t c = (c .before .before .before .before .before .before .before .before .before .before .before .before .expr3 .kept .1 .1 .1 .1 .1 .1 .0) ∙ (c .before .before .before .before .before .before .before .before .before .before .before .before .before .before .before .before .before .before .before .before .before .before .before .before .before .before .expr2 .kept .1 .1 .1 .1 .1 .1 .0) ∙ (c .before .before .before .before .before .before .before .before .before .before .before .before .before .before .before .before .before .before .before .before .before .before .before .before .before .before .before .before .before .before .before .before .before .before .before .before .before .before .before .before .expr .kept .1 .1 .1 .1 .1 .1 .0)
 
 choice-returns-5 : (t : ℕ) → choice-lts.Need-returns-5 (
   expr-below t,
@@ -4943,7 +4762,7 @@ choice-returns-5 : (t : ℕ) → choice-lts.Need-returns-5 (
   chosen-reads.Asked,
   chosen-reads.Learnt,
 ) (choice-at t) choice.Post
-choice-returns-5 t c = if-done (c .before .before .before .before .before .before .before .before .before .before .before .before .before .before .before .before .before .before .before .before .before .before .before .before .before .before .before .before .before .before .before .before .before .before .before .before .before .before .before .before .expr .ensures) (c .before .before .before .before .before .before .before .before .before .before .before .before .before .before .before .before .before .before .before .before .before .before .before .before .before .before .before .before .before .before .before .before .x .given .1) (c .before .before .before .before .before .before .before .before .before .before .before .before .before .before .before .before .before .before .before .before .before .before .before .before .before .before .before .behind .ensures) (c .before .before .before .before .before .before .before .before .before .before .before .before .before .before .before .before .before .before .before .before .before .before .before .before .before .before .expr2 .ensures) (c .before .before .before .before .before .before .before .before .before .before .before .before .before .before .before .before .before .before .y .given .1) (c .before .before .before .before .before .before .before .before .before .before .before .before .before .behind2 .ensures) (c .before .before .before .before .before .before .before .before .before .before .before .before .expr3 .ensures) (c .before .before .before .before .z .given .1) (c .before .before .agree .ensures) (affirmed _ (c .before .if1 .left)) (c .chosen .ensures .both) (c .chosen .ensures .all) (c .chosen .ensures .is)
+choice-returns-5 t c = if-done (c .before .before .before .before .before .before .before .before .before .before .before .before .before .before .before .before .before .before .before .before .before .before .before .before .before .before .before .before .before .before .before .before .before .before .before .before .before .before .before .before .expr .ensures) (c .before .before .before .before .before .before .before .before .before .before .before .before .before .before .before .before .before .before .before .before .before .before .before .before .before .before .before .before .before .before .before .before .x .given .1) (c .before .before .before .before .before .before .before .before .before .before .before .before .before .before .before .before .before .before .before .before .before .before .before .before .before .before .before .before .before .before .behind .ensures) (c .before .before .before .before .before .before .before .before .before .before .before .before .before .before .before .before .before .before .before .before .before .before .before .before .before .before .expr2 .ensures) (c .before .before .before .before .before .before .before .before .before .before .before .before .before .before .before .before .before .before .y .given .1) (c .before .before .before .before .before .before .before .before .before .before .before .before .before .before .before .before .behind2 .ensures) (c .before .before .before .before .before .before .before .before .before .before .before .before .expr3 .ensures) (c .before .before .before .before .z .given .1) (c .before .before .agree .ensures) (not-false _ (c .before .if1 .left)) (c .chosen .ensures .both) (c .chosen .ensures .all) (c .chosen .ensures .is)
 
 compound-enum-told : (t : ℕ) → compound-lts.Need-enum-told (
   binding-below t,
@@ -4983,7 +4802,7 @@ compound-binding-requires : (t : ℕ) → compound-lts.Need-binding-requires (
   fit-below t,
   fit.Post,
 ) (compound-at t) compound.Post
-compound-binding-requires t c κs = (load-same _ 1000 (c .before .before .before .before .before .before .before .before .before .before .before .before .before .pre .0) 900 (omega arith), (c .before .before .before .before .before .before .before .before .before .before .before .before .before .pre .1 .0))
+compound-binding-requires t c κs = (load-same _ 1000 (c .before .before .before .before .before .before .before .before .before .before .before .before .pre .0) 900 (omega arith), (c .before .before .before .before .before .before .before .before .before .before .before .before .pre .1 .0))
 
 compound-enum-told-2 : (t : ℕ) → compound-lts.Need-enum-told-2 (
   binding-below t,
@@ -5023,7 +4842,7 @@ compound-choice-requires : (t : ℕ) → compound-lts.Need-choice-requires (
   fit-below t,
   fit.Post,
 ) (compound-at t) compound.Post
-compound-choice-requires t c κs = (load-same _ 1000 (c .before .before .before .before .before .before .before .before .before .before .before .before .before .pre .0) 900 (omega arith), (c .before .before .before .before .before .before .before .before .before .before .before .before .before .pre .1 .0))
+compound-choice-requires t c κs = (load-same _ 1000 (c .before .before .before .before .before .before .before .before .before .before .before .before .pre .0) 900 (omega arith), (c .before .before .before .before .before .before .before .before .before .before .before .before .pre .1 .0))
 
 compound-enum-known-form : (t : ℕ) → compound-lts.Need-enum-known-form (
   binding-below t,
@@ -5063,7 +4882,7 @@ compound-operation-requires : (t : ℕ) → compound-lts.Need-operation-requires
   fit-below t,
   fit.Post,
 ) (compound-at t) compound.Post
-compound-operation-requires t c κs = (load-same _ 1000 (c .before .before .before .before .before .before .before .before .before .before .before .before .before .before .pre .0) 900 (omega arith), (c .before .before .before .before .before .before .before .before .before .before .before .before .before .before .pre .1 .0))
+compound-operation-requires t c κs = (load-same _ 1000 (c .before .before .before .before .before .before .before .before .before .before .before .before .before .pre .0) 900 (omega arith), (c .before .before .before .before .before .before .before .before .before .before .before .before .before .pre .1 .0))
 
 compound-enum-known-form-2 : (t : ℕ) → compound-lts.Need-enum-known-form-2 (
   binding-below t,
@@ -5103,7 +4922,7 @@ compound-call-requires : (t : ℕ) → compound-lts.Need-call-requires (
   fit-below t,
   fit.Post,
 ) (compound-at t) compound.Post
-compound-call-requires t c κs = (load-same _ 1000 (c .before .before .before .before .before .before .before .before .before .before .before .before .before .before .pre .0) 900 (omega arith), ((c .before .before .before .before .before .before .before .before .before .before .before .before .before .before .pre .1 .0), subst Operands (c .before .before .before .before .form2 .given .1) (c .before .before .before .before .before .before .before .before .before .before .before .before .before .before .pre .1 .1)))
+compound-call-requires t c κs = (load-same _ 1000 (c .before .before .before .before .before .before .before .before .before .before .before .before .before .pre .0) 900 (omega arith), ((c .before .before .before .before .before .before .before .before .before .before .before .before .before .pre .1 .0), subst Operands (c .before .before .before .before .form2 .given .1) (c .before .before .before .before .before .before .before .before .before .before .before .before .before .pre .1 .1)))
 
 compound-enum-known-form-3 : (t : ℕ) → compound-lts.Need-enum-known-form-3 (
   binding-below t,
@@ -5143,7 +4962,7 @@ compound-construct-requires : (t : ℕ) → compound-lts.Need-construct-requires
   fit-below t,
   fit.Post,
 ) (compound-at t) compound.Post
-compound-construct-requires t c κs = (load-same _ 1000 (c .before .before .before .before .before .before .before .before .before .before .before .before .before .before .pre .0) 900 (omega arith), ((c .before .before .before .before .before .before .before .before .before .before .before .before .before .before .pre .1 .0), subst Operands (c .before .before .before .before .form3 .given .1) (c .before .before .before .before .before .before .before .before .before .before .before .before .before .before .pre .1 .1)))
+compound-construct-requires t c κs = (load-same _ 1000 (c .before .before .before .before .before .before .before .before .before .before .before .before .before .pre .0) 900 (omega arith), ((c .before .before .before .before .before .before .before .before .before .before .before .before .before .pre .1 .0), subst Operands (c .before .before .before .before .form3 .given .1) (c .before .before .before .before .before .before .before .before .before .before .before .before .before .pre .1 .1)))
 
 compound-enum-known-form-4 : (t : ℕ) → compound-lts.Need-enum-known-form-4 (
   binding-below t,
@@ -5183,7 +5002,7 @@ compound-case-of-requires : (t : ℕ) → compound-lts.Need-case-of-requires (
   fit-below t,
   fit.Post,
 ) (compound-at t) compound.Post
-compound-case-of-requires t c κs = (load-same _ 1000 (c .before .before .before .before .before .before .before .before .before .before .before .before .before .before .pre .0) 900 (omega arith), ((c .before .before .before .before .before .before .before .before .before .before .before .before .before .before .pre .1 .0), subst Operands (c .before .before .before .before .form4 .given .1) (c .before .before .before .before .before .before .before .before .before .before .before .before .before .before .pre .1 .1)))
+compound-case-of-requires t c κs = (load-same _ 1000 (c .before .before .before .before .before .before .before .before .before .before .before .before .before .pre .0) 900 (omega arith), ((c .before .before .before .before .before .before .before .before .before .before .before .before .before .pre .1 .0), subst Operands (c .before .before .before .before .form4 .given .1) (c .before .before .before .before .before .before .before .before .before .before .before .before .before .pre .1 .1)))
 
 compound-enum-told-3 : (t : ℕ) → compound-lts.Need-enum-told-3 (
   binding-below t,
@@ -5223,7 +5042,7 @@ compound-adjust-requires : (t : ℕ) → compound-lts.Need-adjust-requires (
   fit-below t,
   fit.Post,
 ) (compound-at t) compound.Post
-compound-adjust-requires t c κs = (load-same _ 1000 (c .before .before .before .before .before .before .before .before .before .before .before .before .before .pre .0) 900 (omega arith), (c .before .before .before .before .before .before .before .before .before .before .before .before .before .pre .1 .0))
+compound-adjust-requires t c κs = (load-same _ 1000 (c .before .before .before .before .before .before .before .before .before .before .before .before .pre .0) 900 (omega arith), (c .before .before .before .before .before .before .before .before .before .before .before .before .pre .1 .0))
 
 compound-enum-known-form-5 : (t : ℕ) → compound-lts.Need-enum-known-form-5 (
   binding-below t,
@@ -5263,9 +5082,9 @@ compound-fit-requires : (t : ℕ) → compound-lts.Need-fit-requires (
   fit-below t,
   fit.Post,
 ) (compound-at t) compound.Post
-compound-fit-requires t c κs = (load-same _ 1000 (c .before .before .before .before .before .before .before .before .before .before .before .before .before .before .pre .0) 900 (omega arith), ((c .before .before .before .before .before .before .before .before .before .before .before .before .before .before .pre .1 .0), subst Operands (c .before .before .before .before .form5 .given .1) (c .before .before .before .before .before .before .before .before .before .before .before .before .before .before .pre .1 .1)))
+compound-fit-requires t c κs = (load-same _ 1000 (c .before .before .before .before .before .before .before .before .before .before .before .before .before .pre .0) 900 (omega arith), ((c .before .before .before .before .before .before .before .before .before .before .before .before .before .pre .1 .0), subst Operands (c .before .before .before .before .form5 .given .1) (c .before .before .before .before .before .before .before .before .before .before .before .before .before .pre .1 .1)))
 
-compound-add-t66 : (t : ℕ) → compound-lts.Need-add-t66 (
+compound-add-t65 : (t : ℕ) → compound-lts.Need-add-t65 (
   binding-below t,
   binding.Post,
   choice-below t,
@@ -5283,7 +5102,7 @@ compound-add-t66 : (t : ℕ) → compound-lts.Need-add-t66 (
   fit-below t,
   fit.Post,
 ) (compound-at t) compound.Post
-compound-add-t66 t c = omega (arith, (c .before .before .before .before .before .before .before .before .before .before .pre .1 .0 .line))
+compound-add-t65 t c = omega (arith, (c .before .before .before .before .before .before .before .before .before .pre .1 .0 .line))
 
 compound-same-length : (t : ℕ) → compound-lts.Need-same-length (
   binding-below t,
@@ -5303,7 +5122,7 @@ compound-same-length : (t : ℕ) → compound-lts.Need-same-length (
   fit-below t,
   fit.Post,
 ) (compound-at t) compound.Post
-compound-same-length t c = (c .before .before .before .before .before .before .binding .kept .1 .1 .1 .1 .1 .0)
+compound-same-length t c = (c .before .before .before .before .before .before .binding .kept .1 .1 .1 .1 .0)
 
 compound-same-length-2 : (t : ℕ) → compound-lts.Need-same-length-2 (
   binding-below t,
@@ -5323,7 +5142,7 @@ compound-same-length-2 : (t : ℕ) → compound-lts.Need-same-length-2 (
   fit-below t,
   fit.Post,
 ) (compound-at t) compound.Post
-compound-same-length-2 t c = (c .before .before .before .before .before .before .binding .kept .1 .1 .1 .1 .1 .1 .0)
+compound-same-length-2 t c = (c .before .before .before .before .before .before .binding .kept .1 .1 .1 .1 .1 .0)
 
 compound-same-length-3 : (t : ℕ) → compound-lts.Need-same-length-3 (
   binding-below t,
@@ -5343,7 +5162,7 @@ compound-same-length-3 : (t : ℕ) → compound-lts.Need-same-length-3 (
   fit-below t,
   fit.Post,
 ) (compound-at t) compound.Post
-compound-same-length-3 t c = (c .before .before .before .before .before .before .binding .kept .1 .1 .1 .1 .1 .1 .1 .0)
+compound-same-length-3 t c = (c .before .before .before .before .before .before .binding .kept .1 .1 .1 .1 .1 .1 .0)
 
 compound-returns : (t : ℕ) → compound-lts.Need-returns (
   binding-below t,
@@ -5383,7 +5202,7 @@ compound-same-length-4 : (t : ℕ) → compound-lts.Need-same-length-4 (
   fit-below t,
   fit.Post,
 ) (compound-at t) compound.Post
-compound-same-length-4 t c = (c .before .before .before .before .before .before .choice .kept .1 .1 .1 .1 .1 .0)
+compound-same-length-4 t c = (c .before .before .before .before .before .before .choice .kept .1 .1 .1 .1 .0)
 
 compound-same-length-5 : (t : ℕ) → compound-lts.Need-same-length-5 (
   binding-below t,
@@ -5403,7 +5222,7 @@ compound-same-length-5 : (t : ℕ) → compound-lts.Need-same-length-5 (
   fit-below t,
   fit.Post,
 ) (compound-at t) compound.Post
-compound-same-length-5 t c = (c .before .before .before .before .before .before .choice .kept .1 .1 .1 .1 .1 .1 .0)
+compound-same-length-5 t c = (c .before .before .before .before .before .before .choice .kept .1 .1 .1 .1 .1 .0)
 
 compound-same-length-6 : (t : ℕ) → compound-lts.Need-same-length-6 (
   binding-below t,
@@ -5423,7 +5242,7 @@ compound-same-length-6 : (t : ℕ) → compound-lts.Need-same-length-6 (
   fit-below t,
   fit.Post,
 ) (compound-at t) compound.Post
-compound-same-length-6 t c = (c .before .before .before .before .before .before .choice .kept .1 .1 .1 .1 .1 .1 .1 .0)
+compound-same-length-6 t c = (c .before .before .before .before .before .before .choice .kept .1 .1 .1 .1 .1 .1 .0)
 
 compound-returns-2 : (t : ℕ) → compound-lts.Need-returns-2 (
   binding-below t,
@@ -5463,7 +5282,7 @@ compound-same-length-7 : (t : ℕ) → compound-lts.Need-same-length-7 (
   fit-below t,
   fit.Post,
 ) (compound-at t) compound.Post
-compound-same-length-7 t c = (c .before .before .before .before .before .before .operation .kept .1 .1 .1 .1 .1 .0)
+compound-same-length-7 t c = (c .before .before .before .before .before .before .operation .kept .1 .1 .1 .1 .0)
 
 compound-same-length-8 : (t : ℕ) → compound-lts.Need-same-length-8 (
   binding-below t,
@@ -5483,7 +5302,7 @@ compound-same-length-8 : (t : ℕ) → compound-lts.Need-same-length-8 (
   fit-below t,
   fit.Post,
 ) (compound-at t) compound.Post
-compound-same-length-8 t c = (c .before .before .before .before .before .before .operation .kept .1 .1 .1 .1 .1 .1 .0)
+compound-same-length-8 t c = (c .before .before .before .before .before .before .operation .kept .1 .1 .1 .1 .1 .0)
 
 compound-same-length-9 : (t : ℕ) → compound-lts.Need-same-length-9 (
   binding-below t,
@@ -5503,7 +5322,7 @@ compound-same-length-9 : (t : ℕ) → compound-lts.Need-same-length-9 (
   fit-below t,
   fit.Post,
 ) (compound-at t) compound.Post
-compound-same-length-9 t c = (c .before .before .before .before .before .before .operation .kept .1 .1 .1 .1 .1 .1 .1 .0)
+compound-same-length-9 t c = (c .before .before .before .before .before .before .operation .kept .1 .1 .1 .1 .1 .1 .0)
 
 compound-returns-3 : (t : ℕ) → compound-lts.Need-returns-3 (
   binding-below t,
@@ -5543,7 +5362,7 @@ compound-same-length-10 : (t : ℕ) → compound-lts.Need-same-length-10 (
   fit-below t,
   fit.Post,
 ) (compound-at t) compound.Post
-compound-same-length-10 t c = (c .before .before .before .before .before .before .call .kept .1 .1 .1 .1 .1 .0)
+compound-same-length-10 t c = (c .before .before .before .before .before .before .call .kept .1 .1 .1 .1 .0)
 
 compound-same-length-11 : (t : ℕ) → compound-lts.Need-same-length-11 (
   binding-below t,
@@ -5563,7 +5382,7 @@ compound-same-length-11 : (t : ℕ) → compound-lts.Need-same-length-11 (
   fit-below t,
   fit.Post,
 ) (compound-at t) compound.Post
-compound-same-length-11 t c = (c .before .before .before .before .before .before .call .kept .1 .1 .1 .1 .1 .1 .0)
+compound-same-length-11 t c = (c .before .before .before .before .before .before .call .kept .1 .1 .1 .1 .1 .0)
 
 compound-same-length-12 : (t : ℕ) → compound-lts.Need-same-length-12 (
   binding-below t,
@@ -5583,7 +5402,7 @@ compound-same-length-12 : (t : ℕ) → compound-lts.Need-same-length-12 (
   fit-below t,
   fit.Post,
 ) (compound-at t) compound.Post
-compound-same-length-12 t c = (c .before .before .before .before .before .before .call .kept .1 .1 .1 .1 .1 .1 .1 .0)
+compound-same-length-12 t c = (c .before .before .before .before .before .before .call .kept .1 .1 .1 .1 .1 .1 .0)
 
 compound-returns-4 : (t : ℕ) → compound-lts.Need-returns-4 (
   binding-below t,
@@ -5623,7 +5442,7 @@ compound-same-length-13 : (t : ℕ) → compound-lts.Need-same-length-13 (
   fit-below t,
   fit.Post,
 ) (compound-at t) compound.Post
-compound-same-length-13 t c = (c .before .before .before .before .before .before .construct .kept .1 .1 .1 .1 .1 .0)
+compound-same-length-13 t c = (c .before .before .before .before .before .before .construct .kept .1 .1 .1 .1 .0)
 
 compound-same-length-14 : (t : ℕ) → compound-lts.Need-same-length-14 (
   binding-below t,
@@ -5643,7 +5462,7 @@ compound-same-length-14 : (t : ℕ) → compound-lts.Need-same-length-14 (
   fit-below t,
   fit.Post,
 ) (compound-at t) compound.Post
-compound-same-length-14 t c = (c .before .before .before .before .before .before .construct .kept .1 .1 .1 .1 .1 .1 .0)
+compound-same-length-14 t c = (c .before .before .before .before .before .before .construct .kept .1 .1 .1 .1 .1 .0)
 
 compound-same-length-15 : (t : ℕ) → compound-lts.Need-same-length-15 (
   binding-below t,
@@ -5663,7 +5482,7 @@ compound-same-length-15 : (t : ℕ) → compound-lts.Need-same-length-15 (
   fit-below t,
   fit.Post,
 ) (compound-at t) compound.Post
-compound-same-length-15 t c = (c .before .before .before .before .before .before .construct .kept .1 .1 .1 .1 .1 .1 .1 .0)
+compound-same-length-15 t c = (c .before .before .before .before .before .before .construct .kept .1 .1 .1 .1 .1 .1 .0)
 
 compound-returns-5 : (t : ℕ) → compound-lts.Need-returns-5 (
   binding-below t,
@@ -5703,7 +5522,7 @@ compound-same-length-16 : (t : ℕ) → compound-lts.Need-same-length-16 (
   fit-below t,
   fit.Post,
 ) (compound-at t) compound.Post
-compound-same-length-16 t c = (c .before .before .before .before .before .before .case-of .kept .1 .1 .1 .1 .1 .0)
+compound-same-length-16 t c = (c .before .before .before .before .before .before .case-of .kept .1 .1 .1 .1 .0)
 
 compound-same-length-17 : (t : ℕ) → compound-lts.Need-same-length-17 (
   binding-below t,
@@ -5723,7 +5542,7 @@ compound-same-length-17 : (t : ℕ) → compound-lts.Need-same-length-17 (
   fit-below t,
   fit.Post,
 ) (compound-at t) compound.Post
-compound-same-length-17 t c = (c .before .before .before .before .before .before .case-of .kept .1 .1 .1 .1 .1 .1 .0)
+compound-same-length-17 t c = (c .before .before .before .before .before .before .case-of .kept .1 .1 .1 .1 .1 .0)
 
 compound-same-length-18 : (t : ℕ) → compound-lts.Need-same-length-18 (
   binding-below t,
@@ -5743,7 +5562,7 @@ compound-same-length-18 : (t : ℕ) → compound-lts.Need-same-length-18 (
   fit-below t,
   fit.Post,
 ) (compound-at t) compound.Post
-compound-same-length-18 t c = (c .before .before .before .before .before .before .case-of .kept .1 .1 .1 .1 .1 .1 .1 .0)
+compound-same-length-18 t c = (c .before .before .before .before .before .before .case-of .kept .1 .1 .1 .1 .1 .1 .0)
 
 compound-returns-6 : (t : ℕ) → compound-lts.Need-returns-6 (
   binding-below t,
@@ -5783,7 +5602,7 @@ compound-same-length-19 : (t : ℕ) → compound-lts.Need-same-length-19 (
   fit-below t,
   fit.Post,
 ) (compound-at t) compound.Post
-compound-same-length-19 t c = (c .before .before .before .before .before .before .adjust .kept .1 .1 .1 .1 .1 .0)
+compound-same-length-19 t c = (c .before .before .before .before .before .before .adjust .kept .1 .1 .1 .1 .0)
 
 compound-same-length-20 : (t : ℕ) → compound-lts.Need-same-length-20 (
   binding-below t,
@@ -5803,7 +5622,7 @@ compound-same-length-20 : (t : ℕ) → compound-lts.Need-same-length-20 (
   fit-below t,
   fit.Post,
 ) (compound-at t) compound.Post
-compound-same-length-20 t c = (c .before .before .before .before .before .before .adjust .kept .1 .1 .1 .1 .1 .1 .0)
+compound-same-length-20 t c = (c .before .before .before .before .before .before .adjust .kept .1 .1 .1 .1 .1 .0)
 
 compound-same-length-21 : (t : ℕ) → compound-lts.Need-same-length-21 (
   binding-below t,
@@ -5823,7 +5642,7 @@ compound-same-length-21 : (t : ℕ) → compound-lts.Need-same-length-21 (
   fit-below t,
   fit.Post,
 ) (compound-at t) compound.Post
-compound-same-length-21 t c = (c .before .before .before .before .before .before .adjust .kept .1 .1 .1 .1 .1 .1 .1 .0)
+compound-same-length-21 t c = (c .before .before .before .before .before .before .adjust .kept .1 .1 .1 .1 .1 .1 .0)
 
 compound-returns-7 : (t : ℕ) → compound-lts.Need-returns-7 (
   binding-below t,
@@ -5863,7 +5682,7 @@ compound-same-length-22 : (t : ℕ) → compound-lts.Need-same-length-22 (
   fit-below t,
   fit.Post,
 ) (compound-at t) compound.Post
-compound-same-length-22 t c = (c .before .before .before .before .before .before .fit .kept .1 .1 .1 .1 .1 .0)
+compound-same-length-22 t c = (c .before .before .before .before .before .before .fit .kept .1 .1 .1 .1 .0)
 
 compound-same-length-23 : (t : ℕ) → compound-lts.Need-same-length-23 (
   binding-below t,
@@ -5883,7 +5702,7 @@ compound-same-length-23 : (t : ℕ) → compound-lts.Need-same-length-23 (
   fit-below t,
   fit.Post,
 ) (compound-at t) compound.Post
-compound-same-length-23 t c = (c .before .before .before .before .before .before .fit .kept .1 .1 .1 .1 .1 .1 .0)
+compound-same-length-23 t c = (c .before .before .before .before .before .before .fit .kept .1 .1 .1 .1 .1 .0)
 
 compound-same-length-24 : (t : ℕ) → compound-lts.Need-same-length-24 (
   binding-below t,
@@ -5903,7 +5722,7 @@ compound-same-length-24 : (t : ℕ) → compound-lts.Need-same-length-24 (
   fit-below t,
   fit.Post,
 ) (compound-at t) compound.Post
-compound-same-length-24 t c = (c .before .before .before .before .before .before .fit .kept .1 .1 .1 .1 .1 .1 .1 .0)
+compound-same-length-24 t c = (c .before .before .before .before .before .before .fit .kept .1 .1 .1 .1 .1 .1 .0)
 
 compound-returns-8 : (t : ℕ) → compound-lts.Need-returns-8 (
   binding-below t,
@@ -5943,7 +5762,7 @@ compound-returns-9 : (t : ℕ) → compound-lts.Need-returns-9 (
   fit-below t,
   fit.Post,
 ) (compound-at t) compound.Post
-compound-returns-9 t c = compound-none (c .before .before .before .before .before .before .before .before .before .before .args .form) (no-parts (c .before .before .before .before .before .before .before .before .before .before .args .form) (leaf-or-missing _ (c .before .match .keys9)))
+compound-returns-9 t c = compound-none (c .before .before .before .before .before .before .before .before .before .args .form) (no-parts (c .before .before .before .before .before .before .before .before .before .args .form) (leaf-or-missing _ (c .before .match .keys9)))
 
 construct-fields-requires : (t : ℕ) → construct-lts.Need-fields-requires (
   fields-reads.Asked,
@@ -5979,7 +5798,7 @@ construct-several-requires : (t : ℕ) → construct-lts.Need-several-requires (
   made-reads.Asked,
   made-reads.Learnt,
 ) (construct-at t) construct.Post
-construct-several-requires t c κs = (load-same _ 900 (c .before .before .before .before .before .before .before .before .before .before .before .before .before .pre .0) _ (omega (arith, (c .before .before .before .before .fields .ensures .1))), ((c .before .before .before .before .before .before .before .before .before .before .before .before .before .pre .1 .0), (c .before .before .before .before .fields .ensures .1)))
+construct-several-requires t c κs = (load-same _ 900 (c .before .before .before .before .before .before .before .before .before .before .before .before .pre .0) _ (omega (arith, (c .before .before .before .before .fields .ensures .1))), ((c .before .before .before .before .before .before .before .before .before .before .before .before .pre .1 .0), (c .before .before .before .before .fields .ensures .1)))
 
 construct-enum-known-x : (t : ℕ) → construct-lts.Need-enum-known-x (
   fields-reads.Asked,
@@ -6027,7 +5846,7 @@ construct-same-length : (t : ℕ) → construct-lts.Need-same-length (
   made-reads.Asked,
   made-reads.Learnt,
 ) (construct-at t) construct.Post
-construct-same-length t c = (c .before .before .before .before .before .before .before .before .before .before .several .kept .1 .1 .1 .1 .1 .0)
+construct-same-length t c = (c .before .before .before .before .before .before .before .before .before .before .several .kept .1 .1 .1 .1 .0)
 
 construct-same-length-2 : (t : ℕ) → construct-lts.Need-same-length-2 (
   fields-reads.Asked,
@@ -6039,7 +5858,7 @@ construct-same-length-2 : (t : ℕ) → construct-lts.Need-same-length-2 (
   made-reads.Asked,
   made-reads.Learnt,
 ) (construct-at t) construct.Post
-construct-same-length-2 t c = (c .before .before .before .before .before .before .before .before .before .before .several .kept .1 .1 .1 .1 .1 .1 .0)
+construct-same-length-2 t c = (c .before .before .before .before .before .before .before .before .before .before .several .kept .1 .1 .1 .1 .1 .0)
 
 construct-same-length-3 : (t : ℕ) → construct-lts.Need-same-length-3 (
   fields-reads.Asked,
@@ -6051,7 +5870,7 @@ construct-same-length-3 : (t : ℕ) → construct-lts.Need-same-length-3 (
   made-reads.Asked,
   made-reads.Learnt,
 ) (construct-at t) construct.Post
-construct-same-length-3 t c = (c .before .before .before .before .before .before .before .before .before .before .several .kept .1 .1 .1 .1 .1 .1 .1 .0)
+construct-same-length-3 t c = (c .before .before .before .before .before .before .before .before .before .before .several .kept .1 .1 .1 .1 .1 .1 .0)
 
 construct-returns : (t : ℕ) → construct-lts.Need-returns (
   fields-reads.Asked,
@@ -6087,7 +5906,7 @@ construct-made-requires : (t : ℕ) → construct-lts.Need-made-requires (
   made-reads.Asked,
   made-reads.Learnt,
 ) (construct-at t) construct.Post
-construct-made-requires t c κs = ((c .before .before .before .before .before .before .before .before .before .before .before .before .before .before .before .before .before .before .before .before .before .before .before .before .before .pre .1 .0 .line), (c .before .before .before .before .before .before .before .before .before .before .before .before .before .before .before .before .before .before .before .before .before .before .before .before .before .pre .1 .1 .0))
+construct-made-requires t c κs = ((c .before .before .before .before .before .before .before .before .before .before .before .before .before .before .before .before .before .before .before .before .before .before .before .before .pre .1 .0 .line), (c .before .before .before .before .before .before .before .before .before .before .before .before .before .before .before .before .before .before .before .before .before .before .before .before .pre .1 .1 .0))
 
 construct-same-length-4 : (t : ℕ) → construct-lts.Need-same-length-4 (
   fields-reads.Asked,
@@ -6099,7 +5918,7 @@ construct-same-length-4 : (t : ℕ) → construct-lts.Need-same-length-4 (
   made-reads.Asked,
   made-reads.Learnt,
 ) (construct-at t) construct.Post
-construct-same-length-4 t c = (c .before .before .before .before .before .before .before .before .before .before .before .before .several .kept .1 .1 .1 .1 .1 .0)
+construct-same-length-4 t c = (c .before .before .before .before .before .before .before .before .before .before .before .before .several .kept .1 .1 .1 .1 .0)
 
 construct-same-length-5 : (t : ℕ) → construct-lts.Need-same-length-5 (
   fields-reads.Asked,
@@ -6111,7 +5930,7 @@ construct-same-length-5 : (t : ℕ) → construct-lts.Need-same-length-5 (
   made-reads.Asked,
   made-reads.Learnt,
 ) (construct-at t) construct.Post
-construct-same-length-5 t c = (c .before .before .before .before .before .before .before .before .before .before .before .before .several .kept .1 .1 .1 .1 .1 .1 .0)
+construct-same-length-5 t c = (c .before .before .before .before .before .before .before .before .before .before .before .before .several .kept .1 .1 .1 .1 .1 .0)
 
 construct-same-length-6 : (t : ℕ) → construct-lts.Need-same-length-6 (
   fields-reads.Asked,
@@ -6123,7 +5942,7 @@ construct-same-length-6 : (t : ℕ) → construct-lts.Need-same-length-6 (
   made-reads.Asked,
   made-reads.Learnt,
 ) (construct-at t) construct.Post
-construct-same-length-6 t c = (c .before .before .before .before .before .before .before .before .before .before .before .before .several .kept .1 .1 .1 .1 .1 .1 .1 .0)
+construct-same-length-6 t c = (c .before .before .before .before .before .before .before .before .before .before .before .before .several .kept .1 .1 .1 .1 .1 .1 .0)
 
 construct-returns-2 : (t : ℕ) → construct-lts.Need-returns-2 (
   fields-reads.Asked,
@@ -6185,7 +6004,7 @@ enter-body-requires : (t : ℕ) → enter-lts.Need-body-requires (
   body-below t,
   body.Post,
 ) (enter-at t) enter.Post
-enter-body-requires t c κs = (load-same _ 90 (c .before .before .before .before .before .before .before .before .before .before .before .before .before .before .before .before .pre .0) 80 (omega arith), ((c .before .before .before .before .before .before .before .before .before .before .before .before .before .before .before .before .pre .1 .0), (c .before .before .before .before .before .before .before .before .before .before .before .before .before .before .before .before .pre .1 .1)))
+enter-body-requires t c κs = (load-same _ 90 (c .before .before .before .before .before .before .before .before .before .before .before .before .before .before .before .pre .0) 80 (omega arith), ((c .before .before .before .before .before .before .before .before .before .before .before .before .before .before .before .pre .1 .0), (c .before .before .before .before .before .before .before .before .before .before .before .before .before .before .before .pre .1 .1)))
 
 enter-same-length : (t : ℕ) → enter-lts.Need-same-length (
   find-reads.Asked,
@@ -6225,7 +6044,7 @@ enter-same-length-3 : (t : ℕ) → enter-lts.Need-same-length-3 (
   body-below t,
   body.Post,
 ) (enter-at t) enter.Post
-enter-same-length-3 t c = (c .before .before .before .before .before .before .body .kept .1 .1 .1 .1 .1 .0)
+enter-same-length-3 t c = (c .before .before .before .before .before .before .body .kept .1 .1 .1 .1 .0)
 
 enter-same-length-4 : (t : ℕ) → enter-lts.Need-same-length-4 (
   find-reads.Asked,
@@ -6235,7 +6054,7 @@ enter-same-length-4 : (t : ℕ) → enter-lts.Need-same-length-4 (
   body-below t,
   body.Post,
 ) (enter-at t) enter.Post
-enter-same-length-4 t c = (c .before .before .before .before .before .before .body .kept .1 .1 .1 .1 .1 .1 .0)
+enter-same-length-4 t c = (c .before .before .before .before .before .before .body .kept .1 .1 .1 .1 .1 .0)
 
 enter-same-length-5 : (t : ℕ) → enter-lts.Need-same-length-5 (
   find-reads.Asked,
@@ -6245,7 +6064,7 @@ enter-same-length-5 : (t : ℕ) → enter-lts.Need-same-length-5 (
   body-below t,
   body.Post,
 ) (enter-at t) enter.Post
-enter-same-length-5 t c = (c .before .before .before .before .before .before .body .kept .1 .1 .1 .1 .1 .1 .1 .0)
+enter-same-length-5 t c = (c .before .before .before .before .before .before .body .kept .1 .1 .1 .1 .1 .1 .0)
 
 enter-returns-2 : (t : ℕ) → enter-lts.Need-returns-2 (
   find-reads.Asked,
@@ -6257,7 +6076,7 @@ enter-returns-2 : (t : ℕ) → enter-lts.Need-returns-2 (
 ) (enter-at t) enter.Post
 enter-returns-2 t c = enter-absent (c .before .before .before .before .before .before .before .before .before .before .before .before .find .ensures) (c .before .before .before .before .before .before .before .before .before .before .enum-told .given .1) (c .before .before .before .before .before .before .body .ensures)
 
-expr-add-t20 : (t : ℕ) → expr-lts.Need-add-t20 (
+expr-add-t19 : (t : ℕ) → expr-lts.Need-add-t19 (
   frame-line-reads.Asked,
   frame-line-reads.Learnt,
   head-at-reads.Asked,
@@ -6272,10 +6091,12 @@ expr-add-t20 : (t : ℕ) → expr-lts.Need-add-t20 (
   type-in-reads.Learnt,
   nothing-reads.Asked,
   nothing-reads.Learnt,
+  channel-type-reads.Asked,
+  channel-type-reads.Learnt,
   compound-below t,
   compound.Post,
 ) (expr-at t) expr.Post
-expr-add-t20 t c = omega (arith, (c .before .before .before .before .before .before .before .before .before .before .before .pre .1 .line))
+expr-add-t19 t c = omega (arith, (c .before .before .before .before .before .before .before .before .before .before .pre .1 .line))
 
 expr-returns : (t : ℕ) → expr-lts.Need-returns (
   frame-line-reads.Asked,
@@ -6292,6 +6113,8 @@ expr-returns : (t : ℕ) → expr-lts.Need-returns (
   type-in-reads.Learnt,
   nothing-reads.Asked,
   nothing-reads.Learnt,
+  channel-type-reads.Asked,
+  channel-type-reads.Learnt,
   compound-below t,
   compound.Post,
 ) (expr-at t) expr.Post
@@ -6312,6 +6135,8 @@ expr-frame-line-requires : (t : ℕ) → expr-lts.Need-frame-line-requires (
   type-in-reads.Learnt,
   nothing-reads.Asked,
   nothing-reads.Learnt,
+  channel-type-reads.Asked,
+  channel-type-reads.Learnt,
   compound-below t,
   compound.Post,
 ) (expr-at t) expr.Post
@@ -6332,6 +6157,8 @@ expr-head-at-requires : (t : ℕ) → expr-lts.Need-head-at-requires (
   type-in-reads.Learnt,
   nothing-reads.Asked,
   nothing-reads.Learnt,
+  channel-type-reads.Asked,
+  channel-type-reads.Learnt,
   compound-below t,
   compound.Post,
 ) (expr-at t) expr.Post
@@ -6352,6 +6179,8 @@ expr-down-requires : (t : ℕ) → expr-lts.Need-down-requires (
   type-in-reads.Learnt,
   nothing-reads.Asked,
   nothing-reads.Learnt,
+  channel-type-reads.Asked,
+  channel-type-reads.Learnt,
   compound-below t,
   compound.Post,
 ) (expr-at t) expr.Post
@@ -6372,6 +6201,8 @@ expr-enum-told : (t : ℕ) → expr-lts.Need-enum-told (
   type-in-reads.Learnt,
   nothing-reads.Asked,
   nothing-reads.Learnt,
+  channel-type-reads.Asked,
+  channel-type-reads.Learnt,
   compound-below t,
   compound.Post,
 ) (expr-at t) expr.Post
@@ -6392,6 +6223,8 @@ expr-one-cell-requires : (t : ℕ) → expr-lts.Need-one-cell-requires (
   type-in-reads.Learnt,
   nothing-reads.Asked,
   nothing-reads.Learnt,
+  channel-type-reads.Asked,
+  channel-type-reads.Learnt,
   compound-below t,
   compound.Post,
 ) (expr-at t) expr.Post
@@ -6412,6 +6245,8 @@ expr-leaf-requires : (t : ℕ) → expr-lts.Need-leaf-requires (
   type-in-reads.Learnt,
   nothing-reads.Asked,
   nothing-reads.Learnt,
+  channel-type-reads.Asked,
+  channel-type-reads.Learnt,
   compound-below t,
   compound.Post,
 ) (expr-at t) expr.Post
@@ -6432,6 +6267,8 @@ expr-enum-told-2 : (t : ℕ) → expr-lts.Need-enum-told-2 (
   type-in-reads.Learnt,
   nothing-reads.Asked,
   nothing-reads.Learnt,
+  channel-type-reads.Asked,
+  channel-type-reads.Learnt,
   compound-below t,
   compound.Post,
 ) (expr-at t) expr.Post
@@ -6452,6 +6289,8 @@ expr-one-cell-requires-2 : (t : ℕ) → expr-lts.Need-one-cell-requires-2 (
   type-in-reads.Learnt,
   nothing-reads.Asked,
   nothing-reads.Learnt,
+  channel-type-reads.Asked,
+  channel-type-reads.Learnt,
   compound-below t,
   compound.Post,
 ) (expr-at t) expr.Post
@@ -6472,6 +6311,8 @@ expr-leaf-requires-2 : (t : ℕ) → expr-lts.Need-leaf-requires-2 (
   type-in-reads.Learnt,
   nothing-reads.Asked,
   nothing-reads.Learnt,
+  channel-type-reads.Asked,
+  channel-type-reads.Learnt,
   compound-below t,
   compound.Post,
 ) (expr-at t) expr.Post
@@ -6492,6 +6333,8 @@ expr-enum-known-form : (t : ℕ) → expr-lts.Need-enum-known-form (
   type-in-reads.Learnt,
   nothing-reads.Asked,
   nothing-reads.Learnt,
+  channel-type-reads.Asked,
+  channel-type-reads.Learnt,
   compound-below t,
   compound.Post,
 ) (expr-at t) expr.Post
@@ -6512,6 +6355,8 @@ expr-cast-type-in : (t : ℕ) → expr-lts.Need-cast-type-in (
   type-in-reads.Learnt,
   nothing-reads.Asked,
   nothing-reads.Learnt,
+  channel-type-reads.Asked,
+  channel-type-reads.Learnt,
   compound-below t,
   compound.Post,
 ) (expr-at t) expr.Post
@@ -6532,6 +6377,8 @@ expr-type-in-requires : (t : ℕ) → expr-lts.Need-type-in-requires (
   type-in-reads.Learnt,
   nothing-reads.Asked,
   nothing-reads.Learnt,
+  channel-type-reads.Asked,
+  channel-type-reads.Learnt,
   compound-below t,
   compound.Post,
 ) (expr-at t) expr.Post
@@ -6552,6 +6399,8 @@ expr-nothing-requires : (t : ℕ) → expr-lts.Need-nothing-requires (
   type-in-reads.Learnt,
   nothing-reads.Asked,
   nothing-reads.Learnt,
+  channel-type-reads.Asked,
+  channel-type-reads.Learnt,
   compound-below t,
   compound.Post,
 ) (expr-at t) expr.Post
@@ -6572,6 +6421,8 @@ expr-leaf-requires-3 : (t : ℕ) → expr-lts.Need-leaf-requires-3 (
   type-in-reads.Learnt,
   nothing-reads.Asked,
   nothing-reads.Learnt,
+  channel-type-reads.Asked,
+  channel-type-reads.Learnt,
   compound-below t,
   compound.Post,
 ) (expr-at t) expr.Post
@@ -6592,12 +6443,14 @@ expr-enum-known-form-2 : (t : ℕ) → expr-lts.Need-enum-known-form-2 (
   type-in-reads.Learnt,
   nothing-reads.Asked,
   nothing-reads.Learnt,
+  channel-type-reads.Asked,
+  channel-type-reads.Learnt,
   compound-below t,
   compound.Post,
 ) (expr-at t) expr.Post
 expr-enum-known-form-2 t c = (c .match .keys4)
 
-expr-cast-type-in-2 : (t : ℕ) → expr-lts.Need-cast-type-in-2 (
+expr-channel-type-requires : (t : ℕ) → expr-lts.Need-channel-type-requires (
   frame-line-reads.Asked,
   frame-line-reads.Learnt,
   head-at-reads.Asked,
@@ -6612,50 +6465,12 @@ expr-cast-type-in-2 : (t : ℕ) → expr-lts.Need-cast-type-in-2 (
   type-in-reads.Learnt,
   nothing-reads.Asked,
   nothing-reads.Learnt,
+  channel-type-reads.Asked,
+  channel-type-reads.Learnt,
   compound-below t,
   compound.Post,
 ) (expr-at t) expr.Post
-expr-cast-type-in-2 t c = omega arith
-
-expr-mul-type-in : (t : ℕ) → expr-lts.Need-mul-type-in (
-  frame-line-reads.Asked,
-  frame-line-reads.Learnt,
-  head-at-reads.Asked,
-  head-at-reads.Learnt,
-  down-reads.Asked,
-  down-reads.Learnt,
-  one-cell-reads.Asked,
-  one-cell-reads.Learnt,
-  leaf-reads.Asked,
-  leaf-reads.Learnt,
-  type-in-reads.Asked,
-  type-in-reads.Learnt,
-  nothing-reads.Asked,
-  nothing-reads.Learnt,
-  compound-below t,
-  compound.Post,
-) (expr-at t) expr.Post
-expr-mul-type-in t c = omega arith
-
-expr-type-in-requires-2 : (t : ℕ) → expr-lts.Need-type-in-requires-2 (
-  frame-line-reads.Asked,
-  frame-line-reads.Learnt,
-  head-at-reads.Asked,
-  head-at-reads.Learnt,
-  down-reads.Asked,
-  down-reads.Learnt,
-  one-cell-reads.Asked,
-  one-cell-reads.Learnt,
-  leaf-reads.Asked,
-  leaf-reads.Learnt,
-  type-in-reads.Asked,
-  type-in-reads.Learnt,
-  nothing-reads.Asked,
-  nothing-reads.Learnt,
-  compound-below t,
-  compound.Post,
-) (expr-at t) expr.Post
-expr-type-in-requires-2 t c κs = tt
+expr-channel-type-requires t c κs = now-counted (c .before .before .before .before .before .head-at .ensures) (c .before .form2 .given .1) (c .before .before .before .before .before .before .before .before .before .before .before .before .before .before .before .before .before .pre .1 .first)
 
 expr-nothing-requires-2 : (t : ℕ) → expr-lts.Need-nothing-requires-2 (
   frame-line-reads.Asked,
@@ -6672,6 +6487,8 @@ expr-nothing-requires-2 : (t : ℕ) → expr-lts.Need-nothing-requires-2 (
   type-in-reads.Learnt,
   nothing-reads.Asked,
   nothing-reads.Learnt,
+  channel-type-reads.Asked,
+  channel-type-reads.Learnt,
   compound-below t,
   compound.Post,
 ) (expr-at t) expr.Post
@@ -6692,6 +6509,8 @@ expr-leaf-requires-4 : (t : ℕ) → expr-lts.Need-leaf-requires-4 (
   type-in-reads.Learnt,
   nothing-reads.Asked,
   nothing-reads.Learnt,
+  channel-type-reads.Asked,
+  channel-type-reads.Learnt,
   compound-below t,
   compound.Post,
 ) (expr-at t) expr.Post
@@ -6712,12 +6531,14 @@ expr-enum-known-form-3 : (t : ℕ) → expr-lts.Need-enum-known-form-3 (
   type-in-reads.Learnt,
   nothing-reads.Asked,
   nothing-reads.Learnt,
+  channel-type-reads.Asked,
+  channel-type-reads.Learnt,
   compound-below t,
   compound.Post,
 ) (expr-at t) expr.Post
 expr-enum-known-form-3 t c = (c .match .keys5)
 
-expr-cast-type-in-3 : (t : ℕ) → expr-lts.Need-cast-type-in-3 (
+expr-channel-type-requires-2 : (t : ℕ) → expr-lts.Need-channel-type-requires-2 (
   frame-line-reads.Asked,
   frame-line-reads.Learnt,
   head-at-reads.Asked,
@@ -6732,50 +6553,12 @@ expr-cast-type-in-3 : (t : ℕ) → expr-lts.Need-cast-type-in-3 (
   type-in-reads.Learnt,
   nothing-reads.Asked,
   nothing-reads.Learnt,
+  channel-type-reads.Asked,
+  channel-type-reads.Learnt,
   compound-below t,
   compound.Post,
 ) (expr-at t) expr.Post
-expr-cast-type-in-3 t c = omega arith
-
-expr-mul-type-in-2 : (t : ℕ) → expr-lts.Need-mul-type-in-2 (
-  frame-line-reads.Asked,
-  frame-line-reads.Learnt,
-  head-at-reads.Asked,
-  head-at-reads.Learnt,
-  down-reads.Asked,
-  down-reads.Learnt,
-  one-cell-reads.Asked,
-  one-cell-reads.Learnt,
-  leaf-reads.Asked,
-  leaf-reads.Learnt,
-  type-in-reads.Asked,
-  type-in-reads.Learnt,
-  nothing-reads.Asked,
-  nothing-reads.Learnt,
-  compound-below t,
-  compound.Post,
-) (expr-at t) expr.Post
-expr-mul-type-in-2 t c = omega arith
-
-expr-type-in-requires-3 : (t : ℕ) → expr-lts.Need-type-in-requires-3 (
-  frame-line-reads.Asked,
-  frame-line-reads.Learnt,
-  head-at-reads.Asked,
-  head-at-reads.Learnt,
-  down-reads.Asked,
-  down-reads.Learnt,
-  one-cell-reads.Asked,
-  one-cell-reads.Learnt,
-  leaf-reads.Asked,
-  leaf-reads.Learnt,
-  type-in-reads.Asked,
-  type-in-reads.Learnt,
-  nothing-reads.Asked,
-  nothing-reads.Learnt,
-  compound-below t,
-  compound.Post,
-) (expr-at t) expr.Post
-expr-type-in-requires-3 t c κs = tt
+expr-channel-type-requires-2 t c κs = last-counted (c .before .before .before .before .before .head-at .ensures) (c .before .form3 .given .1) (c .before .before .before .before .before .before .before .before .before .before .before .before .before .before .before .before .before .pre .1 .first)
 
 expr-nothing-requires-3 : (t : ℕ) → expr-lts.Need-nothing-requires-3 (
   frame-line-reads.Asked,
@@ -6792,6 +6575,8 @@ expr-nothing-requires-3 : (t : ℕ) → expr-lts.Need-nothing-requires-3 (
   type-in-reads.Learnt,
   nothing-reads.Asked,
   nothing-reads.Learnt,
+  channel-type-reads.Asked,
+  channel-type-reads.Learnt,
   compound-below t,
   compound.Post,
 ) (expr-at t) expr.Post
@@ -6812,6 +6597,8 @@ expr-leaf-requires-5 : (t : ℕ) → expr-lts.Need-leaf-requires-5 (
   type-in-reads.Learnt,
   nothing-reads.Asked,
   nothing-reads.Learnt,
+  channel-type-reads.Asked,
+  channel-type-reads.Learnt,
   compound-below t,
   compound.Post,
 ) (expr-at t) expr.Post
@@ -6832,10 +6619,12 @@ expr-compound-requires : (t : ℕ) → expr-lts.Need-compound-requires (
   type-in-reads.Learnt,
   nothing-reads.Asked,
   nothing-reads.Learnt,
+  channel-type-reads.Asked,
+  channel-type-reads.Learnt,
   compound-below t,
   compound.Post,
 ) (expr-at t) expr.Post
-expr-compound-requires t c κs = (load-down _ 0 (c .before .before .before .before .before .before .before .before .before .before .before .before .before .before .before .before .before .before .before .pre .0) _ 1000 (c .before .before .before .before .down .ensures) (omega (arith, (c .before .before .before .before .before .before .before .before .before .if1 .left))) (omega arith), (room-down (c .before .before .before .before .before .before .before .before .before .before .before .before .before .before .before .before .before .before .before .pre .1) (c .before .before .before .before .down .ensures) (omega (arith, (c .before .before .before .before .before .before .before .before .before .if1 .left))) refl, operands-of (c .before .before .before .before .before .before .head-at .ensures) _ refl))
+expr-compound-requires t c κs = (load-down _ 0 (c .before .before .before .before .before .before .before .before .before .before .before .before .before .before .before .before .before .before .pre .0) _ 1000 (c .before .before .before .before .down .ensures) (omega (arith, (c .before .before .before .before .before .before .before .before .before .if1 .left))) (omega arith), (room-down (c .before .before .before .before .before .before .before .before .before .before .before .before .before .before .before .before .before .before .pre .1) (c .before .before .before .before .down .ensures) (omega (arith, (c .before .before .before .before .before .before .before .before .before .if1 .left))) refl, operands-of (c .before .before .before .before .before .before .head-at .ensures) _ refl))
 
 expr-returns-2 : (t : ℕ) → expr-lts.Need-returns-2 (
   frame-line-reads.Asked,
@@ -6852,6 +6641,8 @@ expr-returns-2 : (t : ℕ) → expr-lts.Need-returns-2 (
   type-in-reads.Learnt,
   nothing-reads.Asked,
   nothing-reads.Learnt,
+  channel-type-reads.Asked,
+  channel-type-reads.Learnt,
   compound-below t,
   compound.Post,
 ) (expr-at t) expr.Post
@@ -6872,6 +6663,8 @@ expr-returns-3 : (t : ℕ) → expr-lts.Need-returns-3 (
   type-in-reads.Learnt,
   nothing-reads.Asked,
   nothing-reads.Learnt,
+  channel-type-reads.Asked,
+  channel-type-reads.Learnt,
   compound-below t,
   compound.Post,
 ) (expr-at t) expr.Post
@@ -6892,6 +6685,8 @@ expr-same-length : (t : ℕ) → expr-lts.Need-same-length (
   type-in-reads.Learnt,
   nothing-reads.Asked,
   nothing-reads.Learnt,
+  channel-type-reads.Asked,
+  channel-type-reads.Learnt,
   compound-below t,
   compound.Post,
 ) (expr-at t) expr.Post
@@ -6912,6 +6707,8 @@ expr-returns-4 : (t : ℕ) → expr-lts.Need-returns-4 (
   type-in-reads.Learnt,
   nothing-reads.Asked,
   nothing-reads.Learnt,
+  channel-type-reads.Asked,
+  channel-type-reads.Learnt,
   compound-below t,
   compound.Post,
 ) (expr-at t) expr.Post
@@ -6932,10 +6729,12 @@ expr-returns-5 : (t : ℕ) → expr-lts.Need-returns-5 (
   type-in-reads.Learnt,
   nothing-reads.Asked,
   nothing-reads.Learnt,
+  channel-type-reads.Asked,
+  channel-type-reads.Learnt,
   compound-below t,
   compound.Post,
 ) (expr-at t) expr.Post
-expr-returns-5 t c = expr-now (c .before .before .before .before .before .before .before .before .before .frame-line .ensures) (c .before .before .before .before .before .before .before .before .head-at .ensures) (c .before .before .before .before .before .before .down .ensures) (c .before .before .before .before .form2 .given .1) (c .before .before .type-in2 .ensures) (c .leaf4 .ensures) (c .before .nothing2 .ensures)
+expr-returns-5 t c = expr-now (c .before .before .before .before .before .before .before .before .before .frame-line .ensures) (c .before .before .before .before .before .before .before .before .head-at .ensures) (c .before .before .before .before .before .before .down .ensures) (c .before .before .before .before .form2 .given .1) (c .before .before .channel-type .ensures) (c .leaf4 .ensures) (c .before .nothing2 .ensures)
 
 expr-returns-6 : (t : ℕ) → expr-lts.Need-returns-6 (
   frame-line-reads.Asked,
@@ -6952,10 +6751,12 @@ expr-returns-6 : (t : ℕ) → expr-lts.Need-returns-6 (
   type-in-reads.Learnt,
   nothing-reads.Asked,
   nothing-reads.Learnt,
+  channel-type-reads.Asked,
+  channel-type-reads.Learnt,
   compound-below t,
   compound.Post,
 ) (expr-at t) expr.Post
-expr-returns-6 t c = expr-last (c .before .before .before .before .before .before .before .before .before .frame-line .ensures) (c .before .before .before .before .before .before .before .before .head-at .ensures) (c .before .before .before .before .before .before .down .ensures) (c .before .before .before .before .form3 .given .1) (c .before .before .type-in3 .ensures) (c .leaf5 .ensures) (c .before .nothing3 .ensures)
+expr-returns-6 t c = expr-last (c .before .before .before .before .before .before .before .before .before .frame-line .ensures) (c .before .before .before .before .before .before .before .before .head-at .ensures) (c .before .before .before .before .before .before .down .ensures) (c .before .before .before .before .form3 .given .1) (c .before .before .channel-type2 .ensures) (c .leaf5 .ensures) (c .before .nothing3 .ensures)
 
 expr-same-length-2 : (t : ℕ) → expr-lts.Need-same-length-2 (
   frame-line-reads.Asked,
@@ -6972,10 +6773,12 @@ expr-same-length-2 : (t : ℕ) → expr-lts.Need-same-length-2 (
   type-in-reads.Learnt,
   nothing-reads.Asked,
   nothing-reads.Learnt,
+  channel-type-reads.Asked,
+  channel-type-reads.Learnt,
   compound-below t,
   compound.Post,
 ) (expr-at t) expr.Post
-expr-same-length-2 t c = (c .before .before .before .before .before .before .compound .kept .1 .1 .1 .1 .1 .0)
+expr-same-length-2 t c = (c .before .before .before .before .before .before .compound .kept .1 .1 .1 .1 .0)
 
 expr-same-length-3 : (t : ℕ) → expr-lts.Need-same-length-3 (
   frame-line-reads.Asked,
@@ -6992,10 +6795,12 @@ expr-same-length-3 : (t : ℕ) → expr-lts.Need-same-length-3 (
   type-in-reads.Learnt,
   nothing-reads.Asked,
   nothing-reads.Learnt,
+  channel-type-reads.Asked,
+  channel-type-reads.Learnt,
   compound-below t,
   compound.Post,
 ) (expr-at t) expr.Post
-expr-same-length-3 t c = (c .before .before .before .before .before .before .compound .kept .1 .1 .1 .1 .1 .1 .0)
+expr-same-length-3 t c = (c .before .before .before .before .before .before .compound .kept .1 .1 .1 .1 .1 .0)
 
 expr-same-length-4 : (t : ℕ) → expr-lts.Need-same-length-4 (
   frame-line-reads.Asked,
@@ -7012,10 +6817,12 @@ expr-same-length-4 : (t : ℕ) → expr-lts.Need-same-length-4 (
   type-in-reads.Learnt,
   nothing-reads.Asked,
   nothing-reads.Learnt,
+  channel-type-reads.Asked,
+  channel-type-reads.Learnt,
   compound-below t,
   compound.Post,
 ) (expr-at t) expr.Post
-expr-same-length-4 t c = (c .before .before .before .before .before .before .compound .kept .1 .1 .1 .1 .1 .1 .1 .0)
+expr-same-length-4 t c = (c .before .before .before .before .before .before .compound .kept .1 .1 .1 .1 .1 .1 .0)
 
 expr-returns-7 : (t : ℕ) → expr-lts.Need-returns-7 (
   frame-line-reads.Asked,
@@ -7032,6 +6839,8 @@ expr-returns-7 : (t : ℕ) → expr-lts.Need-returns-7 (
   type-in-reads.Learnt,
   nothing-reads.Asked,
   nothing-reads.Learnt,
+  channel-type-reads.Asked,
+  channel-type-reads.Learnt,
   compound-below t,
   compound.Post,
 ) (expr-at t) expr.Post
@@ -7053,7 +6862,7 @@ fit-expr-requires : (t : ℕ) → fit-lts.Need-expr-requires (
   fitted-reads.Asked,
   fitted-reads.Learnt,
 ) (fit-at t) fit.Post
-fit-expr-requires t c κs = (load-same _ 900 (c .before .before .before .before .before .before .before .before .before .before .before .pre .0) 0 (omega arith), room-same (c .before .before .before .before .before .before .before .before .before .before .before .pre .1 .0) (omega arith))
+fit-expr-requires t c κs = (load-same _ 900 (c .before .before .before .before .before .before .before .before .before .before .pre .0) 0 (omega arith), room-same (c .before .before .before .before .before .before .before .before .before .before .pre .1 .0) (omega arith))
 
 fit-enum-known-x : (t : ℕ) → fit-lts.Need-enum-known-x (
   expr-below t,
@@ -7107,7 +6916,7 @@ fit-same-length : (t : ℕ) → fit-lts.Need-same-length (
   fitted-reads.Asked,
   fitted-reads.Learnt,
 ) (fit-at t) fit.Post
-fit-same-length t c = (c .before .before .before .before .before .before .before .before .expr .kept .1 .1 .1 .1 .1 .0)
+fit-same-length t c = (c .before .before .before .before .before .before .before .before .expr .kept .1 .1 .1 .1 .0)
 
 fit-same-length-2 : (t : ℕ) → fit-lts.Need-same-length-2 (
   expr-below t,
@@ -7125,7 +6934,7 @@ fit-same-length-2 : (t : ℕ) → fit-lts.Need-same-length-2 (
   fitted-reads.Asked,
   fitted-reads.Learnt,
 ) (fit-at t) fit.Post
-fit-same-length-2 t c = (c .before .before .before .before .before .before .before .before .expr .kept .1 .1 .1 .1 .1 .1 .0)
+fit-same-length-2 t c = (c .before .before .before .before .before .before .before .before .expr .kept .1 .1 .1 .1 .1 .0)
 
 fit-same-length-3 : (t : ℕ) → fit-lts.Need-same-length-3 (
   expr-below t,
@@ -7143,7 +6952,7 @@ fit-same-length-3 : (t : ℕ) → fit-lts.Need-same-length-3 (
   fitted-reads.Asked,
   fitted-reads.Learnt,
 ) (fit-at t) fit.Post
-fit-same-length-3 t c = (c .before .before .before .before .before .before .before .before .expr .kept .1 .1 .1 .1 .1 .1 .1 .0)
+fit-same-length-3 t c = (c .before .before .before .before .before .before .before .before .expr .kept .1 .1 .1 .1 .1 .1 .0)
 
 fit-returns : (t : ℕ) → fit-lts.Need-returns (
   expr-below t,
@@ -7181,7 +6990,7 @@ fit-enum-known-kind : (t : ℕ) → fit-lts.Need-enum-known-kind (
 ) (fit-at t) fit.Post
 fit-enum-known-kind t c = (c .match2 .keys1)
 
-fit-add-t26 : (t : ℕ) → fit-lts.Need-add-t26 (
+fit-add-t27 : (t : ℕ) → fit-lts.Need-add-t27 (
   expr-below t,
   expr.Post,
   word-of-reads.Asked,
@@ -7197,7 +7006,7 @@ fit-add-t26 : (t : ℕ) → fit-lts.Need-add-t26 (
   fitted-reads.Asked,
   fitted-reads.Learnt,
 ) (fit-at t) fit.Post
-fit-add-t26 t c = omega (arith, (c .before .before .before .before .before .before .before .before .before .before .before .before .before .before .before .before .before .before .before .before .before .before .before .pre .1 .0 .line))
+fit-add-t27 t c = omega (arith, (c .before .before .before .before .before .before .before .before .before .before .before .before .before .before .before .before .before .before .before .before .before .before .pre .1 .0 .line))
 
 fit-same-length-4 : (t : ℕ) → fit-lts.Need-same-length-4 (
   expr-below t,
@@ -7215,7 +7024,7 @@ fit-same-length-4 : (t : ℕ) → fit-lts.Need-same-length-4 (
   fitted-reads.Asked,
   fitted-reads.Learnt,
 ) (fit-at t) fit.Post
-fit-same-length-4 t c = (c .before .before .before .before .before .before .before .before .before .before .before .expr .kept .1 .1 .1 .1 .1 .0)
+fit-same-length-4 t c = (c .before .before .before .before .before .before .before .before .before .before .before .expr .kept .1 .1 .1 .1 .0)
 
 fit-same-length-5 : (t : ℕ) → fit-lts.Need-same-length-5 (
   expr-below t,
@@ -7233,7 +7042,7 @@ fit-same-length-5 : (t : ℕ) → fit-lts.Need-same-length-5 (
   fitted-reads.Asked,
   fitted-reads.Learnt,
 ) (fit-at t) fit.Post
-fit-same-length-5 t c = (c .before .before .before .before .before .before .before .before .before .before .before .expr .kept .1 .1 .1 .1 .1 .1 .0)
+fit-same-length-5 t c = (c .before .before .before .before .before .before .before .before .before .before .before .expr .kept .1 .1 .1 .1 .1 .0)
 
 fit-same-length-6 : (t : ℕ) → fit-lts.Need-same-length-6 (
   expr-below t,
@@ -7251,7 +7060,7 @@ fit-same-length-6 : (t : ℕ) → fit-lts.Need-same-length-6 (
   fitted-reads.Asked,
   fitted-reads.Learnt,
 ) (fit-at t) fit.Post
-fit-same-length-6 t c = (c .before .before .before .before .before .before .before .before .before .before .before .expr .kept .1 .1 .1 .1 .1 .1 .1 .0)
+fit-same-length-6 t c = (c .before .before .before .before .before .before .before .before .before .before .before .expr .kept .1 .1 .1 .1 .1 .1 .0)
 
 fit-returns-2 : (t : ℕ) → fit-lts.Need-returns-2 (
   expr-below t,
@@ -7271,7 +7080,7 @@ fit-returns-2 : (t : ℕ) → fit-lts.Need-returns-2 (
 ) (fit-at t) fit.Post
 fit-returns-2 t c = fit-plain _ (c .before .before .before .before .before .before .before .before .before .before .before .expr .ensures) (c .before .before .before .x .given .1) (not-named _ (c .before .match2 .keys2))
 
-fit-cast-put : (t : ℕ) → fit-lts.Need-cast-put (
+fit-cast-t28 : (t : ℕ) → fit-lts.Need-cast-t28 (
   expr-below t,
   expr.Post,
   word-of-reads.Asked,
@@ -7287,25 +7096,7 @@ fit-cast-put : (t : ℕ) → fit-lts.Need-cast-put (
   fitted-reads.Asked,
   fitted-reads.Learnt,
 ) (fit-at t) fit.Post
-fit-cast-put t c = omega arith
-
-fit-cast-t32 : (t : ℕ) → fit-lts.Need-cast-t32 (
-  expr-below t,
-  expr.Post,
-  word-of-reads.Asked,
-  word-of-reads.Learnt,
-  put-reads.Asked,
-  put-reads.Learnt,
-  behind-reads.Asked,
-  behind-reads.Learnt,
-  widen-reads.Asked,
-  widen-reads.Learnt,
-  agree-reads.Asked,
-  agree-reads.Learnt,
-  fitted-reads.Asked,
-  fitted-reads.Learnt,
-) (fit-at t) fit.Post
-fit-cast-t32 t c = omega (arith, (c .before .before .before .before .before .before .before .before .before .before .before .before .before .before .before .before .before .before .before .before .before .before .before .before .before .before .pre .1 .1))
+fit-cast-t28 t c = omega (arith, (c .before .before .before .before .before .before .before .before .before .before .before .before .before .before .before .before .before .before .before .before .before .before .before .pre .1 .1))
 
 fit-word-of-requires : (t : ℕ) → fit-lts.Need-word-of-requires (
   expr-below t,
@@ -7324,6 +7115,24 @@ fit-word-of-requires : (t : ℕ) → fit-lts.Need-word-of-requires (
   fitted-reads.Learnt,
 ) (fit-at t) fit.Post
 fit-word-of-requires t c κs = tt
+
+fit-cast-put : (t : ℕ) → fit-lts.Need-cast-put (
+  expr-below t,
+  expr.Post,
+  word-of-reads.Asked,
+  word-of-reads.Learnt,
+  put-reads.Asked,
+  put-reads.Learnt,
+  behind-reads.Asked,
+  behind-reads.Learnt,
+  widen-reads.Asked,
+  widen-reads.Learnt,
+  agree-reads.Asked,
+  agree-reads.Learnt,
+  fitted-reads.Asked,
+  fitted-reads.Learnt,
+) (fit-at t) fit.Post
+fit-cast-put t c = omega arith
 
 fit-put-requires : (t : ℕ) → fit-lts.Need-put-requires (
   expr-below t,
@@ -7377,7 +7186,7 @@ fit-widen-requires : (t : ℕ) → fit-lts.Need-widen-requires (
   fitted-reads.Asked,
   fitted-reads.Learnt,
 ) (fit-at t) fit.Post
-fit-widen-requires t c κs = room-widens (c .before .before .before .before .before .before .before .before .before .before .before .before .before .before .before .before .before .before .before .before .before .before .before .before .before .before .before .before .before .before .before .pre .1 .0) (c .behind .ensures) (omega arith) (omega arith)
+fit-widen-requires t c κs = room-widens (c .before .before .before .before .before .before .before .before .before .before .before .before .before .before .before .before .before .before .before .before .before .before .before .before .before .before .before .before .before .before .pre .1 .0) (c .behind .ensures) (omega arith) (omega arith)
 
 fit-expr-requires-2 : (t : ℕ) → fit-lts.Need-expr-requires-2 (
   expr-below t,
@@ -7395,7 +7204,7 @@ fit-expr-requires-2 : (t : ℕ) → fit-lts.Need-expr-requires-2 (
   fitted-reads.Asked,
   fitted-reads.Learnt,
 ) (fit-at t) fit.Post
-fit-expr-requires-2 t c κs = (load-wide _ 900 (c .before .before .before .before .before .before .before .before .before .before .before .before .before .before .before .before .before .before .before .before .before .before .before .before .before .before .before .before .before .before .before .before .before .before .before .pre .0) _ _ 1 0 0 (c .before .before .before .before .behind .ensures) (c .before .before .before .widen .ensures) (grows-to (c .before .before .before .before .before .before .before .before .before .before .before .before .before .before .before .before .before .before .before .before .before .before .before .expr .ensures .grows) (c .before .before .before .before .before .before .before .before .before .before .before .before .before .before .before .x .given .1)) (omega arith), room-wide (c .before .before .before .before .before .before .before .before .before .before .before .before .before .before .before .before .before .before .before .before .before .before .before .before .before .before .before .before .before .before .before .before .before .before .before .pre .1 .0) (c .before .before .before .before .behind .ensures) (c .before .before .before .widen .ensures) ((c .before .before .before .before .before .before .before .put .kept .0) ∙ (c .before .before .before .before .before .before .before .before .before .before .before .before .before .before .before .before .before .before .before .before .before .before .before .expr .kept .1 .1 .1 .1 .1 .1 .0)) ((c .before .before .before .before .before .before .before .before .before .before .before .before .before .before .before .before .before .before .before .before .before .before .before .expr .kept .1 .1 .1 .1 .1 .1 .1 .0)) (omega arith) (omega arith))
+fit-expr-requires-2 t c κs = (load-wide _ 900 (c .before .before .before .before .before .before .before .before .before .before .before .before .before .before .before .before .before .before .before .before .before .before .before .before .before .before .before .before .before .before .before .before .before .before .pre .0) _ _ 1 0 0 (c .before .before .before .before .behind .ensures) (c .before .before .before .widen .ensures) (grows-to (c .before .before .before .before .before .before .before .before .before .before .before .before .before .before .before .before .before .before .before .before .before .before .before .expr .ensures .grows) (c .before .before .before .before .before .before .before .before .before .before .before .before .before .before .before .x .given .1)) (omega arith), room-wide (c .before .before .before .before .before .before .before .before .before .before .before .before .before .before .before .before .before .before .before .before .before .before .before .before .before .before .before .before .before .before .before .before .before .before .pre .1 .0) (c .before .before .before .before .behind .ensures) (c .before .before .before .widen .ensures) ((c .before .before .before .before .before .before .before .put .kept .0) ∙ (c .before .before .before .before .before .before .before .before .before .before .before .before .before .before .before .before .before .before .before .before .before .before .before .expr .kept .1 .1 .1 .1 .1 .0)) ((c .before .before .before .before .before .before .before .before .before .before .before .before .before .before .before .before .before .before .before .before .before .before .before .expr .kept .1 .1 .1 .1 .1 .1 .0)) (omega arith) (omega arith))
 
 fit-enum-known-y : (t : ℕ) → fit-lts.Need-enum-known-y (
   expr-below t,
@@ -7449,7 +7258,7 @@ fit-same-length-7 : (t : ℕ) → fit-lts.Need-same-length-7 (
   fitted-reads.Asked,
   fitted-reads.Learnt,
 ) (fit-at t) fit.Post
-fit-same-length-7 t c = (c .before .before .before .before .before .before .before .before .expr2 .kept .1 .1 .1 .1 .1 .0) ∙ (c .before .before .before .before .before .before .before .before .before .before .before .before .before .before .before .before .before .before .before .before .before .before .before .before .before .before .before .before .before .before .before .before .expr .kept .1 .1 .1 .1 .1 .0)
+fit-same-length-7 t c = (c .before .before .before .before .before .before .before .before .expr2 .kept .1 .1 .1 .1 .0) ∙ (c .before .before .before .before .before .before .before .before .before .before .before .before .before .before .before .before .before .before .before .before .before .before .before .before .before .before .before .before .before .before .before .before .expr .kept .1 .1 .1 .1 .0)
 
 fit-same-length-8 : (t : ℕ) → fit-lts.Need-same-length-8 (
   expr-below t,
@@ -7467,7 +7276,7 @@ fit-same-length-8 : (t : ℕ) → fit-lts.Need-same-length-8 (
   fitted-reads.Asked,
   fitted-reads.Learnt,
 ) (fit-at t) fit.Post
-fit-same-length-8 t c = (c .before .before .before .before .before .before .before .before .expr2 .kept .1 .1 .1 .1 .1 .1 .0) ∙ (c .before .before .before .before .before .before .before .before .before .before .before .before .before .before .before .before .put .kept .0) ∙ (c .before .before .before .before .before .before .before .before .before .before .before .before .before .before .before .before .before .before .before .before .before .before .before .before .before .before .before .before .before .before .before .before .expr .kept .1 .1 .1 .1 .1 .1 .0)
+fit-same-length-8 t c = (c .before .before .before .before .before .before .before .before .expr2 .kept .1 .1 .1 .1 .1 .0) ∙ (c .before .before .before .before .before .before .before .before .before .before .before .before .before .before .before .before .put .kept .0) ∙ (c .before .before .before .before .before .before .before .before .before .before .before .before .before .before .before .before .before .before .before .before .before .before .before .before .before .before .before .before .before .before .before .before .expr .kept .1 .1 .1 .1 .1 .0)
 
 fit-same-length-9 : (t : ℕ) → fit-lts.Need-same-length-9 (
   expr-below t,
@@ -7485,7 +7294,7 @@ fit-same-length-9 : (t : ℕ) → fit-lts.Need-same-length-9 (
   fitted-reads.Asked,
   fitted-reads.Learnt,
 ) (fit-at t) fit.Post
-fit-same-length-9 t c = (c .before .before .before .before .before .before .before .before .expr2 .kept .1 .1 .1 .1 .1 .1 .1 .0) ∙ (c .before .before .before .before .before .before .before .before .before .before .before .before .before .before .before .before .before .before .before .before .before .before .before .before .before .before .before .before .before .before .before .before .expr .kept .1 .1 .1 .1 .1 .1 .1 .0)
+fit-same-length-9 t c = (c .before .before .before .before .before .before .before .before .expr2 .kept .1 .1 .1 .1 .1 .1 .0) ∙ (c .before .before .before .before .before .before .before .before .before .before .before .before .before .before .before .before .before .before .before .before .before .before .before .before .before .before .before .before .before .before .before .before .expr .kept .1 .1 .1 .1 .1 .1 .0)
 
 fit-returns-3 : (t : ℕ) → fit-lts.Need-returns-3 (
   expr-below t,
@@ -7503,7 +7312,7 @@ fit-returns-3 : (t : ℕ) → fit-lts.Need-returns-3 (
   fitted-reads.Asked,
   fitted-reads.Learnt,
 ) (fit-at t) fit.Post
-fit-returns-3 t c = fit-first _ (c .before .before .before .before .before .before .before .before .before .before .before .before .before .before .before .before .before .before .before .before .before .before .before .before .before .before .before .before .before .before .before .before .expr .ensures) (scope-long (c .before .before .before .before .before .before .before .before .before .before .before .before .before .before .before .before .before .before .before .before .before .before .before .before .before .before .before .before .before .before .before .before .before .before .before .before .before .before .before .before .before .before .before .before .pre .1 .0) ((c .before .before .before .before .before .before .before .before .before .before .before .before .before .before .before .before .before .before .before .before .before .before .before .before .before .before .before .before .before .before .before .before .expr .kept .1 .1 .1 .1 .1 .1 .0))) (c .before .before .before .before .before .before .before .before .before .before .before .before .before .before .before .before .before .before .before .before .before .before .before .before .x .given .1) (c .before .before .before .before .before .before .before .before .before .before .before .before .before .before .before .before .before .before .before .before .before .kind .given .1) (c .before .before .before .before .before .before .before .before .before .before .before .before .before .before .before .before .before .word-of .ensures .is) (c .before .before .before .before .before .before .before .before .before .before .before .before .before .behind .ensures) (c .before .before .before .before .before .before .before .before .before .before .before .before .widen .ensures) (put-is (c .before .before .before .before .before .before .before .before .before .before .before .before .before .before .before .before .put .ensures) (c .before .before .before .before .before .before .before .before .expr2 .ensures)) (c .enum-told2 .given .1)
+fit-returns-3 t c = fit-first _ (c .before .before .before .before .before .before .before .before .before .before .before .before .before .before .before .before .before .before .before .before .before .before .before .before .before .before .before .before .before .before .before .before .expr .ensures) (scope-long (c .before .before .before .before .before .before .before .before .before .before .before .before .before .before .before .before .before .before .before .before .before .before .before .before .before .before .before .before .before .before .before .before .before .before .before .before .before .before .before .before .before .before .before .pre .1 .0) ((c .before .before .before .before .before .before .before .before .before .before .before .before .before .before .before .before .before .before .before .before .before .before .before .before .before .before .before .before .before .before .before .before .expr .kept .1 .1 .1 .1 .1 .0))) (c .before .before .before .before .before .before .before .before .before .before .before .before .before .before .before .before .before .before .before .before .before .before .before .before .x .given .1) (c .before .before .before .before .before .before .before .before .before .before .before .before .before .before .before .before .before .before .before .before .before .kind .given .1) (c .before .before .before .before .before .before .before .before .before .before .before .before .before .before .before .before .before .before .before .word-of .ensures .is) (c .before .before .before .before .before .before .before .before .before .before .before .before .before .behind .ensures) (c .before .before .before .before .before .before .before .before .before .before .before .before .widen .ensures) (put-is (c .before .before .before .before .before .before .before .before .before .before .before .before .before .before .before .before .put .ensures) (c .before .before .before .before .before .before .before .before .expr2 .ensures)) (c .enum-told2 .given .1)
 
 fit-behind-requires-2 : (t : ℕ) → fit-lts.Need-behind-requires-2 (
   expr-below t,
@@ -7539,7 +7348,7 @@ fit-expr-requires-3 : (t : ℕ) → fit-lts.Need-expr-requires-3 (
   fitted-reads.Asked,
   fitted-reads.Learnt,
 ) (fit-at t) fit.Post
-fit-expr-requires-3 t c κs = (load-moved _ 900 (c .before .before .before .before .before .before .before .before .before .before .before .before .before .before .before .before .before .before .before .before .before .before .before .before .before .before .before .before .before .before .before .before .before .before .before .before .before .before .before .before .before .before .before .before .before .before .before .before .before .pre .0) _ 0 (c .behind2 .ensures) (grows-wide (c .before .before .before .before .before .before .before .before .before .before .before .before .before .before .before .before .before .before .before .before .before .before .before .before .before .before .before .before .before .before .before .before .before .before .before .before .before .before .before .before .before .before .before .before .before .before .before .before .before .args .p) 1 0 (grows-to (c .before .before .before .before .before .before .before .before .before .before .before .before .before .before .before .before .before .before .before .before .before .before .before .before .before .before .before .before .before .before .before .before .before .before .before .before .before .expr .ensures .grows) (c .before .before .before .before .before .before .before .before .before .before .before .before .before .before .before .before .before .before .before .before .before .before .before .before .before .before .before .before .before .x .given .1)) (c .before .before .before .before .before .before .before .before .before .before .before .before .before .before .before .before .before .before .behind .ensures) (c .before .before .before .before .before .before .before .before .before .before .before .before .before .before .before .before .before .widen .ensures) (c .before .before .before .before .before .before .before .before .before .before .before .before .before .expr2 .ensures .grows) (c .before .before .before .before .before .y .given .1)) (omega arith), room-behind (c .before .before .before .before .before .before .before .before .before .before .before .before .before .before .before .before .before .before .before .before .before .before .before .before .before .before .before .before .before .before .before .before .before .before .before .before .before .before .before .before .before .before .before .before .before .before .before .before .before .pre .1 .0) (c .behind2 .ensures) ((c .before .before .before .before .before .before .before .before .before .before .before .before .before .expr2 .kept .1 .1 .1 .1 .1 .1 .0) ∙ (c .before .before .before .before .before .before .before .before .before .before .before .before .before .before .before .before .before .before .before .before .before .put .kept .0) ∙ (c .before .before .before .before .before .before .before .before .before .before .before .before .before .before .before .before .before .before .before .before .before .before .before .before .before .before .before .before .before .before .before .before .before .before .before .before .before .expr .kept .1 .1 .1 .1 .1 .1 .0)) ((c .before .before .before .before .before .before .before .before .before .before .before .before .before .expr2 .kept .1 .1 .1 .1 .1 .1 .1 .0) ∙ (c .before .before .before .before .before .before .before .before .before .before .before .before .before .before .before .before .before .before .before .before .before .before .before .before .before .before .before .before .before .before .before .before .before .before .before .before .before .expr .kept .1 .1 .1 .1 .1 .1 .1 .0)))
+fit-expr-requires-3 t c κs = (load-moved _ 900 (c .before .before .before .before .before .before .before .before .before .before .before .before .before .before .before .before .before .before .before .before .before .before .before .before .before .before .before .before .before .before .before .before .before .before .before .before .before .before .before .before .before .before .before .before .before .before .before .before .pre .0) _ 0 (c .before .before .before .behind2 .ensures) (grows-wide (c .before .before .before .before .before .before .before .before .before .before .before .before .before .before .before .before .before .before .before .before .before .before .before .before .before .before .before .before .before .before .before .before .before .before .before .before .before .before .before .before .before .before .before .before .before .before .before .before .args .p) 1 0 (grows-to (c .before .before .before .before .before .before .before .before .before .before .before .before .before .before .before .before .before .before .before .before .before .before .before .before .before .before .before .before .before .before .before .before .before .before .before .before .before .expr .ensures .grows) (c .before .before .before .before .before .before .before .before .before .before .before .before .before .before .before .before .before .before .before .before .before .before .before .before .before .before .before .before .before .x .given .1)) (c .before .before .before .before .before .before .before .before .before .before .before .before .before .before .before .before .before .before .behind .ensures) (c .before .before .before .before .before .before .before .before .before .before .before .before .before .before .before .before .before .widen .ensures) (c .before .before .before .before .before .before .before .before .before .before .before .before .before .expr2 .ensures .grows) (c .before .before .before .before .before .y .given .1)) (omega arith), room-behind (c .before .before .before .before .before .before .before .before .before .before .before .before .before .before .before .before .before .before .before .before .before .before .before .before .before .before .before .before .before .before .before .before .before .before .before .before .before .before .before .before .before .before .before .before .before .before .before .before .pre .1 .0) (c .before .before .before .behind2 .ensures) ((c .before .before .before .before .before .before .before .before .before .before .before .before .before .expr2 .kept .1 .1 .1 .1 .1 .0) ∙ (c .before .before .before .before .before .before .before .before .before .before .before .before .before .before .before .before .before .before .before .before .before .put .kept .0) ∙ (c .before .before .before .before .before .before .before .before .before .before .before .before .before .before .before .before .before .before .before .before .before .before .before .before .before .before .before .before .before .before .before .before .before .before .before .before .before .expr .kept .1 .1 .1 .1 .1 .0)) ((c .before .before .before .before .before .before .before .before .before .before .before .before .before .expr2 .kept .1 .1 .1 .1 .1 .1 .0) ∙ (c .before .before .before .before .before .before .before .before .before .before .before .before .before .before .before .before .before .before .before .before .before .before .before .before .before .before .before .before .before .before .before .before .before .before .before .before .before .expr .kept .1 .1 .1 .1 .1 .1 .0)))
 
 fit-enum-known-z : (t : ℕ) → fit-lts.Need-enum-known-z (
   expr-below t,
@@ -7593,7 +7402,7 @@ fit-same-length-10 : (t : ℕ) → fit-lts.Need-same-length-10 (
   fitted-reads.Asked,
   fitted-reads.Learnt,
 ) (fit-at t) fit.Post
-fit-same-length-10 t c = (c .before .before .before .before .before .before .before .before .expr3 .kept .1 .1 .1 .1 .1 .0) ∙ (c .before .before .before .before .before .before .before .before .before .before .before .before .before .before .before .before .before .before .before .before .before .before .expr2 .kept .1 .1 .1 .1 .1 .0) ∙ (c .before .before .before .before .before .before .before .before .before .before .before .before .before .before .before .before .before .before .before .before .before .before .before .before .before .before .before .before .before .before .before .before .before .before .before .before .before .before .before .before .before .before .before .before .before .before .expr .kept .1 .1 .1 .1 .1 .0)
+fit-same-length-10 t c = (c .before .before .before .before .before .before .before .before .expr3 .kept .1 .1 .1 .1 .0) ∙ (c .before .before .before .before .before .before .before .before .before .before .before .before .before .before .before .before .before .before .before .before .before .before .expr2 .kept .1 .1 .1 .1 .0) ∙ (c .before .before .before .before .before .before .before .before .before .before .before .before .before .before .before .before .before .before .before .before .before .before .before .before .before .before .before .before .before .before .before .before .before .before .before .before .before .before .before .before .before .before .before .before .before .before .expr .kept .1 .1 .1 .1 .0)
 
 fit-same-length-11 : (t : ℕ) → fit-lts.Need-same-length-11 (
   expr-below t,
@@ -7611,7 +7420,7 @@ fit-same-length-11 : (t : ℕ) → fit-lts.Need-same-length-11 (
   fitted-reads.Asked,
   fitted-reads.Learnt,
 ) (fit-at t) fit.Post
-fit-same-length-11 t c = (c .before .before .before .before .before .before .before .before .expr3 .kept .1 .1 .1 .1 .1 .1 .0) ∙ (c .before .before .before .before .before .before .before .before .before .before .before .before .before .before .before .before .before .before .before .before .before .before .expr2 .kept .1 .1 .1 .1 .1 .1 .0) ∙ (c .before .before .before .before .before .before .before .before .before .before .before .before .before .before .before .before .before .before .before .before .before .before .before .before .before .before .before .before .before .before .put .kept .0) ∙ (c .before .before .before .before .before .before .before .before .before .before .before .before .before .before .before .before .before .before .before .before .before .before .before .before .before .before .before .before .before .before .before .before .before .before .before .before .before .before .before .before .before .before .before .before .before .before .expr .kept .1 .1 .1 .1 .1 .1 .0)
+fit-same-length-11 t c = (c .before .before .before .before .before .before .before .before .expr3 .kept .1 .1 .1 .1 .1 .0) ∙ (c .before .before .before .before .before .before .before .before .before .before .before .before .before .before .before .before .before .before .before .before .before .before .expr2 .kept .1 .1 .1 .1 .1 .0) ∙ (c .before .before .before .before .before .before .before .before .before .before .before .before .before .before .before .before .before .before .before .before .before .before .before .before .before .before .before .before .before .before .put .kept .0) ∙ (c .before .before .before .before .before .before .before .before .before .before .before .before .before .before .before .before .before .before .before .before .before .before .before .before .before .before .before .before .before .before .before .before .before .before .before .before .before .before .before .before .before .before .before .before .before .before .expr .kept .1 .1 .1 .1 .1 .0)
 
 fit-same-length-12 : (t : ℕ) → fit-lts.Need-same-length-12 (
   expr-below t,
@@ -7629,7 +7438,7 @@ fit-same-length-12 : (t : ℕ) → fit-lts.Need-same-length-12 (
   fitted-reads.Asked,
   fitted-reads.Learnt,
 ) (fit-at t) fit.Post
-fit-same-length-12 t c = (c .before .before .before .before .before .before .before .before .expr3 .kept .1 .1 .1 .1 .1 .1 .1 .0) ∙ (c .before .before .before .before .before .before .before .before .before .before .before .before .before .before .before .before .before .before .before .before .before .before .expr2 .kept .1 .1 .1 .1 .1 .1 .1 .0) ∙ (c .before .before .before .before .before .before .before .before .before .before .before .before .before .before .before .before .before .before .before .before .before .before .before .before .before .before .before .before .before .before .before .before .before .before .before .before .before .before .before .before .before .before .before .before .before .before .expr .kept .1 .1 .1 .1 .1 .1 .1 .0)
+fit-same-length-12 t c = (c .before .before .before .before .before .before .before .before .expr3 .kept .1 .1 .1 .1 .1 .1 .0) ∙ (c .before .before .before .before .before .before .before .before .before .before .before .before .before .before .before .before .before .before .before .before .before .before .expr2 .kept .1 .1 .1 .1 .1 .1 .0) ∙ (c .before .before .before .before .before .before .before .before .before .before .before .before .before .before .before .before .before .before .before .before .before .before .before .before .before .before .before .before .before .before .before .before .before .before .before .before .before .before .before .before .before .before .before .before .before .before .expr .kept .1 .1 .1 .1 .1 .1 .0)
 
 fit-returns-4 : (t : ℕ) → fit-lts.Need-returns-4 (
   expr-below t,
@@ -7647,7 +7456,7 @@ fit-returns-4 : (t : ℕ) → fit-lts.Need-returns-4 (
   fitted-reads.Asked,
   fitted-reads.Learnt,
 ) (fit-at t) fit.Post
-fit-returns-4 t c = fit-other _ (c .before .before .before .before .before .before .before .before .before .before .before .before .before .before .before .before .before .before .before .before .before .before .before .before .before .before .before .before .before .before .before .before .before .before .before .before .before .before .before .before .before .before .before .before .before .before .expr .ensures) (scope-long (c .before .before .before .before .before .before .before .before .before .before .before .before .before .before .before .before .before .before .before .before .before .before .before .before .before .before .before .before .before .before .before .before .before .before .before .before .before .before .before .before .before .before .before .before .before .before .before .before .before .before .before .before .before .before .before .before .before .before .pre .1 .0) ((c .before .before .before .before .before .before .before .before .before .before .before .before .before .before .before .before .before .before .before .before .before .before .before .before .before .before .before .before .before .before .before .before .before .before .before .before .before .before .before .before .before .before .before .before .before .before .expr .kept .1 .1 .1 .1 .1 .1 .0))) (c .before .before .before .before .before .before .before .before .before .before .before .before .before .before .before .before .before .before .before .before .before .before .before .before .before .before .before .before .before .before .before .before .before .before .before .before .before .before .x .given .1) (c .before .before .before .before .before .before .before .before .before .before .before .before .before .before .before .before .before .before .before .before .before .before .before .before .before .before .before .before .before .before .before .before .before .before .before .kind .given .1) (c .before .before .before .before .before .before .before .before .before .before .before .before .before .before .before .before .before .before .before .before .before .before .before .before .before .before .before .before .before .before .before .word-of .ensures .is) (c .before .before .before .before .before .before .before .before .before .before .before .before .before .before .before .before .before .before .before .before .before .before .before .before .before .before .before .behind .ensures) (c .before .before .before .before .before .before .before .before .before .before .before .before .before .before .before .before .before .before .before .before .before .before .before .before .before .before .widen .ensures) (put-is (c .before .before .before .before .before .before .before .before .before .before .before .before .before .before .before .before .before .before .before .before .before .before .before .before .before .before .before .before .before .before .put .ensures) (c .before .before .before .before .before .before .before .before .before .before .before .before .before .before .before .before .before .before .before .before .before .before .expr2 .ensures)) (c .before .before .before .before .before .before .before .before .before .before .before .before .before .before .y .given .1) (c .before .before .before .before .before .before .before .before .before .behind2 .ensures) (c .before .before .before .before .before .before .before .before .expr3 .ensures) (c .enum-told3 .given .1)
+fit-returns-4 t c = fit-other _ (c .before .before .before .before .before .before .before .before .before .before .before .before .before .before .before .before .before .before .before .before .before .before .before .before .before .before .before .before .before .before .before .before .before .before .before .before .before .before .before .before .before .before .before .before .before .before .expr .ensures) (scope-long (c .before .before .before .before .before .before .before .before .before .before .before .before .before .before .before .before .before .before .before .before .before .before .before .before .before .before .before .before .before .before .before .before .before .before .before .before .before .before .before .before .before .before .before .before .before .before .before .before .before .before .before .before .before .before .before .before .before .pre .1 .0) ((c .before .before .before .before .before .before .before .before .before .before .before .before .before .before .before .before .before .before .before .before .before .before .before .before .before .before .before .before .before .before .before .before .before .before .before .before .before .before .before .before .before .before .before .before .before .before .expr .kept .1 .1 .1 .1 .1 .0))) (c .before .before .before .before .before .before .before .before .before .before .before .before .before .before .before .before .before .before .before .before .before .before .before .before .before .before .before .before .before .before .before .before .before .before .before .before .before .before .x .given .1) (c .before .before .before .before .before .before .before .before .before .before .before .before .before .before .before .before .before .before .before .before .before .before .before .before .before .before .before .before .before .before .before .before .before .before .before .kind .given .1) (c .before .before .before .before .before .before .before .before .before .before .before .before .before .before .before .before .before .before .before .before .before .before .before .before .before .before .before .before .before .before .before .before .before .word-of .ensures .is) (c .before .before .before .before .before .before .before .before .before .before .before .before .before .before .before .before .before .before .before .before .before .before .before .before .before .before .before .behind .ensures) (c .before .before .before .before .before .before .before .before .before .before .before .before .before .before .before .before .before .before .before .before .before .before .before .before .before .before .widen .ensures) (put-is (c .before .before .before .before .before .before .before .before .before .before .before .before .before .before .before .before .before .before .before .before .before .before .before .before .before .before .before .before .before .before .put .ensures) (c .before .before .before .before .before .before .before .before .before .before .before .before .before .before .before .before .before .before .before .before .before .before .expr2 .ensures)) (c .before .before .before .before .before .before .before .before .before .before .before .before .before .before .y .given .1) (c .before .before .before .before .before .before .before .before .before .before .before .before .behind2 .ensures) (c .before .before .before .before .before .before .before .before .expr3 .ensures) (c .enum-told3 .given .1)
 
 fit-agree-requires : (t : ℕ) → fit-lts.Need-agree-requires (
   expr-below t,
@@ -7683,7 +7492,7 @@ fit-add-t49 : (t : ℕ) → fit-lts.Need-add-t49 (
   fitted-reads.Asked,
   fitted-reads.Learnt,
 ) (fit-at t) fit.Post
-fit-add-t49 t c = omega (arith, (c .before .before .before .before .before .before .before .before .before .before .before .before .before .before .before .before .before .before .before .before .before .before .before .before .before .before .before .before .before .before .before .before .before .before .before .before .before .before .before .before .before .before .before .before .before .before .before .before .before .before .before .before .before .before .before .before .before .before .before .before .before .before .pre .1 .0 .line))
+fit-add-t49 t c = omega (arith, (c .before .before .before .before .before .before .before .before .before .before .before .before .before .before .before .before .before .before .before .before .before .before .before .before .before .before .before .before .before .before .before .before .before .before .before .before .before .before .before .before .before .before .before .before .before .before .before .before .before .before .before .before .before .before .before .before .before .before .before .before .before .pre .1 .0 .line))
 
 fit-same-length-13 : (t : ℕ) → fit-lts.Need-same-length-13 (
   expr-below t,
@@ -7701,7 +7510,7 @@ fit-same-length-13 : (t : ℕ) → fit-lts.Need-same-length-13 (
   fitted-reads.Asked,
   fitted-reads.Learnt,
 ) (fit-at t) fit.Post
-fit-same-length-13 t c = (c .before .before .before .before .before .before .before .before .before .before .before .before .expr3 .kept .1 .1 .1 .1 .1 .0) ∙ (c .before .before .before .before .before .before .before .before .before .before .before .before .before .before .before .before .before .before .before .before .before .before .before .before .before .before .expr2 .kept .1 .1 .1 .1 .1 .0) ∙ (c .before .before .before .before .before .before .before .before .before .before .before .before .before .before .before .before .before .before .before .before .before .before .before .before .before .before .before .before .before .before .before .before .before .before .before .before .before .before .before .before .before .before .before .before .before .before .before .before .before .before .expr .kept .1 .1 .1 .1 .1 .0)
+fit-same-length-13 t c = (c .before .before .before .before .before .before .before .before .before .before .before .before .expr3 .kept .1 .1 .1 .1 .0) ∙ (c .before .before .before .before .before .before .before .before .before .before .before .before .before .before .before .before .before .before .before .before .before .before .before .before .before .before .expr2 .kept .1 .1 .1 .1 .0) ∙ (c .before .before .before .before .before .before .before .before .before .before .before .before .before .before .before .before .before .before .before .before .before .before .before .before .before .before .before .before .before .before .before .before .before .before .before .before .before .before .before .before .before .before .before .before .before .before .before .before .before .before .expr .kept .1 .1 .1 .1 .0)
 
 fit-same-length-14 : (t : ℕ) → fit-lts.Need-same-length-14 (
   expr-below t,
@@ -7719,7 +7528,7 @@ fit-same-length-14 : (t : ℕ) → fit-lts.Need-same-length-14 (
   fitted-reads.Asked,
   fitted-reads.Learnt,
 ) (fit-at t) fit.Post
-fit-same-length-14 t c = (c .before .before .before .before .before .before .before .before .before .before .before .before .expr3 .kept .1 .1 .1 .1 .1 .1 .0) ∙ (c .before .before .before .before .before .before .before .before .before .before .before .before .before .before .before .before .before .before .before .before .before .before .before .before .before .before .expr2 .kept .1 .1 .1 .1 .1 .1 .0) ∙ (c .before .before .before .before .before .before .before .before .before .before .before .before .before .before .before .before .before .before .before .before .before .before .before .before .before .before .before .before .before .before .before .before .before .before .put .kept .0) ∙ (c .before .before .before .before .before .before .before .before .before .before .before .before .before .before .before .before .before .before .before .before .before .before .before .before .before .before .before .before .before .before .before .before .before .before .before .before .before .before .before .before .before .before .before .before .before .before .before .before .before .before .expr .kept .1 .1 .1 .1 .1 .1 .0)
+fit-same-length-14 t c = (c .before .before .before .before .before .before .before .before .before .before .before .before .expr3 .kept .1 .1 .1 .1 .1 .0) ∙ (c .before .before .before .before .before .before .before .before .before .before .before .before .before .before .before .before .before .before .before .before .before .before .before .before .before .before .expr2 .kept .1 .1 .1 .1 .1 .0) ∙ (c .before .before .before .before .before .before .before .before .before .before .before .before .before .before .before .before .before .before .before .before .before .before .before .before .before .before .before .before .before .before .before .before .before .before .put .kept .0) ∙ (c .before .before .before .before .before .before .before .before .before .before .before .before .before .before .before .before .before .before .before .before .before .before .before .before .before .before .before .before .before .before .before .before .before .before .before .before .before .before .before .before .before .before .before .before .before .before .before .before .before .before .expr .kept .1 .1 .1 .1 .1 .0)
 
 fit-same-length-15 : (t : ℕ) → fit-lts.Need-same-length-15 (
   expr-below t,
@@ -7737,7 +7546,7 @@ fit-same-length-15 : (t : ℕ) → fit-lts.Need-same-length-15 (
   fitted-reads.Asked,
   fitted-reads.Learnt,
 ) (fit-at t) fit.Post
-fit-same-length-15 t c = (c .before .before .before .before .before .before .before .before .before .before .before .before .expr3 .kept .1 .1 .1 .1 .1 .1 .1 .0) ∙ (c .before .before .before .before .before .before .before .before .before .before .before .before .before .before .before .before .before .before .before .before .before .before .before .before .before .before .expr2 .kept .1 .1 .1 .1 .1 .1 .1 .0) ∙ (c .before .before .before .before .before .before .before .before .before .before .before .before .before .before .before .before .before .before .before .before .before .before .before .before .before .before .before .before .before .before .before .before .before .before .before .before .before .before .before .before .before .before .before .before .before .before .before .before .before .before .expr .kept .1 .1 .1 .1 .1 .1 .1 .0)
+fit-same-length-15 t c = (c .before .before .before .before .before .before .before .before .before .before .before .before .expr3 .kept .1 .1 .1 .1 .1 .1 .0) ∙ (c .before .before .before .before .before .before .before .before .before .before .before .before .before .before .before .before .before .before .before .before .before .before .before .before .before .before .expr2 .kept .1 .1 .1 .1 .1 .1 .0) ∙ (c .before .before .before .before .before .before .before .before .before .before .before .before .before .before .before .before .before .before .before .before .before .before .before .before .before .before .before .before .before .before .before .before .before .before .before .before .before .before .before .before .before .before .before .before .before .before .before .before .before .before .expr .kept .1 .1 .1 .1 .1 .1 .0)
 
 fit-returns-5 : (t : ℕ) → fit-lts.Need-returns-5 (
   expr-below t,
@@ -7755,7 +7564,7 @@ fit-returns-5 : (t : ℕ) → fit-lts.Need-returns-5 (
   fitted-reads.Asked,
   fitted-reads.Learnt,
 ) (fit-at t) fit.Post
-fit-returns-5 t c = fit-differ _ (c .before .before .before .before .before .before .before .before .before .before .before .before .before .before .before .before .before .before .before .before .before .before .before .before .before .before .before .before .before .before .before .before .before .before .before .before .before .before .before .before .before .before .before .before .before .before .before .before .before .before .expr .ensures) (scope-long (c .before .before .before .before .before .before .before .before .before .before .before .before .before .before .before .before .before .before .before .before .before .before .before .before .before .before .before .before .before .before .before .before .before .before .before .before .before .before .before .before .before .before .before .before .before .before .before .before .before .before .before .before .before .before .before .before .before .before .before .before .before .before .pre .1 .0) ((c .before .before .before .before .before .before .before .before .before .before .before .before .before .before .before .before .before .before .before .before .before .before .before .before .before .before .before .before .before .before .before .before .before .before .before .before .before .before .before .before .before .before .before .before .before .before .before .before .before .before .expr .kept .1 .1 .1 .1 .1 .1 .0))) (c .before .before .before .before .before .before .before .before .before .before .before .before .before .before .before .before .before .before .before .before .before .before .before .before .before .before .before .before .before .before .before .before .before .before .before .before .before .before .before .before .before .before .x .given .1) (c .before .before .before .before .before .before .before .before .before .before .before .before .before .before .before .before .before .before .before .before .before .before .before .before .before .before .before .before .before .before .before .before .before .before .before .before .before .before .before .kind .given .1) (c .before .before .before .before .before .before .before .before .before .before .before .before .before .before .before .before .before .before .before .before .before .before .before .before .before .before .before .before .before .before .before .before .before .before .before .word-of .ensures .is) (c .before .before .before .before .before .before .before .before .before .before .before .before .before .before .before .before .before .before .before .before .before .before .before .before .before .before .before .before .before .before .before .behind .ensures) (c .before .before .before .before .before .before .before .before .before .before .before .before .before .before .before .before .before .before .before .before .before .before .before .before .before .before .before .before .before .before .widen .ensures) (put-is (c .before .before .before .before .before .before .before .before .before .before .before .before .before .before .before .before .before .before .before .before .before .before .before .before .before .before .before .before .before .before .before .before .before .before .put .ensures) (c .before .before .before .before .before .before .before .before .before .before .before .before .before .before .before .before .before .before .before .before .before .before .before .before .before .before .expr2 .ensures)) (c .before .before .before .before .before .before .before .before .before .before .before .before .before .before .before .before .before .before .y .given .1) (c .before .before .before .before .before .before .before .before .before .before .before .before .before .behind2 .ensures) (c .before .before .before .before .before .before .before .before .before .before .before .before .expr3 .ensures) (c .before .before .before .before .z .given .1) (c .before .before .agree .ensures) (negated _ (c .before .if1 .taken))
+fit-returns-5 t c = fit-differ _ (c .before .before .before .before .before .before .before .before .before .before .before .before .before .before .before .before .before .before .before .before .before .before .before .before .before .before .before .before .before .before .before .before .before .before .before .before .before .before .before .before .before .before .before .before .before .before .before .before .before .before .expr .ensures) (scope-long (c .before .before .before .before .before .before .before .before .before .before .before .before .before .before .before .before .before .before .before .before .before .before .before .before .before .before .before .before .before .before .before .before .before .before .before .before .before .before .before .before .before .before .before .before .before .before .before .before .before .before .before .before .before .before .before .before .before .before .before .before .before .pre .1 .0) ((c .before .before .before .before .before .before .before .before .before .before .before .before .before .before .before .before .before .before .before .before .before .before .before .before .before .before .before .before .before .before .before .before .before .before .before .before .before .before .before .before .before .before .before .before .before .before .before .before .before .before .expr .kept .1 .1 .1 .1 .1 .0))) (c .before .before .before .before .before .before .before .before .before .before .before .before .before .before .before .before .before .before .before .before .before .before .before .before .before .before .before .before .before .before .before .before .before .before .before .before .before .before .before .before .before .before .x .given .1) (c .before .before .before .before .before .before .before .before .before .before .before .before .before .before .before .before .before .before .before .before .before .before .before .before .before .before .before .before .before .before .before .before .before .before .before .before .before .before .before .kind .given .1) (c .before .before .before .before .before .before .before .before .before .before .before .before .before .before .before .before .before .before .before .before .before .before .before .before .before .before .before .before .before .before .before .before .before .before .before .before .before .word-of .ensures .is) (c .before .before .before .before .before .before .before .before .before .before .before .before .before .before .before .before .before .before .before .before .before .before .before .before .before .before .before .before .before .before .before .behind .ensures) (c .before .before .before .before .before .before .before .before .before .before .before .before .before .before .before .before .before .before .before .before .before .before .before .before .before .before .before .before .before .before .widen .ensures) (put-is (c .before .before .before .before .before .before .before .before .before .before .before .before .before .before .before .before .before .before .before .before .before .before .before .before .before .before .before .before .before .before .before .before .before .before .put .ensures) (c .before .before .before .before .before .before .before .before .before .before .before .before .before .before .before .before .before .before .before .before .before .before .before .before .before .before .expr2 .ensures)) (c .before .before .before .before .before .before .before .before .before .before .before .before .before .before .before .before .before .before .y .given .1) (c .before .before .before .before .before .before .before .before .before .before .before .before .before .before .before .before .behind2 .ensures) (c .before .before .before .before .before .before .before .before .before .before .before .before .expr3 .ensures) (c .before .before .before .before .z .given .1) (c .before .before .agree .ensures) (not-true _ (c .before .if1 .taken))
 
 fit-fitted-requires : (t : ℕ) → fit-lts.Need-fitted-requires (
   expr-below t,
@@ -7791,7 +7600,7 @@ fit-same-length-16 : (t : ℕ) → fit-lts.Need-same-length-16 (
   fitted-reads.Asked,
   fitted-reads.Learnt,
 ) (fit-at t) fit.Post
-fit-same-length-16 t c = (c .before .before .before .before .before .before .before .before .before .before .before .before .expr3 .kept .1 .1 .1 .1 .1 .0) ∙ (c .before .before .before .before .before .before .before .before .before .before .before .before .before .before .before .before .before .before .before .before .before .before .before .before .before .before .expr2 .kept .1 .1 .1 .1 .1 .0) ∙ (c .before .before .before .before .before .before .before .before .before .before .before .before .before .before .before .before .before .before .before .before .before .before .before .before .before .before .before .before .before .before .before .before .before .before .before .before .before .before .before .before .before .before .before .before .before .before .before .before .before .before .expr .kept .1 .1 .1 .1 .1 .0)
+fit-same-length-16 t c = (c .before .before .before .before .before .before .before .before .before .before .before .before .expr3 .kept .1 .1 .1 .1 .0) ∙ (c .before .before .before .before .before .before .before .before .before .before .before .before .before .before .before .before .before .before .before .before .before .before .before .before .before .before .expr2 .kept .1 .1 .1 .1 .0) ∙ (c .before .before .before .before .before .before .before .before .before .before .before .before .before .before .before .before .before .before .before .before .before .before .before .before .before .before .before .before .before .before .before .before .before .before .before .before .before .before .before .before .before .before .before .before .before .before .before .before .before .before .expr .kept .1 .1 .1 .1 .0)
 
 fit-same-length-17 : (t : ℕ) → fit-lts.Need-same-length-17 (
   expr-below t,
@@ -7809,7 +7618,7 @@ fit-same-length-17 : (t : ℕ) → fit-lts.Need-same-length-17 (
   fitted-reads.Asked,
   fitted-reads.Learnt,
 ) (fit-at t) fit.Post
-fit-same-length-17 t c = (c .before .before .before .before .before .before .before .before .before .before .before .before .expr3 .kept .1 .1 .1 .1 .1 .1 .0) ∙ (c .before .before .before .before .before .before .before .before .before .before .before .before .before .before .before .before .before .before .before .before .before .before .before .before .before .before .expr2 .kept .1 .1 .1 .1 .1 .1 .0) ∙ (c .before .before .before .before .before .before .before .before .before .before .before .before .before .before .before .before .before .before .before .before .before .before .before .before .before .before .before .before .before .before .before .before .before .before .put .kept .0) ∙ (c .before .before .before .before .before .before .before .before .before .before .before .before .before .before .before .before .before .before .before .before .before .before .before .before .before .before .before .before .before .before .before .before .before .before .before .before .before .before .before .before .before .before .before .before .before .before .before .before .before .before .expr .kept .1 .1 .1 .1 .1 .1 .0)
+fit-same-length-17 t c = (c .before .before .before .before .before .before .before .before .before .before .before .before .expr3 .kept .1 .1 .1 .1 .1 .0) ∙ (c .before .before .before .before .before .before .before .before .before .before .before .before .before .before .before .before .before .before .before .before .before .before .before .before .before .before .expr2 .kept .1 .1 .1 .1 .1 .0) ∙ (c .before .before .before .before .before .before .before .before .before .before .before .before .before .before .before .before .before .before .before .before .before .before .before .before .before .before .before .before .before .before .before .before .before .before .put .kept .0) ∙ (c .before .before .before .before .before .before .before .before .before .before .before .before .before .before .before .before .before .before .before .before .before .before .before .before .before .before .before .before .before .before .before .before .before .before .before .before .before .before .before .before .before .before .before .before .before .before .before .before .before .before .expr .kept .1 .1 .1 .1 .1 .0)
 
 fit-same-length-18 : (t : ℕ) → fit-lts.Need-same-length-18 (
   expr-below t,
@@ -7827,7 +7636,7 @@ fit-same-length-18 : (t : ℕ) → fit-lts.Need-same-length-18 (
   fitted-reads.Asked,
   fitted-reads.Learnt,
 ) (fit-at t) fit.Post
-fit-same-length-18 t c = (c .before .before .before .before .before .before .before .before .before .before .before .before .expr3 .kept .1 .1 .1 .1 .1 .1 .1 .0) ∙ (c .before .before .before .before .before .before .before .before .before .before .before .before .before .before .before .before .before .before .before .before .before .before .before .before .before .before .expr2 .kept .1 .1 .1 .1 .1 .1 .1 .0) ∙ (c .before .before .before .before .before .before .before .before .before .before .before .before .before .before .before .before .before .before .before .before .before .before .before .before .before .before .before .before .before .before .before .before .before .before .before .before .before .before .before .before .before .before .before .before .before .before .before .before .before .before .expr .kept .1 .1 .1 .1 .1 .1 .1 .0)
+fit-same-length-18 t c = (c .before .before .before .before .before .before .before .before .before .before .before .before .expr3 .kept .1 .1 .1 .1 .1 .1 .0) ∙ (c .before .before .before .before .before .before .before .before .before .before .before .before .before .before .before .before .before .before .before .before .before .before .before .before .before .before .expr2 .kept .1 .1 .1 .1 .1 .1 .0) ∙ (c .before .before .before .before .before .before .before .before .before .before .before .before .before .before .before .before .before .before .before .before .before .before .before .before .before .before .before .before .before .before .before .before .before .before .before .before .before .before .before .before .before .before .before .before .before .before .before .before .before .before .expr .kept .1 .1 .1 .1 .1 .1 .0)
 
 fit-returns-6 : (t : ℕ) → fit-lts.Need-returns-6 (
   expr-below t,
@@ -7845,7 +7654,7 @@ fit-returns-6 : (t : ℕ) → fit-lts.Need-returns-6 (
   fitted-reads.Asked,
   fitted-reads.Learnt,
 ) (fit-at t) fit.Post
-fit-returns-6 t c = fit-done _ (c .before .before .before .before .before .before .before .before .before .before .before .before .before .before .before .before .before .before .before .before .before .before .before .before .before .before .before .before .before .before .before .before .before .before .before .before .before .before .before .before .before .before .before .before .before .before .before .before .before .before .expr .ensures) (scope-long (c .before .before .before .before .before .before .before .before .before .before .before .before .before .before .before .before .before .before .before .before .before .before .before .before .before .before .before .before .before .before .before .before .before .before .before .before .before .before .before .before .before .before .before .before .before .before .before .before .before .before .before .before .before .before .before .before .before .before .before .before .before .before .pre .1 .0) ((c .before .before .before .before .before .before .before .before .before .before .before .before .before .before .before .before .before .before .before .before .before .before .before .before .before .before .before .before .before .before .before .before .before .before .before .before .before .before .before .before .before .before .before .before .before .before .before .before .before .before .expr .kept .1 .1 .1 .1 .1 .1 .0))) (c .before .before .before .before .before .before .before .before .before .before .before .before .before .before .before .before .before .before .before .before .before .before .before .before .before .before .before .before .before .before .before .before .before .before .before .before .before .before .before .before .before .before .x .given .1) (c .before .before .before .before .before .before .before .before .before .before .before .before .before .before .before .before .before .before .before .before .before .before .before .before .before .before .before .before .before .before .before .before .before .before .before .before .before .before .before .kind .given .1) (c .before .before .before .before .before .before .before .before .before .before .before .before .before .before .before .before .before .before .before .before .before .before .before .before .before .before .before .before .before .before .before .before .before .before .before .word-of .ensures .is) (c .before .before .before .before .before .before .before .before .before .before .before .before .before .before .before .before .before .before .before .before .before .before .before .before .before .before .before .before .before .before .before .behind .ensures) (c .before .before .before .before .before .before .before .before .before .before .before .before .before .before .before .before .before .before .before .before .before .before .before .before .before .before .before .before .before .before .widen .ensures) (put-is (c .before .before .before .before .before .before .before .before .before .before .before .before .before .before .before .before .before .before .before .before .before .before .before .before .before .before .before .before .before .before .before .before .before .before .put .ensures) (c .before .before .before .before .before .before .before .before .before .before .before .before .before .before .before .before .before .before .before .before .before .before .before .before .before .before .expr2 .ensures)) (c .before .before .before .before .before .before .before .before .before .before .before .before .before .before .before .before .before .before .y .given .1) (c .before .before .before .before .before .before .before .before .before .before .before .before .before .behind2 .ensures) (c .before .before .before .before .before .before .before .before .before .before .before .before .expr3 .ensures) (c .before .before .before .before .z .given .1) (c .before .before .agree .ensures) (affirmed _ (c .before .if1 .left)) (c .fitted .ensures .held) (c .fitted .ensures .both) (c .fitted .ensures .all) (c .fitted .ensures .is)
+fit-returns-6 t c = fit-done _ (c .before .before .before .before .before .before .before .before .before .before .before .before .before .before .before .before .before .before .before .before .before .before .before .before .before .before .before .before .before .before .before .before .before .before .before .before .before .before .before .before .before .before .before .before .before .before .before .before .before .before .expr .ensures) (scope-long (c .before .before .before .before .before .before .before .before .before .before .before .before .before .before .before .before .before .before .before .before .before .before .before .before .before .before .before .before .before .before .before .before .before .before .before .before .before .before .before .before .before .before .before .before .before .before .before .before .before .before .before .before .before .before .before .before .before .before .before .before .before .pre .1 .0) ((c .before .before .before .before .before .before .before .before .before .before .before .before .before .before .before .before .before .before .before .before .before .before .before .before .before .before .before .before .before .before .before .before .before .before .before .before .before .before .before .before .before .before .before .before .before .before .before .before .before .before .expr .kept .1 .1 .1 .1 .1 .0))) (c .before .before .before .before .before .before .before .before .before .before .before .before .before .before .before .before .before .before .before .before .before .before .before .before .before .before .before .before .before .before .before .before .before .before .before .before .before .before .before .before .before .before .x .given .1) (c .before .before .before .before .before .before .before .before .before .before .before .before .before .before .before .before .before .before .before .before .before .before .before .before .before .before .before .before .before .before .before .before .before .before .before .before .before .before .before .kind .given .1) (c .before .before .before .before .before .before .before .before .before .before .before .before .before .before .before .before .before .before .before .before .before .before .before .before .before .before .before .before .before .before .before .before .before .before .before .before .before .word-of .ensures .is) (c .before .before .before .before .before .before .before .before .before .before .before .before .before .before .before .before .before .before .before .before .before .before .before .before .before .before .before .before .before .before .before .behind .ensures) (c .before .before .before .before .before .before .before .before .before .before .before .before .before .before .before .before .before .before .before .before .before .before .before .before .before .before .before .before .before .before .widen .ensures) (put-is (c .before .before .before .before .before .before .before .before .before .before .before .before .before .before .before .before .before .before .before .before .before .before .before .before .before .before .before .before .before .before .before .before .before .before .put .ensures) (c .before .before .before .before .before .before .before .before .before .before .before .before .before .before .before .before .before .before .before .before .before .before .before .before .before .before .expr2 .ensures)) (c .before .before .before .before .before .before .before .before .before .before .before .before .before .before .before .before .before .before .y .given .1) (c .before .before .before .before .before .before .before .before .before .before .before .before .before .before .before .before .behind2 .ensures) (c .before .before .before .before .before .before .before .before .before .before .before .before .expr3 .ensures) (c .before .before .before .before .z .given .1) (c .before .before .agree .ensures) (not-false _ (c .before .if1 .left)) (c .fitted .ensures .held) (c .fitted .ensures .both) (c .fitted .ensures .all) (c .fitted .ensures .is)
 
 operation-expr-requires : (t : ℕ) → operation-lts.Need-expr-requires (
   expr-below t,
@@ -7855,7 +7664,7 @@ operation-expr-requires : (t : ℕ) → operation-lts.Need-expr-requires (
   operated-reads.Asked,
   operated-reads.Learnt,
 ) (operation-at t) operation.Post
-operation-expr-requires t c κs = (load-same _ 900 (c .before .before .before .before .before .before .before .before .before .before .before .pre .0) 0 (omega arith), room-same (c .before .before .before .before .before .before .before .before .before .before .before .pre .1) (omega arith))
+operation-expr-requires t c κs = (load-same _ 900 (c .before .before .before .before .before .before .before .before .before .before .pre .0) 0 (omega arith), room-same (c .before .before .before .before .before .before .before .before .before .before .pre .1) (omega arith))
 
 operation-enum-known-x : (t : ℕ) → operation-lts.Need-enum-known-x (
   expr-below t,
@@ -7885,7 +7694,7 @@ operation-same-length : (t : ℕ) → operation-lts.Need-same-length (
   operated-reads.Asked,
   operated-reads.Learnt,
 ) (operation-at t) operation.Post
-operation-same-length t c = (c .before .before .before .before .before .before .before .before .expr .kept .1 .1 .1 .1 .1 .0)
+operation-same-length t c = (c .before .before .before .before .before .before .before .before .expr .kept .1 .1 .1 .1 .0)
 
 operation-same-length-2 : (t : ℕ) → operation-lts.Need-same-length-2 (
   expr-below t,
@@ -7895,7 +7704,7 @@ operation-same-length-2 : (t : ℕ) → operation-lts.Need-same-length-2 (
   operated-reads.Asked,
   operated-reads.Learnt,
 ) (operation-at t) operation.Post
-operation-same-length-2 t c = (c .before .before .before .before .before .before .before .before .expr .kept .1 .1 .1 .1 .1 .1 .0)
+operation-same-length-2 t c = (c .before .before .before .before .before .before .before .before .expr .kept .1 .1 .1 .1 .1 .0)
 
 operation-same-length-3 : (t : ℕ) → operation-lts.Need-same-length-3 (
   expr-below t,
@@ -7905,7 +7714,7 @@ operation-same-length-3 : (t : ℕ) → operation-lts.Need-same-length-3 (
   operated-reads.Asked,
   operated-reads.Learnt,
 ) (operation-at t) operation.Post
-operation-same-length-3 t c = (c .before .before .before .before .before .before .before .before .expr .kept .1 .1 .1 .1 .1 .1 .1 .0)
+operation-same-length-3 t c = (c .before .before .before .before .before .before .before .before .expr .kept .1 .1 .1 .1 .1 .1 .0)
 
 operation-returns : (t : ℕ) → operation-lts.Need-returns (
   expr-below t,
@@ -7935,7 +7744,7 @@ operation-expr-requires-2 : (t : ℕ) → operation-lts.Need-expr-requires-2 (
   operated-reads.Asked,
   operated-reads.Learnt,
 ) (operation-at t) operation.Post
-operation-expr-requires-2 t c κs = (load-moved _ 900 (c .before .before .before .before .before .before .before .before .before .before .before .before .before .before .before .before .before .before .before .before .before .before .before .before .before .pre .0) _ 0 (c .behind .ensures) (grows-to (c .before .before .before .before .before .before .before .before .before .before .before .before .before .expr .ensures .grows) (c .before .before .before .before .before .x .given .1)) (omega arith), room-behind (c .before .before .before .before .before .before .before .before .before .before .before .before .before .before .before .before .before .before .before .before .before .before .before .before .before .pre .1) (c .behind .ensures) ((c .before .before .before .before .before .before .before .before .before .before .before .before .before .expr .kept .1 .1 .1 .1 .1 .1 .0)) ((c .before .before .before .before .before .before .before .before .before .before .before .before .before .expr .kept .1 .1 .1 .1 .1 .1 .1 .0)))
+operation-expr-requires-2 t c κs = (load-moved _ 900 (c .before .before .before .before .before .before .before .before .before .before .before .before .before .before .before .before .before .before .before .before .before .before .before .before .pre .0) _ 0 (c .before .before .before .behind .ensures) (grows-to (c .before .before .before .before .before .before .before .before .before .before .before .before .before .expr .ensures .grows) (c .before .before .before .before .before .x .given .1)) (omega arith), room-behind (c .before .before .before .before .before .before .before .before .before .before .before .before .before .before .before .before .before .before .before .before .before .before .before .before .pre .1) (c .before .before .before .behind .ensures) ((c .before .before .before .before .before .before .before .before .before .before .before .before .before .expr .kept .1 .1 .1 .1 .1 .0)) ((c .before .before .before .before .before .before .before .before .before .before .before .before .before .expr .kept .1 .1 .1 .1 .1 .1 .0)))
 
 operation-enum-known-y : (t : ℕ) → operation-lts.Need-enum-known-y (
   expr-below t,
@@ -7965,7 +7774,7 @@ operation-same-length-4 : (t : ℕ) → operation-lts.Need-same-length-4 (
   operated-reads.Asked,
   operated-reads.Learnt,
 ) (operation-at t) operation.Post
-operation-same-length-4 t c = (c .before .before .before .before .before .before .before .before .expr2 .kept .1 .1 .1 .1 .1 .0) ∙ (c .before .before .before .before .before .before .before .before .before .before .before .before .before .before .before .before .before .before .before .before .before .before .expr .kept .1 .1 .1 .1 .1 .0)
+operation-same-length-4 t c = (c .before .before .before .before .before .before .before .before .expr2 .kept .1 .1 .1 .1 .0) ∙ (c .before .before .before .before .before .before .before .before .before .before .before .before .before .before .before .before .before .before .before .before .before .before .expr .kept .1 .1 .1 .1 .0)
 
 operation-same-length-5 : (t : ℕ) → operation-lts.Need-same-length-5 (
   expr-below t,
@@ -7975,7 +7784,7 @@ operation-same-length-5 : (t : ℕ) → operation-lts.Need-same-length-5 (
   operated-reads.Asked,
   operated-reads.Learnt,
 ) (operation-at t) operation.Post
-operation-same-length-5 t c = (c .before .before .before .before .before .before .before .before .expr2 .kept .1 .1 .1 .1 .1 .1 .0) ∙ (c .before .before .before .before .before .before .before .before .before .before .before .before .before .before .before .before .before .before .before .before .before .before .expr .kept .1 .1 .1 .1 .1 .1 .0)
+operation-same-length-5 t c = (c .before .before .before .before .before .before .before .before .expr2 .kept .1 .1 .1 .1 .1 .0) ∙ (c .before .before .before .before .before .before .before .before .before .before .before .before .before .before .before .before .before .before .before .before .before .before .expr .kept .1 .1 .1 .1 .1 .0)
 
 operation-same-length-6 : (t : ℕ) → operation-lts.Need-same-length-6 (
   expr-below t,
@@ -7985,7 +7794,7 @@ operation-same-length-6 : (t : ℕ) → operation-lts.Need-same-length-6 (
   operated-reads.Asked,
   operated-reads.Learnt,
 ) (operation-at t) operation.Post
-operation-same-length-6 t c = (c .before .before .before .before .before .before .before .before .expr2 .kept .1 .1 .1 .1 .1 .1 .1 .0) ∙ (c .before .before .before .before .before .before .before .before .before .before .before .before .before .before .before .before .before .before .before .before .before .before .expr .kept .1 .1 .1 .1 .1 .1 .1 .0)
+operation-same-length-6 t c = (c .before .before .before .before .before .before .before .before .expr2 .kept .1 .1 .1 .1 .1 .1 .0) ∙ (c .before .before .before .before .before .before .before .before .before .before .before .before .before .before .before .before .before .before .before .before .before .before .expr .kept .1 .1 .1 .1 .1 .1 .0)
 
 operation-returns-2 : (t : ℕ) → operation-lts.Need-returns-2 (
   expr-below t,
@@ -7995,7 +7804,7 @@ operation-returns-2 : (t : ℕ) → operation-lts.Need-returns-2 (
   operated-reads.Asked,
   operated-reads.Learnt,
 ) (operation-at t) operation.Post
-operation-returns-2 t c = op-second (c .before .before .before .before .before .before .before .before .before .before .before .before .before .before .before .before .before .before .before .before .before .before .expr .ensures) (c .before .before .before .before .before .before .before .before .before .before .before .before .before .before .x .given .1) (c .before .before .before .before .before .before .before .before .before .behind .ensures) (c .before .before .before .before .before .before .before .before .expr2 .ensures) (c .enum-told2 .given .1)
+operation-returns-2 t c = op-second (c .before .before .before .before .before .before .before .before .before .before .before .before .before .before .before .before .before .before .before .before .before .before .expr .ensures) (c .before .before .before .before .before .before .before .before .before .before .before .before .before .before .x .given .1) (c .before .before .before .before .before .before .before .before .before .before .before .before .behind .ensures) (c .before .before .before .before .before .before .before .before .expr2 .ensures) (c .enum-told2 .given .1)
 
 operation-operated-requires : (t : ℕ) → operation-lts.Need-operated-requires (
   expr-below t,
@@ -8015,7 +7824,7 @@ operation-same-length-7 : (t : ℕ) → operation-lts.Need-same-length-7 (
   operated-reads.Asked,
   operated-reads.Learnt,
 ) (operation-at t) operation.Post
-operation-same-length-7 t c = (c .before .before .before .before .before .before .before .before .before .before .expr2 .kept .1 .1 .1 .1 .1 .0) ∙ (c .before .before .before .before .before .before .before .before .before .before .before .before .before .before .before .before .before .before .before .before .before .before .before .before .expr .kept .1 .1 .1 .1 .1 .0)
+operation-same-length-7 t c = (c .before .before .before .before .before .before .before .before .before .before .expr2 .kept .1 .1 .1 .1 .0) ∙ (c .before .before .before .before .before .before .before .before .before .before .before .before .before .before .before .before .before .before .before .before .before .before .before .before .expr .kept .1 .1 .1 .1 .0)
 
 operation-same-length-8 : (t : ℕ) → operation-lts.Need-same-length-8 (
   expr-below t,
@@ -8025,7 +7834,7 @@ operation-same-length-8 : (t : ℕ) → operation-lts.Need-same-length-8 (
   operated-reads.Asked,
   operated-reads.Learnt,
 ) (operation-at t) operation.Post
-operation-same-length-8 t c = (c .before .before .before .before .before .before .before .before .before .before .expr2 .kept .1 .1 .1 .1 .1 .1 .0) ∙ (c .before .before .before .before .before .before .before .before .before .before .before .before .before .before .before .before .before .before .before .before .before .before .before .before .expr .kept .1 .1 .1 .1 .1 .1 .0)
+operation-same-length-8 t c = (c .before .before .before .before .before .before .before .before .before .before .expr2 .kept .1 .1 .1 .1 .1 .0) ∙ (c .before .before .before .before .before .before .before .before .before .before .before .before .before .before .before .before .before .before .before .before .before .before .before .before .expr .kept .1 .1 .1 .1 .1 .0)
 
 operation-same-length-9 : (t : ℕ) → operation-lts.Need-same-length-9 (
   expr-below t,
@@ -8035,7 +7844,7 @@ operation-same-length-9 : (t : ℕ) → operation-lts.Need-same-length-9 (
   operated-reads.Asked,
   operated-reads.Learnt,
 ) (operation-at t) operation.Post
-operation-same-length-9 t c = (c .before .before .before .before .before .before .before .before .before .before .expr2 .kept .1 .1 .1 .1 .1 .1 .1 .0) ∙ (c .before .before .before .before .before .before .before .before .before .before .before .before .before .before .before .before .before .before .before .before .before .before .before .before .expr .kept .1 .1 .1 .1 .1 .1 .1 .0)
+operation-same-length-9 t c = (c .before .before .before .before .before .before .before .before .before .before .expr2 .kept .1 .1 .1 .1 .1 .1 .0) ∙ (c .before .before .before .before .before .before .before .before .before .before .before .before .before .before .before .before .before .before .before .before .before .before .before .before .expr .kept .1 .1 .1 .1 .1 .1 .0)
 
 operation-returns-3 : (t : ℕ) → operation-lts.Need-returns-3 (
   expr-below t,
@@ -8045,13 +7854,15 @@ operation-returns-3 : (t : ℕ) → operation-lts.Need-returns-3 (
   operated-reads.Asked,
   operated-reads.Learnt,
 ) (operation-at t) operation.Post
-operation-returns-3 t c = op-done (c .before .before .before .before .before .before .before .before .before .before .before .before .before .before .before .before .before .before .before .before .before .before .before .before .expr .ensures) (c .before .before .before .before .before .before .before .before .before .before .before .before .before .before .before .before .x .given .1) (c .before .before .before .before .before .before .before .before .before .before .before .behind .ensures) (c .before .before .before .before .before .before .before .before .before .before .expr2 .ensures) (c .before .before .y .given .1) (c .operated .ensures .typed) (c .operated .ensures .both) (c .operated .ensures .one) (c .operated .ensures .all) (c .operated .ensures .is)
+operation-returns-3 t c = op-done (c .before .before .before .before .before .before .before .before .before .before .before .before .before .before .before .before .before .before .before .before .before .before .before .before .expr .ensures) (c .before .before .before .before .before .before .before .before .before .before .before .before .before .before .before .before .x .given .1) (c .before .before .before .before .before .before .before .before .before .before .before .before .before .before .behind .ensures) (c .before .before .before .before .before .before .before .before .before .before .expr2 .ensures) (c .before .before .y .given .1) (c .operated .ensures .typed) (c .operated .ensures .both) (c .operated .ensures .one) (c .operated .ensures .all) (c .operated .ensures .is)
 
 several-none-requires : (t : ℕ) → several-lts.Need-none-requires (
   none-reads.Asked,
   none-reads.Learnt,
   expr-below t,
   expr.Post,
+  refused-all-reads.Asked,
+  refused-all-reads.Learnt,
   kind-word-reads.Asked,
   kind-word-reads.Learnt,
   put-reads.Asked,
@@ -8070,6 +7881,8 @@ several-returns : (t : ℕ) → several-lts.Need-returns (
   none-reads.Learnt,
   expr-below t,
   expr.Post,
+  refused-all-reads.Asked,
+  refused-all-reads.Learnt,
   kind-word-reads.Asked,
   kind-word-reads.Learnt,
   put-reads.Asked,
@@ -8088,6 +7901,8 @@ several-expr-requires : (t : ℕ) → several-lts.Need-expr-requires (
   none-reads.Learnt,
   expr-below t,
   expr.Post,
+  refused-all-reads.Asked,
+  refused-all-reads.Learnt,
   kind-word-reads.Asked,
   kind-word-reads.Learnt,
   put-reads.Asked,
@@ -8099,13 +7914,15 @@ several-expr-requires : (t : ℕ) → several-lts.Need-expr-requires (
   one-more-reads.Asked,
   one-more-reads.Learnt,
 ) (several-at t) several.Post
-several-expr-requires t c κs = (load-same _ _ (c .before .before .before .before .before .before .before .before .before .before .before .before .before .pre .0) 0 (omega arith), room-same (c .before .before .before .before .before .before .before .before .before .before .before .before .before .pre .1 .0) (omega arith))
+several-expr-requires t c κs = (load-same _ _ (c .before .before .before .before .before .before .before .before .before .before .before .before .pre .0) 0 (omega arith), room-same (c .before .before .before .before .before .before .before .before .before .before .before .before .pre .1 .0) (omega arith))
 
 several-enum-known-x : (t : ℕ) → several-lts.Need-enum-known-x (
   none-reads.Asked,
   none-reads.Learnt,
   expr-below t,
   expr.Post,
+  refused-all-reads.Asked,
+  refused-all-reads.Learnt,
   kind-word-reads.Asked,
   kind-word-reads.Learnt,
   put-reads.Asked,
@@ -8119,11 +7936,13 @@ several-enum-known-x : (t : ℕ) → several-lts.Need-enum-known-x (
 ) (several-at t) several.Post
 several-enum-known-x t c = (c .match .keys1)
 
-several-enum-known-x-2 : (t : ℕ) → several-lts.Need-enum-known-x-2 (
+several-enum-told : (t : ℕ) → several-lts.Need-enum-told (
   none-reads.Asked,
   none-reads.Learnt,
   expr-below t,
   expr.Post,
+  refused-all-reads.Asked,
+  refused-all-reads.Learnt,
   kind-word-reads.Asked,
   kind-word-reads.Learnt,
   put-reads.Asked,
@@ -8135,13 +7954,115 @@ several-enum-known-x-2 : (t : ℕ) → several-lts.Need-enum-known-x-2 (
   one-more-reads.Asked,
   one-more-reads.Learnt,
 ) (several-at t) several.Post
-several-enum-known-x-2 t c = (c .match .keys2)
+several-enum-told t c = (c .match .keys2)
+
+several-refused-all-requires : (t : ℕ) → several-lts.Need-refused-all-requires (
+  none-reads.Asked,
+  none-reads.Learnt,
+  expr-below t,
+  expr.Post,
+  refused-all-reads.Asked,
+  refused-all-reads.Learnt,
+  kind-word-reads.Asked,
+  kind-word-reads.Learnt,
+  put-reads.Asked,
+  put-reads.Learnt,
+  behind-reads.Asked,
+  behind-reads.Learnt,
+  several-below t,
+  several.Post,
+  one-more-reads.Asked,
+  one-more-reads.Learnt,
+) (several-at t) several.Post
+several-refused-all-requires t c κs = tt
+
+several-same-length : (t : ℕ) → several-lts.Need-same-length (
+  none-reads.Asked,
+  none-reads.Learnt,
+  expr-below t,
+  expr.Post,
+  refused-all-reads.Asked,
+  refused-all-reads.Learnt,
+  kind-word-reads.Asked,
+  kind-word-reads.Learnt,
+  put-reads.Asked,
+  put-reads.Learnt,
+  behind-reads.Asked,
+  behind-reads.Learnt,
+  several-below t,
+  several.Post,
+  one-more-reads.Asked,
+  one-more-reads.Learnt,
+) (several-at t) several.Post
+several-same-length t c = (c .before .before .before .before .before .before .before .before .before .expr .kept .1 .1 .1 .1 .0)
+
+several-same-length-2 : (t : ℕ) → several-lts.Need-same-length-2 (
+  none-reads.Asked,
+  none-reads.Learnt,
+  expr-below t,
+  expr.Post,
+  refused-all-reads.Asked,
+  refused-all-reads.Learnt,
+  kind-word-reads.Asked,
+  kind-word-reads.Learnt,
+  put-reads.Asked,
+  put-reads.Learnt,
+  behind-reads.Asked,
+  behind-reads.Learnt,
+  several-below t,
+  several.Post,
+  one-more-reads.Asked,
+  one-more-reads.Learnt,
+) (several-at t) several.Post
+several-same-length-2 t c = (c .before .before .before .before .before .before .before .before .before .expr .kept .1 .1 .1 .1 .1 .0)
+
+several-same-length-3 : (t : ℕ) → several-lts.Need-same-length-3 (
+  none-reads.Asked,
+  none-reads.Learnt,
+  expr-below t,
+  expr.Post,
+  refused-all-reads.Asked,
+  refused-all-reads.Learnt,
+  kind-word-reads.Asked,
+  kind-word-reads.Learnt,
+  put-reads.Asked,
+  put-reads.Learnt,
+  behind-reads.Asked,
+  behind-reads.Learnt,
+  several-below t,
+  several.Post,
+  one-more-reads.Asked,
+  one-more-reads.Learnt,
+) (several-at t) several.Post
+several-same-length-3 t c = (c .before .before .before .before .before .before .before .before .before .expr .kept .1 .1 .1 .1 .1 .1 .0)
+
+several-returns-2 : (t : ℕ) → several-lts.Need-returns-2 (
+  none-reads.Asked,
+  none-reads.Learnt,
+  expr-below t,
+  expr.Post,
+  refused-all-reads.Asked,
+  refused-all-reads.Learnt,
+  kind-word-reads.Asked,
+  kind-word-reads.Learnt,
+  put-reads.Asked,
+  put-reads.Learnt,
+  behind-reads.Asked,
+  behind-reads.Learnt,
+  several-below t,
+  several.Post,
+  one-more-reads.Asked,
+  one-more-reads.Learnt,
+) (several-at t) several.Post
+several-returns-2 t c = several-first _ (c .before .before .before .before .before .before .before .before .before .before .before .before .before .if1 .left) (c .before .before .before .before .before .before .before .before .before .expr .ensures) (c .before .enum-told .given .1) (c .refused-all .ensures)
 
 several-kind-word-requires : (t : ℕ) → several-lts.Need-kind-word-requires (
   none-reads.Asked,
   none-reads.Learnt,
   expr-below t,
   expr.Post,
+  refused-all-reads.Asked,
+  refused-all-reads.Learnt,
   kind-word-reads.Asked,
   kind-word-reads.Learnt,
   put-reads.Asked,
@@ -8160,6 +8081,8 @@ several-put-requires : (t : ℕ) → several-lts.Need-put-requires (
   none-reads.Learnt,
   expr-below t,
   expr.Post,
+  refused-all-reads.Asked,
+  refused-all-reads.Learnt,
   kind-word-reads.Asked,
   kind-word-reads.Learnt,
   put-reads.Asked,
@@ -8178,6 +8101,8 @@ several-behind-requires : (t : ℕ) → several-lts.Need-behind-requires (
   none-reads.Learnt,
   expr-below t,
   expr.Post,
+  refused-all-reads.Asked,
+  refused-all-reads.Learnt,
   kind-word-reads.Asked,
   kind-word-reads.Learnt,
   put-reads.Asked,
@@ -8196,6 +8121,8 @@ several-add-several : (t : ℕ) → several-lts.Need-add-several (
   none-reads.Learnt,
   expr-below t,
   expr.Post,
+  refused-all-reads.Asked,
+  refused-all-reads.Learnt,
   kind-word-reads.Asked,
   kind-word-reads.Learnt,
   put-reads.Asked,
@@ -8207,13 +8134,15 @@ several-add-several : (t : ℕ) → several-lts.Need-add-several (
   one-more-reads.Asked,
   one-more-reads.Learnt,
 ) (several-at t) several.Post
-several-add-several t c = omega (arith, (c .before .before .before .before .before .before .before .before .before .before .before .before .before .before .before .before .before .before .before .before .before .before .before .if1 .left), (c .before .before .before .before .before .before .before .before .before .before .before .before .before .before .before .before .before .before .before .before .before .before .before .before .before .before .before .before .before .before .before .before .before .pre .1 .1))
+several-add-several t c = omega (arith, (c .before .before .before .before .before .before .before .before .before .before .before .before .before .before .before .before .before .before .before .before .before .before .before .if1 .left), (c .before .before .before .before .before .before .before .before .before .before .before .before .before .before .before .before .before .before .before .before .before .before .before .before .before .before .before .before .before .before .before .before .pre .1 .1))
 
 several-several-requires : (t : ℕ) → several-lts.Need-several-requires (
   none-reads.Asked,
   none-reads.Learnt,
   expr-below t,
   expr.Post,
+  refused-all-reads.Asked,
+  refused-all-reads.Learnt,
   kind-word-reads.Asked,
   kind-word-reads.Learnt,
   put-reads.Asked,
@@ -8225,139 +8154,15 @@ several-several-requires : (t : ℕ) → several-lts.Need-several-requires (
   one-more-reads.Asked,
   one-more-reads.Learnt,
 ) (several-at t) several.Post
-several-several-requires t c κs = (load-moved _ _ (c .before .before .before .before .before .before .before .before .before .before .before .before .before .before .before .before .before .before .before .before .before .before .before .before .before .before .before .before .before .before .before .before .before .pre .0) _ _ (c .before .behind .ensures) (grows-to (c .before .before .before .before .before .before .before .before .before .before .before .before .before .before .before .before .before .before .before .expr .ensures .grows) (c .before .before .before .before .before .before .before .before .before .before .before .x2 .given .1)) (omega (arith, (c .before .before .before .before .before .before .before .before .before .before .before .before .before .before .before .before .before .before .before .before .before .before .before .if1 .left))), (room-rest (c .before .before .before .before .before .before .before .before .before .before .before .before .before .before .before .before .before .before .before .before .before .before .before .before .before .before .before .before .before .before .before .before .before .pre .1 .0) (c .before .behind .ensures) ((c .before .before .before .before .before .before .before .before .before .before .before .before .before .before .before .before .before .before .before .expr .kept .1 .1 .1 .1 .1 .1 .0)) ((c .before .before .before .before .before .before .before .before .before .before .before .before .before .before .before .before .before .before .before .expr .kept .1 .1 .1 .1 .1 .1 .1 .0)), (c .before .before .before .before .before .before .before .before .before .before .before .before .before .before .before .before .before .before .before .before .before .before .before .before .before .before .before .before .before .before .before .before .before .pre .1 .1)))
-
-several-enum-known-y : (t : ℕ) → several-lts.Need-enum-known-y (
-  none-reads.Asked,
-  none-reads.Learnt,
-  expr-below t,
-  expr.Post,
-  kind-word-reads.Asked,
-  kind-word-reads.Learnt,
-  put-reads.Asked,
-  put-reads.Learnt,
-  behind-reads.Asked,
-  behind-reads.Learnt,
-  several-below t,
-  several.Post,
-  one-more-reads.Asked,
-  one-more-reads.Learnt,
-) (several-at t) several.Post
-several-enum-known-y t c = (c .match2 .keys1)
-
-several-enum-told : (t : ℕ) → several-lts.Need-enum-told (
-  none-reads.Asked,
-  none-reads.Learnt,
-  expr-below t,
-  expr.Post,
-  kind-word-reads.Asked,
-  kind-word-reads.Learnt,
-  put-reads.Asked,
-  put-reads.Learnt,
-  behind-reads.Asked,
-  behind-reads.Learnt,
-  several-below t,
-  several.Post,
-  one-more-reads.Asked,
-  one-more-reads.Learnt,
-) (several-at t) several.Post
-several-enum-told t c = (c .match2 .keys2)
-
-several-same-length : (t : ℕ) → several-lts.Need-same-length (
-  none-reads.Asked,
-  none-reads.Learnt,
-  expr-below t,
-  expr.Post,
-  kind-word-reads.Asked,
-  kind-word-reads.Learnt,
-  put-reads.Asked,
-  put-reads.Learnt,
-  behind-reads.Asked,
-  behind-reads.Learnt,
-  several-below t,
-  several.Post,
-  one-more-reads.Asked,
-  one-more-reads.Learnt,
-) (several-at t) several.Post
-several-same-length t c = (c .before .before .before .before .before .before .before .before .before .before .several .kept .1 .1 .1 .1 .1 .0) ∙ (c .before .before .before .before .before .before .before .before .before .before .before .before .before .before .before .before .before .before .before .before .before .before .before .before .before .before .before .before .before .before .expr .kept .1 .1 .1 .1 .1 .0)
-
-several-same-length-2 : (t : ℕ) → several-lts.Need-same-length-2 (
-  none-reads.Asked,
-  none-reads.Learnt,
-  expr-below t,
-  expr.Post,
-  kind-word-reads.Asked,
-  kind-word-reads.Learnt,
-  put-reads.Asked,
-  put-reads.Learnt,
-  behind-reads.Asked,
-  behind-reads.Learnt,
-  several-below t,
-  several.Post,
-  one-more-reads.Asked,
-  one-more-reads.Learnt,
-) (several-at t) several.Post
-several-same-length-2 t c = (c .before .before .before .before .before .before .before .before .before .before .several .kept .1 .1 .1 .1 .1 .1 .0) ∙ (c .before .before .before .before .before .before .before .before .before .before .before .before .before .before .before .before .before .before .before .before .before .before .before .before .before .before .before .before .before .before .expr .kept .1 .1 .1 .1 .1 .1 .0)
-
-several-same-length-3 : (t : ℕ) → several-lts.Need-same-length-3 (
-  none-reads.Asked,
-  none-reads.Learnt,
-  expr-below t,
-  expr.Post,
-  kind-word-reads.Asked,
-  kind-word-reads.Learnt,
-  put-reads.Asked,
-  put-reads.Learnt,
-  behind-reads.Asked,
-  behind-reads.Learnt,
-  several-below t,
-  several.Post,
-  one-more-reads.Asked,
-  one-more-reads.Learnt,
-) (several-at t) several.Post
-several-same-length-3 t c = (c .before .before .before .before .before .before .before .before .before .before .several .kept .1 .1 .1 .1 .1 .1 .1 .0) ∙ (c .before .before .before .before .before .before .before .before .before .before .before .before .before .before .before .before .before .before .before .before .before .before .before .before .before .before .before .before .before .before .expr .kept .1 .1 .1 .1 .1 .1 .1 .0)
-
-several-same-length-4 : (t : ℕ) → several-lts.Need-same-length-4 (
-  none-reads.Asked,
-  none-reads.Learnt,
-  expr-below t,
-  expr.Post,
-  kind-word-reads.Asked,
-  kind-word-reads.Learnt,
-  put-reads.Asked,
-  put-reads.Learnt,
-  behind-reads.Asked,
-  behind-reads.Learnt,
-  several-below t,
-  several.Post,
-  one-more-reads.Asked,
-  one-more-reads.Learnt,
-) (several-at t) several.Post
-several-same-length-4 t c = (c .before .before .before .before .before .before .before .before .before .before .several .kept .1 .1 .1 .1 .1 .1 .1 .1 .1 .0) ∙ (c .before .before .before .before .before .before .before .before .before .before .before .before .before .before .before .before .before .before .put .kept .0)
-
-several-returns-2 : (t : ℕ) → several-lts.Need-returns-2 (
-  none-reads.Asked,
-  none-reads.Learnt,
-  expr-below t,
-  expr.Post,
-  kind-word-reads.Asked,
-  kind-word-reads.Learnt,
-  put-reads.Asked,
-  put-reads.Learnt,
-  behind-reads.Asked,
-  behind-reads.Learnt,
-  several-below t,
-  several.Post,
-  one-more-reads.Asked,
-  one-more-reads.Learnt,
-) (several-at t) several.Post
-several-returns-2 t c = several-rest _ (c .before .before .before .before .before .before .before .before .before .before .before .before .before .before .before .before .before .before .before .before .before .before .before .before .before .before .before .before .before .before .before .before .before .before .if1 .left) (c .before .before .before .before .before .before .before .before .before .before .before .before .before .before .before .before .before .before .before .before .before .before .before .before .before .before .before .before .before .before .expr .ensures) (c .before .before .before .before .before .before .before .before .before .before .before .before .before .before .before .before .before .before .before .before .before .before .x2 .given .1) (c .before .before .before .before .before .before .before .before .before .before .before .before .before .before .before .before .before .before .before .kind-word .ensures .is) (c .before .before .before .before .before .before .before .before .before .before .before .before .before .before .before .before .before .before .put .ensures) (c .before .before .before .before .before .before .before .before .before .before .before .before .behind .ensures) (c .before .before .before .before .before .before .before .before .before .before .several .ensures) (c .enum-told .given .1)
+several-several-requires t c κs = (load-moved _ _ (c .before .before .before .before .before .before .before .before .before .before .before .before .before .before .before .before .before .before .before .before .before .before .before .before .before .before .before .before .before .before .before .before .pre .0) _ _ (c .before .behind .ensures) (grows-to (c .before .before .before .before .before .before .before .before .before .before .before .before .before .before .before .before .before .before .before .expr .ensures .grows) (c .before .before .before .before .before .before .before .before .before .before .before .x .given .1)) (omega (arith, (c .before .before .before .before .before .before .before .before .before .before .before .before .before .before .before .before .before .before .before .before .before .before .before .if1 .left))), (room-rest (c .before .before .before .before .before .before .before .before .before .before .before .before .before .before .before .before .before .before .before .before .before .before .before .before .before .before .before .before .before .before .before .before .pre .1 .0) (c .before .behind .ensures) ((c .before .before .before .before .before .before .before .before .before .before .before .before .before .before .before .before .before .before .before .expr .kept .1 .1 .1 .1 .1 .0)) ((c .before .before .before .before .before .before .before .before .before .before .before .before .before .before .before .before .before .before .before .expr .kept .1 .1 .1 .1 .1 .1 .0)), (c .before .before .before .before .before .before .before .before .before .before .before .before .before .before .before .before .before .before .before .before .before .before .before .before .before .before .before .before .before .before .before .before .pre .1 .1)))
 
 several-one-more-requires : (t : ℕ) → several-lts.Need-one-more-requires (
   none-reads.Asked,
   none-reads.Learnt,
   expr-below t,
   expr.Post,
+  refused-all-reads.Asked,
+  refused-all-reads.Learnt,
   kind-word-reads.Asked,
   kind-word-reads.Learnt,
   put-reads.Asked,
@@ -8371,11 +8176,13 @@ several-one-more-requires : (t : ℕ) → several-lts.Need-one-more-requires (
 ) (several-at t) several.Post
 several-one-more-requires t c κs = tt
 
-several-same-length-5 : (t : ℕ) → several-lts.Need-same-length-5 (
+several-same-length-4 : (t : ℕ) → several-lts.Need-same-length-4 (
   none-reads.Asked,
   none-reads.Learnt,
   expr-below t,
   expr.Post,
+  refused-all-reads.Asked,
+  refused-all-reads.Learnt,
   kind-word-reads.Asked,
   kind-word-reads.Learnt,
   put-reads.Asked,
@@ -8387,13 +8194,35 @@ several-same-length-5 : (t : ℕ) → several-lts.Need-same-length-5 (
   one-more-reads.Asked,
   one-more-reads.Learnt,
 ) (several-at t) several.Post
-several-same-length-5 t c = (c .before .before .before .before .before .before .before .before .before .expr .kept .1 .1 .1 .1 .1 .0)
+several-same-length-4 t c = (c .before .before .before .before .before .before .before .before .before .several .kept .1 .1 .1 .1 .0) ∙ (c .before .before .before .before .before .before .before .before .before .before .before .before .before .before .before .before .before .before .before .before .before .before .before .before .before .before .before .before .before .expr .kept .1 .1 .1 .1 .0)
+
+several-same-length-5 : (t : ℕ) → several-lts.Need-same-length-5 (
+  none-reads.Asked,
+  none-reads.Learnt,
+  expr-below t,
+  expr.Post,
+  refused-all-reads.Asked,
+  refused-all-reads.Learnt,
+  kind-word-reads.Asked,
+  kind-word-reads.Learnt,
+  put-reads.Asked,
+  put-reads.Learnt,
+  behind-reads.Asked,
+  behind-reads.Learnt,
+  several-below t,
+  several.Post,
+  one-more-reads.Asked,
+  one-more-reads.Learnt,
+) (several-at t) several.Post
+several-same-length-5 t c = (c .before .before .before .before .before .before .before .before .before .several .kept .1 .1 .1 .1 .1 .0) ∙ (c .before .before .before .before .before .before .before .before .before .before .before .before .before .before .before .before .before .before .before .before .before .before .before .before .before .before .before .before .before .expr .kept .1 .1 .1 .1 .1 .0)
 
 several-same-length-6 : (t : ℕ) → several-lts.Need-same-length-6 (
   none-reads.Asked,
   none-reads.Learnt,
   expr-below t,
   expr.Post,
+  refused-all-reads.Asked,
+  refused-all-reads.Learnt,
   kind-word-reads.Asked,
   kind-word-reads.Learnt,
   put-reads.Asked,
@@ -8405,13 +8234,15 @@ several-same-length-6 : (t : ℕ) → several-lts.Need-same-length-6 (
   one-more-reads.Asked,
   one-more-reads.Learnt,
 ) (several-at t) several.Post
-several-same-length-6 t c = (c .before .before .before .before .before .before .before .before .before .expr .kept .1 .1 .1 .1 .1 .1 .0)
+several-same-length-6 t c = (c .before .before .before .before .before .before .before .before .before .several .kept .1 .1 .1 .1 .1 .1 .0) ∙ (c .before .before .before .before .before .before .before .before .before .before .before .before .before .before .before .before .before .before .before .before .before .before .before .before .before .before .before .before .before .expr .kept .1 .1 .1 .1 .1 .1 .0)
 
 several-same-length-7 : (t : ℕ) → several-lts.Need-same-length-7 (
   none-reads.Asked,
   none-reads.Learnt,
   expr-below t,
   expr.Post,
+  refused-all-reads.Asked,
+  refused-all-reads.Learnt,
   kind-word-reads.Asked,
   kind-word-reads.Learnt,
   put-reads.Asked,
@@ -8423,13 +8254,15 @@ several-same-length-7 : (t : ℕ) → several-lts.Need-same-length-7 (
   one-more-reads.Asked,
   one-more-reads.Learnt,
 ) (several-at t) several.Post
-several-same-length-7 t c = (c .before .before .before .before .before .before .before .before .before .expr .kept .1 .1 .1 .1 .1 .1 .1 .0)
+several-same-length-7 t c = (c .before .before .before .before .before .before .before .before .before .several .kept .1 .1 .1 .1 .1 .1 .1 .1 .0) ∙ (c .before .before .before .before .before .before .before .before .before .before .before .before .before .before .before .before .before .put .kept .0)
 
 several-returns-3 : (t : ℕ) → several-lts.Need-returns-3 (
   none-reads.Asked,
   none-reads.Learnt,
   expr-below t,
   expr.Post,
+  refused-all-reads.Asked,
+  refused-all-reads.Learnt,
   kind-word-reads.Asked,
   kind-word-reads.Learnt,
   put-reads.Asked,
@@ -8441,103 +8274,14 @@ several-returns-3 : (t : ℕ) → several-lts.Need-returns-3 (
   one-more-reads.Asked,
   one-more-reads.Learnt,
 ) (several-at t) several.Post
-several-returns-3 t c = several-first _ (c .before .before .before .before .before .before .before .before .before .before .before .before .before .if1 .left) (c .before .before .before .before .before .before .before .before .before .expr .ensures) (c .before .x .given .1)
+several-returns-3 t c = several-more _ (c .before .before .before .before .before .before .before .before .before .before .before .before .before .before .before .before .before .before .before .before .before .before .before .before .before .before .before .before .before .before .before .before .before .if1 .left) (c .before .before .before .before .before .before .before .before .before .before .before .before .before .before .before .before .before .before .before .before .before .before .before .before .before .before .before .before .before .expr .ensures) (c .before .before .before .before .before .before .before .before .before .before .before .before .before .before .before .before .before .before .before .before .before .x .given .1) (c .before .before .before .before .before .before .before .before .before .before .before .before .before .before .before .before .before .before .kind-word .ensures .is) (c .before .before .before .before .before .before .before .before .before .before .before .before .before .before .before .before .before .put .ensures) (c .before .before .before .before .before .before .before .before .before .before .before .behind .ensures) (c .before .before .before .before .before .before .before .before .before .several .ensures) (c .one-more .ensures)
 
-several-same-length-8 : (t : ℕ) → several-lts.Need-same-length-8 (
-  none-reads.Asked,
-  none-reads.Learnt,
-  expr-below t,
-  expr.Post,
-  kind-word-reads.Asked,
-  kind-word-reads.Learnt,
-  put-reads.Asked,
-  put-reads.Learnt,
-  behind-reads.Asked,
-  behind-reads.Learnt,
-  several-below t,
-  several.Post,
-  one-more-reads.Asked,
-  one-more-reads.Learnt,
-) (several-at t) several.Post
-several-same-length-8 t c = (c .before .before .before .before .before .before .before .before .before .before .before .before .several .kept .1 .1 .1 .1 .1 .0) ∙ (c .before .before .before .before .before .before .before .before .before .before .before .before .before .before .before .before .before .before .before .before .before .before .before .before .before .before .before .before .before .before .before .before .expr .kept .1 .1 .1 .1 .1 .0)
-
-several-same-length-9 : (t : ℕ) → several-lts.Need-same-length-9 (
-  none-reads.Asked,
-  none-reads.Learnt,
-  expr-below t,
-  expr.Post,
-  kind-word-reads.Asked,
-  kind-word-reads.Learnt,
-  put-reads.Asked,
-  put-reads.Learnt,
-  behind-reads.Asked,
-  behind-reads.Learnt,
-  several-below t,
-  several.Post,
-  one-more-reads.Asked,
-  one-more-reads.Learnt,
-) (several-at t) several.Post
-several-same-length-9 t c = (c .before .before .before .before .before .before .before .before .before .before .before .before .several .kept .1 .1 .1 .1 .1 .1 .0) ∙ (c .before .before .before .before .before .before .before .before .before .before .before .before .before .before .before .before .before .before .before .before .before .before .before .before .before .before .before .before .before .before .before .before .expr .kept .1 .1 .1 .1 .1 .1 .0)
-
-several-same-length-10 : (t : ℕ) → several-lts.Need-same-length-10 (
-  none-reads.Asked,
-  none-reads.Learnt,
-  expr-below t,
-  expr.Post,
-  kind-word-reads.Asked,
-  kind-word-reads.Learnt,
-  put-reads.Asked,
-  put-reads.Learnt,
-  behind-reads.Asked,
-  behind-reads.Learnt,
-  several-below t,
-  several.Post,
-  one-more-reads.Asked,
-  one-more-reads.Learnt,
-) (several-at t) several.Post
-several-same-length-10 t c = (c .before .before .before .before .before .before .before .before .before .before .before .before .several .kept .1 .1 .1 .1 .1 .1 .1 .0) ∙ (c .before .before .before .before .before .before .before .before .before .before .before .before .before .before .before .before .before .before .before .before .before .before .before .before .before .before .before .before .before .before .before .before .expr .kept .1 .1 .1 .1 .1 .1 .1 .0)
-
-several-same-length-11 : (t : ℕ) → several-lts.Need-same-length-11 (
-  none-reads.Asked,
-  none-reads.Learnt,
-  expr-below t,
-  expr.Post,
-  kind-word-reads.Asked,
-  kind-word-reads.Learnt,
-  put-reads.Asked,
-  put-reads.Learnt,
-  behind-reads.Asked,
-  behind-reads.Learnt,
-  several-below t,
-  several.Post,
-  one-more-reads.Asked,
-  one-more-reads.Learnt,
-) (several-at t) several.Post
-several-same-length-11 t c = (c .before .before .before .before .before .before .before .before .before .before .before .before .several .kept .1 .1 .1 .1 .1 .1 .1 .1 .1 .0) ∙ (c .before .before .before .before .before .before .before .before .before .before .before .before .before .before .before .before .before .before .before .before .put .kept .0)
-
-several-returns-4 : (t : ℕ) → several-lts.Need-returns-4 (
-  none-reads.Asked,
-  none-reads.Learnt,
-  expr-below t,
-  expr.Post,
-  kind-word-reads.Asked,
-  kind-word-reads.Learnt,
-  put-reads.Asked,
-  put-reads.Learnt,
-  behind-reads.Asked,
-  behind-reads.Learnt,
-  several-below t,
-  several.Post,
-  one-more-reads.Asked,
-  one-more-reads.Learnt,
-) (several-at t) several.Post
-several-returns-4 t c = several-done _ (c .before .before .before .before .before .before .before .before .before .before .before .before .before .before .before .before .before .before .before .before .before .before .before .before .before .before .before .before .before .before .before .before .before .before .before .before .if1 .left) (c .before .before .before .before .before .before .before .before .before .before .before .before .before .before .before .before .before .before .before .before .before .before .before .before .before .before .before .before .before .before .before .before .expr .ensures) (c .before .before .before .before .before .before .before .before .before .before .before .before .before .before .before .before .before .before .before .before .before .before .before .before .x2 .given .1) (c .before .before .before .before .before .before .before .before .before .before .before .before .before .before .before .before .before .before .before .before .before .kind-word .ensures .is) (c .before .before .before .before .before .before .before .before .before .before .before .before .before .before .before .before .before .before .before .before .put .ensures) (c .before .before .before .before .before .before .before .before .before .before .before .before .before .before .behind .ensures) (c .before .before .before .before .before .before .before .before .before .before .before .before .several .ensures) (c .before .before .y .given .1) (c .one-more .ensures .all) (c .one-more .ensures .is)
-
-pub +adjust+at-splits+binding+body+branch+branches+call+case-of+choice+compound+construct+enter+expr+fit+operation+several-spec :
+pub +adjust+apply+at-splits+binding+body+branch+branches+call+case-of+choice+compound+construct+enter+expr+fit+operation+several-spec :
     {M : Type 1} → statement M
-+adjust+at-splits+binding+body+branch+branches+call+case-of+choice+compound+construct+enter+expr+fit+operation+several-spec =
++adjust+apply+at-splits+binding+body+branch+branches+call+case-of+choice+compound+construct+enter+expr+fit+operation+several-spec =
     close
     μ-adjust
+    μ-apply
     μ-at-splits
     μ-binding
     μ-body
@@ -8571,7 +8315,7 @@ pub +adjust+at-splits+binding+body+branch+branches+call+case-of+choice+compound+
     (adjust-size-at-requires t)
     (adjust-enum-known-s t)
     (adjust-enum-told t)
-    (adjust-add-t23 t)
+    (adjust-add-t22 t)
     (adjust-same-length t)
     (adjust-returns t)
     (adjust-moved-requires t)
@@ -8583,12 +8327,12 @@ pub +adjust+at-splits+binding+body+branch+branches+call+case-of+choice+compound+
     (adjust-same-length-4 t)
     (adjust-returns-2 t)
     (adjust-enum-known-kind t)
-    (adjust-add-t30 t)
+    (adjust-add-t29 t)
     (adjust-same-length-5 t)
     (adjust-same-length-6 t)
     (adjust-same-length-7 t)
     (adjust-returns-3 t)
-    (adjust-add-t32 t)
+    (adjust-add-t31 t)
     (adjust-same-length-8 t)
     (adjust-same-length-9 t)
     (adjust-same-length-10 t)
@@ -8598,13 +8342,50 @@ pub +adjust+at-splits+binding+body+branch+branches+call+case-of+choice+compound+
     (adjust-same-length-12 t)
     (adjust-same-length-13 t)
     (adjust-returns-5 t))
+    (λ t. apply-lts.spec (
+      named-sizes-reads.Asked,
+      named-sizes-reads.Learnt,
+      moved-reads.Asked,
+      moved-reads.Learnt,
+      prepare-reads.Asked,
+      prepare-reads.Learnt,
+      not-entered-reads.Asked,
+      not-entered-reads.Learnt,
+      enter-below t,
+      enter.Post,
+      called-reads.Asked,
+      called-reads.Learnt,
+    )
+    (apply-at t)
+    apply.Post
+    (apply-slice-aggregate-named-sizes t)
+    (apply-named-sizes-requires t)
+    (apply-moved-requires t)
+    (apply-slice-aggregate-prepare t)
+    (apply-prepare-requires t)
+    (apply-enum-known-y t)
+    (apply-enum-told t)
+    (apply-not-entered-requires t)
+    (apply-same-length t)
+    (apply-returns t)
+    (apply-slice-aggregate-enter t)
+    (apply-enter-requires t)
+    (apply-enum-known-z t)
+    (apply-enum-told-2 t)
+    (apply-same-length-2 t)
+    (apply-same-length-3 t)
+    (apply-returns-2 t)
+    (apply-called-requires t)
+    (apply-same-length-4 t)
+    (apply-same-length-5 t)
+    (apply-returns-3 t))
     (λ t. at-splits-lts.spec (
       fields-reads.Asked,
       fields-reads.Learnt,
       own-fields-reads.Asked,
       own-fields-reads.Learnt,
-      nothing-reads.Asked,
-      nothing-reads.Learnt,
+      nothing-yet-reads.Asked,
+      nothing-yet-reads.Learnt,
       bind-fields-reads.Asked,
       bind-fields-reads.Learnt,
       moved-reads.Asked,
@@ -8628,7 +8409,7 @@ pub +adjust+at-splits+binding+body+branch+branches+call+case-of+choice+compound+
     at-splits-μ-loop
     (at-splits-fields-requires t)
     (at-splits-own-fields-requires t)
-    (at-splits-nothing-requires t)
+    (at-splits-nothing-yet-requires t)
     (at-splits-loop-holds t)
     (at-splits-bind-fields-requires t)
     (at-splits-moved-requires t)
@@ -8641,7 +8422,7 @@ pub +adjust+at-splits+binding+body+branch+branches+call+case-of+choice+compound+
     (at-splits-same-length-3 t)
     (at-splits-returns t)
     (at-splits-is-kind-requires t)
-    (at-splits-add-t36 t)
+    (at-splits-add-t34 t)
     (at-splits-same-length-4 t)
     (at-splits-same-length-5 t)
     (at-splits-same-length-6 t)
@@ -8715,7 +8496,7 @@ pub +adjust+at-splits+binding+body+branch+branches+call+case-of+choice+compound+
     (body-at t)
     body.Post
     (body-cast-if1 t)
-    (body-add-t19 t)
+    (body-add-t18 t)
     (body-returns t)
     (body-add-requires t)
     (body-body-place-requires t)
@@ -8727,7 +8508,7 @@ pub +adjust+at-splits+binding+body+branch+branches+call+case-of+choice+compound+
     (body-same-length-3 t)
     (body-returns-2 t)
     (body-is-kind-requires t)
-    (body-add-t32 t)
+    (body-add-t31 t)
     (body-same-length-4 t)
     (body-same-length-5 t)
     (body-same-length-6 t)
@@ -8805,7 +8586,7 @@ pub +adjust+at-splits+binding+body+branch+branches+call+case-of+choice+compound+
     (branches-same-length-3 t)
     (branches-returns-2 t)
     (branches-behind-requires t)
-    (branches-add-branches t)
+    (branches-add-j t)
     (branches-branches-requires t)
     (branches-enum-known-y t)
     (branches-enum-told-2 t)
@@ -8825,18 +8606,8 @@ pub +adjust+at-splits+binding+body+branch+branches+call+case-of+choice+compound+
       several.Post,
       refused-reads.Asked,
       refused-reads.Learnt,
-      named-sizes-reads.Asked,
-      named-sizes-reads.Learnt,
-      moved-reads.Asked,
-      moved-reads.Learnt,
-      prepare-reads.Asked,
-      prepare-reads.Learnt,
-      not-entered-reads.Asked,
-      not-entered-reads.Learnt,
-      enter-below t,
-      enter.Post,
-      called-reads.Asked,
-      called-reads.Learnt,
+      apply-below t,
+      apply.Post,
     )
     (call-at t)
     call.Post
@@ -8850,33 +8621,12 @@ pub +adjust+at-splits+binding+body+branch+branches+call+case-of+choice+compound+
     (call-same-length-2 t)
     (call-same-length-3 t)
     (call-returns t)
-    (call-slice-aggregate-named-sizes t)
-    (call-slice-aggregate-named-sizes-2 t)
-    (call-named-sizes-requires t)
-    (call-moved-requires t)
-    (call-slice-aggregate-prepare t)
-    (call-prepare-requires t)
-    (call-enum-known-y t)
-    (call-enum-told-2 t)
-    (call-not-entered-requires t)
+    (call-slice-aggregate-apply t)
+    (call-apply-requires t)
     (call-same-length-4 t)
     (call-same-length-5 t)
     (call-same-length-6 t)
-    (call-returns-2 t)
-    (call-slice-aggregate-enter t)
-    (call-slice-aggregate-enter-2 t)
-    (call-enter-requires t)
-    (call-enum-known-z t)
-    (call-enum-told-3 t)
-    (call-same-length-7 t)
-    (call-same-length-8 t)
-    (call-same-length-9 t)
-    (call-returns-3 t)
-    (call-called-requires t)
-    (call-same-length-10 t)
-    (call-same-length-11 t)
-    (call-same-length-12 t)
-    (call-returns-4 t))
+    (call-returns-2 t))
     (λ t. case-of-lts.spec (
       expr-below t,
       expr.Post,
@@ -8884,6 +8634,8 @@ pub +adjust+at-splits+binding+body+branch+branches+call+case-of+choice+compound+
       frame-line-reads.Learnt,
       type-at-reads.Asked,
       type-at-reads.Learnt,
+      subject-reads.Asked,
+      subject-reads.Learnt,
       moved-reads.Asked,
       moved-reads.Learnt,
       branches-below t,
@@ -8901,7 +8653,7 @@ pub +adjust+at-splits+binding+body+branch+branches+call+case-of+choice+compound+
     (case-of-same-length-3 t)
     (case-of-returns t)
     (case-of-enum-known-kind t)
-    (case-of-add-t30 t)
+    (case-of-add-t29 t)
     (case-of-same-length-4 t)
     (case-of-same-length-5 t)
     (case-of-same-length-6 t)
@@ -8910,11 +8662,12 @@ pub +adjust+at-splits+binding+body+branch+branches+call+case-of+choice+compound+
     (case-of-type-at-requires t)
     (case-of-enum-known-y t)
     (case-of-enum-told-2 t)
-    (case-of-add-t33 t)
+    (case-of-add-t32 t)
     (case-of-same-length-7 t)
     (case-of-same-length-8 t)
     (case-of-same-length-9 t)
     (case-of-returns-3 t)
+    (case-of-subject-requires t)
     (case-of-moved-requires t)
     (case-of-branches-requires t)
     (case-of-enum-known-z t)
@@ -9010,7 +8763,7 @@ pub +adjust+at-splits+binding+body+branch+branches+call+case-of+choice+compound+
     (compound-adjust-requires t)
     (compound-enum-known-form-5 t)
     (compound-fit-requires t)
-    (compound-add-t66 t)
+    (compound-add-t65 t)
     (compound-same-length t)
     (compound-same-length-2 t)
     (compound-same-length-3 t)
@@ -9109,12 +8862,14 @@ pub +adjust+at-splits+binding+body+branch+branches+call+case-of+choice+compound+
       type-in-reads.Learnt,
       nothing-reads.Asked,
       nothing-reads.Learnt,
+      channel-type-reads.Asked,
+      channel-type-reads.Learnt,
       compound-below t,
       compound.Post,
     )
     (expr-at t)
     expr.Post
-    (expr-add-t20 t)
+    (expr-add-t19 t)
     (expr-returns t)
     (expr-frame-line-requires t)
     (expr-head-at-requires t)
@@ -9131,15 +8886,11 @@ pub +adjust+at-splits+binding+body+branch+branches+call+case-of+choice+compound+
     (expr-nothing-requires t)
     (expr-leaf-requires-3 t)
     (expr-enum-known-form-2 t)
-    (expr-cast-type-in-2 t)
-    (expr-mul-type-in t)
-    (expr-type-in-requires-2 t)
+    (expr-channel-type-requires t)
     (expr-nothing-requires-2 t)
     (expr-leaf-requires-4 t)
     (expr-enum-known-form-3 t)
-    (expr-cast-type-in-3 t)
-    (expr-mul-type-in-2 t)
-    (expr-type-in-requires-3 t)
+    (expr-channel-type-requires-2 t)
     (expr-nothing-requires-3 t)
     (expr-leaf-requires-5 t)
     (expr-compound-requires t)
@@ -9179,14 +8930,14 @@ pub +adjust+at-splits+binding+body+branch+branches+call+case-of+choice+compound+
     (fit-same-length-3 t)
     (fit-returns t)
     (fit-enum-known-kind t)
-    (fit-add-t26 t)
+    (fit-add-t27 t)
     (fit-same-length-4 t)
     (fit-same-length-5 t)
     (fit-same-length-6 t)
     (fit-returns-2 t)
-    (fit-cast-put t)
-    (fit-cast-t32 t)
+    (fit-cast-t28 t)
     (fit-word-of-requires t)
+    (fit-cast-put t)
     (fit-put-requires t)
     (fit-behind-requires t)
     (fit-widen-requires t)
@@ -9251,6 +9002,8 @@ pub +adjust+at-splits+binding+body+branch+branches+call+case-of+choice+compound+
       none-reads.Learnt,
       expr-below t,
       expr.Post,
+      refused-all-reads.Asked,
+      refused-all-reads.Learnt,
       kind-word-reads.Asked,
       kind-word-reads.Learnt,
       put-reads.Asked,
@@ -9268,26 +9021,20 @@ pub +adjust+at-splits+binding+body+branch+branches+call+case-of+choice+compound+
     (several-returns t)
     (several-expr-requires t)
     (several-enum-known-x t)
-    (several-enum-known-x-2 t)
+    (several-enum-told t)
+    (several-refused-all-requires t)
+    (several-same-length t)
+    (several-same-length-2 t)
+    (several-same-length-3 t)
+    (several-returns-2 t)
     (several-kind-word-requires t)
     (several-put-requires t)
     (several-behind-requires t)
     (several-add-several t)
     (several-several-requires t)
-    (several-enum-known-y t)
-    (several-enum-told t)
-    (several-same-length t)
-    (several-same-length-2 t)
-    (several-same-length-3 t)
-    (several-same-length-4 t)
-    (several-returns-2 t)
     (several-one-more-requires t)
+    (several-same-length-4 t)
     (several-same-length-5 t)
     (several-same-length-6 t)
     (several-same-length-7 t)
     (several-returns-3 t)
-    (several-same-length-8 t)
-    (several-same-length-9 t)
-    (several-same-length-10 t)
-    (several-same-length-11 t)
-    (several-returns-4 t)

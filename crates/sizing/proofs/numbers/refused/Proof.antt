@@ -1,8 +1,8 @@
 use mathlib.Core.Path.{sym, ap}
 use Rattle.sizing.specs.Leaves.{refusedOf}
 use borrow.Author.Needs.{needs}
-use Rattle.sizing.proofs.leaves.refused.Statement.{statement}
-use Rattle.sizing.proofs.leaves.refused.Tie as tie
+use Rattle.sizing.proofs.numbers.refused.Statement.{statement}
+use Rattle.sizing.proofs.numbers.refused.Tie as tie
 
 enum-told : tie.Need-enum-told
 enum-told c = search needs
