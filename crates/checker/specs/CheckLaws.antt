@@ -28,7 +28,7 @@ use Rattle.sizing.specs.Promises.{lent}
 use Rattle.sizing.specs.FilePromises.{AgreesFile, file-agrees, file-refused, file-beyond, SizesFile}
 use Rattle.checker.specs.declared.Board.{Board}
 use Rattle.checker.specs.declared.Answer.{Answer}
-use Rattle.checker.specs.Checks.{numbersOf, Checks, refusalOf, ReadHeld, FewChannels, Lends, Needs, Judges}
+use Rattle.checker.specs.Checks.{numbersOf, Checks, refusalOf, sizingRefusal, ReadHeld, FewChannels, Lends, Needs, Judges}
 use Rattle.checker.specs.VerdictLaws.{list-room}
 use Rattle.checker.specs.Outcomes.{lends, sizesOf, outcome, refused, not-enough, enough-lent}
 
@@ -82,15 +82,13 @@ module _ {text frames types functions channels : List ℕ} {n : Counts} (z : Rea
         not-before q before-6 = absurd (let w = well-plain-refusals well q in omega (arith, w .least))
         not-before q before-9 = absurd (let w = well-plain-refusals well q in omega (arith, w .least))
 
-        pub sizes-refused : {r : Answer} {list′ : List ℕ} {m f : ℕ} → x ≡ Refused m f → r ≡ refusalOf m f → list′ ≡ replicate (length list₁) 0 → Checks text b list r list′
-        unfolding bind
+        pub sizes-refused : {r : Answer} {list′ : List ℕ} {m f : ℕ} → x ≡ Refused m f → r ≡ sizingRefusal x → list′ ≡ replicate (length list₁) 0 → Checks text b list r list′
+        unfolding bind sizingRefusal
         sizes-refused {r} {list′} {m} {f} told e c = go (sizedFile (z .file)) refl agreement
           where
             go : (y : Result SizedFile) → sizedFile (z .file) ≡ y → AgreesFile (z .file) list₁ x y → Checks text b list r list′
             go y q (file-agrees d _ _) = absurd (let u = sym d ∙ told in let w : _≡_ {A = ℕ} 0 1 = cc in omega arith)
-            go y q (file-refused {n = m′} {frame = f′} d) =
-                let same : refusalOf m f ≡ refusalOf m′ f′ = (let u : Refused m f ≡ Refused m′ f′ = sym told ∙ d in cc) in
-                refused text b list (after-lent ∙ ap (λ u. bind u (λ w. ok (record { file = z .file; sizes = w }))) q) (e ∙ same) (c ∙ ap (λ m. replicate m 0) kept)
+            go y q (file-refused d) = refused text b list (after-lent ∙ ap (λ u. bind u (λ w. ok (record { file = z .file; sizes = w }))) q) (e ∙ ap sizingRefusal d) (c ∙ ap (λ m. replicate m 0) kept)
             go y q (file-beyond w) = not-before q w
 
         agreed : {k : CountedFile} → x ≡ Are k → Agreed text b list (z .file) list₁ k

@@ -14,11 +14,15 @@ use Rattle.language.specs.Cells.{updatesNumbers, numbersNeeded}
 use Rattle.language.specs.Machine.{Board as MachineBoard, Answer as MachineAnswer, Record, emptyRecord, answer, judge, listLent, check}
 use Rattle.index.specs.Tables.{typeTable, channelTable}
 use Rattle.reader.specs.declared.Counts.{Counts}
+use Rattle.reader.specs.declared.Reading.{Reading}
+use Rattle.reader.specs.declared.Reading.the-variants.{Done, Fault}
 use Rattle.estimate.specs.declared.Estimate.{Estimate as Held}
 use Rattle.estimate.specs.Stands.{Stands}
 use Rattle.indexed.specs.Indexed.{Indexed, Counted}
 use Rattle.instances.specs.Listed.{instanceWordsCount}
 use Rattle.instances.specs.Records.{recordWords}
+use Rattle.sizing.specs.declared.Counting.{Counting}
+use Rattle.sizing.specs.declared.Counting.the-variants.{Are, Refused}
 use Rattle.checker.specs.declared.Board.{Board}
 use Rattle.checker.specs.declared.Answer.{Answer}
 
@@ -51,6 +55,14 @@ refusalOf n frame = record { number = n; frame = frame; heap = 0; environment = 
 
 abbrev pub boundsOf : ℕ → Held → Answer
 boundsOf n x = record { number = n; frame = 0; heap = x .heap; environment = x .env; stack = x .stack }
+
+unfoldable pub readingRefusal : Reading → Answer
+readingRefusal (Done n) = refusalOf 0 0
+readingRefusal (Fault n frame) = refusalOf n frame
+
+unfoldable pub sizingRefusal : Counting → Answer
+sizingRefusal (Are k) = refusalOf 0 0
+sizingRefusal (Refused n frame) = refusalOf n frame
 
 -- ---- a text that was read, and its tables
 pub record HeldFile (text frames types functions channels : List ℕ) (n : Counts) (P : File) : Type 0 where

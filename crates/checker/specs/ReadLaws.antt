@@ -18,7 +18,7 @@ use Rattle.reader.specs.Texts.{Tables, TextRead, done, fault}
 use Rattle.indexed.specs.Indexes.{read-indexes}
 use Rattle.checker.specs.declared.Board.{Board}
 use Rattle.checker.specs.declared.Answer.{Answer}
-use Rattle.checker.specs.Checks.{Checks, refusalOf, ReadHeld}
+use Rattle.checker.specs.Checks.{Checks, readingRefusal, ReadHeld}
 use Rattle.checker.specs.Outcomes.{sizesOf, lends, refused}
 
 -- ---- refused
@@ -27,9 +27,9 @@ read-fault (done e h t) q = absurd (let u = sym e ∙ q in let z : _≡_ {A = �
 read-fault {m} {frame} (fault {m = n} {frame = f} e t) q = let u : Fault n f ≡ Fault m frame = sym e ∙ q in cc
 
 pub reading-refused : {text frames types functions channels list list′ : List ℕ} {b : Board} {x : Reading} {r : Answer} {m frame : ℕ} → TextRead x frames types functions channels (readFile text) → x ≡ Fault m frame →
-    r ≡ refusalOf m frame → list′ ≡ replicate (length list) 0 → Checks text b list r list′
-unfolding checkFile bind
-reading-refused {text} {list} {b} v q e z = refused text b list (ap (λ u. bind u (λ P. plainTypes P (need (lends b list) 18 0 (sizesOf P)))) (read-fault v q)) e z
+    r ≡ readingRefusal x → list′ ≡ replicate (length list) 0 → Checks text b list r list′
+unfolding readingRefusal checkFile bind
+reading-refused {text} {list} {b} v q e z = refused text b list (ap (λ u. bind u (λ P. plainTypes P (need (lends b list) 18 0 (sizesOf P)))) (read-fault v q)) (e ∙ ap readingRefusal q) z
 
 -- ---- read: the file is in the tables
 read-tables : {frames types functions channels : List ℕ} {x : Reading} {y : Result File} {P : File} → TextRead x frames types functions channels y → y ≡ ok P → (types ≡ typeTable (P .types)) × (channels ≡ channelTable (P .inputs) (P .nodes))

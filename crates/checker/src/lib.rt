@@ -1,6 +1,6 @@
 // The checker of rule files: refusals 1 to 18, the three bounds, and the list of instances.
 ghost use mathlib.Core.Path.{_≡_};
-ghost use Rattle.checker.specs.Checks.{refusalOf, boundsOf, ReadHeld, FewChannels, Lends, Needs, Judges, Checks};
+ghost use Rattle.checker.specs.Checks.{refusalOf, boundsOf, readingRefusal, sizingRefusal, ReadHeld, FewChannels, Lends, Needs, Judges, Checks};
 use cells::CELLS_TABLE;
 use cells::channels_cells;
 use estimate::Estimate;
@@ -64,6 +64,26 @@ fn bounds(number: u32, x: Estimate) -> Answer
         heap: x.heap,
         environment: x.env,
         stack: x.stack,
+    }
+}
+
+// The refusal of a text that was not read.
+fn reading_refusal(x: Reading) -> Answer
+    ensures { λ r. ⌜ r ≡ readingRefusal x ⌝ }
+{
+    match x {
+        Reading::Done(_) => refusal(0, 0),
+        Reading::Fault(n, f) => refusal(n, f),
+    }
+}
+
+// The refusal of a file whose sizes do not agree.
+fn sizing_refusal(x: Counting) -> Answer
+    ensures { λ r. ⌜ r ≡ sizingRefusal x ⌝ }
+{
+    match x {
+        Counting::Are(_) => refusal(0, 0),
+        Counting::Refused(n, f) => refusal(n, f),
     }
 }
 
@@ -140,19 +160,15 @@ fn check_read(
         return refusal(18, 0);
     }
     let x = sized_file(text, frames, types, functions, channels, list, counts);
-    match x {
-        Counting::Refused(n, f) => {
-            clear(list);
-            refusal(n, f)
-        }
-        Counting::Are(k) => {
-            let r = judge(b, needed(types, channels, counts, k.numbers));
-            if r.number != 0 {
-                clear(list);
-            }
-            r
-        }
+    let Counting::Are(k) = x else {
+        clear(list);
+        return sizing_refusal(x);
+    };
+    let r = judge(b, needed(types, channels, counts, k.numbers));
+    if r.number != 0 {
+        clear(list);
     }
+    r
 }
 
 // Checks a text on a board. The list ends with the instances in order of entry, INSTANCE_WORDS each, and zeros behind them;
@@ -165,20 +181,18 @@ pub fn check(text: &[u8], b: Board, list: &mut [u32]) -> Answer
     let mut functions = [0u32; FUNCTION_TABLE];
     let mut channels = [0u32; CHANNEL_TABLE];
     let x = read(text, &mut frames, &mut types, &mut functions, &mut channels);
-    match x {
-        Reading::Fault(n, f) => {
-            clear(list);
-            refusal(n, f)
-        }
-        Reading::Done(counts) => check_read(
-            text,
-            &frames,
-            &types,
-            &functions,
-            &channels,
-            counts,
-            b,
-            list,
-        ),
-    }
+    let Reading::Done(counts) = x else {
+        clear(list);
+        return reading_refusal(x);
+    };
+    check_read(
+        text,
+        &frames,
+        &types,
+        &functions,
+        &channels,
+        counts,
+        b,
+        list,
+    )
 }

@@ -24,7 +24,7 @@ unfolding andThen
 then-same (got a bs) j k same = same a bs
 then-same (bad n) j k same = refl
 
-pub forget-cong : {A B C : Type 0} (y : Read A) (j : A → Parser B) (k : A → Parser C) → ((a : A) (bs : List ℕ) → forget (j a bs) ≡ forget (k a bs)) → forget (andThen y j) ≡ forget (andThen y k)
+forget-cong : {A B C : Type 0} (y : Read A) (j : A → Parser B) (k : A → Parser C) → ((a : A) (bs : List ℕ) → forget (j a bs) ≡ forget (k a bs)) → forget (andThen y j) ≡ forget (andThen y k)
 unfolding andThen forget
 forget-cong (got a bs) j k same = same a bs
 forget-cong (bad n) j k same = refl
@@ -38,7 +38,7 @@ unasked (bad n) (got b cs) k e = absurd (let z : _≡_ {A = ℕ} 0 1 = cc in ome
 unasked (bad n) (bad m) k e = e
 
 -- ---- several expressions in turn: the first, and then the others
-pub exprs-more : (p : Parser Expr) (n : ℕ) (bs : List ℕ) → forget (andThen (p bs) (λ e cs. exprs p n cs)) ≡ forget (exprs p (suc n) bs)
+exprs-more : (p : Parser Expr) (n : ℕ) (bs : List ℕ) → forget (andThen (p bs) (λ e cs. exprs p n cs)) ≡ forget (exprs p (suc n) bs)
 unfolding exprs
 exprs-more p n bs = forget-cong (p bs) _ _ (λ e cs. sym (forget-then (econs e) (exprs p n cs)))
 

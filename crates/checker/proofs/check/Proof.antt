@@ -11,14 +11,20 @@ read-requires c κs = tt
 enum-known-x : tie.Need-enum-known-x
 enum-known-x c = search needs
 
+enum-told : tie.Need-enum-told
+enum-told c = search needs
+
 clear-requires : tie.Need-clear-requires
 clear-requires c κs = tt
 
-refusal-requires : tie.Need-refusal-requires
-refusal-requires c κs = tt
+reading-refusal-requires : tie.Need-reading-refusal-requires
+reading-refusal-requires c κs = tt
 
-enum-known-x-2 : tie.Need-enum-known-x-2
-enum-known-x-2 c = search needs
+same-length : tie.Need-same-length
+same-length c = search needs
+
+returns : tie.Need-returns
+returns c = reading-refused (c .before .before .before .before .before .before .before .read .ensures) (c .before .before .before .before .before .enum-told .given .1) (c .reading-refusal .ensures) (c .before .before .before .clear .ensures)
 
 slice-aggregate-check-read : tie.Need-slice-aggregate-check-read
 slice-aggregate-check-read c = sym (read-long (c .before .before .before .before .read .ensures) .framesLong)
@@ -33,13 +39,7 @@ slice-aggregate-check-read-4 : tie.Need-slice-aggregate-check-read-4
 slice-aggregate-check-read-4 c = sym (read-long (c .before .before .before .before .before .before .before .read .ensures) .channelsLong)
 
 check-read-requires : tie.Need-check-read-requires
-check-read-requires c κs = read-held (c .before .before .before .before .before .before .before .before .read .ensures) (c .before .before .before .before .before .before .x2 .given .1)
-
-same-length : tie.Need-same-length
-same-length c = search needs
-
-returns : tie.Need-returns
-returns c = reading-refused (c .before .before .before .before .before .before .before .before .read .ensures) (c .before .before .before .before .before .before .x .given .1) (c .refusal .ensures) (c .before .before .before .clear .ensures)
+check-read-requires c κs = read-held (c .before .before .before .before .before .before .before .before .read .ensures) (c .before .before .before .before .before .before .x .given .1)
 
 same-length-2 : tie.Need-same-length-2
 same-length-2 c = search needs
@@ -53,15 +53,15 @@ check-spec =
     (tie.spec
     read-requires
     enum-known-x
+    enum-told
     clear-requires
-    refusal-requires
-    enum-known-x-2
+    reading-refusal-requires
+    same-length
+    returns
     slice-aggregate-check-read
     slice-aggregate-check-read-2
     slice-aggregate-check-read-3
     slice-aggregate-check-read-4
     check-read-requires
-    same-length
-    returns
     same-length-2
     returns-2)

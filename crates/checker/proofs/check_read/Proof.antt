@@ -42,14 +42,20 @@ sized-file-requires c κs = tt
 enum-known-x : tie.Need-enum-known-x
 enum-known-x c = search needs
 
+enum-told : tie.Need-enum-told
+enum-told c = search needs
+
 clear-requires-3 : tie.Need-clear-requires-3
 clear-requires-3 c κs = tt
 
-refusal-requires-3 : tie.Need-refusal-requires-3
-refusal-requires-3 c κs = tt
+sizing-refusal-requires : tie.Need-sizing-refusal-requires
+sizing-refusal-requires c κs = tt
 
-enum-known-x-2 : tie.Need-enum-known-x-2
-enum-known-x-2 c = search needs
+same-length-3 : tie.Need-same-length-3
+same-length-3 c = search needs
+
+returns-3 : tie.Need-returns-3
+returns-3 c = sizes-refused (c .before .before .before .before .before .before .before .before .before .before .before .before .before .before .before .before .before .before .before .before .before .pre) _ _ (c .before .before .before .before .before .before .before .before .before .before .before .before .before .before .plain-types .ensures) (c .before .before .before .before .before .before .before .before .before .before .before .before .before .if1 .left) (c .before .before .before .before .before .before .before .before .before .before .before .before .lent .ensures) (not-false _ (c .before .before .before .before .before .before .before .before .before .before .before .if2 .left)) (c .before .before .before .before .before .before .before .before .before .sized-file .ensures) (c .before .before .before .before .before .before .before .before .before .sized-file .kept .1 .1 .1 .1 .1 .0) (c .before .before .before .before .before .enum-told .given .1) (c .sizing-refusal .ensures) (c .before .before .before .clear3 .ensures)
 
 needed-requires : tie.Need-needed-requires
 needed-requires c κs = few-channels (c .before .before .before .before .before .before .before .before .before .before .before .before .before .before .before .before .before .pre)
@@ -60,23 +66,17 @@ judge-requires c κs = tt
 clear-requires-4 : tie.Need-clear-requires-4
 clear-requires-4 c κs = tt
 
-same-length-3 : tie.Need-same-length-3
-same-length-3 c = search needs
-
-returns-3 : tie.Need-returns-3
-returns-3 c = sizes-refused (c .before .before .before .before .before .before .before .before .before .before .before .before .before .before .before .before .before .before .before .before .before .before .pre) _ _ (c .before .before .before .before .before .before .before .before .before .before .before .before .before .before .before .plain-types .ensures) (c .before .before .before .before .before .before .before .before .before .before .before .before .before .before .if1 .left) (c .before .before .before .before .before .before .before .before .before .before .before .before .before .lent .ensures) (not-false _ (c .before .before .before .before .before .before .before .before .before .before .before .before .if2 .left)) (c .before .before .before .before .before .before .before .before .before .before .sized-file .ensures) (c .before .before .before .before .before .before .before .before .before .before .sized-file .kept .1 .1 .1 .1 .1 .0) (c .before .before .before .before .before .before .x .given .1) (c .refusal3 .ensures) (c .before .before .before .clear3 .ensures)
-
 same-length-4 : tie.Need-same-length-4
 same-length-4 c = search needs
 
 returns-4 : tie.Need-returns-4
-returns-4 c = board-refused (c .before .before .before .before .before .before .before .before .before .before .before .before .before .before .before .before .before .before .before .before .before .before .before .before .before .pre) _ _ (c .before .before .before .before .before .before .before .before .before .before .before .before .before .before .before .before .before .before .plain-types .ensures) (c .before .before .before .before .before .before .before .before .before .before .before .before .before .before .before .before .before .if1 .left) (c .before .before .before .before .before .before .before .before .before .before .before .before .before .before .before .before .lent .ensures) (not-false _ (c .before .before .before .before .before .before .before .before .before .before .before .before .before .before .before .if2 .left)) (c .before .before .before .before .before .before .before .before .before .before .before .before .before .sized-file .ensures) (c .before .before .before .before .before .before .before .before .before .before .before .before .before .sized-file .kept .1 .1 .1 .1 .1 .0) (c .before .before .before .before .before .before .before .before .before .x2 .given .1) (c .before .before .before .before .before .before .before .needed .ensures) (c .before .before .before .before .before .before .judge .ensures) (λ z. omega (arith, z, c .before .before .before .before .if3 .taken)) (c .before .before .clear4 .ensures)
+returns-4 c = board-refused (c .before .before .before .before .before .before .before .before .before .before .before .before .before .before .before .before .before .before .before .before .before .before .before .before .before .pre) _ _ (c .before .before .before .before .before .before .before .before .before .before .before .before .before .before .before .before .before .before .plain-types .ensures) (c .before .before .before .before .before .before .before .before .before .before .before .before .before .before .before .before .before .if1 .left) (c .before .before .before .before .before .before .before .before .before .before .before .before .before .before .before .before .lent .ensures) (not-false _ (c .before .before .before .before .before .before .before .before .before .before .before .before .before .before .before .if2 .left)) (c .before .before .before .before .before .before .before .before .before .before .before .before .before .sized-file .ensures) (c .before .before .before .before .before .before .before .before .before .before .before .before .before .sized-file .kept .1 .1 .1 .1 .1 .0) (c .before .before .before .before .before .before .before .before .before .x .given .1) (c .before .before .before .before .before .before .before .needed .ensures) (c .before .before .before .before .before .before .judge .ensures) (λ z. omega (arith, z, c .before .before .before .before .if3 .taken)) (c .before .before .clear4 .ensures)
 
 same-length-5 : tie.Need-same-length-5
 same-length-5 c = search needs
 
 returns-5 : tie.Need-returns-5
-returns-5 c = board-accepts (c .before .before .before .before .before .before .before .before .before .before .before .before .before .before .before .before .before .before .before .before .before .pre) _ _ (c .before .before .before .before .before .before .before .before .before .before .before .before .before .before .plain-types .ensures) (c .before .before .before .before .before .before .before .before .before .before .before .before .before .if1 .left) (c .before .before .before .before .before .before .before .before .before .before .before .before .lent .ensures) (not-false _ (c .before .before .before .before .before .before .before .before .before .before .before .if2 .left)) (c .before .before .before .before .before .before .before .before .before .sized-file .ensures) (c .before .before .before .before .before .before .before .before .before .sized-file .kept .1 .1 .1 .1 .1 .0) (c .before .before .before .before .before .x2 .given .1) (c .before .before .before .needed .ensures) (c .before .before .judge .ensures) (omega (arith, c .if3 .left))
+returns-5 c = board-accepts (c .before .before .before .before .before .before .before .before .before .before .before .before .before .before .before .before .before .before .before .before .before .pre) _ _ (c .before .before .before .before .before .before .before .before .before .before .before .before .before .before .plain-types .ensures) (c .before .before .before .before .before .before .before .before .before .before .before .before .before .if1 .left) (c .before .before .before .before .before .before .before .before .before .before .before .before .lent .ensures) (not-false _ (c .before .before .before .before .before .before .before .before .before .before .before .if2 .left)) (c .before .before .before .before .before .before .before .before .before .sized-file .ensures) (c .before .before .before .before .before .before .before .before .before .sized-file .kept .1 .1 .1 .1 .1 .0) (c .before .before .before .before .before .x .given .1) (c .before .before .before .needed .ensures) (c .before .before .judge .ensures) (omega (arith, c .if3 .left))
 
 pub check-read-spec : {M : Type 1} → statement M
 check-read-spec =
@@ -94,14 +94,14 @@ check-read-spec =
     returns-2
     sized-file-requires
     enum-known-x
+    enum-told
     clear-requires-3
-    refusal-requires-3
-    enum-known-x-2
+    sizing-refusal-requires
+    same-length-3
+    returns-3
     needed-requires
     judge-requires
     clear-requires-4
-    same-length-3
-    returns-3
     same-length-4
     returns-4
     same-length-5

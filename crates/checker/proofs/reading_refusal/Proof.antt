@@ -1,0 +1,30 @@
+-- A refusal's number and frame.
+use Rattle.checker.specs.Checks.{readingRefusal}
+use borrow.Author.Needs.{needs}
+use Rattle.checker.proofs.reading_refusal.Statement.{statement}
+use Rattle.checker.proofs.reading_refusal.Tie as tie
+
+enum-told : tie.Need-enum-told
+enum-told c = search needs
+
+refusal-requires : tie.Need-refusal-requires
+refusal-requires c κs = tt
+
+enum-known-x : tie.Need-enum-known-x
+enum-known-x c = search needs
+
+refusal-requires-2 : tie.Need-refusal-requires-2
+refusal-requires-2 c κs = tt
+
+returns : tie.Need-returns
+unfolding readingRefusal
+returns c = rw (c .before .enum-told .given .1) (c .refusal .ensures)
+
+returns-2 : tie.Need-returns-2
+unfolding readingRefusal
+returns-2 c = rw (c .before .before .x .given .1) (c .refusal2 .ensures)
+
+pub reading-refusal-spec : {M : Type 1} → statement M
+reading-refusal-spec =
+    tie.close
+    (tie.spec enum-told refusal-requires enum-known-x refusal-requires-2 returns returns-2)
