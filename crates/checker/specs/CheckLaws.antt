@@ -15,17 +15,17 @@ use Rattle.language.specs.Machine.{judged, checkFile}
 use Rattle.theory.specs.PlainTyping.{WellPlain}
 use Rattle.theory.specs.PlainTypesAgree.{well-plain}
 use Rattle.theory.specs.PlainFileSizes.{well-plain-refusals}
-use Rattle.reader.specs.declared.Counts.{Counts}
+use Rattle.index.specs.declared.Counts.{Counts}
 use Rattle.estimate.specs.declared.Estimate.{Estimate as HeldNumbers}
 use Rattle.estimate.specs.Stands.{Stands}
-use Rattle.typing.specs.Verdicts.{verdict, JudgesAll}
-use Rattle.typing.specs.JudgeLaws.{plain-types-verdict}
-use Rattle.sizing.specs.declared.Counted.{Counted as CountedFile}
-use Rattle.sizing.specs.declared.Counting.{Counting}
-use Rattle.sizing.specs.declared.Counting.the-variants.{Are, Refused}
-use Rattle.sizing.specs.Agreement.{Holds, Before, before-6, before-9}
-use Rattle.sizing.specs.Promises.{lent}
-use Rattle.sizing.specs.FilePromises.{AgreesFile, file-agrees, file-refused, file-beyond, SizesFile}
+use Rattle.plain_types.specs.Verdicts.{verdict, JudgesAll}
+use Rattle.plain_types.specs.JudgeLaws.{plain-types-verdict}
+use Rattle.size_checker.specs.declared.Counted.{Counted as CountedFile}
+use Rattle.size_checker.specs.declared.Counting.{Counting}
+use Rattle.size_checker.specs.declared.Counting.the-variants.{Are, Refused}
+use Rattle.size_checker.specs.Agreement.{Holds, Before, before-6, before-9}
+use Rattle.size_checker.specs.Promises.{lent}
+use Rattle.size_checker.specs.FilePromises.{AgreesFile, file-agrees, file-refused, file-beyond, SizesFile}
 use Rattle.checker.specs.declared.Board.{Board}
 use Rattle.checker.specs.declared.Answer.{Answer}
 use Rattle.checker.specs.Checks.{numbersOf, Checks, refusalOf, sizingRefusal, ReadHeld, FewChannels, Lends, Needs, Judges}

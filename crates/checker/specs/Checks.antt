@@ -13,16 +13,16 @@ use Rattle.language.specs.Estimate.{Estimate as Exact, stopped}
 use Rattle.language.specs.Cells.{updatesNumbers, numbersNeeded}
 use Rattle.language.specs.Machine.{Board as MachineBoard, Answer as MachineAnswer, Record, emptyRecord, answer, judge, listLent, check}
 use Rattle.index.specs.Tables.{typeTable, channelTable}
-use Rattle.reader.specs.declared.Counts.{Counts}
+use Rattle.index.specs.declared.Counts.{Counts}
 use Rattle.reader.specs.declared.Reading.{Reading}
 use Rattle.reader.specs.declared.Reading.the-variants.{Done, Fault}
 use Rattle.estimate.specs.declared.Estimate.{Estimate as Held}
 use Rattle.estimate.specs.Stands.{Stands}
-use Rattle.indexed.specs.Indexed.{Indexed, Counted}
+use Rattle.index.specs.Indexed.{Indexed, Counted}
 use Rattle.instances.specs.Listed.{instanceWordsCount}
 use Rattle.instances.specs.Records.{recordWords}
-use Rattle.sizing.specs.declared.Counting.{Counting}
-use Rattle.sizing.specs.declared.Counting.the-variants.{Are, Refused}
+use Rattle.size_checker.specs.declared.Counting.{Counting}
+use Rattle.size_checker.specs.declared.Counting.the-variants.{Are, Refused}
 use Rattle.checker.specs.declared.Board.{Board}
 use Rattle.checker.specs.declared.Answer.{Answer}
 

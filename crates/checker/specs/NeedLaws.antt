@@ -9,10 +9,10 @@ use Rattle.language.specs.Within.{Within}
 use Rattle.language.specs.Estimate.{Estimate as Exact, stop, stopped}
 use Rattle.language.specs.Cells.{channelCells, inputCells, updatesNumbers, numbersNeeded}
 use Rattle.index.specs.Tables.{typeTable, channelTable}
-use Rattle.reader.specs.declared.Counts.{Counts}
+use Rattle.index.specs.declared.Counts.{Counts}
 use Rattle.estimate.specs.declared.Estimate.{Estimate as Held}
 use Rattle.estimate.specs.Stands.{Stands}
-use Rattle.indexed.specs.Indexed.{Counted}
+use Rattle.index.specs.Indexed.{Counted}
 use Rattle.cells.specs.Counts.{Right, CountsChannels}
 use Rattle.cells.specs.TableLaws.{right-nothing}
 use Rattle.cells.specs.ChannelLaws.{all-channels-counted, inputs-counted}

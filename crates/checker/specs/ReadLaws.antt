@@ -11,11 +11,11 @@ use Rattle.language.specs.PlainTypes.{plainTypes}
 use Rattle.language.specs.Machine.{checkFile}
 use Rattle.theory.specs.Padding.{padded-length}
 use Rattle.index.specs.Tables.{typeTable, functionTable, channelTable, frameTable}
-use Rattle.reader.specs.declared.Counts.{Counts}
+use Rattle.index.specs.declared.Counts.{Counts}
 use Rattle.reader.specs.declared.Reading.{Reading}
 use Rattle.reader.specs.declared.Reading.the-variants.{Done, Fault}
 use Rattle.reader.specs.Texts.{Tables, TextRead, done, fault}
-use Rattle.indexed.specs.Indexes.{read-indexes}
+use Rattle.reader.specs.Indexes.{read-indexes}
 use Rattle.checker.specs.declared.Board.{Board}
 use Rattle.checker.specs.declared.Answer.{Answer}
 use Rattle.checker.specs.Checks.{Checks, readingRefusal, ReadHeld}

@@ -5,22 +5,22 @@ use cells::CELLS_TABLE;
 use cells::channels_cells;
 use estimate::Estimate;
 use estimate::capped_sum;
+use index::Counts;
 use instances::INSTANCE_WORDS;
 use instances::clear;
 use language::limits::CALLS_MOST;
 use language::limits::CELLS_MOST;
 use language::limits::INSTANCES_MOST;
 use language::limits::SLOTS_MOST;
+use plain_types::plain_types;
 use reader::CHANNEL_TABLE;
-use reader::Counts;
 use reader::FRAME_TABLE;
 use reader::FUNCTION_TABLE;
 use reader::Reading;
 use reader::TYPE_TABLE;
 use reader::read;
-use sizing::Counting;
-use sizing::file::sized_file;
-use typing::plain_types;
+use size_checker::Counting;
+use size_checker::file::sized_file;
 
 // The least words of a list of instances.
 const LIST_LEAST: usize = INSTANCES_MOST * INSTANCE_WORDS;

@@ -13,3 +13,6 @@ pub mod PassLaws
 pub mod TypeTable
 pub mod FunctionTable
 pub mod FrameTable
+pub mod Indexed
+pub mod TableWords
+pub mod FramePartLaws

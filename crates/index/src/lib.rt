@@ -1,4 +1,5 @@
 // The index that the reader leaves for later passes: tables of words, how they are read and written.
+pub mod frames;
 pub mod functions;
 pub mod types;
 
@@ -25,6 +26,14 @@ pub const FUNCTION_WORDS: usize = HEAD_WORDS + 4;
 pub const CHANNEL_WORDS: usize = 3;
 
 pub const FRAME_WORDS: usize = 2;
+
+// How many frames of each kind a file has.
+pub struct Counts {
+    pub types: u32,
+    pub functions: u32,
+    pub inputs: u32,
+    pub nodes: u32,
+}
 
 // A word of a table; 0 beyond the table.
 pub fn word_at(table: &[u32], i: usize) -> u32

@@ -6,7 +6,7 @@ use mathlib.Core.Path.{_≡_, refl, sym, _∙_}
 use native.Mathlib.Omega.{arith}
 use Rattle.language.specs.Result.{Result, ok, no}
 use Rattle.language.specs.Syntax.{File}
-use Rattle.reader.specs.declared.Counts.{Counts}
+use Rattle.index.specs.declared.Counts.{Counts}
 use Rattle.reader.specs.declared.Reading.{Reading}
 use Rattle.reader.specs.declared.Reading.the-variants.{Done, Fault}
 use Rattle.reader.specs.Texts.{TextRead, done, fault}

@@ -32,9 +32,9 @@ use Rattle.index.specs.FunctionTable.{tells-parameters}
 use Rattle.index.specs.FrameTable.{channels-so-far, input-more, node-more}
 use Rattle.index.specs.EnterLaws.{next-word}
 use Rattle.index.specs.ParserLaws.{bad-is-not-got}
-use Rattle.passing.specs.declared.Names.{Names}
-use Rattle.passing.specs.Follows.{Tells, Follows}
-use Rattle.reader.specs.declared.Counts.{Counts}
+use Rattle.expression_reader.specs.declared.Names.{Names}
+use Rattle.expression_reader.specs.Follows.{Tells, Follows}
+use Rattle.index.specs.declared.Counts.{Counts}
 use Rattle.reader.specs.Held.{Held, Fits, PlaceWord, ReadsInput, ReadsNode}
 use Rattle.reader.specs.Places.{place-behind}
 

@@ -16,7 +16,7 @@ use Rattle.text.specs.declared.Step.the-variants.{Next, Stop}
 use Rattle.text.specs.Bytes.{bytesOf, bytesFrom, forget, Passes}
 use Rattle.text.specs.StepLaws.{pass-got, pass-bad}
 use Rattle.text.specs.DigitLaws.{bytes-length}
-use Rattle.reader.specs.declared.Counts.{Counts}
+use Rattle.index.specs.declared.Counts.{Counts}
 use Rattle.reader.specs.declared.Frame.{Frame}
 use Rattle.reader.specs.declared.Frame.the-variants.{Taken, Refused}
 use Rattle.reader.specs.Held.{refused}

@@ -22,7 +22,7 @@ use Rattle.text.specs.StepLaws.{number-got, number-bad}
 use Rattle.index.specs.Tables.{typeWords, typeEntry, typeTable}
 use Rattle.index.specs.Enters.{Enters, typeBehind, SelfFree}
 use Rattle.index.specs.TypeTable.{FewParts, type-def-behind, type-added, read-few, self-free-told}
-use Rattle.reader.specs.declared.Counts.{Counts}
+use Rattle.index.specs.declared.Counts.{Counts}
 use Rattle.reader.specs.declared.Frame.{Frame}
 use Rattle.reader.specs.declared.Frame.the-variants.{Taken, Refused}
 use Rattle.reader.specs.Held.{Held, ReadsFunction, ReadsInput, ReadsNode, FrameRead, taken, refused, ReadsFrame, TypeTaken}

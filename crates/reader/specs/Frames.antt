@@ -13,7 +13,7 @@ use Rattle.language.specs.Reader.{Kind, kinds, inOrder}
 use Rattle.text.specs.Bytes.{bytesOf}
 use Rattle.text.specs.declared.Step.{Step}
 use Rattle.text.specs.declared.Step.the-variants.{Next, Stop}
-use Rattle.reader.specs.declared.Counts.{Counts}
+use Rattle.index.specs.declared.Counts.{Counts}
 use Rattle.reader.specs.declared.Frame.{Frame}
 use Rattle.reader.specs.declared.Frame.the-variants.{Taken, Refused}
 use Rattle.reader.specs.Held.{Held}

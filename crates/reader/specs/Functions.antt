@@ -27,9 +27,9 @@ use Rattle.index.specs.Tables.{functionWords, functionEntry, functionTable, res
 use Rattle.index.specs.Enters.{Enters, parametersEntry, Named, TellsParameters}
 use Rattle.index.specs.FunctionTable.{headWords, ParametersRead, parameters-read, places-added, tells-parameters}
 use Rattle.index.specs.ParserLaws.{bad-is-not-got}
-use Rattle.passing.specs.declared.Names.{Names}
-use Rattle.passing.specs.Follows.{Tells, Follows}
-use Rattle.reader.specs.declared.Counts.{Counts}
+use Rattle.expression_reader.specs.declared.Names.{Names}
+use Rattle.expression_reader.specs.Follows.{Tells, Follows}
+use Rattle.index.specs.declared.Counts.{Counts}
 use Rattle.reader.specs.Held.{Held, Fits, PlaceWord, ReadsFunction}
 use Rattle.reader.specs.Places.{read-spelled, place-behind}
 use Rattle.reader.specs.Channels.{noFunction, arity-at, few-arities, tells-types, then-got, last-got, place-is}

@@ -13,7 +13,7 @@ use Rattle.text.specs.Bytes.{bytesOf, bytesFrom, forget, Passes}
 use Rattle.text.specs.declared.Step.{Step}
 use Rattle.index.specs.Tables.{typeTable, functionTable, channelTable}
 use Rattle.index.specs.TypeTable.{FewParts}
-use Rattle.reader.specs.declared.Counts.{Counts}
+use Rattle.index.specs.declared.Counts.{Counts}
 use Rattle.reader.specs.declared.Frame.{Frame}
 use Rattle.reader.specs.declared.Frame.the-variants.{Taken, Refused}
 

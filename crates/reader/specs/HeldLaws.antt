@@ -10,7 +10,7 @@ use Rattle.language.specs.Reader.{withType, withFunction, withInput, withNode}
 use Rattle.theory.specs.Alls.{all-snoc}
 use Rattle.index.specs.Tables.{typeTable, functionTable, channelTable}
 use Rattle.index.specs.TypeTable.{FewParts}
-use Rattle.reader.specs.declared.Counts.{Counts}
+use Rattle.index.specs.declared.Counts.{Counts}
 use Rattle.reader.specs.Held.{Held}
 use Rattle.reader.specs.Frames.{moreTypes, moreFunctions, moreInputs, moreNodes}
 

@@ -13,3 +13,5 @@ pub mod LineLaws
 pub mod JudgeLaws
 pub mod ReadLoop
 pub mod TextLaws
+pub mod FrameLines
+pub mod Indexes

@@ -14,7 +14,7 @@ use Rattle.language.specs.Syntax.{File}
 use Rattle.language.specs.Parser.{decode}
 use Rattle.language.specs.Reader.{kinds, isEmpty, inOrder}
 use Rattle.theory.specs.Lists.{both-never}
-use Rattle.reader.specs.declared.Counts.{Counts}
+use Rattle.index.specs.declared.Counts.{Counts}
 use Rattle.reader.specs.Held.{Held}
 use Rattle.reader.specs.Frames.{ordered, Ordered}
 

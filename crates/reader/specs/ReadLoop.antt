@@ -21,7 +21,7 @@ use Rattle.text.specs.LinesWalk.{FramesLeft, NextFrame, frames-left-start, fram
 use Rattle.index.specs.Tables.{frameWords, framesMost, placesFrom, frameTable}
 use Rattle.index.specs.Padded.{padded-at, padded-beyond}
 use Rattle.index.specs.FrameTable.{places-at}
-use Rattle.reader.specs.declared.Counts.{Counts}
+use Rattle.index.specs.declared.Counts.{Counts}
 use Rattle.reader.specs.declared.Frame.{Frame}
 use Rattle.reader.specs.declared.Frame.the-variants.{Taken, Refused}
 use Rattle.reader.specs.declared.Reading.{Reading}

@@ -15,7 +15,7 @@ use Rattle.index.specs.FunctionTable.{no-functions}
 use Rattle.text.specs.declared.lines.Counts.{Counts as TextCounts}
 use Rattle.reader.specs.Held.{Held}
 use Rattle.reader.specs.Texts.{Clears, Ready}
-use Rattle.reader.specs.declared.Counts.{Counts}
+use Rattle.index.specs.declared.Counts.{Counts}
 
 -- ---- cleared tables
 zeros-of-length : {l′ : List ℕ} {n : ℕ} (l : List ℕ) → l′ ≡ replicate (length l) 0 → length l ≡ n → l′ ≡ replicate n 0

@@ -12,7 +12,7 @@ use Rattle.text.specs.declared.lines.Judged.{Judged}
 use Rattle.text.specs.declared.lines.Judged.the-variants.{Lines, Refused}
 use Rattle.text.specs.LinesJudge.{judged-lines, judged-refused}
 use Rattle.index.specs.Tables.{frameWords, framesMost}
-use Rattle.reader.specs.declared.Counts.{Counts}
+use Rattle.index.specs.declared.Counts.{Counts}
 use Rattle.reader.specs.declared.Reading.{Reading}
 use Rattle.reader.specs.declared.Reading.the-variants.{Done, Fault}
 use Rattle.reader.specs.Texts.{Tables, Blank, Judges, Ready, LinesRead, all-lines, bad-line, TextRead, done, fault}

@@ -16,7 +16,7 @@ use Rattle.text.specs.Lines.{firstLine, framesFrom, judgement}
 use Rattle.text.specs.LinesJudge.{Accepted}
 use Rattle.index.specs.Tables.{typeWords, functionWords, channelWords, frameWords, framesMost, placesFrom, frameTable}
 use Rattle.reader.specs.Held.{Held}
-use Rattle.reader.specs.declared.Counts.{Counts}
+use Rattle.index.specs.declared.Counts.{Counts}
 use Rattle.reader.specs.declared.Reading.{Reading}
 use Rattle.reader.specs.declared.Reading.the-variants.{Done, Fault}
 

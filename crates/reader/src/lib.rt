@@ -7,6 +7,7 @@ ghost use Rattle.language.specs.Reader.{readFile};
 ghost use Rattle.reader.specs.Texts.{Tables, Clears, Ready, finished, LinesRead, TextRead};
 use frames::frame;
 use index::CHANNEL_WORDS;
+use index::Counts;
 use index::FRAME_WORDS;
 use index::FUNCTION_WORDS;
 use index::TYPE_WORDS;
@@ -30,14 +31,6 @@ pub const TYPE_TABLE: usize = TYPES_MOST * TYPE_WORDS;
 pub const FUNCTION_TABLE: usize = FUNCTIONS_MOST * FUNCTION_WORDS;
 
 pub const CHANNEL_TABLE: usize = CHANNELS_MOST * CHANNEL_WORDS;
-
-// How many frames of each kind have been read.
-pub struct Counts {
-    pub types: u32,
-    pub functions: u32,
-    pub inputs: u32,
-    pub nodes: u32,
-}
 
 // A frame that was taken, with the counts then; or the number of the refusal.
 pub enum Frame {

@@ -17,8 +17,8 @@ use Rattle.language.specs.Sizes.{added, taken, compare, conditionHolds, conditi
 use Rattle.text.specs.declared.Cursor.{Cursor}
 use Rattle.text.specs.declared.Found.{Found}
 use Rattle.text.specs.Bytes.{bytesOf}
-use Rattle.spelling.specs.Spells.{Spells, spells-within, spells-first, spells-next, first-of-list, themselves}
-use Rattle.spelling.specs.TypeInversions.{condition-parts}
+use Rattle.encoding.specs.Spells.{Spells, spells-within, spells-first, spells-next, first-of-list, themselves}
+use Rattle.encoding.specs.TypeInversions.{condition-parts}
 use Rattle.sizes.specs.declared.Worked.{Worked}
 use Rattle.sizes.specs.declared.Judged.{Judged}
 use Rattle.sizes.specs.Promises.{Reads, Told, WorksOut, Compares, Judges, HoldAll, Hold, WeighsAll, Weighs}

@@ -14,7 +14,7 @@ use Rattle.language.specs.Sizes.{added, taken, typeSize, typeAt, compare, condi
 use Rattle.text.specs.declared.Cursor.{Cursor}
 use Rattle.text.specs.declared.Found.{Found}
 use Rattle.text.specs.Bytes.{bytesOf, declaredWord}
-use Rattle.spelling.specs.Spells.{byteAt, Spells, themselves}
+use Rattle.encoding.specs.Spells.{byteAt, Spells, themselves}
 use Rattle.sizes.specs.declared.Worked.{Worked}
 use Rattle.sizes.specs.declared.SizeAt.{SizeAt}
 use Rattle.sizes.specs.declared.SizeAt.the-variants.{Is as SizeIs, Outside as SizeOutside}

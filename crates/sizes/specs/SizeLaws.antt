@@ -17,9 +17,9 @@ use Rattle.text.specs.declared.Found.{Found}
 use Rattle.text.specs.declared.Number.{Number}
 use Rattle.text.specs.declared.Number.the-variants.{Is, Refused}
 use Rattle.text.specs.Bytes.{bytesOf, bytesFrom, ReadsNumber, Below, below}
-use Rattle.spelling.specs.Spells.{byteAt, Spells, spells-within, IsLeaf}
-use Rattle.spelling.specs.TypeInversions.{OfTwoSizes, SizeCoded, lit-coded, svar-coded, plus-coded, minus-coded, size-of-byte, lit-spelled, plus-spelled}
-use Rattle.spelling.specs.CursorSpells.{byte-is}
+use Rattle.encoding.specs.Spells.{byteAt, Spells, spells-within, IsLeaf}
+use Rattle.encoding.specs.TypeInversions.{OfTwoSizes, SizeCoded, lit-coded, svar-coded, plus-coded, minus-coded, size-of-byte, lit-spelled, plus-spelled}
+use Rattle.encoding.specs.CursorSpells.{byte-is}
 use Rattle.sizes.specs.declared.Worked.{Worked}
 use Rattle.sizes.specs.Promises.{Reads, Told, IsWorked, WorksOut, LeafWorked}
 

@@ -16,8 +16,8 @@ use Rattle.language.specs.Sizes.{added, taken, typeSize, typeAt}
 use Rattle.text.specs.declared.Cursor.{Cursor}
 use Rattle.text.specs.declared.Found.{Found}
 use Rattle.text.specs.Bytes.{bytesOf}
-use Rattle.spelling.specs.Spells.{byteAt, Spells, spells-within, IsLeaf}
-use Rattle.spelling.specs.TypeInversions.{IsNamedResult, ResultCoded, rbool-coded, rint-coded, rnamed-coded, result-of-byte, rbool-spelled, rint-spelled}
+use Rattle.encoding.specs.Spells.{byteAt, Spells, spells-within, IsLeaf}
+use Rattle.encoding.specs.TypeInversions.{IsNamedResult, ResultCoded, rbool-coded, rint-coded, rnamed-coded, result-of-byte, rbool-spelled, rint-spelled}
 use Rattle.sizes.specs.declared.Worked.{Worked}
 use Rattle.sizes.specs.declared.SizeAt.{SizeAt}
 use Rattle.sizes.specs.declared.SizeAt.the-variants.{Is as SizeIs, Outside as SizeOutside}

@@ -1,0 +1,12 @@
+pub mod Spells
+pub mod TypeInversions
+pub mod Forms
+pub mod IntSpells
+pub mod ExprInversions
+pub mod ExprLists
+pub mod SpelledOnce
+pub mod FrameParts
+pub mod FrameSpells
+pub mod CursorSpells
+pub mod WithinParts
+pub mod Known

@@ -1,0 +1,24 @@
+use borrow.Author.Needs.{needs}
+use Rattle.expression_reader.proofs.opened.Statement.{statement}
+use Rattle.expression_reader.proofs.opened.Tie as tie
+use Rattle.expression_reader.proofs.opened.Reads as reads
+use Rattle.expression_reader.proofs.opened.Lts as lts
+
+-- src/lib.rt:72:20
+enum-known-x : tie.Need-enum-known-x
+enum-known-x c = search needs
+
+-- src/lib.rt:76:20
+enum-known-x-2 : tie.Need-enum-known-x-2
+enum-known-x-2 c = search needs
+
+-- src/lib.rt:68:1
+returns : tie.Need-returns
+returns c = rw (c .before .x .given .1)
+
+-- src/lib.rt:68:1
+returns-2 : tie.Need-returns-2
+returns-2 c = rw (c .before .x2 .given .1)
+
+pub opened-spec : {M : Type 1} → statement M
+opened-spec = tie.close (tie.spec enum-known-x enum-known-x-2 returns returns-2)

@@ -1,0 +1,11 @@
+pub mod Heads
+pub mod UnreadLaws
+pub mod HeadParts
+pub mod HeadForms
+pub mod ReadLaws
+pub mod HeadLaws
+pub mod Skips
+pub mod PartLaws
+pub mod SkipHeads
+pub mod SkipLaws
+pub mod ScopeShapes

@@ -1,0 +1,140 @@
+// Reading the head of an expression: its form by the first byte, with the bytes that belong to it.
+pub mod skip;
+
+ghost use mathlib.Core.Path.{_≡_};
+ghost use Rattle.heads.specs.HeadLaws.{missingHead};
+ghost use Rattle.heads.specs.Heads.{Heads, Coded, OtherCode};
+use text::Cursor;
+use text::Number;
+
+// The form of an expression, with the bytes that belong to it; Missing where none is read.
+pub enum Form {
+    Bool(u32),
+    Int(u32),
+    Variable(u32),
+    Now(u32),
+    Last(u32),
+    Let,
+    If,
+    Operator(u32),
+    Call(u32),
+    Construct(u32, u32),
+    Case(u32),
+    Adjust,
+    Fit(u32),
+    Missing,
+}
+
+// A form, and the cursor where its first part starts.
+pub struct Head {
+    pub form: Form,
+    pub next: Cursor,
+}
+
+// No form: the cursor stays where it was.
+fn missing(start: Cursor) -> Head
+    ensures { λ r. ⌜ r ≡ missingHead start ⌝ }
+{
+    Head {
+        form: Form::Missing,
+        next: start,
+    }
+}
+
+// `11`: an Int, whose four bytes stand behind the code.
+fn number(line: &[u8], start: Cursor, c: Cursor) -> Head
+    requires { ⌜ Coded (now line) (start .at) 0x11 1 (c .at) ⌝ }
+    ensures { λ r. ⌜ Heads (now (line .entry)) (start .at) r ⌝ }
+{
+    let x = c.int(line);
+    let Number::Is(f) = x else {
+        return missing(start);
+    };
+    let n = f.value;
+    let next = f.next;
+    Head {
+        form: Form::Int(n),
+        next: next,
+    }
+}
+
+// `19`: a type and one of its constructors stand behind the code.
+fn construct(line: &[u8], start: Cursor, c: Cursor) -> Head
+    requires { ⌜ Coded (now line) (start .at) 0x19 1 (c .at) ⌝ }
+    ensures { λ r. ⌜ Heads (now (line .entry)) (start .at) r ⌝ }
+{
+    let x = c.byte(line);
+    let Number::Is(f) = x else {
+        return missing(start);
+    };
+    let t = f.value;
+    let second = f.next;
+    let y = second.byte(line);
+    let Number::Is(g) = y else {
+        return missing(start);
+    };
+    let k = g.value;
+    let next = g.next;
+    Head {
+        form: Form::Construct(t, k),
+        next: next,
+    }
+}
+
+// The codes with one byte behind them.
+fn one_operand(line: &[u8], start: Cursor, c: Cursor, code: u32) -> Head
+    requires { ⌜ Coded (now line) (start .at) code 1 (c .at) ⌝ }
+    requires { ⌜ OtherCode code ⌝ }
+    ensures { λ r. ⌜ Heads (now (line .entry)) (start .at) r ⌝ }
+{
+    let x = c.byte(line);
+    let Number::Is(f) = x else {
+        return missing(start);
+    };
+    let b = f.value;
+    let next = f.next;
+    let form = match code {
+        0x10 => Form::Bool(b),
+        0x12 => Form::Variable(b),
+        0x13 => Form::Now(b),
+        0x14 => Form::Last(b),
+        0x17 => Form::Operator(b),
+        0x18 => Form::Call(b),
+        0x1A => Form::Case(b),
+        0x1C => Form::Fit(b),
+        _ => return missing(start),
+    };
+    Head {
+        form: form,
+        next: next,
+    }
+}
+
+// The head of an expression.
+pub fn head_at(line: &[u8], c: Cursor) -> Head
+    ensures { λ r. ⌜ Heads (now (line .entry)) (c .at) r ⌝ }
+{
+    let x = c.byte(line);
+    let Number::Is(f) = x else {
+        return missing(c);
+    };
+    let code = f.value;
+    let next = f.next;
+    match code {
+        0x11 => number(line, c, next),
+        0x15 => Head {
+            form: Form::Let,
+            next: next,
+        },
+        0x16 => Head {
+            form: Form::If,
+            next: next,
+        },
+        0x19 => construct(line, c, next),
+        0x1B => Head {
+            form: Form::Adjust,
+            next: next,
+        },
+        _ => one_operand(line, c, next, code),
+    }
+}

@@ -1,0 +1,202 @@
+// Skipping an expression that is known to be spelled in a line: where the next thing starts. The scope is not asked for; the tables
+// of the index say how many parts a form has.
+ghost use mathlib.Core.Path.{_≡_};
+ghost use Prim.Native.Nat.{_+_, _≤_, _<_};
+ghost use lib.ListN.{length};
+ghost use Rattle.language.specs.Limits.{byteRange};
+ghost use Rattle.text.specs.Bytes.{bytesOf};
+ghost use Rattle.heads.specs.Skips.{Skips, SkipsAll, SkipsCase, Heads};
+use index::arity;
+use index::constructors;
+use index::fields;
+use language::limits::NESTING_MOST;
+use language::limits::SIZE_VARIABLES_MOST;
+use language::limits::TYPES_MOST;
+use text::Cursor;
+use text::Number;
+use text::Step;
+
+// The parts of a form: where the first one starts, and how many expressions there are.
+pub struct Parts {
+    pub next: Cursor,
+    pub count: u32,
+}
+
+// The cursor moved on over so many bytes, if the line has them.
+fn ahead(line: &[u8], c: Cursor, n: usize) -> Cursor
+    ensures { λ r. ⌜ (c .at + n ≤ length (bytesOf (now (line .entry))) → r .at ≡ c .at + n) ⌝ }
+{
+    let at = c.at;
+    let most = line.len() / 2;
+    if most < at {
+        return c;
+    }
+    if most - at < n {
+        return c;
+    }
+    Cursor { at: at + n }
+}
+
+// The forms that have the same number of parts wherever they stand.
+fn fixed(line: &[u8], types: &[u32], functions: &[u32], c: Cursor, code: u32) -> Parts
+    requires { ⌜ (code ≡ 0x18 → ⊥) × ((code ≡ 0x19 → ⊥) × ((code ≡ 0x1A → ⊥) × (code ≡ 0x1B → ⊥))) ⌝ }
+    ensures { λ r. ⌜ Heads (now (line .entry)) (now (types .entry)) (now (functions .entry)) c code r × (r .count < byteRange) ⌝ }
+{
+    if code == 0x11 {
+        let behind = ahead(line, c, 4);
+        return Parts {
+            next: behind,
+            count: 0,
+        };
+    }
+    if code == 0x15 {
+        return Parts { next: c, count: 2 };
+    }
+    if code == 0x16 {
+        return Parts { next: c, count: 3 };
+    }
+    let next = ahead(line, c, 1);
+    if code == 0x17 {
+        return Parts {
+            next: next,
+            count: 2,
+        };
+    }
+    if code == 0x1C {
+        return Parts {
+            next: next,
+            count: 3,
+        };
+    }
+    Parts {
+        next: next,
+        count: 0,
+    }
+}
+
+// `18`: a call has as many parts as the function has parameters.
+fn call(line: &[u8], types: &[u32], functions: &[u32], c: Cursor) -> Parts
+    ensures { λ r. ⌜ Heads (now (line .entry)) (now (types .entry)) (now (functions .entry)) c 0x18 r × (r .count < byteRange) ⌝ }
+{
+    let x = c.byte(line);
+    let Number::Is(f) = x else {
+        return Parts { next: c, count: 0 };
+    };
+    let n = arity(functions, f.value);
+    let next = f.next;
+    Parts {
+        next: next,
+        count: n,
+    }
+}
+
+// `19`: a constructor has as many parts as fields.
+fn construct(line: &[u8], types: &[u32], functions: &[u32], c: Cursor) -> Parts
+    ensures { λ r. ⌜ Heads (now (line .entry)) (now (types .entry)) (now (functions .entry)) c 0x19 r × (r .count < byteRange) ⌝ }
+{
+    let x = c.byte(line);
+    let Number::Is(f) = x else {
+        return Parts { next: c, count: 0 };
+    };
+    let second = f.next;
+    let y = second.byte(line);
+    let Number::Is(g) = y else {
+        return Parts { next: c, count: 0 };
+    };
+    let n = fields(types, f.value, g.value);
+    let next = g.next;
+    Parts {
+        next: next,
+        count: n,
+    }
+}
+
+// `1B`: behind the written size is one expression.
+fn adjust(line: &[u8], types: &[u32], functions: &[u32], c: Cursor) -> Parts
+    ensures { λ r. ⌜ Heads (now (line .entry)) (now (types .entry)) (now (functions .entry)) c 0x1B r × (r .count < byteRange) ⌝ }
+{
+    let x = c.size(line, SIZE_VARIABLES_MOST, NESTING_MOST);
+    let Step::Next(next) = x else {
+        return Parts { next: c, count: 0 };
+    };
+    Parts {
+        next: next,
+        count: 1,
+    }
+}
+
+// The parts of any form but a case; c stands behind the code.
+fn heading(line: &[u8], types: &[u32], functions: &[u32], c: Cursor, code: u32) -> Parts
+    requires { ⌜ (code ≡ 0x1A → ⊥) ⌝ }
+    ensures { λ r. ⌜ Heads (now (line .entry)) (now (types .entry)) (now (functions .entry)) c code r × (r .count < byteRange) ⌝ }
+{
+    if code == 0x18 {
+        return call(line, types, functions, c);
+    }
+    if code == 0x19 {
+        return construct(line, types, functions, c);
+    }
+    if code == 0x1B {
+        return adjust(line, types, functions, c);
+    }
+    fixed(line, types, functions, c, code)
+}
+
+// An expression with so many levels left.
+pub fn skip(line: &[u8], types: &[u32], functions: &[u32], c: Cursor, levels: u32) -> Cursor
+    ensures { λ r. ⌜ Skips (now (line .entry)) (now (types .entry)) (now (functions .entry)) c levels r ⌝ }
+{
+    if levels == 0 {
+        return c;
+    }
+    let x = c.byte(line);
+    let Number::Is(f) = x else {
+        return c;
+    };
+    let code = f.value;
+    let next = f.next;
+    if code == 0x1A {
+        return skip_case(line, types, functions, next, levels - 1);
+    }
+    let parts = heading(line, types, functions, next, code);
+    let first = parts.next;
+    let n = parts.count;
+    skip_several(line, types, functions, first, levels - 1, n)
+}
+
+// So many expressions, one after the other.
+pub fn skip_several(
+    line: &[u8],
+    types: &[u32],
+    functions: &[u32],
+    c: Cursor,
+    levels: u32,
+    n: u32,
+) -> Cursor
+    ensures { λ r. ⌜ SkipsAll (now (line .entry)) (now (types .entry)) (now (functions .entry)) c levels n r ⌝ }
+{
+    if n == 0 {
+        return c;
+    }
+    let next = skip(line, types, functions, c, levels);
+    skip_several(line, types, functions, next, levels, n - 1)
+}
+
+// `1A`: a case: its subject, its return type, a branch for each constructor; c stands behind the code.
+fn skip_case(line: &[u8], types: &[u32], functions: &[u32], c: Cursor, levels: u32) -> Cursor
+    ensures { λ r. ⌜ SkipsCase (now (line .entry)) (now (types .entry)) (now (functions .entry)) c levels r ⌝ }
+{
+    let x = c.byte(line);
+    let Number::Is(f) = x else {
+        return c;
+    };
+    let t = f.value;
+    let subject = f.next;
+    let written = skip(line, types, functions, subject, levels);
+    let y = written.result(line, TYPES_MOST as u32, SIZE_VARIABLES_MOST);
+    let Step::Next(next) = y else {
+        return c;
+    };
+    let n = constructors(types, t);
+    skip_several(line, types, functions, next, levels, n)
+}

@@ -1,6 +1,0 @@
-pub mod Indexed
-pub mod FrameLines
-pub mod TableWords
-pub mod Indexes
-pub mod ScopeShapes
-pub mod FramePartLaws

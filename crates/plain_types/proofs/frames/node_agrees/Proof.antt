@@ -1,0 +1,47 @@
+-- A node agrees where its initial value and its update do.
+use native.Mathlib.Omega.{arith}
+use borrow.Author.Tests.{not-true, not-false}
+use Rattle.plain_types.specs.FrameLaws.{node-unfit, node-fits}
+use Rattle.plain_types.proofs.frames.node_agrees.Statement.{statement}
+use Rattle.plain_types.proofs.frames.node_agrees.Tie as tie
+
+initial-agrees-requires : tie.Need-initial-agrees-requires
+initial-agrees-requires c κs = tt
+
+returns : tie.Need-returns
+returns c = node-unfit _ _ _ _ _ _ _ _ (c .before .initial-agrees .ensures) (not-true _ (c .if1 .taken))
+
+mul-word-at : tie.Need-mul-word-at
+mul-word-at c = omega arith
+
+add-word-at : tie.Need-add-word-at
+add-word-at c = omega arith
+
+word-at-requires : tie.Need-word-at-requires
+word-at-requires c κs = tt
+
+cast-t15 : tie.Need-cast-t15
+cast-t15 c = omega arith
+
+line-of-requires : tie.Need-line-of-requires
+line-of-requires c κs = tt
+
+value-agrees-requires : tie.Need-value-agrees-requires
+value-agrees-requires c κs = omega arith
+
+returns-2 : tie.Need-returns-2
+returns-2 c = node-fits _ _ _ _ _ _ _ _ (c .before .before .before .before .initial-agrees .ensures) (not-false _ (c .before .before .before .if1 .left)) (c .before .before .word-at .ensures) (c .before .line-of .ensures) (c .value-agrees .ensures)
+
+pub node-agrees-spec : {M : Type 1} → statement M
+node-agrees-spec =
+    tie.close
+    (tie.spec
+    initial-agrees-requires
+    returns
+    mul-word-at
+    add-word-at
+    word-at-requires
+    cast-t15
+    line-of-requires
+    value-agrees-requires
+    returns-2)

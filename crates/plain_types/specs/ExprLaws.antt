@@ -1,0 +1,238 @@
+-- An expression by its form: what the function of the form promises of the parts, expr promises of the expression.
+use Prim.Native.Nat.{ℕ, suc, _+_, _-_, _<_}
+use mathlib.Core.List.{List, [], map}
+use mathlib.Core.Path.{_≡_, refl, sym, ap, _∙_, subst}
+use native.Mathlib.Omega.{arith}
+use lib.ListN.{length, getD, take}
+use lib.Seq.{getD-take}
+use Rattle.language.specs.Syntax.{Plain, pbool, Expr, File}
+use Rattle.language.specs.Format.{exprBytes}
+use Rattle.language.specs.Scope.{Scope}
+use Rattle.language.specs.Within.{WithinExpr, WithinExprs, WithinBranches}
+use Rattle.language.specs.PlainTypes.{plainOf}
+use Rattle.theory.specs.Lists.{look-getD, look-map}
+use Rattle.theory.specs.Places.{look-at}
+use Rattle.text.specs.Bytes.{plainWord}
+use Rattle.encoding.specs.Spells.{Spells}
+use Rattle.encoding.specs.FrameSpells.{lineAt}
+use Rattle.heads.specs.declared.Form.the-variants.{Bool as BoolForm, Int, Variable, Now, Last, Let, If, Operator, Call, Construct, Case, Adjust, Fit, Missing}
+use Rattle.heads.specs.declared.Head.{Head}
+use Rattle.heads.specs.Heads.{Heads}
+use Rattle.heads.specs.HeadForms.{no-missing, bool-head, int-head, var-head, now-head, last-head, let-head, if-head, op-head, call-head, con-head, case-head, adj-head, fit-head}
+use Rattle.index.specs.Indexed.{declaredAt, framePart}
+use Rattle.plain_types.specs.declared.words.Typing.{Typing}
+use Rattle.plain_types.specs.declared.words.Typing.the-variants.{Is}
+use Rattle.plain_types.specs.declared.places.Place.{Place}
+use Rattle.plain_types.specs.Words.{withoutSize}
+use Rattle.plain_types.specs.Agrees.{answered}
+use Rattle.plain_types.specs.Asks.{insideOf, Stage, Part, TypesExpr, TypesLet, TypesIf, TypesOp, TypesCall, TypesCon, TypesCase, TypesAdj, TypesFit}
+use Rattle.plain_types.specs.EnterLaws.{no-level, less-deep, room-sizes, kept-same}
+use Rattle.plain_types.specs.PlainLaws.{bool-word, int-word, plain-bool, plain-int, plain-var, plain-now, plain-last}
+
+-- a word of a scope is that of the variable's type
+scope-word : (scope : List ℕ) (variables : ℕ) (Γ : List Plain) (v : ℕ) → take variables scope ≡ map plainWord Γ → v < variables → v < length Γ → getD scope v 0 ≡ plainWord (getD Γ v pbool)
+scope-word scope variables Γ v e less less₂ =
+    sym (getD-take variables scope v 0 less) ∙ ap (λ (l : List ℕ). getD l v 0) e ∙ look-getD (map plainWord Γ) v 0 (look-map plainWord Γ v (look-at Γ v pbool less₂))
+
+module _ (text frames types functions channels scope : List ℕ) (p : Place) where
+  pub expr-cut : {r : Typing} → p .levels ≡ 0 → TypesExpr text frames types functions channels scope p r scope
+  expr-cut z = record { says = λ {P} {C} {S} st ask. absurd (no-level (subst (λ m. WithinExpr m S (ask .expr)) z (ask .part .within))); kept = kept-same }
+
+  module _ {line : List ℕ} (part : line ≡ framePart text frames (p .line)) {h : Head} (heads : Heads line (p .at .at) h) where
+    module _ {P : File} {C : List Plain} {S : Scope} {Γ : List Plain} (st : Stage text frames types functions channels scope (p .types) (p .line) (p .variables) P C S Γ) where
+      heads-in : Heads (lineAt text (p .line)) (p .at .at) h
+      heads-in = subst (λ l. Heads l (p .at .at) h) (part ∙ st .indexed .eachFrame (p .line) (st .less) .line) heads
+
+    -- a part has a level less
+    part-of : {left at end : ℕ} {S : Scope} {e : Expr} → p .levels ≡ suc left → WithinExpr left S e → Spells exprBytes (lineAt text (p .line)) at e → at + length (exprBytes e) ≡ end → Part (lineAt text (p .line)) (p .levels - 1) S at e end
+    part-of {S} {e} deep w s q = record { within = subst (λ m. WithinExpr m S e) (less-deep deep) w; spelled = s; ends = q }
+
+    pub expr-missing : {r : Typing} → h .form ≡ Missing → TypesExpr text frames types functions channels scope p r scope
+    expr-missing q = record { says = λ st ask. absurd (no-missing (heads-in st) (ask .part .spelled) q); kept = kept-same }
+
+    -- ---- leaves
+    pub expr-bool : {b : ℕ} {r : Typing} → h .form ≡ BoolForm b → r ≡ Is (record { word = 0; next = h .next }) → TypesExpr text frames types functions channels scope p r scope
+    expr-bool q e = record {
+      says = λ {P} {C} {S} {Γ} st ask.
+          let i = bool-head (heads-in st) (ask .part .spelled) (ask .part .within) q in
+          answered e bool-word (i .ends ∙ ask .part .ends) (ask .is ∙ ap (λ a. plainOf P C a Γ) (i .is) ∙ plain-bool P C Γ (i .value));
+      kept = kept-same;
+    }
+
+    pub expr-int : {b : ℕ} {r : Typing} → h .form ≡ Int b → r ≡ Is (record { word = 1; next = h .next }) → TypesExpr text frames types functions channels scope p r scope
+    expr-int {b} q e = record {
+      says = λ {P} {C} {S} {Γ} st ask.
+          let i = int-head (heads-in st) (ask .part .spelled) (ask .part .within) q in
+          answered e int-word (i .ends ∙ ask .part .ends) (ask .is ∙ ap (λ a. plainOf P C a Γ) (i .is) ∙ plain-int P C Γ b);
+      kept = kept-same;
+    }
+
+    pub expr-var : {v word : ℕ} {r : Typing} → h .form ≡ Variable v → word ≡ getD scope v 0 → r ≡ Is (record { word = word; next = h .next }) → TypesExpr text frames types functions channels scope p r scope
+    expr-var {v} q w e = record {
+      says = λ {P} {C} {S} {Γ} st ask.
+          let i = var-head (heads-in st) (ask .part .spelled) (ask .part .within) q in
+          let less : v < p .variables = omega (arith, i .less, st .inScope) in
+          let less₂ : v < length Γ = omega (arith, less, st .long) in
+          answered e (w ∙ scope-word scope (p .variables) Γ v (st .words) less less₂) (i .ends ∙ ask .part .ends)
+          (ask .is ∙ ap (λ a. plainOf P C a Γ) (i .is) ∙ plain-var P C Γ v ∙ look-at Γ v pbool less₂);
+      kept = kept-same;
+    }
+
+    module _ {c : ℕ} {r : Typing} (e : r ≡ Is (record { word = withoutSize (declaredAt channels c); next = h .next })) where
+      pub expr-now : h .form ≡ Now c → TypesExpr text frames types functions channels scope p r scope
+      expr-now q = record {
+        says = λ {P} {C} {S} {Γ} st ask.
+            let i = now-head (heads-in st) (ask .part .spelled) (ask .part .within) q in
+            let less : c < length C = omega (arith, i .less, st .now) in
+            answered e (st .channel c less) (i .ends ∙ ask .part .ends) (ask .is ∙ ap (λ a. plainOf P C a Γ) (i .is) ∙ plain-now P C Γ c ∙ look-at C c pbool less);
+        kept = kept-same;
+      }
+
+      pub expr-last : h .form ≡ Last c → TypesExpr text frames types functions channels scope p r scope
+      expr-last q = record {
+        says = λ {P} {C} {S} {Γ} st ask.
+            let i = last-head (heads-in st) (ask .part .spelled) (ask .part .within) q in
+            let less : c < length C = omega (arith, i .less, st .last) in
+            answered e (st .channel c less) (i .ends ∙ ask .part .ends) (ask .is ∙ ap (λ a. plainOf P C a Γ) (i .is) ∙ plain-last P C Γ c ∙ look-at C c pbool less);
+        kept = kept-same;
+      }
+
+    -- ---- forms with parts
+    module _ {r : Typing} {scope₁ : List ℕ} where
+      pub expr-let : h .form ≡ Let → TypesLet text frames types functions channels scope (insideOf p (h .next)) r scope₁ → TypesExpr text frames types functions channels scope p r scope₁
+      expr-let q v = record {
+        says = λ {P} {C} {S} {Γ} st ask.
+            let i = let-head (heads-in st) (ask .part .spelled) (ask .part .within) q in
+            v .says st (record {
+              first = i .first;
+              second = i .second;
+              middle = h .next .at + length (exprBytes (i .first));
+              part = part-of (i .deep) (i .within) (i .spelled) refl;
+              part₂ = part-of (i .deep) (i .within₂) (i .spelled₂) (omega (arith, i .long, ap (λ a. length (exprBytes a)) (i .is), ask .part .ends));
+              is = ask .is ∙ ap (λ a. plainOf P C a Γ) (i .is);
+            });
+        kept = v .kept;
+      }
+
+      pub expr-if : h .form ≡ If → TypesIf text frames types functions channels scope (insideOf p (h .next)) r scope₁ → TypesExpr text frames types functions channels scope p r scope₁
+      expr-if q v = record {
+        says = λ {P} {C} {S} {Γ} st ask.
+            let i = if-head (heads-in st) (ask .part .spelled) (ask .part .within) q in
+            v .says st (record {
+              first = i .first;
+              second = i .second;
+              third = i .third;
+              middle = h .next .at + length (exprBytes (i .first));
+              middle₂ = h .next .at + length (exprBytes (i .first)) + length (exprBytes (i .second));
+              part = part-of (i .deep) (i .within) (i .spelled) refl;
+              part₂ = part-of (i .deep) (i .within₂) (i .spelled₂) refl;
+              part₃ = part-of (i .deep) (i .within₃) (i .spelled₃) (omega (arith, i .long, ap (λ a. length (exprBytes a)) (i .is), ask .part .ends));
+              is = ask .is ∙ ap (λ a. plainOf P C a Γ) (i .is);
+            });
+        kept = v .kept;
+      }
+
+      pub expr-op : {o : ℕ} → h .form ≡ Operator o → TypesOp text frames types functions channels scope (insideOf p (h .next)) o r scope₁ → TypesExpr text frames types functions channels scope p r scope₁
+      expr-op q v = record {
+        says = λ {P} {C} {S} {Γ} st ask.
+            let i = op-head (heads-in st) (ask .part .spelled) (ask .part .within) q in
+            v .says st (record {
+              op = i .op;
+              coded = i .code;
+              first = i .first;
+              second = i .second;
+              middle = h .next .at + length (exprBytes (i .first));
+              part = part-of (i .deep) (i .within) (i .spelled) refl;
+              part₂ = part-of (i .deep) (i .within₂) (i .spelled₂) (omega (arith, i .long, ap (λ a. length (exprBytes a)) (i .is), ask .part .ends));
+              is = ask .is ∙ ap (λ a. plainOf P C a Γ) (i .is);
+            });
+        kept = v .kept;
+      }
+
+      pub expr-call : {f : ℕ} → h .form ≡ Call f → TypesCall text frames types functions channels scope (insideOf p (h .next)) f r scope₁ → TypesExpr text frames types functions channels scope p r scope₁
+      expr-call {f} q v = record {
+        says = λ {P} {C} {S} {Γ} st ask.
+            let i = call-head (heads-in st) (ask .part .spelled) (ask .part .within) q in
+            v .says st (record {
+              list = i .list;
+              less = i .less;
+              within = subst (λ m. WithinExprs m S (getD (S .arities) f 0) (i .list)) (less-deep (i .deep)) (i .within);
+              spelled = i .spelled;
+              ends = omega (arith, i .long, ap (λ a. length (exprBytes a)) (i .is), ask .part .ends);
+              is = ask .is ∙ ap (λ a. plainOf P C a Γ) (i .is);
+            });
+        kept = v .kept;
+      }
+
+      pub expr-con : {t c : ℕ} → h .form ≡ Construct t c → TypesCon text frames types functions channels scope (insideOf p (h .next)) t c r scope₁ → TypesExpr text frames types functions channels scope p r scope₁
+      expr-con {t} {c} q v = record {
+        says = λ {P} {C} {S} {Γ} st ask.
+            let i = con-head (heads-in st) (ask .part .spelled) (ask .part .within) q in
+            v .says st (record {
+              list = i .list;
+              less = i .less;
+              less₂ = i .less₂;
+              within = subst (λ m. WithinExprs m S (length (getD (getD (S .types) t []) c [])) (i .list)) (less-deep (i .deep)) (i .within);
+              spelled = i .spelled;
+              ends = omega (arith, i .long, ap (λ a. length (exprBytes a)) (i .is), ask .part .ends);
+              is = ask .is ∙ ap (λ a. plainOf P C a Γ) (i .is);
+            });
+        kept = v .kept;
+      }
+
+      pub expr-case : {t : ℕ} → h .form ≡ Case t → TypesCase text frames types functions channels scope (insideOf p (h .next)) t r scope₁ → TypesExpr text frames types functions channels scope p r scope₁
+      expr-case {t} q v = record {
+        says = λ {P} {C} {S} {Γ} st ask.
+            let i = case-head (heads-in st) (ask .part .spelled) (ask .part .within) q in
+            v .says st (record {
+              first = i .first;
+              result = i .result;
+              branches = i .branches;
+              middle = h .next .at + length (exprBytes (i .first));
+              part = part-of (i .deep) (i .within) (i .spelled) refl;
+              less = i .less;
+              few = room-sizes S (i .room);
+              within = i .within₂;
+              spelled = i .spelled₂;
+              within₂ = subst (λ m. WithinBranches m S (getD (S .types) t []) (i .branches)) (less-deep (i .deep)) (i .within₃);
+              spelled₂ = i .spelled₃;
+              ends = omega (arith, i .long, ap (λ a. length (exprBytes a)) (i .is), ask .part .ends);
+              is = ask .is ∙ ap (λ a. plainOf P C a Γ) (i .is);
+            });
+        kept = v .kept;
+      }
+
+      pub expr-adj : h .form ≡ Adjust → TypesAdj text frames types functions channels scope (insideOf p (h .next)) r scope₁ → TypesExpr text frames types functions channels scope p r scope₁
+      expr-adj q v = record {
+        says = λ {P} {C} {S} {Γ} st ask.
+            let i = adj-head (heads-in st) (ask .part .spelled) (ask .part .within) q in
+            v .says st (record {
+              size = i .size;
+              first = i .first;
+              few = room-sizes S (i .room);
+              within = i .within;
+              spelled = i .spelled;
+              part = part-of (i .deep) (i .within₂) (i .spelled₂) (omega (arith, i .long, ap (λ a. length (exprBytes a)) (i .is), ask .part .ends));
+              is = ask .is ∙ ap (λ a. plainOf P C a Γ) (i .is);
+            });
+        kept = v .kept;
+      }
+
+      pub expr-fit : {k : ℕ} → h .form ≡ Fit k → TypesFit text frames types functions channels scope (insideOf p (h .next)) r scope₁ → TypesExpr text frames types functions channels scope p r scope₁
+      expr-fit {k} q v = record {
+        says = λ {P} {C} {S} {Γ} st ask.
+            let i = fit-head (heads-in st) (ask .part .spelled) (ask .part .within) q in
+            v .says st (record {
+              size = k;
+              first = i .first;
+              second = i .second;
+              third = i .third;
+              middle = h .next .at + length (exprBytes (i .first));
+              middle₂ = h .next .at + length (exprBytes (i .first)) + length (exprBytes (i .second));
+              part = part-of (i .deep) (i .within) (i .spelled) refl;
+              part₂ = part-of (i .deep) (i .within₂) (i .spelled₂) refl;
+              part₃ = part-of (i .deep) (i .within₃) (i .spelled₃) (omega (arith, i .long, ap (λ a. length (exprBytes a)) (i .is), ask .part .ends));
+              is = ask .is ∙ ap (λ a. plainOf P C a Γ) (i .is);
+            });
+        kept = v .kept;
+      }

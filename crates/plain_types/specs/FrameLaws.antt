@@ -1,0 +1,260 @@
+-- The frames of functions, inputs and nodes, return by return.
+use Prim.Native.Nat.{ℕ, zero, suc, _+_, _-_, _*_, _%_, _≤_, _<_}
+use mathlib.Core.List.{List, [], _∷_, _++_, map}
+use mathlib.Core.Bool.{Bool, true, false}
+use mathlib.Core.Option.{Option, none, some}
+use mathlib.Core.Path.{_≡_, refl, sym, ap, _∙_, subst, subst₂}
+use native.Mathlib.Omega.{arith}
+use native.Mathlib.Nat.{zero-add}
+use lib.ListN.{length, getD, take, length-append, length-map, getElem? as look}
+use lib.Seq.{take-all}
+use Rattle.language.specs.Limits.{byteRange, variablesMost, nestingMost}
+use Rattle.language.specs.Result.{when}
+use Rattle.language.specs.Syntax.{Plain, pbool, Ty, Expr, Function, Input, Node, File, declaredTypes}
+use Rattle.language.specs.Format.{exprBytes}
+use Rattle.language.specs.Scope.{Scope, outerScope}
+use Rattle.language.specs.Within.{WithinDeclared, WithinExpr}
+use Rattle.language.specs.PlainTypes.{plainResult, plainDeclared, isPlain, isInitial, plainOf, plainFunction, plainInitial, plainNode}
+use Rattle.theory.specs.Lists.{look-getD, look-less, look-append, look-past, look-map}
+use Rattle.theory.specs.Places.{below-or-not}
+use Rattle.theory.specs.Alls.{all-at}
+use Rattle.text.specs.Bytes.{plainWord, declaredWord}
+use Rattle.index.specs.Tables.{functionWords}
+use Rattle.index.specs.Enters.{TellsType}
+use Rattle.index.specs.FunctionTable.{headWords}
+use Rattle.encoding.specs.Spells.{Spells}
+use Rattle.encoding.specs.FrameSpells.{lineAt}
+use Rattle.heads.specs.SkipHeads.{count-same}
+use Rattle.encoding.specs.Known.{outer-known, body-known}
+use Rattle.encoding.specs.WithinParts.{node-within}
+use Rattle.index.specs.Indexed.{bodyAt, declaredAt, initialAt, updateAt, framePart, functionLine, channelLine, lineCount, Indexed}
+use Rattle.plain_types.specs.declared.words.Typed.{Typed}
+use Rattle.plain_types.specs.declared.words.Typing.{Typing}
+use Rattle.plain_types.specs.declared.words.Typing.the-variants.{Is, Wrong}
+use Rattle.plain_types.specs.declared.words.Want.the-variants.{Parameters}
+use Rattle.plain_types.specs.declared.places.Place.{Place}
+use Rattle.plain_types.specs.Words.{withoutSize, lineOf, wantedWord, entered, Returns}
+use Rattle.plain_types.specs.Agrees.{Agrees, is-some, is-none, holds, fails, both-first, both-not}
+use Rattle.plain_types.specs.Asks.{Stage, Part, TypesWant}
+use Rattle.plain_types.specs.Initials.{TestsInitial}
+use Rattle.plain_types.specs.Verdicts.{fits, Outer, FunctionFits, ValueFits, InitialFits, NodeFits}
+use Rattle.plain_types.specs.WordLaws.{declared-without}
+use Rattle.plain_types.specs.EnterLaws.{entered-kept, entered-words}
+use Rattle.plain_types.specs.FormLaws.{ask-want}
+
+-- ---- whether there is a type
+pub fits-is : {x : Typing} {k : Typed} → x ≡ Is k → true ≡ fits x
+unfolding fits
+fits-is e = rw e
+
+pub fits-not : {x : Typing} → x ≡ Wrong → false ≡ fits x
+unfolding fits
+fits-not e = rw e
+
+abbrev isThere : {A : Type 0} → Option A → Bool
+isThere none = false
+isThere (some a) = true
+
+fits-agrees : {x : Typing} {end : ℕ} {o : Option Plain} → Agrees x end o → fits x ≡ isThere o
+fits-agrees (is-some q w p) = sym (fits-is q)
+fits-agrees (is-none q) = sym (fits-not q)
+
+there-when : {A : Type 0} (b : Bool) (a : A) → isThere (when b a) ≡ b
+unfolding when
+there-when true a = refl
+there-when false a = refl
+
+fits-when : {x : Typing} {end : ℕ} (b : Bool) (τ : Plain) → Agrees x end (when b τ) → fits x ≡ b
+fits-when b τ a = fits-agrees a ∙ there-when b τ
+
+-- ---- the same part at places named otherwise
+part-named : (text : List ℕ) {line line′ at at′ levels end : ℕ} {S : Scope} {e : Expr} → line ≡ line′ → at ≡ at′ → Part (lineAt text line′) levels S at′ e end → Part (lineAt text line) levels S at e end
+part-named text {levels} {end} {S} {e} p q part = subst₂ (λ i m. Part (lineAt text i) levels S m e end) (sym p) (sym q) part
+
+-- ---- a function
+-- the word of its entry that says where its body is
+abbrev bodyWord : ℕ
+bodyWord = headWords + 3
+
+body-place : (functions : List ℕ) (f : ℕ) → getD functions (functionWords * f + bodyWord) 0 ≡ bodyAt functions f
+body-place functions f = ap (λ m. getD functions m 0) (let e : functionWords * f + bodyWord ≡ functionWords * f + headWords + 3 = omega arith in e)
+
+module _ (text frames types functions channels : List ℕ) (count f : ℕ) {n : ℕ} (k : (n ≡ getD functions (functionWords * f) 0 % byteRange) × (n < byteRange)) (scope : List ℕ) {scope₁ scope₂ : List ℕ}
+    (enter : scope₁ ≡ entered types functions (Parameters f) scope 0 n) (room : variablesMost ≤ length scope) {at line word : ℕ} (place : at ≡ getD functions (functionWords * f + bodyWord) 0) (number : line ≡ lineOf count f) (ret : Returns text frames functions count f word) {x : Typing}
+    (v : TypesWant text frames types functions channels scope₁ (record { at = record { at = at }; levels = nestingMost; line = line; types = count; variables = n }) word x scope₂) where
+  module _ {P : File} {F : Function} (h : Indexed text frames types functions channels P) (c : count ≡ length (P .types)) (e : look (P .functions) f ≡ some F) where
+    parameter-count : n ≡ length (F .parameters)
+    parameter-count = let told = h .eachFunction f e .tells in count-same k (told .count) (omega (arith, told .few))
+
+    line-is : line ≡ functionLine P f
+    line-is = omega (arith, number, c, look-less (P .functions) f e, h .within .fewTypes, h .within .fewFunctions)
+
+    parameter-words : take n scope₁ ≡ map plainWord (F .parameters)
+    unfolding wantedWord
+    parameter-words =
+        let told = h .eachFunction f e .tells in
+        let words : List ℕ = map plainWord (F .parameters) in
+        let long : length words ≡ length (F .parameters) = length-map (F .parameters) plainWord in
+        let few : n ≤ length words = omega (arith, parameter-count, long) in
+        ap (take n) enter ∙ ap (λ m. take m (entered types functions (Parameters f) scope 0 n)) (sym (zero-add n))
+        ∙ entered-words types functions (Parameters f) scope 0 words n few (λ j less. told .each j (omega (arith, less, parameter-count))) (omega (arith, room, parameter-count, told .few))
+        ∙ take-all n words (omega (arith, parameter-count, long))
+
+    body-stage : Stage text frames types functions channels scope₁ count line n P [] (body-known (h .within) f e .scope) (F .parameters)
+    body-stage =
+        let b = body-known (h .within) f e in
+        record {
+          indexed = h;
+          typeCount = c;
+          less = omega (arith, line-is, look-less (P .functions) f e);
+          known = b .known;
+          channel = λ i less. absurd (omega (arith, less));
+          now = omega (arith, b .now);
+          last = omega (arith, b .last);
+          words = parameter-words;
+          long = sym parameter-count;
+          inScope = b .variables ∙ sym parameter-count;
+          room = omega (arith, ap length enter, entered-kept types functions (Parameters f) scope 0 n .long, room);
+        }
+
+  pub function-fits : {r : Bool} → r ≡ fits x → FunctionFits text frames types functions channels count f r
+  unfolding plainFunction
+  function-fits q = record {
+    says = λ {P} {F} h c e.
+        let part = part-named text (line-is h c e) (place ∙ body-place functions f) (record { within = body-known (h .within) f e .within; spelled = h .eachFunction f e .body; ends = refl }) in
+        q ∙ fits-when (isPlain (plainResult (F .result)) (plainOf P [] (F .body) (F .parameters))) (plainResult (F .result)) (v .says (body-stage h c e) (ask-want (plainResult (F .result)) (ret .says h c e) part));
+  }
+
+-- ---- an expression outside all functions, of a channel's declared type
+pub value-fits : (text frames types functions channels : List ℕ) (p : Place) {c declared word : ℕ} {scope scope₁ : List ℕ} {x : Typing} {r : Bool} → declared ≡ declaredAt channels c → word ≡ withoutSize declared →
+    TypesWant text frames types functions channels scope p word x scope₁ → variablesMost ≤ length scope → r ≡ fits x → ValueFits text frames types functions channels p c r
+value-fits text frames types functions channels p {scope} d w v room q = record {
+  says = λ {P} {C} {S} {e} τ z o part t.
+      let st : Stage text frames types functions channels scope (p .types) (p .line) (p .variables) P C S [] = record {
+        indexed = o .indexed;
+        typeCount = o .typeCount;
+        less = o .less;
+        known = o .known;
+        channel = o .channel;
+        now = o .now;
+        last = o .last;
+        words = ap (λ m. take m scope) z;
+        long = sym z;
+        inScope = o .none ∙ sym z;
+        room = room;
+      } in
+      q ∙ fits-when (isPlain τ (plainOf P C e [])) τ (v .says st (ask-want τ (w ∙ ap withoutSize d ∙ t) part));
+}
+
+-- ---- the scopes of initial values and updates
+outer-place : {text frames types functions channels : List ℕ} {count line : ℕ} {P : File} (C : List Plain) (now last : ℕ) → Indexed text frames types functions channels P → count ≡ length (P .types) → line < lineCount P →
+    ((c : ℕ) → c < length C → withoutSize (declaredAt channels c) ≡ plainWord (getD C c pbool)) → now ≤ length C → last ≤ length C → Outer text frames types functions channels count line P C (outerScope (P .types) (P .functions) now last)
+unfolding outerScope
+outer-place {P} C now last h c less told n l = record { indexed = h; typeCount = c; less = less; known = outer-known P now last; channel = told; now = n; last = l; none = refl }
+
+outer-types : (P : File) (now last : ℕ) → outerScope (P .types) (P .functions) now last .types ≡ P .types
+unfolding outerScope
+outer-types P now last = refl
+
+pub record There {A : Type 0} (l : List A) (i : ℕ) : Type 0 where
+  pub of : A
+  pub at : look l i ≡ some of
+
+pub there : {A : Type 0} (l : List A) (i : ℕ) → i < length l → There l i
+there [] i less = absurd (omega (arith, less))
+there (a ∷ l) zero less = record { of = a; at = refl }
+there (a ∷ l) (suc i) less = let r = there l i (omega (arith, less)) in record { of = r .of; at = r .at }
+
+-- the plain types of the channels are the table's words without sizes
+module _ {text frames types functions channels : List ℕ} {P : File} (h : Indexed text frames types functions channels P) where
+  abbrev channelTypes : List Plain
+  channelTypes = map plainDeclared (declaredTypes P)
+
+  channels-count : length channelTypes ≡ length (P .inputs) + length (P .nodes)
+  channels-count = omega (
+    arith,
+    length-map (declaredTypes P) plainDeclared,
+    length-append (map (λ (i : Input). i .declared) (P .inputs)) (map (λ (n : Node). n .declared) (P .nodes)),
+    length-map (P .inputs) (λ (i : Input). i .declared),
+    length-map (P .nodes) (λ (n : Node). n .declared),
+  )
+
+  declared-told : (c : ℕ) {τ : Ty} → look (declaredTypes P) c ≡ some τ → declaredAt channels c ≡ declaredWord τ → WithinDeclared (length (P .types)) τ → withoutSize (declaredAt channels c) ≡ plainWord (getD channelTypes c pbool)
+  declared-told c e q w = ap withoutSize q ∙ declared-without w ∙ ap plainWord (sym (look-getD channelTypes c pbool (look-map plainDeclared (declaredTypes P) c e)))
+
+  channel-told : (c : ℕ) → c < length channelTypes → withoutSize (declaredAt channels c) ≡ plainWord (getD channelTypes c pbool)
+  channel-told c less = below-or-not c (length (P .inputs)) input node
+    where
+      ins : List Ty
+      ins = map (λ (i : Input). i .declared) (P .inputs)
+
+      outs : List Ty
+      outs = map (λ (n : Node). n .declared) (P .nodes)
+
+      input : c < length (P .inputs) → withoutSize (declaredAt channels c) ≡ plainWord (getD channelTypes c pbool)
+      input there₁ =
+          let i = there (P .inputs) c there₁ in
+          declared-told c (look-append ins outs c (look-map (λ (i : Input). i .declared) (P .inputs) c (i .at))) (h .eachInput c (i .at) .declared) (all-at (h .within .inputs) c (i .at) .declared)
+
+      node : length (P .inputs) ≤ c → withoutSize (declaredAt channels c) ≡ plainWord (getD channelTypes c pbool)
+      node over =
+          let m = c - length (P .inputs) in
+          let n = there (P .nodes) m (omega (arith, less, over, channels-count)) in
+          let same : length (P .inputs) + m ≡ c = omega (arith, over) in
+          let same₂ : length ins + m ≡ c = omega (arith, over, length-map (P .inputs) (λ (i : Input). i .declared)) in
+          declared-told c (subst (λ i. look (ins ++ outs) i ≡ some (n .of .declared)) same₂ (look-past ins outs m ∙ look-map (λ (k : Node). k .declared) (P .nodes) m (n .at)))
+          (subst (λ i. declaredAt channels i ≡ declaredWord (n .of .declared)) same (h .eachNode m (n .at) .channel .declared)) (node-within (h .within) m (n .at) .declared)
+
+-- ---- an initial value; channel c has the frame i behind the types
+module _ (text frames types functions channels : List ℕ) (count i c : ℕ) where
+  module _ {line : ℕ} (number : line ≡ lineOf count i) {P : File} (h : Indexed text frames types functions channels P) (e : count ≡ length (P .types)) (q : i ≡ length (P .functions) + c) (less : c < length (P .inputs) + length (P .nodes)) where
+    channel-line : line ≡ channelLine P c
+    channel-line = let w = h .within in omega (arith, number, e, q, less, w .fewTypes, w .fewFunctions, w .fewInputs, w .fewNodes)
+
+    channel-less : line < lineCount P
+    channel-less = omega (arith, channel-line, less)
+
+  module _ {word line : ℕ} (place : word ≡ initialAt channels c) (number : line ≡ lineOf count i) {part : List ℕ} (taken : part ≡ framePart text frames line) {x : Typing} (u : TestsInitial part types (record { at = word }) nestingMost x) where
+    tested : {P : File} {e : Expr} → Indexed text frames types functions channels P → count ≡ length (P .types) → i ≡ length (P .functions) + c → c < length (P .inputs) + length (P .nodes) →
+        Spells exprBytes (lineAt text (channelLine P c)) (initialAt channels c) e → WithinExpr nestingMost (outerScope (P .types) (P .functions) 0 0) e → Agrees x (word + length (exprBytes e)) (when (isInitial e) pbool)
+    tested {P} {e} h m q less s w =
+        let is : part ≡ lineAt text (channelLine P c) = taken ∙ h .eachFrame line (channel-less number h m q less) .line ∙ ap (lineAt text) (channel-line number h m q less) in
+        u .says (subst (λ ds. (t : ℕ) → t < length ds → TellsType types t (getD ds t [])) (sym (outer-types P 0 0)) (λ t there. h .eachType t there .tells)) w
+        (subst₂ (λ l a. Spells exprBytes l a e) (sym is) (sym place) s)
+
+    pub initial-unfit : x ≡ Wrong → InitialFits text frames types functions channels count i c false
+    unfolding plainInitial
+    initial-unfit d = record {
+      says = λ {P} {τ} {e} h m q less ci wd w. sym (both-not (isPlain (plainDeclared τ) (plainOf P [] e [])) (fails (isInitial e) pbool (tested h m q less (ci .initial) w) d));
+    }
+
+    pub initial-fits : {k : Typed} {r : Bool} → x ≡ Is k → ValueFits text frames types functions channels (record { at = record { at = word }; levels = nestingMost; line = line; types = count; variables = 0 }) c r → InitialFits text frames types functions channels count i c r
+    unfolding plainInitial
+    initial-fits d v = record {
+      says = λ {P} {τ} {e} h m q less ci wd w.
+          let part₁ = part-named text (channel-line number h m q less) place (record { within = w; spelled = ci .initial; ends = refl }) in
+          v .says (plainDeclared τ) refl (outer-place [] 0 0 h m (channel-less number h m q less) (λ j there₁. absurd (omega (arith, there₁))) (omega arith) (omega arith)) part₁ (ap withoutSize (ci .declared) ∙ declared-without wd)
+          ∙ sym (both-first (holds (isInitial e) pbool (tested h m q less (ci .initial) w) d .is));
+    }
+
+  -- ---- a node
+  module _ {b : Bool} (a : InitialFits text frames types functions channels count i c b) where
+    pub node-unfit : b ≡ false → NodeFits text frames types functions channels count i c false
+    unfolding plainNode
+    node-unfit z = record {
+      says = λ {P} {n} h m q less j k ni w.
+          sym (both-not (isPlain (plainDeclared (n .declared)) (plainOf P (channelTypes h) (n .update) [])) (sym (a .says h m q less (ni .channel) (w .declared) (w .initial)) ∙ z));
+    }
+
+    pub node-fits : {word line : ℕ} {r : Bool} → b ≡ true → word ≡ updateAt channels c → line ≡ lineOf count i → ValueFits text frames types functions channels (record { at = record { at = word }; levels = nestingMost; line = line; types = count; variables = 0 }) c r →
+        NodeFits text frames types functions channels count i c r
+    unfolding plainNode
+    node-fits z place number v = record {
+      says = λ {P} {n} h m q less j k ni w.
+          let part = part-named text (channel-line number h m q less) place (record { within = w .update; spelled = ni .update; ends = refl }) in
+          let C = channelTypes h in
+          v .says (plainDeclared (n .declared)) refl
+          (outer-place C (length (P .inputs) + j) (length (P .inputs) + length (P .nodes)) h m (channel-less number h m q less) (channel-told h) (omega (arith, channels-count h, less, k)) (omega (arith, channels-count h)))
+          part (ap withoutSize (ni .channel .declared) ∙ declared-without (w .declared))
+          ∙ sym (both-first (sym (a .says h m q less (ni .channel) (w .declared) (w .initial)) ∙ z));
+    }

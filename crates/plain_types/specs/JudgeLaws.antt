@@ -1,0 +1,172 @@
+-- Every frame in file order: which test a frame's number has, the first that fails, and the definition's refusal by it.
+use Prim.Native.Nat.{ℕ, zero, suc, _+_, _-_, _≤_, _<_}
+use mathlib.Core.List.{List, [], _∷_, _++_, map}
+use mathlib.Core.Bool.{Bool, true, false}
+use mathlib.Core.Option.{some}
+use mathlib.Core.Path.{_≡_, refl, sym, ap, _∙_, subst}
+use native.Mathlib.Omega.{arith}
+use lib.ListN.{length, getD, length-append, length-map, List·getD-eq-default, getElem? as look}
+use Rattle.language.specs.Limits.{functionsMost, channelsMost}
+use Rattle.language.specs.Result.{Result, need, needEach, choose}
+use Rattle.language.specs.Syntax.{Function, Input, Node, File, functionFrame}
+use Rattle.language.specs.PlainTypes.{plainFunction, plainInitial, plainInput, plainNode, plainTypes}
+use Rattle.theory.specs.Lists.{false-is-not-true, look-getD, look-append, look-past, look-map}
+use Rattle.theory.specs.Places.{below-or-not}
+use Rattle.theory.specs.Alls.{all-at}
+use Rattle.encoding.specs.FrameSpells.{lineAt}
+use Rattle.index.specs.declared.Counts.{Counts}
+use Rattle.encoding.specs.WithinParts.{node-within}
+use Rattle.index.specs.Indexed.{channelLine, NodeIndexed, Indexed, Counted}
+use Rattle.plain_types.specs.Words.{lineOf}
+use Rattle.plain_types.specs.Verdicts.{FunctionFits, InitialFits, NodeFits, frameTests, firstRefused, refusedFrame, verdict, FrameFits, JudgesAll}
+use Rattle.plain_types.specs.FrameLaws.{there}
+
+-- ---- the test of each frame
+module _ (P : File) where
+  abbrev functionTests : List Bool
+  functionTests = map (plainFunction P) (P .functions)
+
+  abbrev inputTests : List Bool
+  inputTests = map (plainInput P) (P .inputs)
+
+  abbrev nodeTests : List Bool
+  nodeTests = map (plainNode P) (P .nodes)
+
+  function-test : (i : ℕ) {F : Function} → look (P .functions) i ≡ some F → getD (frameTests P) i true ≡ plainFunction P F
+  function-test i e = look-getD (frameTests P) i true (look-append functionTests (inputTests ++ nodeTests) i (look-map (plainFunction P) (P .functions) i e))
+
+  behind-functions : (c i : ℕ) {b : Bool} → i ≡ length (P .functions) + c → look (inputTests ++ nodeTests) c ≡ some b → getD (frameTests P) i true ≡ b
+  behind-functions c i {b} q e =
+      let same : i ≡ length functionTests + c = omega (arith, q, length-map (P .functions) (plainFunction P)) in
+      look-getD (frameTests P) i true (ap (look (frameTests P)) same ∙ look-past functionTests (inputTests ++ nodeTests) c ∙ e)
+
+  input-test : (c i : ℕ) {I : Input} → i ≡ length (P .functions) + c → look (P .inputs) c ≡ some I → getD (frameTests P) i true ≡ plainInput P I
+  input-test c i q e = behind-functions c i q (look-append inputTests nodeTests c (look-map (plainInput P) (P .inputs) c e))
+
+  node-test : (m c i : ℕ) {n : Node} → i ≡ length (P .functions) + c → c ≡ length (P .inputs) + m → look (P .nodes) m ≡ some n → getD (frameTests P) i true ≡ plainNode P n
+  node-test m c i q k e =
+      let same : c ≡ length inputTests + m = omega (arith, k, length-map (P .inputs) (plainInput P)) in
+      behind-functions c i q (ap (look (inputTests ++ nodeTests)) same ∙ look-past inputTests nodeTests m ∙ look-map (plainNode P) (P .nodes) m e)
+
+  tests-count : length (frameTests P) ≡ length (P .functions) + length (P .inputs) + length (P .nodes)
+  tests-count = omega (
+    arith,
+    length-append functionTests (inputTests ++ nodeTests),
+    length-append inputTests nodeTests,
+    length-map (P .functions) (plainFunction P),
+    length-map (P .inputs) (plainInput P),
+    length-map (P .nodes) (plainNode P),
+  )
+
+input-is : (P : File) (I : Input) → plainInput P I ≡ plainInitial P (I .declared) (I .initial)
+unfolding plainInput
+input-is P I = refl
+
+-- ---- frame i behind the types
+module _ (text frames types functions channels : List ℕ) (counts : Counts) (i : ℕ) {r : Bool} where
+  pub frame-function : i < counts .functions → FunctionFits text frames types functions channels (counts .types) i r → FrameFits text frames types functions channels counts i r
+  frame-function less v = record {
+    says = λ {P} h c.
+        let F = there (P .functions) i (omega (arith, less, c .functionCount)) in
+        v .says h (sym (c .typeCount)) (F .at) ∙ sym (function-test P i (F .at));
+  }
+
+  module _ (over : counts .functions ≤ i) where
+    pub frame-input : i - counts .functions < counts .inputs → InitialFits text frames types functions channels (counts .types) i (i - counts .functions) r → FrameFits text frames types functions channels counts i r
+    frame-input less v = record {
+      says = λ {P} h c.
+          let j = i - counts .functions in
+          let q : i ≡ length (P .functions) + j = omega (arith, over, c .functionCount) in
+          let I = there (P .inputs) j (omega (arith, less, c .inputCount)) in
+          let w = all-at (h .within .inputs) j (I .at) in
+          v .says h (sym (c .typeCount)) q (omega (arith, less, c .inputCount)) (h .eachInput j (I .at)) (w .declared) (w .initial) ∙ sym (input-is P (I .of)) ∙ sym (input-test P j i q (I .at));
+    }
+
+    module _ (over₂ : counts .inputs ≤ i - counts .functions) where
+      pub frame-node : i - counts .functions - counts .inputs < counts .nodes → NodeFits text frames types functions channels (counts .types) i (i - counts .functions) r → FrameFits text frames types functions channels counts i r
+      frame-node less v = record {
+        says = λ {P} h c.
+            let j = i - counts .functions in
+            let m = i - counts .functions - counts .inputs in
+            let q : i ≡ length (P .functions) + j = omega (arith, over, c .functionCount) in
+            let k : j ≡ length (P .inputs) + m = omega (arith, over₂, c .inputCount) in
+            let n = there (P .nodes) m (omega (arith, less, c .nodeCount)) in
+            v .says h (sym (c .typeCount)) q (omega (arith, less, k, c .nodeCount)) m k (subst (λ a. NodeIndexed (lineAt text (channelLine P a)) channels a (n .of)) (sym k) (h .eachNode m (n .at))) (node-within (h .within) m (n .at))
+            ∙ sym (node-test P m j i q k (n .at));
+      }
+
+pub frame-none : (text frames types functions channels : List ℕ) (counts : Counts) (i : ℕ) → counts .functions ≤ i → counts .inputs ≤ i - counts .functions → counts .nodes ≤ i - counts .functions - counts .inputs →
+    FrameFits text frames types functions channels counts i true
+frame-none text frames types functions channels counts i over over₂ over₃ = record {
+  says = λ {P} h c. sym (List·getD-eq-default (frameTests P) true (omega (arith, tests-count P, over, over₂, over₃, c .functionCount, c .inputCount, c .nodeCount)));
+}
+
+-- ---- the first that fails
+first-none : (frame : ℕ) (bs : List Bool) → ((j : ℕ) → j < length bs → getD bs j true ≡ true) → firstRefused frame bs ≡ 0
+unfolding firstRefused choose
+first-none frame [] h = refl
+first-none frame (b ∷ bs) h = rw (h 0 (omega arith)) (first-none (suc frame) bs (λ j less. h (suc j) (omega (arith, less))))
+
+first-at : (frame : ℕ) (bs : List Bool) (i : ℕ) → ((j : ℕ) → j < i → getD bs j true ≡ true) → getD bs i true ≡ false → firstRefused frame bs ≡ frame + i
+unfolding firstRefused choose
+first-at frame [] i h e = false-is-not-true (sym e)
+first-at frame (b ∷ bs) zero h e = rw e (omega arith)
+first-at frame (b ∷ bs) (suc i) h e = rw (h 0 (omega arith)) (first-at (suc frame) bs i (λ j less. h (suc j) (omega (arith, less))) e ∙ omega arith)
+
+fails-less : (bs : List Bool) (i : ℕ) → getD bs i true ≡ false → i < length bs
+fails-less [] i e = false-is-not-true (sym e)
+fails-less (b ∷ bs) zero e = omega arith
+fails-less (b ∷ bs) (suc i) e = omega (arith, fails-less bs i e)
+
+-- how many tests there can be
+abbrev pub bodiesMost : ℕ
+bodiesMost = functionsMost + channelsMost
+
+tests-few : (P : File) {text frames types functions channels : List ℕ} → Indexed text frames types functions channels P → length (frameTests P) ≤ bodiesMost
+tests-few P h = let w = h .within in omega (arith, tests-count P, w .fewFunctions, w .fewInputs, w .fewNodes)
+
+-- the frames before i agree
+pub record AgreeBefore (text frames types functions channels : List ℕ) (counts : Counts) (i : ℕ) : Type 0 where
+  pub says : {P : File} → Indexed text frames types functions channels P → Counted counts P → (j : ℕ) → j < i → getD (frameTests P) j true ≡ true
+
+module _ (text frames types functions channels : List ℕ) (counts : Counts) where
+  pub before-none : AgreeBefore text frames types functions channels counts 0
+  before-none = record { says = λ h c j less. absurd (omega (arith, less)) }
+
+  module _ {i : ℕ} (a : AgreeBefore text frames types functions channels counts i) {b : Bool} (v : FrameFits text frames types functions channels counts i b) where
+    pub before-more : b ≡ true → AgreeBefore text frames types functions channels counts (i + 1)
+    before-more z = record {
+      says = λ {P} h c j less. below-or-not j i (λ l. a .says h c j l) (λ over. let same : i ≡ j = omega (arith, less, over) in subst (λ m. getD (frameTests P) m true ≡ true) same (sym (v .says h c) ∙ z));
+    }
+
+    pub judged-refused : {line : ℕ} → b ≡ false → line ≡ lineOf (counts .types) i → JudgesAll text frames types functions channels counts (line + 1)
+    judged-refused {line} z q = record {
+      says = λ {P} h c.
+          let e : getD (frameTests P) i true ≡ false = sym (v .says h c) ∙ z in
+          let less : i < bodiesMost = omega (arith, fails-less (frameTests P) i e, tests-few P h) in
+          let number : line + 1 ≡ functionFrame P 0 + i = omega (arith, q, less, c .typeCount, h .within .fewTypes) in
+          number ∙ sym (first-at (functionFrame P 0) (frameTests P) i (a .says h c) e);
+    }
+
+  pub judged-all : {i : ℕ} → bodiesMost ≤ i → AgreeBefore text frames types functions channels counts i → JudgesAll text frames types functions channels counts 0
+  judged-all over a = record {
+    says = λ {P} h c. sym (first-none (functionFrame P 0) (frameTests P) (λ j less. a .says h c j (omega (arith, less, over, tests-few P h))));
+  }
+
+-- ---- the definition's refusal is the verdict on that frame
+needed : {A : Type 0} (frame : ℕ) (bs : List Bool) (x : Result A) → needEach 9 (suc frame) bs x ≡ verdict (firstRefused (suc frame) bs) x
+unfolding needEach need firstRefused choose verdict
+needed frame [] x = refl
+needed frame (true ∷ bs) x = needed (suc frame) bs x
+needed frame (false ∷ bs) x = refl
+
+pub refused-verdict : {A : Type 0} (P : File) (x : Result A) → plainTypes P x ≡ verdict (refusedFrame P) x
+unfolding plainTypes
+refused-verdict P x =
+    let same : functionFrame P 0 ≡ suc (length (P .types)) = omega arith in
+    subst (λ m. needEach 9 m (frameTests P) x ≡ verdict (firstRefused m (frameTests P)) x) (sym same) (needed (length (P .types)) (frameTests P) x)
+
+-- what the public function promises, as its caller uses it
+pub plain-types-verdict : {text frames types functions channels : List ℕ} {counts : Counts} {r : ℕ} {P : File} {A : Type 0} → JudgesAll text frames types functions channels counts r → Indexed text frames types functions channels P → Counted counts P → (x : Result A) →
+    plainTypes P x ≡ verdict r x
+plain-types-verdict {P} v h c x = refused-verdict P x ∙ ap (λ m. verdict m x) (sym (v .says h c))

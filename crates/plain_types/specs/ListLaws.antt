@@ -1,0 +1,205 @@
+-- Arguments and fields one after the other, calls and constructors, return by return.
+use Prim.Native.Nat.{ℕ, zero, suc, _+_, _-_, _*_, _%_, _<_}
+use mathlib.Core.List.{List, [], _∷_, map}
+use mathlib.Core.Bool.{true}
+use mathlib.Core.Option.{Option}
+use mathlib.Core.Path.{_≡_, refl, sym, ap, ap₂, _∙_, subst}
+use native.Mathlib.Omega.{arith}
+use native.Mathlib.Nat.{zero-add, add-zero}
+use lib.ListN.{length, getD, length-map}
+use Rattle.language.specs.Limits.{byteRange}
+use Rattle.language.specs.Result.{both, when}
+use Rattle.language.specs.Syntax.{Field, TypeDef, Plain, pnamed, Expr, Exprs, enil, econs, File, constructorsOf}
+use Rattle.language.specs.Format.{exprBytes, exprsBytes}
+use Rattle.language.specs.Scope.{Scope}
+use Rattle.language.specs.Within.{All, all-nil, all-cons, WithinField, WithinType, WithinTypes, wt-nil, wt-cons, WithinExpr, WithinExprs, ws-nil, ws-cons}
+use Rattle.language.specs.Layout.{tagStep}
+use Rattle.language.specs.PlainTypes.{plainField, plainFields, plainResult, isPlain, arePlain, plainOf, plainsOf}
+use Rattle.theory.specs.Alls.{all-at}
+use Rattle.theory.specs.Places.{look-at}
+use Rattle.text.specs.Bytes.{plainWord, fieldWord}
+use Rattle.index.specs.Tables.{typeWords, constructorWords, functionWords}
+use Rattle.encoding.specs.Spells.{Spells}
+use Rattle.encoding.specs.ExprLists.{first-of-exprs}
+use Rattle.encoding.specs.FrameSpells.{lineAt}
+use Rattle.heads.specs.SkipHeads.{count-same}
+use Rattle.heads.specs.PartLaws.{none-long, more-long}
+use Rattle.index.specs.Indexed.{Indexed}
+use Rattle.plain_types.specs.declared.words.Typed.{Typed}
+use Rattle.plain_types.specs.declared.words.Typing.{Typing}
+use Rattle.plain_types.specs.declared.words.Typing.the-variants.{Is, Wrong}
+use Rattle.plain_types.specs.declared.words.Want.the-variants.{Parameters, Fields}
+use Rattle.plain_types.specs.declared.places.Place.{Place}
+use Rattle.plain_types.specs.declared.places.Series.{Series}
+use Rattle.plain_types.specs.Words.{namedWord, ownOrOther, wantedWord, Returns}
+use Rattle.plain_types.specs.Agrees.{agrees-as, wrong, answered, chain-some, when-true, when-false, both-first, both-not}
+use Rattle.plain_types.specs.Asks.{movedTo, Part, AskSeveral, TypesWant, TypesCall, TypesCon, TypesSeveral}
+use Rattle.plain_types.specs.WordLaws.{named-is, field-plain}
+use Rattle.plain_types.specs.EnterLaws.{kept-same, kept-then, stage-kept}
+use Rattle.plain_types.specs.PlainLaws.{are-none, are-more, plain-call, plain-con}
+use Rattle.plain_types.specs.FormLaws.{met, unmet}
+
+-- ---- fields of a constructor of a type
+type-at : {earlier : ℕ} {ds : List TypeDef} → WithinTypes earlier ds → (t : ℕ) → t < length ds → WithinType (earlier + t) (getD ds t [])
+type-at wt-nil t less = absurd (omega (arith, less))
+type-at {earlier} (wt-cons w ws) zero less = rw (add-zero earlier) w
+type-at {earlier} (wt-cons {ds} w ws) (suc t) less =
+    let same : suc earlier + t ≡ earlier + suc t = omega arith in
+    subst (λ n. WithinType n (getD ds t [])) same (type-at ws t (omega (arith, less)))
+
+fields-words : {types : ℕ} (t : ℕ) {fs : List Field} → t < tagStep → All (WithinField types) fs → (j : ℕ) → j < length fs → ownOrOther t (getD (map fieldWord fs) j 0) ≡ getD (map plainWord (plainFields t fs)) j 0
+fields-words t small all-nil j less = absurd (omega (arith, less))
+fields-words t small (all-cons w ws) zero less = field-plain t small w
+fields-words t small (all-cons w ws) (suc j) less = fields-words t small ws j (omega (arith, less))
+
+module _ {text frames types functions channels : List ℕ} {P : File} (h : Indexed text frames types functions channels P) (t c : ℕ) (less : t < length (P .types)) (less₂ : c < length (constructorsOf P t)) where
+  abbrev pub fieldsAt : List Field
+  fieldsAt = getD (constructorsOf P t) c []
+
+  pub small-type : t < tagStep
+  small-type = omega (arith, less, h .within .fewTypes)
+
+  pub field-count : {n : ℕ} → (n ≡ getD types (typeWords * t + 1 + constructorWords * c) 0 % byteRange) × (n < byteRange) → n ≡ length fieldsAt
+  field-count k = let tells = h .eachType t less .tells in count-same k (tells .fields c less₂) (omega (arith, tells .fewFields c less₂))
+
+  pub fields-wanted : (j : ℕ) → j < length fieldsAt → wantedWord types functions (Fields t c) j ≡ getD (map plainWord (plainFields t fieldsAt)) j 0
+  unfolding wantedWord
+  fields-wanted j there =
+      ap (ownOrOther t) (h .eachType t less .fields c less₂ j there)
+      ∙ fields-words t small-type (all-at (type-at (h .within .types) t less .constructors) c (look-at (constructorsOf P t) c [] less₂) .fields) j there
+
+-- ---- the first of several and the others
+record More (levels : ℕ) (S : Scope) (τs : List Plain) (es : Exprs) : Type 0 where
+  type : Plain
+  types : List Plain
+  expr : Expr
+  exprs : Exprs
+  wants : τs ≡ type ∷ types
+  list : es ≡ econs expr exprs
+  within : WithinExpr levels S expr
+  others : WithinExprs levels S (length types) exprs
+
+more-of : {levels : ℕ} {S : Scope} (τs : List Plain) (es : Exprs) → WithinExprs levels S (length τs) es → (length τs ≡ 0 → ⊥) → More levels S τs es
+more-of [] es w h = absurd (h refl)
+more-of (τ ∷ τs) (econs e es) (ws-cons w ws) h = record { type = τ; types = τs; expr = e; exprs = es; wants = refl; list = refl; within = w; others = ws }
+
+record None (τs : List Plain) (es : Exprs) : Type 0 where
+  wants : τs ≡ []
+  list : es ≡ enil
+
+none-of : {levels : ℕ} {S : Scope} (τs : List Plain) (es : Exprs) → WithinExprs levels S (length τs) es → length τs ≡ 0 → None τs es
+none-of [] enil ws-nil e = record { wants = refl; list = refl }
+none-of (τ ∷ τs) es w e = absurd (omega (arith, e))
+
+module _ (text frames types functions channels scope : List ℕ) (p : Place) (s : Series) where
+  pub several-none : {r : Typing} → s .count ≡ 0 → r ≡ Is (record { word = s .word; next = p .at }) → TypesSeveral text frames types functions channels scope p s r scope
+  several-none z q = record {
+    says = λ {P} {C} {S} {Γ} st ask.
+        let n = none-of (ask .wants) (ask .list) (ask .within) (sym (ask .counted) ∙ z) in
+        let all : arePlain (ask .wants) (plainsOf P C (ask .list) Γ) ≡ true = rw (n .wants, n .list) (are-none P C Γ) in
+        answered q (ask .answered) (omega (arith, ask .ends, ap (λ (es : Exprs). length (exprsBytes es)) (n .list), none-long)) (ask .is ∙ when-true (ask .answer) all);
+    kept = kept-same;
+  }
+
+  module _ (some-left : s .count ≡ 0 → ⊥) {one : ℕ} (wanted : one ≡ wantedWord types functions (s .of) (s .first)) {x : Typing} {scope₁ : List ℕ} (v : TypesWant text frames types functions channels scope p one x scope₁) where
+    first-of : {P : File} {C : List Plain} {S : Scope} {Γ : List Plain} {o : Option Plain} {end : ℕ} (ask : AskSeveral text p types functions s P C S Γ o end) → More (p .levels) S (ask .wants) (ask .list)
+    first-of ask = more-of (ask .wants) (ask .list) (ask .within) (λ z. some-left (ask .counted ∙ z))
+
+    module _ {P : File} {C : List Plain} {S : Scope} {Γ : List Plain} {o : Option Plain} {end : ℕ} (ask : AskSeveral text p types functions s P C S Γ o end) where
+      abbrev m : More (p .levels) S (ask .wants) (ask .list)
+      m = first-of ask
+
+      first-part : Part (lineAt text (p .line)) (p .levels) S (p .at .at) (m .expr) (p .at .at + length (exprBytes (m .expr)))
+      first-part = record { within = m .within; spelled = first-of-exprs (subst (Spells exprsBytes (lineAt text (p .line)) (p .at .at)) (m .list) (ask .spelled)) .spelled; ends = refl }
+
+      first-word : one ≡ plainWord (m .type)
+      first-word = wanted ∙ sym (ap (wantedWord types functions (s .of)) (add-zero (s .first))) ∙ ask .each 0 (rw (m .wants) (omega arith)) ∙ ap (λ (τs : List Plain). getD (map plainWord τs) 0 0) (m .wants)
+
+      all-fit : arePlain (ask .wants) (plainsOf P C (ask .list) Γ) ≡ both (isPlain (m .type) (plainOf P C (m .expr) Γ)) (arePlain (m .types) (plainsOf P C (m .exprs) Γ))
+      all-fit = ap₂ (λ (τs : List Plain) (es : Exprs). arePlain τs (plainsOf P C es Γ)) (m .wants) (m .list) ∙ are-more P C Γ (m .type) (m .types) (m .expr) (m .exprs)
+
+    pub several-wrong : x ≡ Wrong → TypesSeveral text frames types functions channels scope p s Wrong scope₁
+    several-wrong d = record {
+      says = λ {P} {C} {S} {Γ} st ask.
+          let f = first-of ask in
+          wrong (ask .is ∙ when-false (ask .answer) (all-fit ask ∙ both-not (arePlain (f .types) (plainsOf P C (f .exprs) Γ)) (unmet v st (first-part ask) (f .type) (first-word ask) d)));
+      kept = v .kept;
+    }
+
+    pub several-more : {k : Typed} {r : Typing} {scope₂ : List ℕ} → x ≡ Is k → TypesSeveral text frames types functions channels scope₁ (movedTo p (k .next)) (record { of = s .of; first = s .first + 1; count = s .count - 1; word = s .word }) r scope₂ →
+        TypesSeveral text frames types functions channels scope p s r scope₂
+    several-more {k} d u = record {
+      says = λ {P} {C} {S} {Γ} {o} {end} st ask.
+          let f = first-of ask in
+          let h = met v st (first-part ask) (f .type) (first-word ask) d in
+          let long : length (ask .wants) ≡ suc (length (f .types)) = ap length (f .wants) in
+          let spelled = subst (Spells exprsBytes (lineAt text (p .line)) (p .at .at)) (f .list) (ask .spelled) in
+          agrees-as (ask .is ∙ ap (λ b. when b (ask .answer)) (all-fit ask ∙ both-first (h .is)))
+          (u .says (stage-kept st (v .kept)) (record {
+            list = f .exprs;
+            wants = f .types;
+            answer = ask .answer;
+            counted = omega (arith, ask .counted, long);
+            each = λ j less.
+                ap (wantedWord types functions (s .of)) (let e : s .first + 1 + j ≡ s .first + suc j = omega arith in e)
+                ∙ ask .each (suc j) (omega (arith, long, less)) ∙ ap (λ (τs : List Plain). getD (map plainWord τs) (suc j) 0) (f .wants);
+            answered = ask .answered;
+            within = f .others;
+            spelled = subst (λ m. Spells exprsBytes (lineAt text (p .line)) m (f .exprs)) (sym (h .place)) (first-of-exprs spelled .next);
+            ends = omega (arith, h .place, ask .ends, ap (λ (es : Exprs). length (exprsBytes es)) (f .list), more-long (f .expr) (f .exprs));
+            is = refl;
+          }));
+      kept = kept-then (v .kept) (u .kept);
+    }
+
+module _ (text frames types functions channels scope : List ℕ) (p : Place) where
+  -- ---- `18`
+  pub call-done : {f n word : ℕ} {r : Typing} {scope₁ : List ℕ} → Returns text frames functions (p .types) f word → (n ≡ getD functions (functionWords * f) 0 % byteRange) × (n < byteRange) →
+      TypesSeveral text frames types functions channels scope p (record { of = Parameters f; first = 0; count = n; word = word }) r scope₁ → TypesCall text frames types functions channels scope p f r scope₁
+  unfolding wantedWord
+  call-done {f} {n} {word} ret k u = record {
+    says = λ {P} {C} {S} {Γ} st ask.
+        let takes = st .known .functions f (ask .less) in
+        let F = takes .function in
+        let told = st .indexed .eachFunction f (takes .is) .tells in
+        agrees-as (ask .is ∙ plain-call P C Γ f (ask .list) ∙ chain-some _ (takes .is))
+        (u .says st (record {
+          list = ask .list;
+          wants = F .parameters;
+          answer = plainResult (F .result);
+          counted = count-same k (told .count) (omega (arith, told .few));
+          each = λ j less. rw (zero-add j) (told .each j less);
+          answered = ret .says (st .indexed) (st .typeCount) (takes .is);
+          within = subst (λ m. WithinExprs (p .levels) S m (ask .list)) (takes .arity) (ask .within);
+          spelled = ask .spelled;
+          ends = ask .ends;
+          is = refl;
+        }));
+    kept = u .kept;
+  }
+
+  -- ---- `19`
+  pub con-done : {t c n word : ℕ} {r : Typing} {scope₁ : List ℕ} → word ≡ namedWord t → (n ≡ getD types (typeWords * t + 1 + constructorWords * c) 0 % byteRange) × (n < byteRange) →
+      TypesSeveral text frames types functions channels scope p (record { of = Fields t c; first = 0; count = n; word = word }) r scope₁ → TypesCon text frames types functions channels scope p t c r scope₁
+  con-done {t} {c} {n} {word} w k u = record {
+    says = λ {P} {C} {S} {Γ} st ask.
+        let same = st .known .types in
+        let less : t < length (P .types) = rw same at (ask .less) in
+        let less₂ : c < length (constructorsOf P t) = rw same at (ask .less₂) in
+        let fs = getD (constructorsOf P t) c [] in
+        let long : length (plainFields t fs) ≡ length fs = length-map fs (plainField t) in
+        agrees-as (ask .is ∙ plain-con P C Γ t c (ask .list) ∙ chain-some _ (look-at (constructorsOf P t) c [] less₂))
+        (u .says st (record {
+          list = ask .list;
+          wants = plainFields t fs;
+          answer = pnamed t;
+          counted = field-count (st .indexed) t c less less₂ k ∙ sym long;
+          each = λ j there. rw (zero-add j) (fields-wanted (st .indexed) t c less less₂ j (omega (arith, long, there)));
+          answered = w ∙ named-is t (small-type (st .indexed) t c less less₂);
+          within = subst (λ m. WithinExprs (p .levels) S m (ask .list)) (sym long) (subst (λ (ts : List TypeDef). WithinExprs (p .levels) S (length (getD (getD ts t []) c [])) (ask .list)) same (ask .within));
+          spelled = ask .spelled;
+          ends = ask .ends;
+          is = refl;
+        }));
+    kept = u .kept;
+  }

@@ -1,0 +1,163 @@
+-- Reading a result type and a size that are spelled at a place, return by return; what a parameter or a field wants.
+use Prim.Native.Nat.{ℕ, _+_, _*_, _≤_, _<_}
+use mathlib.Core.List.{List, [], _∷_}
+use mathlib.Core.Option.{some}
+use mathlib.Core.Path.{_≡_, refl, sym, ap, _∙_, subst}
+use native.Mathlib.Omega.{arith}
+use lib.ListN.{length, getD, getElem? as look}
+use Rattle.language.specs.Limits.{byteRange, sizeVariablesMost, nestingMost}
+use Rattle.language.specs.Syntax.{Plain, pbool, pint, pnamed, Size, ResultType, rbool, rint, rnamed, Function, File}
+use Rattle.language.specs.Format.{sizeBytes, resultBytes}
+use Rattle.language.specs.Scope.{namedCount}
+use Rattle.language.specs.Within.{WithinSize, WithinResult, w-rnamed}
+use Rattle.language.specs.Parser.{byte}
+use Rattle.language.specs.ReadExpr.{sizeAt}
+use Rattle.language.specs.Layout.{tagStep}
+use Rattle.language.specs.PlainTypes.{plainResult}
+use Rattle.theory.specs.Lists.{look-less}
+use Rattle.theory.specs.ExactTypes.{size-exact}
+use Rattle.text.specs.declared.Cursor.{Cursor}
+use Rattle.text.specs.declared.Found.{Found}
+use Rattle.text.specs.declared.Number.{Number}
+use Rattle.text.specs.declared.Number.the-variants.{Is as IsNumber, Refused}
+use Rattle.text.specs.declared.Step.{Step}
+use Rattle.text.specs.declared.Step.the-variants.{Next, Stop}
+use Rattle.text.specs.Bytes.{bytesOf, bytesFrom, forget, plainWord, ReadsNumber, Passes, Below}
+use Rattle.index.specs.Tables.{functionWords}
+use Rattle.encoding.specs.Spells.{byteAt, Spells, spells-within}
+use Rattle.encoding.specs.TypeInversions.{ResultCoded, rbool-coded, rint-coded, rnamed-coded, IsNamedResult, result-of-byte}
+use Rattle.encoding.specs.FrameSpells.{lineAt}
+use Rattle.encoding.specs.CursorSpells.{passed-over}
+use Rattle.heads.specs.SkipHeads.{byte-found, byte-there, next-at, next-there}
+use Rattle.heads.specs.PartLaws.{size-wider}
+use Rattle.encoding.specs.WithinParts.{function-within}
+use Rattle.index.specs.Indexed.{fieldAt, resultAt, framePart, functionLine, Indexed}
+use Rattle.plain_types.specs.declared.words.Typed.{Typed}
+use Rattle.plain_types.specs.declared.words.Typing.{Typing}
+use Rattle.plain_types.specs.declared.words.Typing.the-variants.{Is, Wrong}
+use Rattle.plain_types.specs.declared.words.Want.{Want}
+use Rattle.plain_types.specs.declared.words.Want.the-variants.{Parameters, Fields}
+use Rattle.plain_types.specs.Agrees.{Agrees, answered, typed-is, typed-there}
+use Rattle.plain_types.specs.Words.{withoutSize, namedWord, lineOf, ownOrOther, wantedWord, ReadsResult, Returns}
+use Rattle.plain_types.specs.WordLaws.{named-is, own-is, other-is}
+
+-- ---- what is wanted
+pub wanted-parameter : (types functions : List ℕ) (want : Want) (j : ℕ) {f r : ℕ} → want ≡ Parameters f → r ≡ getD functions (functionWords * f + 1 + j) 0 → r ≡ wantedWord types functions want j
+unfolding wantedWord
+wanted-parameter types functions want j e q = rw e q
+
+module _ (types functions : List ℕ) (want : Want) (j : ℕ) {t c word r : ℕ} (e : want ≡ Fields t c) (q : word ≡ fieldAt types t c j) where
+  pub wanted-own : word ≡ 2 → r ≡ namedWord t → r ≡ wantedWord types functions want j
+  unfolding wantedWord
+  wanted-own own p = rw e (p ∙ own-is t word own ∙ ap (ownOrOther t) q)
+
+  pub wanted-other : (word ≡ 2 → ⊥) → r ≡ withoutSize word → r ≡ wantedWord types functions want j
+  unfolding wantedWord
+  wanted-other other p = rw e (p ∙ other-is t word other ∙ ap (ownOrOther t) q)
+
+-- ---- a size that is spelled is passed over
+module _ {line : List ℕ} {at vars : ℕ} {s : Size} {x : Step} (few : vars ≤ sizeVariablesMost) (w : WithinSize vars nestingMost s) (spelled : Spells sizeBytes line at s)
+    (v : Passes line at x (forget (sizeAt nestingMost sizeVariablesMost (bytesFrom line at)))) where
+  pub size-passed : x ≡ Next (record { at = at + length (sizeBytes s) })
+  size-passed = passed-over (size-exact sizeVariablesMost) spelled (size-wider few w) x v
+
+-- ---- a result type
+some-result : (ρ : ResultType) → 0 < length (resultBytes ρ)
+unfolding resultBytes
+some-result rbool = omega arith
+some-result rint = omega arith
+some-result (rnamed t s) = omega arith
+
+leaf-result : {line : List ℕ} {at b : ℕ} {ρ : ResultType} → ResultCoded line at ρ b → b < 2 → (b ≡ plainWord (plainResult ρ)) × (length (resultBytes ρ) ≡ 1)
+unfolding plainWord plainResult
+leaf-result (rbool-coded i) h = (ap (λ (ρ : ResultType). plainWord (plainResult ρ)) (sym (i .is)), ap (λ (ρ : ResultType). length (resultBytes ρ)) (i .is) ∙ i .long)
+leaf-result (rint-coded i) h = (ap (λ (ρ : ResultType). plainWord (plainResult ρ)) (sym (i .is)), ap (λ (ρ : ResultType). length (resultBytes ρ)) (i .is) ∙ i .long)
+leaf-result (rnamed-coded i) h = absurd (omega (arith, h))
+
+named-result : {line : List ℕ} {at b : ℕ} {ρ : ResultType} → ResultCoded line at ρ b → 2 ≤ b → IsNamedResult line at ρ
+named-result (rbool-coded i) h = absurd (omega (arith, h))
+named-result (rint-coded i) h = absurd (omega (arith, h))
+named-result (rnamed-coded i) h = i
+
+named-within : {types vars t : ℕ} {s : Size} → WithinResult types vars (rnamed t s) → (t < types) × WithinSize vars nestingMost s
+named-within (w-rnamed l w) = (l, w)
+
+plain-named : {t : ℕ} {s : Size} {ρ : ResultType} → ρ ≡ rnamed t s → plainWord (pnamed t) ≡ plainWord (plainResult ρ)
+unfolding plainResult
+plain-named q = rw q
+
+module _ (line : List ℕ) (c : Cursor) {x : Number} (v : ReadsNumber line (c .at) x (byte (bytesFrom line (c .at))) × Below byteRange x) where
+  pub result-stops : {m : ℕ} → x ≡ Refused m → ReadsResult line c Wrong
+  result-stops q = record { says = λ {types} {vars} {ρ} small few w s. absurd (byte-there (omega (arith, spells-within s, some-result ρ)) v q) }
+
+  module _ {f : Found} (q : x ≡ IsNumber f) where
+    coded : {ρ : ResultType} → Spells resultBytes line (c .at) ρ → ResultCoded line (c .at) ρ (f .value)
+    coded {ρ} s = subst (ResultCoded line (c .at) ρ) (sym (byte-found (omega (arith, spells-within s, some-result ρ)) v q .0)) (result-of-byte s)
+
+    second : {ρ : ResultType} → Spells resultBytes line (c .at) ρ → f .next .at ≡ c .at + 1
+    second {ρ} s = byte-found (omega (arith, spells-within s, some-result ρ)) v q .1
+
+    pub result-leaf : f .value < 2 → ReadsResult line c (Is (record { word = f .value; next = f .next }))
+    result-leaf less = record { says = λ {types} {vars} {ρ} small few w s. let l = leaf-result (coded s) less in answered refl (l .0) (omega (arith, second s, l .1)) refl }
+
+    module _ (more : 2 ≤ f .value) {y : Number} (u : ReadsNumber line (f .next .at) y (byte (bytesFrom line (f .next .at))) × Below byteRange y) where
+      here : {ρ : ResultType} → Spells resultBytes line (c .at) ρ → f .next .at < length (bytesOf line)
+      here s = omega (arith, second s, named-result (coded s) more .spelled .within)
+
+      pub result-cut : {m : ℕ} → y ≡ Refused m → ReadsResult line c Wrong
+      result-cut p = record { says = λ small few w s. absurd (byte-there (here s) u p) }
+
+      module _ {g : Found} (p : y ≡ IsNumber g) {z : Step} (a : Passes line (g .next .at) z (forget (sizeAt nestingMost sizeVariablesMost (bytesFrom line (g .next .at))))) where
+        third : {ρ : ResultType} → Spells resultBytes line (c .at) ρ → g .next .at ≡ c .at + 2
+        third s = omega (arith, second s, byte-found (here s) u p .1)
+
+        behind : {types vars : ℕ} {ρ : ResultType} → vars ≤ sizeVariablesMost → WithinResult types vars ρ → (s : Spells resultBytes line (c .at) ρ) → z ≡ Next (record { at = g .next .at + length (sizeBytes (named-result (coded s) more .size)) })
+        behind {types} {vars} {ρ} few w s =
+            let i = named-result (coded s) more in
+            size-passed few (named-within (subst (WithinResult types vars) (i .is) w) .1) (subst (λ m. Spells sizeBytes line m (i .size)) (sym (third s)) (i .spelled)) a
+
+        pub result-open : {m : ℕ} → z ≡ Stop m → ReadsResult line c Wrong
+        result-open o = record { says = λ small few w s. absurd (next-there (behind few w s) o) }
+
+        pub result-named : {d : Cursor} {word : ℕ} → z ≡ Next d → word ≡ namedWord (g .value) → ReadsResult line c (Is (record { word = word; next = d }))
+        result-named {d} {word} o e = record {
+          says = λ {types} {vars} {ρ} small few w s.
+              let i = named-result (coded s) more in
+              let t = byteAt line (c .at + 1) in
+              let value : g .value ≡ t = byte-found (here s) u p .0 ∙ ap (byteAt line) (second s) in
+              let less : t < tagStep = omega (arith, small, named-within (subst (WithinResult types vars) (i .is) w) .0) in
+              answered refl (e ∙ ap namedWord value ∙ named-is t less ∙ plain-named (i .is))
+              (omega (arith, next-at (behind few w s) o, third s, ap (λ (r : ResultType). length (resultBytes r)) (i .is), i .long)) refl;
+        }
+
+-- ---- the result type of a function, in its line
+named-few : (ps : List Plain) → namedCount ps ≤ length ps
+unfolding namedCount
+named-few [] = omega arith
+named-few (pbool ∷ ps) = omega (arith, named-few ps)
+named-few (pint ∷ ps) = omega (arith, named-few ps)
+named-few (pnamed t ∷ ps) = omega (arith, named-few ps)
+
+module _ (text frames functions : List ℕ) (count f : ℕ) {line : List ℕ} {i : ℕ} {x : Typing} (number : i ≡ lineOf count f) (part : line ≡ framePart text frames i) (v : ReadsResult line (record { at = resultAt functions f }) x) where
+  read-result : {types channels : List ℕ} {P : File} {F : Function} → Indexed text frames types functions channels P → count ≡ length (P .types) → look (P .functions) f ≡ some F →
+      Agrees x (resultAt functions f + length (resultBytes (F .result))) (some (plainResult (F .result)))
+  read-result {P} {F} h c e =
+      let less = look-less (P .functions) f e in
+      let w = h .within in
+      let number′ : i ≡ functionLine P f = omega (arith, number, c, less, w .fewTypes, w .fewFunctions) in
+      let is : line ≡ lineAt text (functionLine P f) = part ∙ ap (framePart text frames) number′ ∙ h .eachFrame (functionLine P f) (omega (arith, less)) .line in
+      let r = function-within w f e in
+      v .says (omega (arith, w .fewTypes)) (omega (arith, r .fewParameters, named-few (F .parameters))) (r .result) (subst (λ l. Spells resultBytes l (resultAt functions f) (F .result)) (sym is) (h .eachFunction f e .result))
+
+  pub returned-none : {r : ℕ} → x ≡ Wrong → Returns text frames functions count f r
+  returned-none q = record { says = λ h c e. absurd (typed-there (read-result h c e) q) }
+
+  pub returned-is : {k : Typed} → x ≡ Is k → Returns text frames functions count f (k .word)
+  returned-is q = record { says = λ h c e. typed-is (read-result h c e) q .0 }
+
+pub at-word : {line : List ℕ} {r : Typing} {a b : ℕ} → a ≡ b → ReadsResult line (record { at = a }) r → ReadsResult line (record { at = b }) r
+at-word {line} {r} e v = subst (λ m. ReadsResult line (record { at = m }) r) e v
+
+-- ---- a channel's type
+pub channel-is : {word plain declared : ℕ} {next : Cursor} → word ≡ declared → plain ≡ withoutSize word → Is (record { word = plain; next = next }) ≡ Is (record { word = withoutSize declared; next = next })
+channel-is {next} e q = ap (λ (m : ℕ). Is (record { word = m; next = next })) (q ∙ ap withoutSize e)

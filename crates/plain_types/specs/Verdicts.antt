@@ -1,0 +1,81 @@
+-- What the functions promise that check a frame, and the first frame whose plain types disagree.
+use Prim.Native.Nat.{ℕ, zero, suc, _+_, _≤_, _<_}
+use mathlib.Core.List.{List, [], _∷_, _++_, map}
+use mathlib.Core.Bool.{Bool, true, false}
+use mathlib.Core.Option.{some}
+use mathlib.Core.Path.{_≡_}
+use lib.ListN.{length, getD, getElem? as look}
+use Rattle.language.specs.Limits.{nestingMost}
+use Rattle.language.specs.Result.{Result, no, choose}
+use Rattle.language.specs.Syntax.{Plain, pbool, Ty, Expr, Function, Node, File, functionFrame}
+use Rattle.language.specs.Scope.{Scope, outerScope}
+use Rattle.language.specs.Within.{WithinDeclared, WithinExpr, WithinNode}
+use Rattle.language.specs.PlainTypes.{isPlain, plainOf, plainFunction, plainInitial, plainInput, plainNode}
+use Rattle.text.specs.Bytes.{plainWord}
+use Rattle.encoding.specs.FrameSpells.{lineAt}
+use Rattle.index.specs.declared.Counts.{Counts}
+use Rattle.encoding.specs.Known.{Known}
+use Rattle.index.specs.Indexed.{declaredAt, channelLine, lineCount, ChannelIndexed, NodeIndexed, Indexed, Counted}
+use Rattle.plain_types.specs.declared.words.Typing.{Typing}
+use Rattle.plain_types.specs.declared.words.Typing.the-variants.{Is, Wrong}
+use Rattle.plain_types.specs.declared.places.Place.{Place}
+use Rattle.plain_types.specs.Words.{withoutSize}
+use Rattle.plain_types.specs.Asks.{Part}
+
+-- whether there is a type
+unfoldable pub fits : Typing → Bool
+fits (Is k) = true
+fits Wrong = false
+
+-- ---- a place of a file that was read, outside all functions: no variable is in scope
+pub record Outer (text frames types functions channels : List ℕ) (count line : ℕ) (P : File) (C : List Plain) (S : Scope) : Type 0 where
+  pub indexed : Indexed text frames types functions channels P
+  pub typeCount : count ≡ length (P .types)
+  pub less : line < lineCount P
+  pub known : Known P S
+  pub channel : (c : ℕ) → c < length C → withoutSize (declaredAt channels c) ≡ plainWord (getD C c pbool)
+  pub now : S .now ≤ length C
+  pub last : S .last ≤ length C
+  pub none : S .variables ≡ 0
+
+module _ (text frames types functions channels : List ℕ) where
+  pub record FunctionFits (count f : ℕ) (r : Bool) : Type 0 where
+    pub says : {P : File} {F : Function} → Indexed text frames types functions channels P → count ≡ length (P .types) → look (P .functions) f ≡ some F → r ≡ plainFunction P F
+
+  pub record ValueFits (p : Place) (c : ℕ) (r : Bool) : Type 0 where
+    pub says : {P : File} {C : List Plain} {S : Scope} {e : Expr} {end : ℕ} (τ : Plain) → p .variables ≡ 0 → Outer text frames types functions channels (p .types) (p .line) P C S →
+        Part (lineAt text (p .line)) (p .levels) S (p .at .at) e end → withoutSize (declaredAt channels c) ≡ plainWord τ → r ≡ isPlain τ (plainOf P C e [])
+
+  -- channel c has the frame i behind the types
+  pub record InitialFits (count i c : ℕ) (r : Bool) : Type 0 where
+    pub says : {P : File} {τ : Ty} {e : Expr} → Indexed text frames types functions channels P → count ≡ length (P .types) → i ≡ length (P .functions) + c → c < length (P .inputs) + length (P .nodes) →
+        ChannelIndexed (lineAt text (channelLine P c)) channels c τ e → WithinDeclared (length (P .types)) τ → WithinExpr nestingMost (outerScope (P .types) (P .functions) 0 0) e → r ≡ plainInitial P τ e
+
+  pub record NodeFits (count i c : ℕ) (r : Bool) : Type 0 where
+    pub says : {P : File} {n : Node} → Indexed text frames types functions channels P → count ≡ length (P .types) → i ≡ length (P .functions) + c → c < length (P .inputs) + length (P .nodes) →
+        (m : ℕ) → c ≡ length (P .inputs) + m → NodeIndexed (lineAt text (channelLine P c)) channels c n → WithinNode P m n → r ≡ plainNode P n
+
+-- ---- the definition's tests, in the order of the frames
+abbrev pub frameTests : File → List Bool
+frameTests P = map (plainFunction P) (P .functions) ++ (map (plainInput P) (P .inputs) ++ map (plainNode P) (P .nodes))
+
+-- the number of the first that fails, counted from the first's; 0 where none does
+unfoldable pub firstRefused : ℕ → List Bool → ℕ
+firstRefused frame [] = 0
+firstRefused frame (b ∷ bs) = choose b (firstRefused (suc frame) bs) frame
+
+-- the first frame whose plain types disagree, or 0
+abbrev pub refusedFrame : File → ℕ
+refusedFrame P = firstRefused (functionFrame P 0) (frameTests P)
+
+-- refusal 9 at a frame; a pass goes on where the number is 0
+unfoldable pub verdict : {A : Type 0} → ℕ → Result A → Result A
+verdict zero x = x
+verdict (suc n) x = no 9 (suc n)
+
+module _ (text frames types functions channels : List ℕ) (counts : Counts) where
+  pub record FrameFits (i : ℕ) (r : Bool) : Type 0 where
+    pub says : {P : File} → Indexed text frames types functions channels P → Counted counts P → r ≡ getD (frameTests P) i true
+
+  pub record JudgesAll (r : ℕ) : Type 0 where
+    pub says : {P : File} → Indexed text frames types functions channels P → Counted counts P → r ≡ refusedFrame P

@@ -1,0 +1,116 @@
+-- A text that was read is indexed: what the reader promises of its tables gives all that Indexed says.
+use Prim.Native.Nat.{ℕ, _+_, _*_, _<_}
+use mathlib.Core.List.{List, []}
+use mathlib.Core.Option.{some}
+use mathlib.Core.Path.{_≡_, refl, sym, ap, subst, _∙_}
+use native.Mathlib.Nat.{add-zero}
+use native.Mathlib.Omega.{arith}
+use lib.ListN.{length, getD, getElem? as look}
+use Rattle.language.specs.Result.{Result, ok}
+use Rattle.language.specs.Syntax.{Function, Input, Node, File, constructorsOf}
+use Rattle.language.specs.Format.{declaredBytes, exprBytes}
+use Rattle.language.specs.Reader.{readFile}
+use Rattle.language.specs.Within.{Within}
+use Rattle.theory.specs.Places.{look-at}
+use Rattle.theory.specs.ReaderExact.{reader-forth}
+use Rattle.index.specs.Tables.{typeTable, functionWords, functionTable, channelWords, inputEntry, nodeEntry, channelTable, frameTable}
+use Rattle.index.specs.Tables.{resultPlace, conditionsPlace, measurePlace, bodyPlace}
+use Rattle.index.specs.TypeTable.{FewParts, each-within-few, tells-type}
+use Rattle.index.specs.FunctionTable.{headWords}
+use Rattle.encoding.specs.FrameParts.{FunctionSpelled, InputSpelled, NodeSpelled}
+use Rattle.encoding.specs.FrameSpells.{lineAt, type-spelled, function-spelled, input-spelled, node-spelled}
+use Rattle.index.specs.declared.Counts.{Counts}
+use Rattle.reader.specs.declared.Reading.{Reading}
+use Rattle.reader.specs.declared.Reading.the-variants.{Done}
+use Rattle.reader.specs.Held.{Held}
+use Rattle.reader.specs.Texts.{TextRead, done, fault}
+use Rattle.index.specs.Indexed.{resultAt, conditionsAt, measureAt, bodyAt, initialAt, updateAt, functionLine, channelLine, TypeIndexed, FunctionIndexed, ChannelIndexed, NodeIndexed, Indexed, Counted, ReadIndexed}
+use Rattle.encoding.specs.WithinParts.{function-within}
+use Rattle.reader.specs.FrameLines.{frame-indexed}
+use Rattle.index.specs.TableWords.{tells-field, parameters-told, place-told, input-told, node-told}
+
+-- ---- a text that was read, and the tables of its file
+module _ (text : List ℕ) {P : File} (read : readFile text ≡ ok P) where
+  in-limits : Within P
+  in-limits = reader-forth text P read .1
+
+  type-indexed : {types : List ℕ} → types ≡ typeTable (P .types) → (t : ℕ) → t < length (P .types) → TypeIndexed (lineAt text t) types t (constructorsOf P t)
+  type-indexed table t there =
+      let w = in-limits in
+      let few : FewParts (constructorsOf P t) = each-within-few (w .types) t there in
+      record {
+        tells = tells-type (P .types) t table (w .fewTypes) there few;
+        fields = tells-field (P .types) t table (w .fewTypes) there few;
+        spelled = type-spelled text read t (look-at (P .types) t [] there);
+      }
+
+  function-indexed : {functions : List ℕ} → functions ≡ functionTable (P .functions) → (f : ℕ) {F : Function} → look (P .functions) f ≡ some F → FunctionIndexed (lineAt text (functionLine P f)) functions f F
+  unfolding resultPlace conditionsPlace measurePlace bodyPlace
+  function-indexed {functions} table f {F} there =
+      let w = in-limits in
+      let s : FunctionSpelled (lineAt text (functionLine P f)) F = function-spelled text read f (functionLine P f) (omega arith) there in
+      let word = place-told (P .functions) table (w .fewFunctions) f there in
+      let result : resultAt functions f ≡ resultPlace F = ap (λ i. getD functions i 0) (sym (add-zero (functionWords * f + headWords))) ∙ word 0 (omega arith) in
+      let conditions : conditionsAt functions f ≡ conditionsPlace F = word 1 (omega arith) in
+      let measure : measureAt functions f ≡ measurePlace F = word 2 (omega arith) in
+      let body : bodyAt functions f ≡ bodyPlace F = word 3 (omega arith) in
+      record {
+        tells = parameters-told (P .functions) table (w .fewFunctions) f there (function-within w f there .fewParameters);
+        result = rw result (s .result);
+        conditionCount = rw conditions (s .conditionCount);
+        conditions = rw conditions (s .conditions);
+        measureCount = rw measure (s .measureCount);
+        measure = rw measure (s .measure);
+        body = rw body (s .body);
+      }
+
+  input-indexed : {channels : List ℕ} → channels ≡ channelTable (P .inputs) (P .nodes) → (c : ℕ) {i : Input} → look (P .inputs) c ≡ some i → ChannelIndexed (lineAt text (channelLine P c)) channels c (i .declared) (i .initial)
+  unfolding inputEntry
+  input-indexed {channels} table c {i} there =
+      let w = in-limits in
+      let s : InputSpelled (lineAt text (channelLine P c)) i = input-spelled text read c (channelLine P c) (omega arith) there in
+      let word = input-told (P .inputs) (P .nodes) table (omega (arith, w .fewInputs, w .fewNodes)) c there in
+      let initial : initialAt channels c ≡ 1 + length (declaredBytes (i .declared)) = word 1 (omega arith) in
+      record { declared = ap (λ k. getD channels k 0) (sym (add-zero (channelWords * c))) ∙ word 0 (omega arith); initial = rw initial (s .initial) }
+
+  node-indexed : {channels : List ℕ} → channels ≡ channelTable (P .inputs) (P .nodes) → (m : ℕ) {n : Node} → look (P .nodes) m ≡ some n →
+      NodeIndexed (lineAt text (channelLine P (length (P .inputs) + m))) channels (length (P .inputs) + m) n
+  unfolding nodeEntry
+  node-indexed {channels} table m {n} there =
+      let w = in-limits in
+      let c : ℕ = length (P .inputs) + m in
+      let s : NodeSpelled (lineAt text (channelLine P c)) n = node-spelled text read m (channelLine P c) (omega arith) there in
+      let word = node-told (P .inputs) (P .nodes) table (omega (arith, w .fewInputs, w .fewNodes)) m there in
+      let initial : initialAt channels c ≡ 1 + length (declaredBytes (n .declared)) = word 1 (omega arith) in
+      let update : updateAt channels c ≡ 1 + length (declaredBytes (n .declared)) + length (exprBytes (n .initial)) = word 2 (omega arith) in
+      record {
+        channel = record { declared = ap (λ k. getD channels k 0) (sym (add-zero (channelWords * c))) ∙ word 0 (omega arith); initial = rw initial (s .initial) };
+        update = rw update (s .update);
+      }
+
+  tables-index : {frames types functions channels : List ℕ} {n : Counts} → Held types functions channels n P → frames ≡ frameTable P → Indexed text frames types functions channels P
+  tables-index held table =
+      let w = in-limits in
+      record {
+        read = read;
+        short = omega (arith, w .text, ap length (reader-forth text P read .0));
+        within = w;
+        eachFrame = frame-indexed read (omega (arith, w .fewTypes, w .fewFunctions, w .fewInputs, w .fewNodes)) table;
+        eachType = type-indexed (held .typesAre);
+        eachFunction = function-indexed (held .functionsAre);
+        eachInput = input-indexed (held .channelsAre);
+        eachNode = node-indexed (held .channelsAre);
+      }
+
+-- ---- what the reader promises
+held-counted : {types functions channels : List ℕ} {n : Counts} {P : File} → Held types functions channels n P → Counted n P
+held-counted h = record { typeCount = h .typeCount; functionCount = h .functionCount; inputCount = h .inputCount; nodeCount = h .nodeCount }
+
+pub read-indexes : {text frames types functions channels : List ℕ} {r : Reading} {n : Counts} → TextRead r frames types functions channels (readFile text) → r ≡ Done n → ReadIndexed text frames types functions channels n
+read-indexes {text} {frames} {types} {functions} {channels} {r} {n} told answer = go (readFile text) refl told
+  where
+    go : (x : Result File) → readFile text ≡ x → TextRead r frames types functions channels x → ReadIndexed text frames types functions channels n
+    go x q (done {n = m} {P = P} e held table) =
+        let same : m ≡ n = let u = sym e ∙ answer in cc in
+        record { file = P; indexed = tables-index text q held table; counted = subst (λ k. Counted k P) same (held-counted held) }
+    go x q (fault e z) = absurd (let u = sym e ∙ answer in let z : _≡_ {A = ℕ} 0 1 = cc in omega arith)

@@ -1,2 +1,0 @@
-pub mod WithinParts
-pub mod Known

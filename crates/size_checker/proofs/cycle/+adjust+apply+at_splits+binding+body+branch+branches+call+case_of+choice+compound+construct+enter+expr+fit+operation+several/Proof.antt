@@ -1,0 +1,9040 @@
+-- The cycle of the size checker meets its contracts: each need is answered by a law of the form's file; the measure is the load (`Loads`).
+use Prim.Native.Nat.{ℕ, _+_, _-_, _<_, _≤_}
+use mathlib.Core.Path.{_≡_, refl, ap, _∙_, subst}
+use native.Mathlib.Omega.{arith}
+use lib.ListN.{length, take, drop}
+use borrow.Author.Tests.{not-true, not-false}
+use Rattle.size_checker.specs.Loads.{load, load-same, load-moved, load-wide, load-down, load-body, room-same, room-wide, room-down, room-widens, scope-long, sizes-long, room-behind, room-rest, room-kept, room-body, room-inner, room-row, prepares, grows-behind, grows-wide}
+use Rattle.size_checker.specs.TurnLaws.{put-is}
+use Rattle.size_checker.specs.Agreement.{grows-to, grows-all-to}
+use mathlib.Core.Bool.{false}
+use mathlib.Core.Logic.{_⊎_, inl, inr, ⊎-elim}
+use denote.Ref.{now}
+use denote.Enum.Declared.{tagOf, declared}
+use Rattle.heads.proofs.Form.{enum as form-enum}
+use Rattle.heads.specs.declared.Form.{Form}
+use Rattle.heads.specs.declared.Form.the-variants.{Bool as BoolForm, Int, Variable, Now, Last, Let, If, Operator, Call, Construct, Case, Adjust, Fit, Missing}
+use Rattle.sizes.proofs.SizedType.{enum}
+use Rattle.sizes.specs.declared.SizedType.{SizedType}
+use Rattle.size_checker.specs.KindLaws.{NotNamed}
+use Rattle.size_checker.specs.Leaves.{Operands}
+use Rattle.language.specs.Limits.{byteRange}
+use Rattle.size_checker.specs.ExprLaws.{isLeaf, hasParts, expr-deep, expr-bool, expr-int, expr-variable, expr-now, expr-last, expr-compound, now-counted, last-counted, compound-is, compound-none, operands-of}
+use Rattle.size_checker.specs.SeveralLaws.{several-none, several-first, several-more}
+use Rattle.size_checker.specs.CallLaws.{call-arguments, call-applied, apply-not-entered, apply-body, apply-done, entry-numbers}
+use Rattle.size_checker.specs.EnterLaws.{enter-found, enter-absent, body-full, body-refused, body-differs, body-done}
+use Rattle.size_checker.specs.ConLaws.{con-fields, con-made}
+use Rattle.size_checker.specs.CaseLaws.{case-first, case-plain, case-outside, case-branches, case-done}
+use Rattle.size_checker.specs.BranchesLaws.{branches-none, branches-first, branches-rest, branches-done}
+use Rattle.size_checker.specs.BranchLaws.{branch-skipped, branch-split}
+use Rattle.size_checker.specs.Walks.{Walks, walks-start, walks-are}
+use Rattle.size_checker.specs.SplitRanks.{walkLeft, turn-falls, less-as}
+use Rattle.size_checker.specs.SplitsLaws.{splits-part, splits-differ, splits-turn, splits-done}
+use Rattle.size_checker.specs.Promises.{lent, buffers}
+use Rattle.size_checker.specs.IfLaws.{if-first, if-second, if-third, if-differ, if-done}
+use Rattle.size_checker.specs.OpLaws.{op-first, op-second, op-done}
+use Rattle.size_checker.specs.AdjLaws.{adj-outside, adj-refused, adj-plain, adj-lowered, adj-done}
+use Rattle.size_checker.specs.FitLaws.{fit-subject, fit-plain, fit-first, fit-other, fit-differ, fit-done}
+use Rattle.size_checker.specs.LetLaws.{let-first, let-second, let-done}
+use borrow.Author.Needs.{needs}
+use borrow.Fn.Kinds.{In}
+use borrow.Fn.PlainCycle.{Measures, is, falls, and}
+use Rattle.size_checker.proofs.cycle.adjust.Reads as adjust
+use Rattle.size_checker.proofs.cycle.adjust.Kinds as adjust-kinds
+use Rattle.size_checker.proofs.cycle.+adjust+apply+at_splits+binding+body+branch+branches+call+case_of+choice+compound+construct+enter+expr+fit+operation+several.Lts-adjust as adjust-lts
+use Rattle.size_checker.proofs.cycle.apply.Reads as apply
+use Rattle.size_checker.proofs.cycle.apply.Kinds as apply-kinds
+use Rattle.size_checker.proofs.cycle.+adjust+apply+at_splits+binding+body+branch+branches+call+case_of+choice+compound+construct+enter+expr+fit+operation+several.Lts-apply as apply-lts
+use Rattle.size_checker.proofs.cycle.at_splits.Reads as at-splits
+use Rattle.size_checker.proofs.cycle.at_splits.Kinds as at-splits-kinds
+use Rattle.size_checker.proofs.cycle.+adjust+apply+at_splits+binding+body+branch+branches+call+case_of+choice+compound+construct+enter+expr+fit+operation+several.Lts-at_splits as at-splits-lts
+use Rattle.size_checker.proofs.cycle.binding.Reads as binding
+use Rattle.size_checker.proofs.cycle.binding.Kinds as binding-kinds
+use Rattle.size_checker.proofs.cycle.+adjust+apply+at_splits+binding+body+branch+branches+call+case_of+choice+compound+construct+enter+expr+fit+operation+several.Lts-binding as binding-lts
+use Rattle.size_checker.proofs.cycle.body.Reads as body
+use Rattle.size_checker.proofs.cycle.body.Kinds as body-kinds
+use Rattle.size_checker.proofs.cycle.+adjust+apply+at_splits+binding+body+branch+branches+call+case_of+choice+compound+construct+enter+expr+fit+operation+several.Lts-body as body-lts
+use Rattle.size_checker.proofs.cycle.branch.Reads as branch
+use Rattle.size_checker.proofs.cycle.branch.Kinds as branch-kinds
+use Rattle.size_checker.proofs.cycle.+adjust+apply+at_splits+binding+body+branch+branches+call+case_of+choice+compound+construct+enter+expr+fit+operation+several.Lts-branch as branch-lts
+use Rattle.size_checker.proofs.cycle.branches.Reads as branches
+use Rattle.size_checker.proofs.cycle.branches.Kinds as branches-kinds
+use Rattle.size_checker.proofs.cycle.+adjust+apply+at_splits+binding+body+branch+branches+call+case_of+choice+compound+construct+enter+expr+fit+operation+several.Lts-branches as branches-lts
+use Rattle.size_checker.proofs.cycle.call.Reads as call
+use Rattle.size_checker.proofs.cycle.call.Kinds as call-kinds
+use Rattle.size_checker.proofs.cycle.+adjust+apply+at_splits+binding+body+branch+branches+call+case_of+choice+compound+construct+enter+expr+fit+operation+several.Lts-call as call-lts
+use Rattle.size_checker.proofs.cycle.case_of.Reads as case-of
+use Rattle.size_checker.proofs.cycle.case_of.Kinds as case-of-kinds
+use Rattle.size_checker.proofs.cycle.+adjust+apply+at_splits+binding+body+branch+branches+call+case_of+choice+compound+construct+enter+expr+fit+operation+several.Lts-case_of as case-of-lts
+use Rattle.size_checker.proofs.cycle.choice.Reads as choice
+use Rattle.size_checker.proofs.cycle.choice.Kinds as choice-kinds
+use Rattle.size_checker.proofs.cycle.+adjust+apply+at_splits+binding+body+branch+branches+call+case_of+choice+compound+construct+enter+expr+fit+operation+several.Lts-choice as choice-lts
+use Rattle.size_checker.proofs.cycle.compound.Reads as compound
+use Rattle.size_checker.proofs.cycle.compound.Kinds as compound-kinds
+use Rattle.size_checker.proofs.cycle.+adjust+apply+at_splits+binding+body+branch+branches+call+case_of+choice+compound+construct+enter+expr+fit+operation+several.Lts-compound as compound-lts
+use Rattle.size_checker.proofs.cycle.construct.Reads as construct
+use Rattle.size_checker.proofs.cycle.construct.Kinds as construct-kinds
+use Rattle.size_checker.proofs.cycle.+adjust+apply+at_splits+binding+body+branch+branches+call+case_of+choice+compound+construct+enter+expr+fit+operation+several.Lts-construct as construct-lts
+use Rattle.size_checker.proofs.cycle.enter.Reads as enter
+use Rattle.size_checker.proofs.cycle.enter.Kinds as enter-kinds
+use Rattle.size_checker.proofs.cycle.+adjust+apply+at_splits+binding+body+branch+branches+call+case_of+choice+compound+construct+enter+expr+fit+operation+several.Lts-enter as enter-lts
+use Rattle.size_checker.proofs.cycle.expr.Reads as expr
+use Rattle.size_checker.proofs.cycle.expr.Kinds as expr-kinds
+use Rattle.size_checker.proofs.cycle.+adjust+apply+at_splits+binding+body+branch+branches+call+case_of+choice+compound+construct+enter+expr+fit+operation+several.Lts-expr as expr-lts
+use Rattle.size_checker.proofs.cycle.fit.Reads as fit
+use Rattle.size_checker.proofs.cycle.fit.Kinds as fit-kinds
+use Rattle.size_checker.proofs.cycle.+adjust+apply+at_splits+binding+body+branch+branches+call+case_of+choice+compound+construct+enter+expr+fit+operation+several.Lts-fit as fit-lts
+use Rattle.size_checker.proofs.cycle.operation.Reads as operation
+use Rattle.size_checker.proofs.cycle.operation.Kinds as operation-kinds
+use Rattle.size_checker.proofs.cycle.+adjust+apply+at_splits+binding+body+branch+branches+call+case_of+choice+compound+construct+enter+expr+fit+operation+several.Lts-operation as operation-lts
+use Rattle.size_checker.proofs.cycle.several.Reads as several
+use Rattle.size_checker.proofs.cycle.several.Kinds as several-kinds
+use Rattle.size_checker.proofs.cycle.+adjust+apply+at_splits+binding+body+branch+branches+call+case_of+choice+compound+construct+enter+expr+fit+operation+several.Lts-several as several-lts
+use Rattle.estimate.proofs.nothing.Reads as nothing-reads
+use Rattle.estimate.proofs.one_cell.Reads as one-cell-reads
+use Rattle.heads.proofs.head_at.Reads as head-at-reads
+use Rattle.index.proofs.arity.Reads as arity-reads
+use Rattle.index.proofs.constructors.Reads as constructors-reads
+use Rattle.index.proofs.fields.Reads as fields-reads
+use Rattle.index.proofs.own_fields.Reads as own-fields-reads
+use Rattle.index.proofs.put.Reads as put-reads
+use Rattle.index.proofs.frames.frame_line.Reads as frame-line-reads
+use Rattle.instances.proofs.add.Reads as add-reads
+use Rattle.instances.proofs.find.Reads as find-reads
+use Rattle.instances.proofs.finish.Reads as finish-reads
+use Rattle.sizes.proofs.rows.bind_fields.Reads as bind-fields-reads
+use Rattle.sizes.proofs.rows.named_sizes.Reads as named-sizes-reads
+use Rattle.sizes.proofs.size_at.Reads as size-at-reads
+use Rattle.sizes.proofs.type_at.Reads as type-at-reads
+use Rattle.sizes.proofs.word_of.Reads as word-of-reads
+use Rattle.size_checker.proofs.numbers.adjusted.Reads as adjusted-reads
+use Rattle.size_checker.proofs.numbers.agree.Reads as agree-reads
+use Rattle.size_checker.proofs.places.behind.Reads as behind-reads
+use Rattle.size_checker.proofs.places.body_place.Reads as body-place-reads
+use Rattle.size_checker.proofs.numbers.branched.Reads as branched-reads
+use Rattle.size_checker.proofs.numbers.called.Reads as called-reads
+use Rattle.size_checker.proofs.numbers.cased.Reads as cased-reads
+use Rattle.size_checker.proofs.leaves.channel_type.Reads as channel-type-reads
+use Rattle.size_checker.proofs.numbers.chosen.Reads as chosen-reads
+use Rattle.size_checker.proofs.places.down.Reads as down-reads
+use Rattle.size_checker.proofs.numbers.fitted.Reads as fitted-reads
+use Rattle.size_checker.proofs.numbers.is_kind.Reads as is-kind-reads
+use Rattle.size_checker.proofs.numbers.kind_word.Reads as kind-word-reads
+use Rattle.size_checker.proofs.numbers.larger.Reads as larger-reads
+use Rattle.size_checker.proofs.numbers.leaf.Reads as leaf-reads
+use Rattle.size_checker.proofs.leaves.made.Reads as made-reads
+use Rattle.size_checker.proofs.places.moved.Reads as moved-reads
+use Rattle.size_checker.proofs.numbers.none.Reads as none-reads
+use Rattle.size_checker.proofs.numbers.not_entered.Reads as not-entered-reads
+use Rattle.size_checker.proofs.numbers.nothing_yet.Reads as nothing-yet-reads
+use Rattle.size_checker.proofs.numbers.one_more.Reads as one-more-reads
+use Rattle.size_checker.proofs.numbers.operated.Reads as operated-reads
+use Rattle.size_checker.proofs.leaves.prepare.Reads as prepare-reads
+use Rattle.size_checker.proofs.numbers.refused.Reads as refused-reads
+use Rattle.size_checker.proofs.numbers.refused_all.Reads as refused-all-reads
+use Rattle.size_checker.proofs.numbers.slotted.Reads as slotted-reads
+use Rattle.size_checker.proofs.numbers.subject.Reads as subject-reads
+use Rattle.size_checker.proofs.leaves.type_in.Reads as type-in-reads
+use Rattle.size_checker.proofs.places.widen.Reads as widen-reads
+use Rattle.size_checker.proofs.numbers.with_let.Reads as with-let-reads
+use Rattle.heads.proofs.skip.skip.Reads as skip-reads
+use Rattle.splits.proofs.first_split.Reads as first-split-reads
+use Rattle.splits.proofs.next_split.Reads as next-split-reads
+use Rattle.size_checker.proofs.cycle.+adjust+apply+at_splits+binding+body+branch+branches+call+case_of+choice+compound+construct+enter+expr+fit+operation+several.{
+  statement,
+}
+use Rattle.size_checker.proofs.cycle.+adjust+apply+at_splits+binding+body+branch+branches+call+case_of+choice+compound+construct+enter+expr+fit+operation+several.Tie.{
+  close,
+}
+
+abbrev tag : SizedType → ℕ
+tag x = tagOf (declared enum) x
+
+-- an answer of another form than Named is of no named type
+not-named : (x : SizedType) → (tag x ≡ 0) ⊎ (tag x ≡ 1) → NotNamed x
+not-named x s t k e = ⊎-elim (λ z. absurd (omega (arith, ap tag e, z))) (λ z. absurd (omega (arith, ap tag e, z))) s
+
+abbrev form-tag : Form → ℕ
+form-tag x = tagOf (declared form-enum) x
+
+-- the forms of the last arms, by their tags
+behind-leaves : (n : ℕ) → (n ≡ 5) ⊎ ((n ≡ 6) ⊎ ((n ≡ 7) ⊎ ((n ≡ 8) ⊎ ((n ≡ 9) ⊎ ((n ≡ 10) ⊎ ((n ≡ 11) ⊎ ((n ≡ 12) ⊎ (n ≡ 13)))))))) → 5 ≤ n
+behind-leaves n s = (⊎-elim (λ z. omega (arith, z)) (⊎-elim (λ z. omega (arith, z)) (⊎-elim (λ z. omega (arith, z)) (⊎-elim (λ z. omega (arith, z)) (⊎-elim (λ z. omega (arith, z)) (⊎-elim (λ z. omega (arith, z)) (⊎-elim (λ z. omega (arith, z)) (⊎-elim (λ z. omega (arith, z)) (λ z. omega (arith, z)))))))))) s
+
+no-leaf : (f : Form) → 5 ≤ form-tag f → isLeaf f ≡ false
+no-leaf (BoolForm b) le = absurd (omega (arith, le))
+no-leaf (Int n) le = absurd (omega (arith, le))
+no-leaf (Variable v) le = absurd (omega (arith, le))
+no-leaf (Now c) le = absurd (omega (arith, le))
+no-leaf (Last c) le = absurd (omega (arith, le))
+no-leaf Let le = refl
+no-leaf If le = refl
+no-leaf (Operator o) le = refl
+no-leaf (Call f) le = refl
+no-leaf (Construct t c) le = refl
+no-leaf (Case t) le = refl
+no-leaf Adjust le = refl
+no-leaf (Fit k) le = refl
+no-leaf Missing le = refl
+
+leaf-or-missing : (n : ℕ) → (n ≡ 0) ⊎ ((n ≡ 1) ⊎ ((n ≡ 2) ⊎ ((n ≡ 3) ⊎ ((n ≡ 4) ⊎ (n ≡ 13))))) → (n < 5) ⊎ (n ≡ 13)
+leaf-or-missing n s = (⊎-elim (λ z. inl (omega (arith, z))) (⊎-elim (λ z. inl (omega (arith, z))) (⊎-elim (λ z. inl (omega (arith, z))) (⊎-elim (λ z. inl (omega (arith, z))) (⊎-elim (λ z. inl (omega (arith, z))) (λ z. inr z)))))) s
+
+no-parts : (f : Form) → (form-tag f < 5) ⊎ (form-tag f ≡ 13) → hasParts f ≡ false
+no-parts (BoolForm b) s = refl
+no-parts (Int n) s = refl
+no-parts (Variable v) s = refl
+no-parts (Now c) s = refl
+no-parts (Last c) s = refl
+no-parts Let s = absurd (⊎-elim (λ z. omega (arith, z)) (λ z. omega (arith, z)) s)
+no-parts If s = absurd (⊎-elim (λ z. omega (arith, z)) (λ z. omega (arith, z)) s)
+no-parts (Operator o) s = absurd (⊎-elim (λ z. omega (arith, z)) (λ z. omega (arith, z)) s)
+no-parts (Call f) s = absurd (⊎-elim (λ z. omega (arith, z)) (λ z. omega (arith, z)) s)
+no-parts (Construct t c) s = absurd (⊎-elim (λ z. omega (arith, z)) (λ z. omega (arith, z)) s)
+no-parts (Case t) s = absurd (⊎-elim (λ z. omega (arith, z)) (λ z. omega (arith, z)) s)
+no-parts Adjust s = absurd (⊎-elim (λ z. omega (arith, z)) (λ z. omega (arith, z)) s)
+no-parts (Fit k) s = absurd (⊎-elim (λ z. omega (arith, z)) (λ z. omega (arith, z)) s)
+no-parts Missing s = refl
+
+abbrev μ-adjust : Measures 7 adjust-kinds.ps ℕ
+μ-adjust κs a = load (a .1 .1 .1 .1 .1 .1 .1 .0) 900
+
+abbrev μ-apply : Measures 6 apply-kinds.ps ℕ
+μ-apply κs a = load (a .1 .1 .1 .1 .1 .1 .0) 800
+
+abbrev μ-at-splits : Measures 7 at-splits-kinds.ps ℕ
+μ-at-splits κs a = load (a .1 .1 .1 .1 .1 .1 .1 .0) 100
+
+abbrev μ-binding : Measures 7 binding-kinds.ps ℕ
+μ-binding κs a = load (a .1 .1 .1 .1 .1 .1 .1 .0) 900
+
+abbrev μ-body : Measures 7 body-kinds.ps ℕ
+μ-body κs a = load (a .1 .1 .1 .1 .1 .1 .1 .0) 80
+
+abbrev μ-branch : Measures 7 branch-kinds.ps ℕ
+μ-branch κs a = load (a .1 .1 .1 .1 .1 .1 .1 .0) 200
+
+abbrev μ-branches : Measures 7 branches-kinds.ps ℕ
+μ-branches κs a = load (a .1 .1 .1 .1 .1 .1 .1 .0) (300 + (byteRange - a .1 .1 .1 .1 .1 .1 .1 .1 .1 .0))
+
+abbrev μ-call : Measures 7 call-kinds.ps ℕ
+μ-call κs a = load (a .1 .1 .1 .1 .1 .1 .1 .0) 900
+
+abbrev μ-case-of : Measures 7 case-of-kinds.ps ℕ
+μ-case-of κs a = load (a .1 .1 .1 .1 .1 .1 .1 .0) 900
+
+abbrev μ-choice : Measures 7 choice-kinds.ps ℕ
+μ-choice κs a = load (a .1 .1 .1 .1 .1 .1 .1 .0) 900
+
+abbrev μ-compound : Measures 7 compound-kinds.ps ℕ
+μ-compound κs a = load (a .1 .1 .1 .1 .1 .1 .1 .0) 1000
+
+abbrev μ-construct : Measures 7 construct-kinds.ps ℕ
+μ-construct κs a = load (a .1 .1 .1 .1 .1 .1 .1 .0) 900
+
+abbrev μ-enter : Measures 7 enter-kinds.ps ℕ
+μ-enter κs a = load (a .1 .1 .1 .1 .1 .1 .1 .0) 90
+
+abbrev μ-expr : Measures 7 expr-kinds.ps ℕ
+μ-expr κs a = load (a .1 .1 .1 .1 .1 .1 .1 .0) 0
+
+abbrev μ-fit : Measures 7 fit-kinds.ps ℕ
+μ-fit κs a = load (a .1 .1 .1 .1 .1 .1 .1 .0) 900
+
+abbrev μ-operation : Measures 7 operation-kinds.ps ℕ
+μ-operation κs a = load (a .1 .1 .1 .1 .1 .1 .1 .0) 900
+
+abbrev μ-several : Measures 8 several-kinds.ps ℕ
+μ-several κs a = load (a .1 .1 .1 .1 .1 .1 .1 .0) (300 + (a .1 .1 .1 .1 .1 .1 .1 .1 .1 .1 .0 - a .1 .1 .1 .1 .1 .1 .1 .1 .1 .0))
+
+abbrev adjust-at : ℕ → In 7 adjust-kinds.ps
+adjust-at t = and 7 adjust-kinds.ps (is 7 adjust-kinds.ps μ-adjust t) adjust.Pre
+
+abbrev adjust-below : ℕ → In 7 adjust-kinds.ps
+adjust-below t = and 7 adjust-kinds.ps (falls 7 adjust-kinds.ps _<_ μ-adjust t) adjust.Pre
+
+abbrev apply-at : ℕ → In 6 apply-kinds.ps
+apply-at t = and 6 apply-kinds.ps (is 6 apply-kinds.ps μ-apply t) apply.Pre
+
+abbrev apply-below : ℕ → In 6 apply-kinds.ps
+apply-below t = and 6 apply-kinds.ps (falls 6 apply-kinds.ps _<_ μ-apply t) apply.Pre
+
+abbrev at-splits-at : ℕ → In 7 at-splits-kinds.ps
+at-splits-at t = and 7 at-splits-kinds.ps (is 7 at-splits-kinds.ps μ-at-splits t) at-splits.Pre
+
+abbrev at-splits-below : ℕ → In 7 at-splits-kinds.ps
+at-splits-below t =
+    and 7 at-splits-kinds.ps (falls 7 at-splits-kinds.ps _<_ μ-at-splits t) at-splits.Pre
+
+abbrev binding-at : ℕ → In 7 binding-kinds.ps
+binding-at t = and 7 binding-kinds.ps (is 7 binding-kinds.ps μ-binding t) binding.Pre
+
+abbrev binding-below : ℕ → In 7 binding-kinds.ps
+binding-below t = and 7 binding-kinds.ps (falls 7 binding-kinds.ps _<_ μ-binding t) binding.Pre
+
+abbrev body-at : ℕ → In 7 body-kinds.ps
+body-at t = and 7 body-kinds.ps (is 7 body-kinds.ps μ-body t) body.Pre
+
+abbrev body-below : ℕ → In 7 body-kinds.ps
+body-below t = and 7 body-kinds.ps (falls 7 body-kinds.ps _<_ μ-body t) body.Pre
+
+abbrev branch-at : ℕ → In 7 branch-kinds.ps
+branch-at t = and 7 branch-kinds.ps (is 7 branch-kinds.ps μ-branch t) branch.Pre
+
+abbrev branch-below : ℕ → In 7 branch-kinds.ps
+branch-below t = and 7 branch-kinds.ps (falls 7 branch-kinds.ps _<_ μ-branch t) branch.Pre
+
+abbrev branches-at : ℕ → In 7 branches-kinds.ps
+branches-at t = and 7 branches-kinds.ps (is 7 branches-kinds.ps μ-branches t) branches.Pre
+
+abbrev branches-below : ℕ → In 7 branches-kinds.ps
+branches-below t =
+    and 7 branches-kinds.ps (falls 7 branches-kinds.ps _<_ μ-branches t) branches.Pre
+
+abbrev call-at : ℕ → In 7 call-kinds.ps
+call-at t = and 7 call-kinds.ps (is 7 call-kinds.ps μ-call t) call.Pre
+
+abbrev call-below : ℕ → In 7 call-kinds.ps
+call-below t = and 7 call-kinds.ps (falls 7 call-kinds.ps _<_ μ-call t) call.Pre
+
+abbrev case-of-at : ℕ → In 7 case-of-kinds.ps
+case-of-at t = and 7 case-of-kinds.ps (is 7 case-of-kinds.ps μ-case-of t) case-of.Pre
+
+abbrev case-of-below : ℕ → In 7 case-of-kinds.ps
+case-of-below t = and 7 case-of-kinds.ps (falls 7 case-of-kinds.ps _<_ μ-case-of t) case-of.Pre
+
+abbrev choice-at : ℕ → In 7 choice-kinds.ps
+choice-at t = and 7 choice-kinds.ps (is 7 choice-kinds.ps μ-choice t) choice.Pre
+
+abbrev choice-below : ℕ → In 7 choice-kinds.ps
+choice-below t = and 7 choice-kinds.ps (falls 7 choice-kinds.ps _<_ μ-choice t) choice.Pre
+
+abbrev compound-at : ℕ → In 7 compound-kinds.ps
+compound-at t = and 7 compound-kinds.ps (is 7 compound-kinds.ps μ-compound t) compound.Pre
+
+abbrev compound-below : ℕ → In 7 compound-kinds.ps
+compound-below t =
+    and 7 compound-kinds.ps (falls 7 compound-kinds.ps _<_ μ-compound t) compound.Pre
+
+abbrev construct-at : ℕ → In 7 construct-kinds.ps
+construct-at t = and 7 construct-kinds.ps (is 7 construct-kinds.ps μ-construct t) construct.Pre
+
+abbrev construct-below : ℕ → In 7 construct-kinds.ps
+construct-below t =
+    and 7 construct-kinds.ps (falls 7 construct-kinds.ps _<_ μ-construct t) construct.Pre
+
+abbrev enter-at : ℕ → In 7 enter-kinds.ps
+enter-at t = and 7 enter-kinds.ps (is 7 enter-kinds.ps μ-enter t) enter.Pre
+
+abbrev enter-below : ℕ → In 7 enter-kinds.ps
+enter-below t = and 7 enter-kinds.ps (falls 7 enter-kinds.ps _<_ μ-enter t) enter.Pre
+
+abbrev expr-at : ℕ → In 7 expr-kinds.ps
+expr-at t = and 7 expr-kinds.ps (is 7 expr-kinds.ps μ-expr t) expr.Pre
+
+abbrev expr-below : ℕ → In 7 expr-kinds.ps
+expr-below t = and 7 expr-kinds.ps (falls 7 expr-kinds.ps _<_ μ-expr t) expr.Pre
+
+abbrev fit-at : ℕ → In 7 fit-kinds.ps
+fit-at t = and 7 fit-kinds.ps (is 7 fit-kinds.ps μ-fit t) fit.Pre
+
+abbrev fit-below : ℕ → In 7 fit-kinds.ps
+fit-below t = and 7 fit-kinds.ps (falls 7 fit-kinds.ps _<_ μ-fit t) fit.Pre
+
+abbrev operation-at : ℕ → In 7 operation-kinds.ps
+operation-at t = and 7 operation-kinds.ps (is 7 operation-kinds.ps μ-operation t) operation.Pre
+
+abbrev operation-below : ℕ → In 7 operation-kinds.ps
+operation-below t =
+    and 7 operation-kinds.ps (falls 7 operation-kinds.ps _<_ μ-operation t) operation.Pre
+
+abbrev several-at : ℕ → In 8 several-kinds.ps
+several-at t = and 8 several-kinds.ps (is 8 several-kinds.ps μ-several t) several.Pre
+
+abbrev several-below : ℕ → In 8 several-kinds.ps
+several-below t = and 8 several-kinds.ps (falls 8 several-kinds.ps _<_ μ-several t) several.Pre
+
+adjust-frame-line-requires : (t : ℕ) → adjust-lts.Need-frame-line-requires (
+  frame-line-reads.Asked,
+  frame-line-reads.Learnt,
+  size-at-reads.Asked,
+  size-at-reads.Learnt,
+  moved-reads.Asked,
+  moved-reads.Learnt,
+  expr-below t,
+  expr.Post,
+  adjusted-reads.Asked,
+  adjusted-reads.Learnt,
+) (adjust-at t) adjust.Post
+adjust-frame-line-requires t c κs = tt
+
+adjust-size-at-requires : (t : ℕ) → adjust-lts.Need-size-at-requires (
+  frame-line-reads.Asked,
+  frame-line-reads.Learnt,
+  size-at-reads.Asked,
+  size-at-reads.Learnt,
+  moved-reads.Asked,
+  moved-reads.Learnt,
+  expr-below t,
+  expr.Post,
+  adjusted-reads.Asked,
+  adjusted-reads.Learnt,
+) (adjust-at t) adjust.Post
+adjust-size-at-requires t c κs = tt
+
+adjust-enum-known-s : (t : ℕ) → adjust-lts.Need-enum-known-s (
+  frame-line-reads.Asked,
+  frame-line-reads.Learnt,
+  size-at-reads.Asked,
+  size-at-reads.Learnt,
+  moved-reads.Asked,
+  moved-reads.Learnt,
+  expr-below t,
+  expr.Post,
+  adjusted-reads.Asked,
+  adjusted-reads.Learnt,
+) (adjust-at t) adjust.Post
+adjust-enum-known-s t c = (c .match .keys1)
+
+adjust-enum-told : (t : ℕ) → adjust-lts.Need-enum-told (
+  frame-line-reads.Asked,
+  frame-line-reads.Learnt,
+  size-at-reads.Asked,
+  size-at-reads.Learnt,
+  moved-reads.Asked,
+  moved-reads.Learnt,
+  expr-below t,
+  expr.Post,
+  adjusted-reads.Asked,
+  adjusted-reads.Learnt,
+) (adjust-at t) adjust.Post
+adjust-enum-told t c = (c .match .keys2)
+
+adjust-add-t22 : (t : ℕ) → adjust-lts.Need-add-t22 (
+  frame-line-reads.Asked,
+  frame-line-reads.Learnt,
+  size-at-reads.Asked,
+  size-at-reads.Learnt,
+  moved-reads.Asked,
+  moved-reads.Learnt,
+  expr-below t,
+  expr.Post,
+  adjusted-reads.Asked,
+  adjusted-reads.Learnt,
+) (adjust-at t) adjust.Post
+adjust-add-t22 t c = omega (arith, (c .before .before .before .before .before .before .before .before .before .before .before .before .before .before .pre .1 .line))
+
+adjust-same-length : (t : ℕ) → adjust-lts.Need-same-length (
+  frame-line-reads.Asked,
+  frame-line-reads.Learnt,
+  size-at-reads.Asked,
+  size-at-reads.Learnt,
+  moved-reads.Asked,
+  moved-reads.Learnt,
+  expr-below t,
+  expr.Post,
+  adjusted-reads.Asked,
+  adjusted-reads.Learnt,
+) (adjust-at t) adjust.Post
+adjust-same-length t c = refl
+
+adjust-returns : (t : ℕ) → adjust-lts.Need-returns (
+  frame-line-reads.Asked,
+  frame-line-reads.Learnt,
+  size-at-reads.Asked,
+  size-at-reads.Learnt,
+  moved-reads.Asked,
+  moved-reads.Learnt,
+  expr-below t,
+  expr.Post,
+  adjusted-reads.Asked,
+  adjusted-reads.Learnt,
+) (adjust-at t) adjust.Post
+adjust-returns t c = adj-outside (c .before .before .before .size-at .ensures) (c .before .before .before .before .before .frame-line .ensures) (c .before .enum-told .given .1)
+
+adjust-moved-requires : (t : ℕ) → adjust-lts.Need-moved-requires (
+  frame-line-reads.Asked,
+  frame-line-reads.Learnt,
+  size-at-reads.Asked,
+  size-at-reads.Learnt,
+  moved-reads.Asked,
+  moved-reads.Learnt,
+  expr-below t,
+  expr.Post,
+  adjusted-reads.Asked,
+  adjusted-reads.Learnt,
+) (adjust-at t) adjust.Post
+adjust-moved-requires t c κs = tt
+
+adjust-expr-requires : (t : ℕ) → adjust-lts.Need-expr-requires (
+  frame-line-reads.Asked,
+  frame-line-reads.Learnt,
+  size-at-reads.Asked,
+  size-at-reads.Learnt,
+  moved-reads.Asked,
+  moved-reads.Learnt,
+  expr-below t,
+  expr.Post,
+  adjusted-reads.Asked,
+  adjusted-reads.Learnt,
+) (adjust-at t) adjust.Post
+adjust-expr-requires t c κs = (load-moved _ 900 (c .before .before .before .before .before .before .before .before .before .before .before .before .before .before .before .before .before .before .pre .0) _ 0 (c .before .before .before .moved .ensures) (omega arith) (omega arith), room-behind (c .before .before .before .before .before .before .before .before .before .before .before .before .before .before .before .before .before .before .pre .1) (c .before .before .before .moved .ensures) (refl) (refl))
+
+adjust-enum-known-x : (t : ℕ) → adjust-lts.Need-enum-known-x (
+  frame-line-reads.Asked,
+  frame-line-reads.Learnt,
+  size-at-reads.Asked,
+  size-at-reads.Learnt,
+  moved-reads.Asked,
+  moved-reads.Learnt,
+  expr-below t,
+  expr.Post,
+  adjusted-reads.Asked,
+  adjusted-reads.Learnt,
+) (adjust-at t) adjust.Post
+adjust-enum-known-x t c = (c .match2 .keys1)
+
+adjust-enum-told-2 : (t : ℕ) → adjust-lts.Need-enum-told-2 (
+  frame-line-reads.Asked,
+  frame-line-reads.Learnt,
+  size-at-reads.Asked,
+  size-at-reads.Learnt,
+  moved-reads.Asked,
+  moved-reads.Learnt,
+  expr-below t,
+  expr.Post,
+  adjusted-reads.Asked,
+  adjusted-reads.Learnt,
+) (adjust-at t) adjust.Post
+adjust-enum-told-2 t c = (c .match2 .keys2)
+
+adjust-same-length-2 : (t : ℕ) → adjust-lts.Need-same-length-2 (
+  frame-line-reads.Asked,
+  frame-line-reads.Learnt,
+  size-at-reads.Asked,
+  size-at-reads.Learnt,
+  moved-reads.Asked,
+  moved-reads.Learnt,
+  expr-below t,
+  expr.Post,
+  adjusted-reads.Asked,
+  adjusted-reads.Learnt,
+) (adjust-at t) adjust.Post
+adjust-same-length-2 t c = (c .before .before .before .before .before .before .before .before .expr .kept .1 .1 .1 .1 .0)
+
+adjust-same-length-3 : (t : ℕ) → adjust-lts.Need-same-length-3 (
+  frame-line-reads.Asked,
+  frame-line-reads.Learnt,
+  size-at-reads.Asked,
+  size-at-reads.Learnt,
+  moved-reads.Asked,
+  moved-reads.Learnt,
+  expr-below t,
+  expr.Post,
+  adjusted-reads.Asked,
+  adjusted-reads.Learnt,
+) (adjust-at t) adjust.Post
+adjust-same-length-3 t c = (c .before .before .before .before .before .before .before .before .expr .kept .1 .1 .1 .1 .1 .0)
+
+adjust-same-length-4 : (t : ℕ) → adjust-lts.Need-same-length-4 (
+  frame-line-reads.Asked,
+  frame-line-reads.Learnt,
+  size-at-reads.Asked,
+  size-at-reads.Learnt,
+  moved-reads.Asked,
+  moved-reads.Learnt,
+  expr-below t,
+  expr.Post,
+  adjusted-reads.Asked,
+  adjusted-reads.Learnt,
+) (adjust-at t) adjust.Post
+adjust-same-length-4 t c = (c .before .before .before .before .before .before .before .before .expr .kept .1 .1 .1 .1 .1 .1 .0)
+
+adjust-returns-2 : (t : ℕ) → adjust-lts.Need-returns-2 (
+  frame-line-reads.Asked,
+  frame-line-reads.Learnt,
+  size-at-reads.Asked,
+  size-at-reads.Learnt,
+  moved-reads.Asked,
+  moved-reads.Learnt,
+  expr-below t,
+  expr.Post,
+  adjusted-reads.Asked,
+  adjusted-reads.Learnt,
+) (adjust-at t) adjust.Post
+adjust-returns-2 t c = adj-refused (c .before .before .before .before .before .before .before .before .before .before .before .before .before .before .before .before .size-at .ensures) (c .before .before .before .before .before .before .before .before .before .before .before .before .before .before .before .before .before .before .frame-line .ensures) (c .before .before .before .before .before .before .before .before .before .before .before .before .before .before .s .given .1) (c .before .before .before .before .before .before .before .before .before .before .before .before .moved .ensures) (c .before .before .before .before .before .before .before .before .expr .ensures) (c .enum-told2 .given .1)
+
+adjust-enum-known-kind : (t : ℕ) → adjust-lts.Need-enum-known-kind (
+  frame-line-reads.Asked,
+  frame-line-reads.Learnt,
+  size-at-reads.Asked,
+  size-at-reads.Learnt,
+  moved-reads.Asked,
+  moved-reads.Learnt,
+  expr-below t,
+  expr.Post,
+  adjusted-reads.Asked,
+  adjusted-reads.Learnt,
+) (adjust-at t) adjust.Post
+adjust-enum-known-kind t c = (c .match3 .keys1)
+
+adjust-add-t29 : (t : ℕ) → adjust-lts.Need-add-t29 (
+  frame-line-reads.Asked,
+  frame-line-reads.Learnt,
+  size-at-reads.Asked,
+  size-at-reads.Learnt,
+  moved-reads.Asked,
+  moved-reads.Learnt,
+  expr-below t,
+  expr.Post,
+  adjusted-reads.Asked,
+  adjusted-reads.Learnt,
+) (adjust-at t) adjust.Post
+adjust-add-t29 t c = omega (arith, (c .before .before .before .before .before .before .before .before .before .before .before .before .before .before .before .before .before .before .before .before .before .before .before .before .before .before .before .before .before .before .pre .1 .line))
+
+adjust-same-length-5 : (t : ℕ) → adjust-lts.Need-same-length-5 (
+  frame-line-reads.Asked,
+  frame-line-reads.Learnt,
+  size-at-reads.Asked,
+  size-at-reads.Learnt,
+  moved-reads.Asked,
+  moved-reads.Learnt,
+  expr-below t,
+  expr.Post,
+  adjusted-reads.Asked,
+  adjusted-reads.Learnt,
+) (adjust-at t) adjust.Post
+adjust-same-length-5 t c = (c .before .before .before .before .before .before .before .before .before .before .before .expr .kept .1 .1 .1 .1 .0)
+
+adjust-same-length-6 : (t : ℕ) → adjust-lts.Need-same-length-6 (
+  frame-line-reads.Asked,
+  frame-line-reads.Learnt,
+  size-at-reads.Asked,
+  size-at-reads.Learnt,
+  moved-reads.Asked,
+  moved-reads.Learnt,
+  expr-below t,
+  expr.Post,
+  adjusted-reads.Asked,
+  adjusted-reads.Learnt,
+) (adjust-at t) adjust.Post
+adjust-same-length-6 t c = (c .before .before .before .before .before .before .before .before .before .before .before .expr .kept .1 .1 .1 .1 .1 .0)
+
+adjust-same-length-7 : (t : ℕ) → adjust-lts.Need-same-length-7 (
+  frame-line-reads.Asked,
+  frame-line-reads.Learnt,
+  size-at-reads.Asked,
+  size-at-reads.Learnt,
+  moved-reads.Asked,
+  moved-reads.Learnt,
+  expr-below t,
+  expr.Post,
+  adjusted-reads.Asked,
+  adjusted-reads.Learnt,
+) (adjust-at t) adjust.Post
+adjust-same-length-7 t c = (c .before .before .before .before .before .before .before .before .before .before .before .expr .kept .1 .1 .1 .1 .1 .1 .0)
+
+adjust-returns-3 : (t : ℕ) → adjust-lts.Need-returns-3 (
+  frame-line-reads.Asked,
+  frame-line-reads.Learnt,
+  size-at-reads.Asked,
+  size-at-reads.Learnt,
+  moved-reads.Asked,
+  moved-reads.Learnt,
+  expr-below t,
+  expr.Post,
+  adjusted-reads.Asked,
+  adjusted-reads.Learnt,
+) (adjust-at t) adjust.Post
+adjust-returns-3 t c = adj-plain (c .before .before .before .before .before .before .before .before .before .before .before .before .before .before .before .before .before .before .before .size-at .ensures) (c .before .before .before .before .before .before .before .before .before .before .before .before .before .before .before .before .before .before .before .before .before .frame-line .ensures) (c .before .before .before .before .before .before .before .before .before .before .before .before .before .before .before .before .before .s .given .1) (c .before .before .before .before .before .before .before .before .before .before .before .before .before .before .before .moved .ensures) (c .before .before .before .before .before .before .before .before .before .before .before .expr .ensures) (c .before .before .before .x .given .1) (not-named _ (c .before .match3 .keys2))
+
+adjust-add-t31 : (t : ℕ) → adjust-lts.Need-add-t31 (
+  frame-line-reads.Asked,
+  frame-line-reads.Learnt,
+  size-at-reads.Asked,
+  size-at-reads.Learnt,
+  moved-reads.Asked,
+  moved-reads.Learnt,
+  expr-below t,
+  expr.Post,
+  adjusted-reads.Asked,
+  adjusted-reads.Learnt,
+) (adjust-at t) adjust.Post
+adjust-add-t31 t c = omega (arith, (c .before .before .before .before .before .before .before .before .before .before .before .before .before .before .before .before .before .before .before .before .before .before .before .before .before .before .before .before .before .before .before .before .before .pre .1 .line))
+
+adjust-same-length-8 : (t : ℕ) → adjust-lts.Need-same-length-8 (
+  frame-line-reads.Asked,
+  frame-line-reads.Learnt,
+  size-at-reads.Asked,
+  size-at-reads.Learnt,
+  moved-reads.Asked,
+  moved-reads.Learnt,
+  expr-below t,
+  expr.Post,
+  adjusted-reads.Asked,
+  adjusted-reads.Learnt,
+) (adjust-at t) adjust.Post
+adjust-same-length-8 t c = (c .before .before .before .before .before .before .before .before .before .before .before .before .before .before .expr .kept .1 .1 .1 .1 .0)
+
+adjust-same-length-9 : (t : ℕ) → adjust-lts.Need-same-length-9 (
+  frame-line-reads.Asked,
+  frame-line-reads.Learnt,
+  size-at-reads.Asked,
+  size-at-reads.Learnt,
+  moved-reads.Asked,
+  moved-reads.Learnt,
+  expr-below t,
+  expr.Post,
+  adjusted-reads.Asked,
+  adjusted-reads.Learnt,
+) (adjust-at t) adjust.Post
+adjust-same-length-9 t c = (c .before .before .before .before .before .before .before .before .before .before .before .before .before .before .expr .kept .1 .1 .1 .1 .1 .0)
+
+adjust-same-length-10 : (t : ℕ) → adjust-lts.Need-same-length-10 (
+  frame-line-reads.Asked,
+  frame-line-reads.Learnt,
+  size-at-reads.Asked,
+  size-at-reads.Learnt,
+  moved-reads.Asked,
+  moved-reads.Learnt,
+  expr-below t,
+  expr.Post,
+  adjusted-reads.Asked,
+  adjusted-reads.Learnt,
+) (adjust-at t) adjust.Post
+adjust-same-length-10 t c = (c .before .before .before .before .before .before .before .before .before .before .before .before .before .before .expr .kept .1 .1 .1 .1 .1 .1 .0)
+
+adjust-returns-4 : (t : ℕ) → adjust-lts.Need-returns-4 (
+  frame-line-reads.Asked,
+  frame-line-reads.Learnt,
+  size-at-reads.Asked,
+  size-at-reads.Learnt,
+  moved-reads.Asked,
+  moved-reads.Learnt,
+  expr-below t,
+  expr.Post,
+  adjusted-reads.Asked,
+  adjusted-reads.Learnt,
+) (adjust-at t) adjust.Post
+adjust-returns-4 t c = adj-lowered (c .before .before .before .before .before .before .before .before .before .before .before .before .before .before .before .before .before .before .before .before .before .before .size-at .ensures) (c .before .before .before .before .before .before .before .before .before .before .before .before .before .before .before .before .before .before .before .before .before .before .before .before .frame-line .ensures) (c .before .before .before .before .before .before .before .before .before .before .before .before .before .before .before .before .before .before .before .before .s .given .1) (c .before .before .before .before .before .before .before .before .before .before .before .before .before .before .before .before .before .before .moved .ensures) (c .before .before .before .before .before .before .before .before .before .before .before .before .before .before .expr .ensures) (c .before .before .before .before .before .before .x .given .1) (c .before .before .before .kind .given .1) (c .before .if1 .taken)
+
+adjust-adjusted-requires : (t : ℕ) → adjust-lts.Need-adjusted-requires (
+  frame-line-reads.Asked,
+  frame-line-reads.Learnt,
+  size-at-reads.Asked,
+  size-at-reads.Learnt,
+  moved-reads.Asked,
+  moved-reads.Learnt,
+  expr-below t,
+  expr.Post,
+  adjusted-reads.Asked,
+  adjusted-reads.Learnt,
+) (adjust-at t) adjust.Post
+adjust-adjusted-requires t c κs = tt
+
+adjust-same-length-11 : (t : ℕ) → adjust-lts.Need-same-length-11 (
+  frame-line-reads.Asked,
+  frame-line-reads.Learnt,
+  size-at-reads.Asked,
+  size-at-reads.Learnt,
+  moved-reads.Asked,
+  moved-reads.Learnt,
+  expr-below t,
+  expr.Post,
+  adjusted-reads.Asked,
+  adjusted-reads.Learnt,
+) (adjust-at t) adjust.Post
+adjust-same-length-11 t c = (c .before .before .before .before .before .before .before .before .before .before .before .before .before .before .expr .kept .1 .1 .1 .1 .0)
+
+adjust-same-length-12 : (t : ℕ) → adjust-lts.Need-same-length-12 (
+  frame-line-reads.Asked,
+  frame-line-reads.Learnt,
+  size-at-reads.Asked,
+  size-at-reads.Learnt,
+  moved-reads.Asked,
+  moved-reads.Learnt,
+  expr-below t,
+  expr.Post,
+  adjusted-reads.Asked,
+  adjusted-reads.Learnt,
+) (adjust-at t) adjust.Post
+adjust-same-length-12 t c = (c .before .before .before .before .before .before .before .before .before .before .before .before .before .before .expr .kept .1 .1 .1 .1 .1 .0)
+
+adjust-same-length-13 : (t : ℕ) → adjust-lts.Need-same-length-13 (
+  frame-line-reads.Asked,
+  frame-line-reads.Learnt,
+  size-at-reads.Asked,
+  size-at-reads.Learnt,
+  moved-reads.Asked,
+  moved-reads.Learnt,
+  expr-below t,
+  expr.Post,
+  adjusted-reads.Asked,
+  adjusted-reads.Learnt,
+) (adjust-at t) adjust.Post
+adjust-same-length-13 t c = (c .before .before .before .before .before .before .before .before .before .before .before .before .before .before .expr .kept .1 .1 .1 .1 .1 .1 .0)
+
+adjust-returns-5 : (t : ℕ) → adjust-lts.Need-returns-5 (
+  frame-line-reads.Asked,
+  frame-line-reads.Learnt,
+  size-at-reads.Asked,
+  size-at-reads.Learnt,
+  moved-reads.Asked,
+  moved-reads.Learnt,
+  expr-below t,
+  expr.Post,
+  adjusted-reads.Asked,
+  adjusted-reads.Learnt,
+) (adjust-at t) adjust.Post
+adjust-returns-5 t c = adj-done (c .before .before .before .before .before .before .before .before .before .before .before .before .before .before .before .before .before .before .before .before .before .before .size-at .ensures) (c .before .before .before .before .before .before .before .before .before .before .before .before .before .before .before .before .before .before .before .before .before .before .before .before .frame-line .ensures) (c .before .before .before .before .before .before .before .before .before .before .before .before .before .before .before .before .before .before .before .before .s .given .1) (c .before .before .before .before .before .before .before .before .before .before .before .before .before .before .before .before .before .before .moved .ensures) (c .before .before .before .before .before .before .before .before .before .before .before .before .before .before .expr .ensures) (c .before .before .before .before .before .before .x .given .1) (c .before .before .before .kind .given .1) (c .before .if1 .left) (c .adjusted .ensures)
+
+apply-slice-aggregate-named-sizes : (t : ℕ) → apply-lts.Need-slice-aggregate-named-sizes (
+  named-sizes-reads.Asked,
+  named-sizes-reads.Learnt,
+  moved-reads.Asked,
+  moved-reads.Learnt,
+  prepare-reads.Asked,
+  prepare-reads.Learnt,
+  not-entered-reads.Asked,
+  not-entered-reads.Learnt,
+  enter-below t,
+  enter.Post,
+  called-reads.Asked,
+  called-reads.Learnt,
+) (apply-at t) apply.Post
+apply-slice-aggregate-named-sizes t c = search needs
+
+apply-named-sizes-requires : (t : ℕ) → apply-lts.Need-named-sizes-requires (
+  named-sizes-reads.Asked,
+  named-sizes-reads.Learnt,
+  moved-reads.Asked,
+  moved-reads.Learnt,
+  prepare-reads.Asked,
+  prepare-reads.Learnt,
+  not-entered-reads.Asked,
+  not-entered-reads.Learnt,
+  enter-below t,
+  enter.Post,
+  called-reads.Asked,
+  called-reads.Learnt,
+) (apply-at t) apply.Post
+apply-named-sizes-requires t c κs = tt
+
+apply-moved-requires : (t : ℕ) → apply-lts.Need-moved-requires (
+  named-sizes-reads.Asked,
+  named-sizes-reads.Learnt,
+  moved-reads.Asked,
+  moved-reads.Learnt,
+  prepare-reads.Asked,
+  prepare-reads.Learnt,
+  not-entered-reads.Asked,
+  not-entered-reads.Learnt,
+  enter-below t,
+  enter.Post,
+  called-reads.Asked,
+  called-reads.Learnt,
+) (apply-at t) apply.Post
+apply-moved-requires t c κs = tt
+
+apply-slice-aggregate-prepare : (t : ℕ) → apply-lts.Need-slice-aggregate-prepare (
+  named-sizes-reads.Asked,
+  named-sizes-reads.Learnt,
+  moved-reads.Asked,
+  moved-reads.Learnt,
+  prepare-reads.Asked,
+  prepare-reads.Learnt,
+  not-entered-reads.Asked,
+  not-entered-reads.Learnt,
+  enter-below t,
+  enter.Post,
+  called-reads.Asked,
+  called-reads.Learnt,
+) (apply-at t) apply.Post
+apply-slice-aggregate-prepare t c = search needs
+
+apply-prepare-requires : (t : ℕ) → apply-lts.Need-prepare-requires (
+  named-sizes-reads.Asked,
+  named-sizes-reads.Learnt,
+  moved-reads.Asked,
+  moved-reads.Learnt,
+  prepare-reads.Asked,
+  prepare-reads.Learnt,
+  not-entered-reads.Asked,
+  not-entered-reads.Learnt,
+  enter-below t,
+  enter.Post,
+  called-reads.Asked,
+  called-reads.Learnt,
+) (apply-at t) apply.Post
+apply-prepare-requires t c κs = prepares (c .before .before .before .before .before .before .before .before .before .before .before .before .before .pre .1 .0) (c .before .moved .ensures) (c .before .before .before .before .before .before .before .before .before .before .before .before .before .pre .1 .1 .1 .0)
+
+apply-enum-known-y : (t : ℕ) → apply-lts.Need-enum-known-y (
+  named-sizes-reads.Asked,
+  named-sizes-reads.Learnt,
+  moved-reads.Asked,
+  moved-reads.Learnt,
+  prepare-reads.Asked,
+  prepare-reads.Learnt,
+  not-entered-reads.Asked,
+  not-entered-reads.Learnt,
+  enter-below t,
+  enter.Post,
+  called-reads.Asked,
+  called-reads.Learnt,
+) (apply-at t) apply.Post
+apply-enum-known-y t c = (c .match .keys1)
+
+apply-enum-told : (t : ℕ) → apply-lts.Need-enum-told (
+  named-sizes-reads.Asked,
+  named-sizes-reads.Learnt,
+  moved-reads.Asked,
+  moved-reads.Learnt,
+  prepare-reads.Asked,
+  prepare-reads.Learnt,
+  not-entered-reads.Asked,
+  not-entered-reads.Learnt,
+  enter-below t,
+  enter.Post,
+  called-reads.Asked,
+  called-reads.Learnt,
+) (apply-at t) apply.Post
+apply-enum-told t c = (c .match .keys2)
+
+apply-not-entered-requires : (t : ℕ) → apply-lts.Need-not-entered-requires (
+  named-sizes-reads.Asked,
+  named-sizes-reads.Learnt,
+  moved-reads.Asked,
+  moved-reads.Learnt,
+  prepare-reads.Asked,
+  prepare-reads.Learnt,
+  not-entered-reads.Asked,
+  not-entered-reads.Learnt,
+  enter-below t,
+  enter.Post,
+  called-reads.Asked,
+  called-reads.Learnt,
+) (apply-at t) apply.Post
+apply-not-entered-requires t c κs = tt
+
+apply-same-length : (t : ℕ) → apply-lts.Need-same-length (
+  named-sizes-reads.Asked,
+  named-sizes-reads.Learnt,
+  moved-reads.Asked,
+  moved-reads.Learnt,
+  prepare-reads.Asked,
+  prepare-reads.Learnt,
+  not-entered-reads.Asked,
+  not-entered-reads.Learnt,
+  enter-below t,
+  enter.Post,
+  called-reads.Asked,
+  called-reads.Learnt,
+) (apply-at t) apply.Post
+apply-same-length t c = refl
+
+apply-returns : (t : ℕ) → apply-lts.Need-returns (
+  named-sizes-reads.Asked,
+  named-sizes-reads.Learnt,
+  moved-reads.Asked,
+  moved-reads.Learnt,
+  prepare-reads.Asked,
+  prepare-reads.Learnt,
+  not-entered-reads.Asked,
+  not-entered-reads.Learnt,
+  enter-below t,
+  enter.Post,
+  called-reads.Asked,
+  called-reads.Learnt,
+) (apply-at t) apply.Post
+apply-returns t c = apply-not-entered (c .before .before .before .before .before .before .before .before .before .before .before .before .before .before .before .before .before .args .p) (c .before .before .before .before .before .before .before .before .before .before .before .before .before .before .before .before .before .args .a) refl (c .before .before .before .before .before .before .before .before .named-sizes .ensures) (c .before .before .before .before .before .moved .ensures) (c .before .before .before .prepare .ensures) (c .before .enum-told .given .1) (c .not-entered .ensures)
+
+apply-slice-aggregate-enter : (t : ℕ) → apply-lts.Need-slice-aggregate-enter (
+  named-sizes-reads.Asked,
+  named-sizes-reads.Learnt,
+  moved-reads.Asked,
+  moved-reads.Learnt,
+  prepare-reads.Asked,
+  prepare-reads.Learnt,
+  not-entered-reads.Asked,
+  not-entered-reads.Learnt,
+  enter-below t,
+  enter.Post,
+  called-reads.Asked,
+  called-reads.Learnt,
+) (apply-at t) apply.Post
+apply-slice-aggregate-enter t c = search needs
+
+apply-enter-requires : (t : ℕ) → apply-lts.Need-enter-requires (
+  named-sizes-reads.Asked,
+  named-sizes-reads.Learnt,
+  moved-reads.Asked,
+  moved-reads.Learnt,
+  prepare-reads.Asked,
+  prepare-reads.Learnt,
+  not-entered-reads.Asked,
+  not-entered-reads.Learnt,
+  enter-below t,
+  enter.Post,
+  called-reads.Asked,
+  called-reads.Learnt,
+) (apply-at t) apply.Post
+apply-enter-requires t c κs = (load-moved _ 800 (c .before .before .before .before .before .before .before .before .before .before .before .before .before .before .before .before .before .before .before .before .pre .0) _ 90 (c .before .before .before .before .before .before .before .before .moved .ensures) (c .before .before .before .before .before .before .before .before .before .before .before .before .before .before .before .before .before .before .before .before .pre .1 .1 .0) (omega arith), (room-inner (c .before .before .before .before .before .before .before .before .before .before .before .before .before .before .before .before .before .before .before .before .pre .1 .0) (c .before .before .before .before .before .before .before .before .moved .ensures) (c .before .before .before .before .before .before .before .before .before .before .before .before .before .before .before .before .before .before .before .before .pre .1 .0 .scope) (omega (arith, (c .before .before .before .before .before .before .before .before .before .before .before .named-sizes .kept .1 .1 .0))), entry-numbers (c .before .before .before .before .before .before .prepare .ensures .of) (c .before .before .before .before .y .given .1) (c .before .before .before .before .before .before .before .before .before .before .before .before .before .before .before .before .before .before .before .before .pre .1 .1 .1 .0) (c .before .before .before .before .before .before .before .before .before .before .before .before .before .before .before .before .before .before .before .before .pre .1 .1 .1 .1) (c .before .before .before .before .before .before .before .before .before .before .before .named-sizes .ensures .few)))
+
+apply-enum-known-z : (t : ℕ) → apply-lts.Need-enum-known-z (
+  named-sizes-reads.Asked,
+  named-sizes-reads.Learnt,
+  moved-reads.Asked,
+  moved-reads.Learnt,
+  prepare-reads.Asked,
+  prepare-reads.Learnt,
+  not-entered-reads.Asked,
+  not-entered-reads.Learnt,
+  enter-below t,
+  enter.Post,
+  called-reads.Asked,
+  called-reads.Learnt,
+) (apply-at t) apply.Post
+apply-enum-known-z t c = (c .match2 .keys1)
+
+apply-enum-told-2 : (t : ℕ) → apply-lts.Need-enum-told-2 (
+  named-sizes-reads.Asked,
+  named-sizes-reads.Learnt,
+  moved-reads.Asked,
+  moved-reads.Learnt,
+  prepare-reads.Asked,
+  prepare-reads.Learnt,
+  not-entered-reads.Asked,
+  not-entered-reads.Learnt,
+  enter-below t,
+  enter.Post,
+  called-reads.Asked,
+  called-reads.Learnt,
+) (apply-at t) apply.Post
+apply-enum-told-2 t c = (c .match2 .keys2)
+
+apply-same-length-2 : (t : ℕ) → apply-lts.Need-same-length-2 (
+  named-sizes-reads.Asked,
+  named-sizes-reads.Learnt,
+  moved-reads.Asked,
+  moved-reads.Learnt,
+  prepare-reads.Asked,
+  prepare-reads.Learnt,
+  not-entered-reads.Asked,
+  not-entered-reads.Learnt,
+  enter-below t,
+  enter.Post,
+  called-reads.Asked,
+  called-reads.Learnt,
+) (apply-at t) apply.Post
+apply-same-length-2 t c = (c .before .before .before .before .before .before .before .enter .kept .1 .1 .1 .1 .0)
+
+apply-same-length-3 : (t : ℕ) → apply-lts.Need-same-length-3 (
+  named-sizes-reads.Asked,
+  named-sizes-reads.Learnt,
+  moved-reads.Asked,
+  moved-reads.Learnt,
+  prepare-reads.Asked,
+  prepare-reads.Learnt,
+  not-entered-reads.Asked,
+  not-entered-reads.Learnt,
+  enter-below t,
+  enter.Post,
+  called-reads.Asked,
+  called-reads.Learnt,
+) (apply-at t) apply.Post
+apply-same-length-3 t c = (c .before .before .before .before .before .before .before .enter .kept .1 .1 .1 .1 .1 .0)
+
+apply-returns-2 : (t : ℕ) → apply-lts.Need-returns-2 (
+  named-sizes-reads.Asked,
+  named-sizes-reads.Learnt,
+  moved-reads.Asked,
+  moved-reads.Learnt,
+  prepare-reads.Asked,
+  prepare-reads.Learnt,
+  not-entered-reads.Asked,
+  not-entered-reads.Learnt,
+  enter-below t,
+  enter.Post,
+  called-reads.Asked,
+  called-reads.Learnt,
+) (apply-at t) apply.Post
+apply-returns-2 t c = apply-body (c .before .before .before .before .before .before .before .before .before .before .before .before .before .before .before .before .before .before .before .before .before .before .before .before .before .before .before .before .args .p) (c .before .before .before .before .before .before .before .before .before .before .before .before .before .before .before .before .before .before .before .before .before .before .before .before .before .before .before .before .args .a) refl (c .before .before .before .before .before .before .before .before .before .before .before .before .before .before .before .before .before .before .before .named-sizes .ensures) (c .before .before .before .before .before .before .before .before .before .before .before .before .before .before .before .before .moved .ensures) (c .before .before .before .before .before .before .before .before .before .before .before .before .before .before .prepare .ensures) (c .before .before .before .before .before .before .before .before .before .before .before .before .y .given .1) (c .before .before .before .before .before .before .before .enter .ensures) (c .enum-told2 .given .1)
+
+apply-called-requires : (t : ℕ) → apply-lts.Need-called-requires (
+  named-sizes-reads.Asked,
+  named-sizes-reads.Learnt,
+  moved-reads.Asked,
+  moved-reads.Learnt,
+  prepare-reads.Asked,
+  prepare-reads.Learnt,
+  not-entered-reads.Asked,
+  not-entered-reads.Learnt,
+  enter-below t,
+  enter.Post,
+  called-reads.Asked,
+  called-reads.Learnt,
+) (apply-at t) apply.Post
+apply-called-requires t c κs = tt
+
+apply-same-length-4 : (t : ℕ) → apply-lts.Need-same-length-4 (
+  named-sizes-reads.Asked,
+  named-sizes-reads.Learnt,
+  moved-reads.Asked,
+  moved-reads.Learnt,
+  prepare-reads.Asked,
+  prepare-reads.Learnt,
+  not-entered-reads.Asked,
+  not-entered-reads.Learnt,
+  enter-below t,
+  enter.Post,
+  called-reads.Asked,
+  called-reads.Learnt,
+) (apply-at t) apply.Post
+apply-same-length-4 t c = (c .before .before .before .before .before .before .before .before .before .enter .kept .1 .1 .1 .1 .0)
+
+apply-same-length-5 : (t : ℕ) → apply-lts.Need-same-length-5 (
+  named-sizes-reads.Asked,
+  named-sizes-reads.Learnt,
+  moved-reads.Asked,
+  moved-reads.Learnt,
+  prepare-reads.Asked,
+  prepare-reads.Learnt,
+  not-entered-reads.Asked,
+  not-entered-reads.Learnt,
+  enter-below t,
+  enter.Post,
+  called-reads.Asked,
+  called-reads.Learnt,
+) (apply-at t) apply.Post
+apply-same-length-5 t c = (c .before .before .before .before .before .before .before .before .before .enter .kept .1 .1 .1 .1 .1 .0)
+
+apply-returns-3 : (t : ℕ) → apply-lts.Need-returns-3 (
+  named-sizes-reads.Asked,
+  named-sizes-reads.Learnt,
+  moved-reads.Asked,
+  moved-reads.Learnt,
+  prepare-reads.Asked,
+  prepare-reads.Learnt,
+  not-entered-reads.Asked,
+  not-entered-reads.Learnt,
+  enter-below t,
+  enter.Post,
+  called-reads.Asked,
+  called-reads.Learnt,
+) (apply-at t) apply.Post
+apply-returns-3 t c = apply-done (c .before .before .before .before .before .before .before .before .before .before .before .before .before .before .before .before .before .before .before .before .before .before .before .before .before .before .before .before .before .before .args .p) (c .before .before .before .before .before .before .before .before .before .before .before .before .before .before .before .before .before .before .before .before .before .before .before .before .before .before .before .before .before .before .args .a) refl (c .before .before .before .before .before .before .before .before .before .before .before .before .before .before .before .before .before .before .before .before .before .named-sizes .ensures) (c .before .before .before .before .before .before .before .before .before .before .before .before .before .before .before .before .before .before .moved .ensures) (c .before .before .before .before .before .before .before .before .before .before .before .before .before .before .before .before .prepare .ensures) (c .before .before .before .before .before .before .before .before .before .before .before .before .before .before .y .given .1) (c .before .before .before .before .before .before .before .before .before .enter .ensures) (c .before .before .z .given .1) (c .called .ensures .body) (c .called .ensures .both) (c .called .ensures .all) (c .called .ensures .is)
+
+abbrev at-splits-Inv-loop : at-splits-lts.InvT-loop
+at-splits-Inv-loop text frames types functions list₀ scope₀ sizes₀ p s k n own at kind all₀ more₀ list scope sizes all more =
+    Walks s k (lent text frames types functions) (buffers list₀ scope₀ sizes₀) p more (buffers list scope sizes) all × ((length list ≡ length list₀) × ((length scope ≡ length scope₀) × (length sizes ≡ length sizes₀)))
+
+abbrev at-splits-μ-loop : at-splits-lts.MeasureT-loop
+at-splits-μ-loop text frames types functions list₀ scope₀ sizes₀ p s k n own at kind all₀ more₀ list scope sizes all more =
+    walkLeft more (take own (drop (p .sizes) sizes))
+
+at-splits-fields-requires : (t : ℕ) → at-splits-lts.Need-fields-requires (
+  fields-reads.Asked,
+  fields-reads.Learnt,
+  own-fields-reads.Asked,
+  own-fields-reads.Learnt,
+  nothing-yet-reads.Asked,
+  nothing-yet-reads.Learnt,
+  bind-fields-reads.Asked,
+  bind-fields-reads.Learnt,
+  moved-reads.Asked,
+  moved-reads.Learnt,
+  widen-reads.Asked,
+  widen-reads.Learnt,
+  expr-below t,
+  expr.Post,
+  is-kind-reads.Asked,
+  is-kind-reads.Learnt,
+  larger-reads.Asked,
+  larger-reads.Learnt,
+  next-split-reads.Asked,
+  next-split-reads.Learnt,
+  slotted-reads.Asked,
+  slotted-reads.Learnt,
+) (at-splits-at t) at-splits.Post at-splits-Inv-loop at-splits-μ-loop
+at-splits-fields-requires t c κs = tt
+
+at-splits-own-fields-requires : (t : ℕ) → at-splits-lts.Need-own-fields-requires (
+  fields-reads.Asked,
+  fields-reads.Learnt,
+  own-fields-reads.Asked,
+  own-fields-reads.Learnt,
+  nothing-yet-reads.Asked,
+  nothing-yet-reads.Learnt,
+  bind-fields-reads.Asked,
+  bind-fields-reads.Learnt,
+  moved-reads.Asked,
+  moved-reads.Learnt,
+  widen-reads.Asked,
+  widen-reads.Learnt,
+  expr-below t,
+  expr.Post,
+  is-kind-reads.Asked,
+  is-kind-reads.Learnt,
+  larger-reads.Asked,
+  larger-reads.Learnt,
+  next-split-reads.Asked,
+  next-split-reads.Learnt,
+  slotted-reads.Asked,
+  slotted-reads.Learnt,
+) (at-splits-at t) at-splits.Post at-splits-Inv-loop at-splits-μ-loop
+at-splits-own-fields-requires t c κs = tt
+
+at-splits-nothing-yet-requires : (t : ℕ) → at-splits-lts.Need-nothing-yet-requires (
+  fields-reads.Asked,
+  fields-reads.Learnt,
+  own-fields-reads.Asked,
+  own-fields-reads.Learnt,
+  nothing-yet-reads.Asked,
+  nothing-yet-reads.Learnt,
+  bind-fields-reads.Asked,
+  bind-fields-reads.Learnt,
+  moved-reads.Asked,
+  moved-reads.Learnt,
+  widen-reads.Asked,
+  widen-reads.Learnt,
+  expr-below t,
+  expr.Post,
+  is-kind-reads.Asked,
+  is-kind-reads.Learnt,
+  larger-reads.Asked,
+  larger-reads.Learnt,
+  next-split-reads.Asked,
+  next-split-reads.Learnt,
+  slotted-reads.Asked,
+  slotted-reads.Learnt,
+) (at-splits-at t) at-splits.Post at-splits-Inv-loop at-splits-μ-loop
+at-splits-nothing-yet-requires t c κs = tt
+
+at-splits-loop-holds : (t : ℕ) → at-splits-lts.Need-loop-holds (
+  fields-reads.Asked,
+  fields-reads.Learnt,
+  own-fields-reads.Asked,
+  own-fields-reads.Learnt,
+  nothing-yet-reads.Asked,
+  nothing-yet-reads.Learnt,
+  bind-fields-reads.Asked,
+  bind-fields-reads.Learnt,
+  moved-reads.Asked,
+  moved-reads.Learnt,
+  widen-reads.Asked,
+  widen-reads.Learnt,
+  expr-below t,
+  expr.Post,
+  is-kind-reads.Asked,
+  is-kind-reads.Learnt,
+  larger-reads.Asked,
+  larger-reads.Learnt,
+  next-split-reads.Asked,
+  next-split-reads.Learnt,
+  slotted-reads.Asked,
+  slotted-reads.Learnt,
+) (at-splits-at t) at-splits.Post at-splits-Inv-loop at-splits-μ-loop
+at-splits-loop-holds t c = (walks-start (c .nothing-yet .ensures .none) (c .nothing-yet .ensures .is), (refl, (refl, refl)))
+
+at-splits-bind-fields-requires : (t : ℕ) → at-splits-lts.Need-bind-fields-requires (
+  fields-reads.Asked,
+  fields-reads.Learnt,
+  own-fields-reads.Asked,
+  own-fields-reads.Learnt,
+  nothing-yet-reads.Asked,
+  nothing-yet-reads.Learnt,
+  bind-fields-reads.Asked,
+  bind-fields-reads.Learnt,
+  moved-reads.Asked,
+  moved-reads.Learnt,
+  widen-reads.Asked,
+  widen-reads.Learnt,
+  expr-below t,
+  expr.Post,
+  is-kind-reads.Asked,
+  is-kind-reads.Learnt,
+  larger-reads.Asked,
+  larger-reads.Learnt,
+  next-split-reads.Asked,
+  next-split-reads.Learnt,
+  slotted-reads.Asked,
+  slotted-reads.Learnt,
+) (at-splits-at t) at-splits.Post at-splits-Inv-loop at-splits-μ-loop
+at-splits-bind-fields-requires t c κs = tt
+
+at-splits-moved-requires : (t : ℕ) → at-splits-lts.Need-moved-requires (
+  fields-reads.Asked,
+  fields-reads.Learnt,
+  own-fields-reads.Asked,
+  own-fields-reads.Learnt,
+  nothing-yet-reads.Asked,
+  nothing-yet-reads.Learnt,
+  bind-fields-reads.Asked,
+  bind-fields-reads.Learnt,
+  moved-reads.Asked,
+  moved-reads.Learnt,
+  widen-reads.Asked,
+  widen-reads.Learnt,
+  expr-below t,
+  expr.Post,
+  is-kind-reads.Asked,
+  is-kind-reads.Learnt,
+  larger-reads.Asked,
+  larger-reads.Learnt,
+  next-split-reads.Asked,
+  next-split-reads.Learnt,
+  slotted-reads.Asked,
+  slotted-reads.Learnt,
+) (at-splits-at t) at-splits.Post at-splits-Inv-loop at-splits-μ-loop
+at-splits-moved-requires t c κs = tt
+
+at-splits-widen-requires : (t : ℕ) → at-splits-lts.Need-widen-requires (
+  fields-reads.Asked,
+  fields-reads.Learnt,
+  own-fields-reads.Asked,
+  own-fields-reads.Learnt,
+  nothing-yet-reads.Asked,
+  nothing-yet-reads.Learnt,
+  bind-fields-reads.Asked,
+  bind-fields-reads.Learnt,
+  moved-reads.Asked,
+  moved-reads.Learnt,
+  widen-reads.Asked,
+  widen-reads.Learnt,
+  expr-below t,
+  expr.Post,
+  is-kind-reads.Asked,
+  is-kind-reads.Learnt,
+  larger-reads.Asked,
+  larger-reads.Learnt,
+  next-split-reads.Asked,
+  next-split-reads.Learnt,
+  slotted-reads.Asked,
+  slotted-reads.Learnt,
+) (at-splits-at t) at-splits.Post at-splits-Inv-loop at-splits-μ-loop
+at-splits-widen-requires t c κs = room-widens (c .before .before .before .before .before .before .before .before .before .before .before .before .before .before .before .before .before .before .before .pre .1 .0) (c .moved .ensures) (omega (arith, (c .before .before .before .before .before .before .before .before .before .before .before .fields .ensures .1))) (omega (arith, (c .before .before .before .before .before .before .before .before .before .before .own-fields .ensures .1)))
+
+at-splits-expr-requires : (t : ℕ) → at-splits-lts.Need-expr-requires (
+  fields-reads.Asked,
+  fields-reads.Learnt,
+  own-fields-reads.Asked,
+  own-fields-reads.Learnt,
+  nothing-yet-reads.Asked,
+  nothing-yet-reads.Learnt,
+  bind-fields-reads.Asked,
+  bind-fields-reads.Learnt,
+  moved-reads.Asked,
+  moved-reads.Learnt,
+  widen-reads.Asked,
+  widen-reads.Learnt,
+  expr-below t,
+  expr.Post,
+  is-kind-reads.Asked,
+  is-kind-reads.Learnt,
+  larger-reads.Asked,
+  larger-reads.Learnt,
+  next-split-reads.Asked,
+  next-split-reads.Learnt,
+  slotted-reads.Asked,
+  slotted-reads.Learnt,
+) (at-splits-at t) at-splits.Post at-splits-Inv-loop at-splits-μ-loop
+at-splits-expr-requires t c κs = (load-wide _ 100 (c .before .before .before .before .before .before .before .before .before .before .before .before .before .before .before .before .before .before .before .before .before .before .before .pre .0) _ _ _ _ 0 (c .before .before .before .before .moved .ensures) (c .before .before .before .widen .ensures) (c .before .before .before .before .before .before .before .before .before .before .before .loop .inv .0 .grown) (omega arith), room-wide (c .before .before .before .before .before .before .before .before .before .before .before .before .before .before .before .before .before .before .before .before .before .before .before .pre .1 .0) (c .before .before .before .before .moved .ensures) (c .before .before .before .widen .ensures) ((c .before .before .before .before .before .before .before .bind-fields .kept .1 .0) ∙ (c .before .before .before .before .before .before .before .before .before .before .before .loop .inv .1 .1 .0)) (c .before .before .before .before .before .before .before .before .before .before .before .loop .inv .1 .1 .1) (omega (arith, (c .before .before .before .before .before .before .before .before .before .before .before .before .before .before .before .fields .ensures .1))) (omega (arith, (c .before .before .before .before .before .before .before .before .before .before .before .before .before .before .own-fields .ensures .1))))
+
+at-splits-enum-known-x : (t : ℕ) → at-splits-lts.Need-enum-known-x (
+  fields-reads.Asked,
+  fields-reads.Learnt,
+  own-fields-reads.Asked,
+  own-fields-reads.Learnt,
+  nothing-yet-reads.Asked,
+  nothing-yet-reads.Learnt,
+  bind-fields-reads.Asked,
+  bind-fields-reads.Learnt,
+  moved-reads.Asked,
+  moved-reads.Learnt,
+  widen-reads.Asked,
+  widen-reads.Learnt,
+  expr-below t,
+  expr.Post,
+  is-kind-reads.Asked,
+  is-kind-reads.Learnt,
+  larger-reads.Asked,
+  larger-reads.Learnt,
+  next-split-reads.Asked,
+  next-split-reads.Learnt,
+  slotted-reads.Asked,
+  slotted-reads.Learnt,
+) (at-splits-at t) at-splits.Post at-splits-Inv-loop at-splits-μ-loop
+at-splits-enum-known-x t c = (c .match .keys1)
+
+at-splits-enum-told : (t : ℕ) → at-splits-lts.Need-enum-told (
+  fields-reads.Asked,
+  fields-reads.Learnt,
+  own-fields-reads.Asked,
+  own-fields-reads.Learnt,
+  nothing-yet-reads.Asked,
+  nothing-yet-reads.Learnt,
+  bind-fields-reads.Asked,
+  bind-fields-reads.Learnt,
+  moved-reads.Asked,
+  moved-reads.Learnt,
+  widen-reads.Asked,
+  widen-reads.Learnt,
+  expr-below t,
+  expr.Post,
+  is-kind-reads.Asked,
+  is-kind-reads.Learnt,
+  larger-reads.Asked,
+  larger-reads.Learnt,
+  next-split-reads.Asked,
+  next-split-reads.Learnt,
+  slotted-reads.Asked,
+  slotted-reads.Learnt,
+) (at-splits-at t) at-splits.Post at-splits-Inv-loop at-splits-μ-loop
+at-splits-enum-told t c = (c .match .keys2)
+
+at-splits-same-length : (t : ℕ) → at-splits-lts.Need-same-length (
+  fields-reads.Asked,
+  fields-reads.Learnt,
+  own-fields-reads.Asked,
+  own-fields-reads.Learnt,
+  nothing-yet-reads.Asked,
+  nothing-yet-reads.Learnt,
+  bind-fields-reads.Asked,
+  bind-fields-reads.Learnt,
+  moved-reads.Asked,
+  moved-reads.Learnt,
+  widen-reads.Asked,
+  widen-reads.Learnt,
+  expr-below t,
+  expr.Post,
+  is-kind-reads.Asked,
+  is-kind-reads.Learnt,
+  larger-reads.Asked,
+  larger-reads.Learnt,
+  next-split-reads.Asked,
+  next-split-reads.Learnt,
+  slotted-reads.Asked,
+  slotted-reads.Learnt,
+) (at-splits-at t) at-splits.Post at-splits-Inv-loop at-splits-μ-loop
+at-splits-same-length t c = ((c .before .before .before .before .before .before .before .before .expr .kept .1 .1 .1 .1 .0) ∙ (c .before .before .before .before .before .before .before .before .before .before .before .before .before .before .before .before .before .before .before .before .loop .inv .1 .0))
+
+at-splits-same-length-2 : (t : ℕ) → at-splits-lts.Need-same-length-2 (
+  fields-reads.Asked,
+  fields-reads.Learnt,
+  own-fields-reads.Asked,
+  own-fields-reads.Learnt,
+  nothing-yet-reads.Asked,
+  nothing-yet-reads.Learnt,
+  bind-fields-reads.Asked,
+  bind-fields-reads.Learnt,
+  moved-reads.Asked,
+  moved-reads.Learnt,
+  widen-reads.Asked,
+  widen-reads.Learnt,
+  expr-below t,
+  expr.Post,
+  is-kind-reads.Asked,
+  is-kind-reads.Learnt,
+  larger-reads.Asked,
+  larger-reads.Learnt,
+  next-split-reads.Asked,
+  next-split-reads.Learnt,
+  slotted-reads.Asked,
+  slotted-reads.Learnt,
+) (at-splits-at t) at-splits.Post at-splits-Inv-loop at-splits-μ-loop
+at-splits-same-length-2 t c = ((c .before .before .before .before .before .before .before .before .expr .kept .1 .1 .1 .1 .1 .0) ∙ (c .before .before .before .before .before .before .before .before .before .before .before .before .before .before .before .before .bind-fields .kept .1 .0) ∙ (c .before .before .before .before .before .before .before .before .before .before .before .before .before .before .before .before .before .before .before .before .loop .inv .1 .1 .0))
+
+at-splits-same-length-3 : (t : ℕ) → at-splits-lts.Need-same-length-3 (
+  fields-reads.Asked,
+  fields-reads.Learnt,
+  own-fields-reads.Asked,
+  own-fields-reads.Learnt,
+  nothing-yet-reads.Asked,
+  nothing-yet-reads.Learnt,
+  bind-fields-reads.Asked,
+  bind-fields-reads.Learnt,
+  moved-reads.Asked,
+  moved-reads.Learnt,
+  widen-reads.Asked,
+  widen-reads.Learnt,
+  expr-below t,
+  expr.Post,
+  is-kind-reads.Asked,
+  is-kind-reads.Learnt,
+  larger-reads.Asked,
+  larger-reads.Learnt,
+  next-split-reads.Asked,
+  next-split-reads.Learnt,
+  slotted-reads.Asked,
+  slotted-reads.Learnt,
+) (at-splits-at t) at-splits.Post at-splits-Inv-loop at-splits-μ-loop
+at-splits-same-length-3 t c = ((c .before .before .before .before .before .before .before .before .expr .kept .1 .1 .1 .1 .1 .1 .0) ∙ (c .before .before .before .before .before .before .before .before .before .before .before .before .before .before .before .before .before .before .before .before .loop .inv .1 .1 .1))
+
+at-splits-returns : (t : ℕ) → at-splits-lts.Need-returns (
+  fields-reads.Asked,
+  fields-reads.Learnt,
+  own-fields-reads.Asked,
+  own-fields-reads.Learnt,
+  nothing-yet-reads.Asked,
+  nothing-yet-reads.Learnt,
+  bind-fields-reads.Asked,
+  bind-fields-reads.Learnt,
+  moved-reads.Asked,
+  moved-reads.Learnt,
+  widen-reads.Asked,
+  widen-reads.Learnt,
+  expr-below t,
+  expr.Post,
+  is-kind-reads.Asked,
+  is-kind-reads.Learnt,
+  larger-reads.Asked,
+  larger-reads.Learnt,
+  next-split-reads.Asked,
+  next-split-reads.Learnt,
+  slotted-reads.Asked,
+  slotted-reads.Learnt,
+) (at-splits-at t) at-splits.Post at-splits-Inv-loop at-splits-μ-loop
+at-splits-returns t c = splits-part (walks-are (c .before .before .before .before .before .before .before .before .before .before .before .before .before .before .before .before .before .before .before .loop-test .taken) (c .before .before .before .before .before .before .before .before .before .before .before .before .before .before .before .before .before .before .before .before .loop .inv .0)) (c .before .before .before .before .before .before .before .before .before .before .before .before .before .before .before .before .before .before .before .before .before .before .before .before .fields .ensures) (c .before .before .before .before .before .before .before .before .before .before .before .before .before .before .before .before .before .before .before .before .before .before .before .own-fields .ensures) (scope-long (c .before .before .before .before .before .before .before .before .before .before .before .before .before .before .before .before .before .before .before .before .before .before .before .before .before .before .before .before .before .before .before .before .pre .1 .0) ((c .before .before .before .before .before .before .before .before .before .before .before .before .before .before .before .before .before .before .before .before .loop .inv .1 .1 .0))) (sizes-long (c .before .before .before .before .before .before .before .before .before .before .before .before .before .before .before .before .before .before .before .before .before .before .before .before .before .before .before .before .before .before .before .before .pre .1 .0) ((c .before .before .before .before .before .before .before .before .before .before .before .before .before .before .before .before .before .before .before .before .loop .inv .1 .1 .1))) (c .before .before .before .before .before .before .before .before .before .before .before .before .before .before .before .before .bind-fields .ensures) (c .before .before .before .before .before .before .before .before .before .before .before .before .before .moved .ensures) (c .before .before .before .before .before .before .before .before .before .before .before .before .widen .ensures) (c .before .before .before .before .before .before .before .before .expr .ensures) (c .enum-told .given .1)
+
+at-splits-is-kind-requires : (t : ℕ) → at-splits-lts.Need-is-kind-requires (
+  fields-reads.Asked,
+  fields-reads.Learnt,
+  own-fields-reads.Asked,
+  own-fields-reads.Learnt,
+  nothing-yet-reads.Asked,
+  nothing-yet-reads.Learnt,
+  bind-fields-reads.Asked,
+  bind-fields-reads.Learnt,
+  moved-reads.Asked,
+  moved-reads.Learnt,
+  widen-reads.Asked,
+  widen-reads.Learnt,
+  expr-below t,
+  expr.Post,
+  is-kind-reads.Asked,
+  is-kind-reads.Learnt,
+  larger-reads.Asked,
+  larger-reads.Learnt,
+  next-split-reads.Asked,
+  next-split-reads.Learnt,
+  slotted-reads.Asked,
+  slotted-reads.Learnt,
+) (at-splits-at t) at-splits.Post at-splits-Inv-loop at-splits-μ-loop
+at-splits-is-kind-requires t c κs = tt
+
+at-splits-add-t34 : (t : ℕ) → at-splits-lts.Need-add-t34 (
+  fields-reads.Asked,
+  fields-reads.Learnt,
+  own-fields-reads.Asked,
+  own-fields-reads.Learnt,
+  nothing-yet-reads.Asked,
+  nothing-yet-reads.Learnt,
+  bind-fields-reads.Asked,
+  bind-fields-reads.Learnt,
+  moved-reads.Asked,
+  moved-reads.Learnt,
+  widen-reads.Asked,
+  widen-reads.Learnt,
+  expr-below t,
+  expr.Post,
+  is-kind-reads.Asked,
+  is-kind-reads.Learnt,
+  larger-reads.Asked,
+  larger-reads.Learnt,
+  next-split-reads.Asked,
+  next-split-reads.Learnt,
+  slotted-reads.Asked,
+  slotted-reads.Learnt,
+) (at-splits-at t) at-splits.Post at-splits-Inv-loop at-splits-μ-loop
+at-splits-add-t34 t c = omega (arith, (c .before .before .before .before .before .before .before .before .before .before .before .before .before .before .before .before .before .before .before .before .before .before .before .before .before .before .before .before .before .before .before .before .before .before .before .before .pre .1 .0 .line))
+
+at-splits-same-length-4 : (t : ℕ) → at-splits-lts.Need-same-length-4 (
+  fields-reads.Asked,
+  fields-reads.Learnt,
+  own-fields-reads.Asked,
+  own-fields-reads.Learnt,
+  nothing-yet-reads.Asked,
+  nothing-yet-reads.Learnt,
+  bind-fields-reads.Asked,
+  bind-fields-reads.Learnt,
+  moved-reads.Asked,
+  moved-reads.Learnt,
+  widen-reads.Asked,
+  widen-reads.Learnt,
+  expr-below t,
+  expr.Post,
+  is-kind-reads.Asked,
+  is-kind-reads.Learnt,
+  larger-reads.Asked,
+  larger-reads.Learnt,
+  next-split-reads.Asked,
+  next-split-reads.Learnt,
+  slotted-reads.Asked,
+  slotted-reads.Learnt,
+) (at-splits-at t) at-splits.Post at-splits-Inv-loop at-splits-μ-loop
+at-splits-same-length-4 t c = ((c .before .before .before .before .before .before .before .before .before .before .before .before .expr .kept .1 .1 .1 .1 .0) ∙ (c .before .before .before .before .before .before .before .before .before .before .before .before .before .before .before .before .before .before .before .before .before .before .before .before .loop .inv .1 .0))
+
+at-splits-same-length-5 : (t : ℕ) → at-splits-lts.Need-same-length-5 (
+  fields-reads.Asked,
+  fields-reads.Learnt,
+  own-fields-reads.Asked,
+  own-fields-reads.Learnt,
+  nothing-yet-reads.Asked,
+  nothing-yet-reads.Learnt,
+  bind-fields-reads.Asked,
+  bind-fields-reads.Learnt,
+  moved-reads.Asked,
+  moved-reads.Learnt,
+  widen-reads.Asked,
+  widen-reads.Learnt,
+  expr-below t,
+  expr.Post,
+  is-kind-reads.Asked,
+  is-kind-reads.Learnt,
+  larger-reads.Asked,
+  larger-reads.Learnt,
+  next-split-reads.Asked,
+  next-split-reads.Learnt,
+  slotted-reads.Asked,
+  slotted-reads.Learnt,
+) (at-splits-at t) at-splits.Post at-splits-Inv-loop at-splits-μ-loop
+at-splits-same-length-5 t c = ((c .before .before .before .before .before .before .before .before .before .before .before .before .expr .kept .1 .1 .1 .1 .1 .0) ∙ (c .before .before .before .before .before .before .before .before .before .before .before .before .before .before .before .before .before .before .before .before .bind-fields .kept .1 .0) ∙ (c .before .before .before .before .before .before .before .before .before .before .before .before .before .before .before .before .before .before .before .before .before .before .before .before .loop .inv .1 .1 .0))
+
+at-splits-same-length-6 : (t : ℕ) → at-splits-lts.Need-same-length-6 (
+  fields-reads.Asked,
+  fields-reads.Learnt,
+  own-fields-reads.Asked,
+  own-fields-reads.Learnt,
+  nothing-yet-reads.Asked,
+  nothing-yet-reads.Learnt,
+  bind-fields-reads.Asked,
+  bind-fields-reads.Learnt,
+  moved-reads.Asked,
+  moved-reads.Learnt,
+  widen-reads.Asked,
+  widen-reads.Learnt,
+  expr-below t,
+  expr.Post,
+  is-kind-reads.Asked,
+  is-kind-reads.Learnt,
+  larger-reads.Asked,
+  larger-reads.Learnt,
+  next-split-reads.Asked,
+  next-split-reads.Learnt,
+  slotted-reads.Asked,
+  slotted-reads.Learnt,
+) (at-splits-at t) at-splits.Post at-splits-Inv-loop at-splits-μ-loop
+at-splits-same-length-6 t c = ((c .before .before .before .before .before .before .before .before .before .before .before .before .expr .kept .1 .1 .1 .1 .1 .1 .0) ∙ (c .before .before .before .before .before .before .before .before .before .before .before .before .before .before .before .before .before .before .before .before .before .before .before .before .loop .inv .1 .1 .1))
+
+at-splits-returns-2 : (t : ℕ) → at-splits-lts.Need-returns-2 (
+  fields-reads.Asked,
+  fields-reads.Learnt,
+  own-fields-reads.Asked,
+  own-fields-reads.Learnt,
+  nothing-yet-reads.Asked,
+  nothing-yet-reads.Learnt,
+  bind-fields-reads.Asked,
+  bind-fields-reads.Learnt,
+  moved-reads.Asked,
+  moved-reads.Learnt,
+  widen-reads.Asked,
+  widen-reads.Learnt,
+  expr-below t,
+  expr.Post,
+  is-kind-reads.Asked,
+  is-kind-reads.Learnt,
+  larger-reads.Asked,
+  larger-reads.Learnt,
+  next-split-reads.Asked,
+  next-split-reads.Learnt,
+  slotted-reads.Asked,
+  slotted-reads.Learnt,
+) (at-splits-at t) at-splits.Post at-splits-Inv-loop at-splits-μ-loop
+at-splits-returns-2 t c = splits-differ (walks-are (c .before .before .before .before .before .before .before .before .before .before .before .before .before .before .before .before .before .before .before .before .before .before .before .loop-test .taken) (c .before .before .before .before .before .before .before .before .before .before .before .before .before .before .before .before .before .before .before .before .before .before .before .before .loop .inv .0)) (c .before .before .before .before .before .before .before .before .before .before .before .before .before .before .before .before .before .before .before .before .before .before .before .before .before .before .before .before .fields .ensures) (c .before .before .before .before .before .before .before .before .before .before .before .before .before .before .before .before .before .before .before .before .before .before .before .before .before .before .before .own-fields .ensures) (scope-long (c .before .before .before .before .before .before .before .before .before .before .before .before .before .before .before .before .before .before .before .before .before .before .before .before .before .before .before .before .before .before .before .before .before .before .before .before .pre .1 .0) ((c .before .before .before .before .before .before .before .before .before .before .before .before .before .before .before .before .before .before .before .before .before .before .before .before .loop .inv .1 .1 .0))) (sizes-long (c .before .before .before .before .before .before .before .before .before .before .before .before .before .before .before .before .before .before .before .before .before .before .before .before .before .before .before .before .before .before .before .before .before .before .before .before .pre .1 .0) ((c .before .before .before .before .before .before .before .before .before .before .before .before .before .before .before .before .before .before .before .before .before .before .before .before .loop .inv .1 .1 .1))) (c .before .before .before .before .before .before .before .before .before .before .before .before .before .before .before .before .before .before .before .before .bind-fields .ensures) (c .before .before .before .before .before .before .before .before .before .before .before .before .before .before .before .before .before .moved .ensures) (c .before .before .before .before .before .before .before .before .before .before .before .before .before .before .before .before .widen .ensures) (c .before .before .before .before .before .before .before .before .before .before .before .before .expr .ensures) (c .before .before .before .before .x .given .1) (c .before .before .is-kind .ensures) (not-true _ (c .before .if1 .taken))
+
+at-splits-larger-requires : (t : ℕ) → at-splits-lts.Need-larger-requires (
+  fields-reads.Asked,
+  fields-reads.Learnt,
+  own-fields-reads.Asked,
+  own-fields-reads.Learnt,
+  nothing-yet-reads.Asked,
+  nothing-yet-reads.Learnt,
+  bind-fields-reads.Asked,
+  bind-fields-reads.Learnt,
+  moved-reads.Asked,
+  moved-reads.Learnt,
+  widen-reads.Asked,
+  widen-reads.Learnt,
+  expr-below t,
+  expr.Post,
+  is-kind-reads.Asked,
+  is-kind-reads.Learnt,
+  larger-reads.Asked,
+  larger-reads.Learnt,
+  next-split-reads.Asked,
+  next-split-reads.Learnt,
+  slotted-reads.Asked,
+  slotted-reads.Learnt,
+) (at-splits-at t) at-splits.Post at-splits-Inv-loop at-splits-μ-loop
+at-splits-larger-requires t c κs = tt
+
+at-splits-cast-next-split : (t : ℕ) → at-splits-lts.Need-cast-next-split (
+  fields-reads.Asked,
+  fields-reads.Learnt,
+  own-fields-reads.Asked,
+  own-fields-reads.Learnt,
+  nothing-yet-reads.Asked,
+  nothing-yet-reads.Learnt,
+  bind-fields-reads.Asked,
+  bind-fields-reads.Learnt,
+  moved-reads.Asked,
+  moved-reads.Learnt,
+  widen-reads.Asked,
+  widen-reads.Learnt,
+  expr-below t,
+  expr.Post,
+  is-kind-reads.Asked,
+  is-kind-reads.Learnt,
+  larger-reads.Asked,
+  larger-reads.Learnt,
+  next-split-reads.Asked,
+  next-split-reads.Learnt,
+  slotted-reads.Asked,
+  slotted-reads.Learnt,
+) (at-splits-at t) at-splits.Post at-splits-Inv-loop at-splits-μ-loop
+at-splits-cast-next-split t c = omega arith
+
+at-splits-next-split-requires : (t : ℕ) → at-splits-lts.Need-next-split-requires (
+  fields-reads.Asked,
+  fields-reads.Learnt,
+  own-fields-reads.Asked,
+  own-fields-reads.Learnt,
+  nothing-yet-reads.Asked,
+  nothing-yet-reads.Learnt,
+  bind-fields-reads.Asked,
+  bind-fields-reads.Learnt,
+  moved-reads.Asked,
+  moved-reads.Learnt,
+  widen-reads.Asked,
+  widen-reads.Learnt,
+  expr-below t,
+  expr.Post,
+  is-kind-reads.Asked,
+  is-kind-reads.Learnt,
+  larger-reads.Asked,
+  larger-reads.Learnt,
+  next-split-reads.Asked,
+  next-split-reads.Learnt,
+  slotted-reads.Asked,
+  slotted-reads.Learnt,
+) (at-splits-at t) at-splits.Post at-splits-Inv-loop at-splits-μ-loop
+at-splits-next-split-requires t c κs = tt
+
+at-splits-loop-less : (t : ℕ) → at-splits-lts.Need-loop-less (
+  fields-reads.Asked,
+  fields-reads.Learnt,
+  own-fields-reads.Asked,
+  own-fields-reads.Learnt,
+  nothing-yet-reads.Asked,
+  nothing-yet-reads.Learnt,
+  bind-fields-reads.Asked,
+  bind-fields-reads.Learnt,
+  moved-reads.Asked,
+  moved-reads.Learnt,
+  widen-reads.Asked,
+  widen-reads.Learnt,
+  expr-below t,
+  expr.Post,
+  is-kind-reads.Asked,
+  is-kind-reads.Learnt,
+  larger-reads.Asked,
+  larger-reads.Learnt,
+  next-split-reads.Asked,
+  next-split-reads.Learnt,
+  slotted-reads.Asked,
+  slotted-reads.Learnt,
+) (at-splits-at t) at-splits.Post at-splits-Inv-loop at-splits-μ-loop
+at-splits-loop-less t c = less-as _ (c .before .before .before .before .before .before .before .before .before .before .before .before .before .before .before .before .before .before .before .before .before .before .before .before .before .before .before .before .loop-test .taken) (turn-falls (c .before .before .before .before .before .before .before .before .before .before .before .before .before .before .before .before .before .before .before .before .before .before .before .before .before .before .before .before .before .before .before .before .before .before .before .before .before .before .before .before .before .args .p) _ _ (c .before .before .before .before .before .before .before .before .before .before .before .before .before .before .before .before .before .before .before .before .before .before .moved .ensures) (c .before .before .before .before .before .before .before .before .before .before .before .before .before .before .before .before .before .before .before .before .before .widen .ensures) (c .before .before .before .before .before .before .before .before .before .before .before .before .before .before .before .before .before .expr .ensures .kept) (c .before .before .next-split .ensures))
+
+at-splits-loop-again : (t : ℕ) → at-splits-lts.Need-loop-again (
+  fields-reads.Asked,
+  fields-reads.Learnt,
+  own-fields-reads.Asked,
+  own-fields-reads.Learnt,
+  nothing-yet-reads.Asked,
+  nothing-yet-reads.Learnt,
+  bind-fields-reads.Asked,
+  bind-fields-reads.Learnt,
+  moved-reads.Asked,
+  moved-reads.Learnt,
+  widen-reads.Asked,
+  widen-reads.Learnt,
+  expr-below t,
+  expr.Post,
+  is-kind-reads.Asked,
+  is-kind-reads.Learnt,
+  larger-reads.Asked,
+  larger-reads.Learnt,
+  next-split-reads.Asked,
+  next-split-reads.Learnt,
+  slotted-reads.Asked,
+  slotted-reads.Learnt,
+) (at-splits-at t) at-splits.Post at-splits-Inv-loop at-splits-μ-loop
+at-splits-loop-again t c = (splits-turn (walks-are (c .before .before .before .before .before .before .before .before .before .before .before .before .before .before .before .before .before .before .before .before .before .before .before .before .before .before .before .before .loop-test .taken) (c .before .before .before .before .before .before .before .before .before .before .before .before .before .before .before .before .before .before .before .before .before .before .before .before .before .before .before .before .before .loop .inv .0)) (c .before .before .before .before .before .before .before .before .before .before .before .before .before .before .before .before .before .before .before .before .before .before .before .before .before .before .before .before .before .before .before .before .before .fields .ensures) (c .before .before .before .before .before .before .before .before .before .before .before .before .before .before .before .before .before .before .before .before .before .before .before .before .before .before .before .before .before .before .before .before .own-fields .ensures) (scope-long (c .before .before .before .before .before .before .before .before .before .before .before .before .before .before .before .before .before .before .before .before .before .before .before .before .before .before .before .before .before .before .before .before .before .before .before .before .before .before .before .before .before .pre .1 .0) ((c .before .before .before .before .before .before .before .before .before .before .before .before .before .before .before .before .before .before .before .before .before .before .before .before .before .before .before .before .before .loop .inv .1 .1 .0))) (sizes-long (c .before .before .before .before .before .before .before .before .before .before .before .before .before .before .before .before .before .before .before .before .before .before .before .before .before .before .before .before .before .before .before .before .before .before .before .before .before .before .before .before .before .pre .1 .0) ((c .before .before .before .before .before .before .before .before .before .before .before .before .before .before .before .before .before .before .before .before .before .before .before .before .before .before .before .before .before .loop .inv .1 .1 .1))) (c .before .before .before .before .before .before .before .before .before .before .before .before .before .before .before .before .before .before .before .before .before .before .before .before .before .bind-fields .ensures) (c .before .before .before .before .before .before .before .before .before .before .before .before .before .before .before .before .before .before .before .before .before .before .moved .ensures) (c .before .before .before .before .before .before .before .before .before .before .before .before .before .before .before .before .before .before .before .before .before .widen .ensures) (c .before .before .before .before .before .before .before .before .before .before .before .before .before .before .before .before .before .expr .ensures) (c .before .before .before .before .before .before .before .before .before .x .given .1) (c .before .before .before .before .before .before .before .is-kind .ensures) (not-false _ (c .before .before .before .before .before .before .if1 .left)) (sizes-long (c .before .before .before .before .before .before .before .before .before .before .before .before .before .before .before .before .before .before .before .before .before .before .before .before .before .before .before .before .before .before .before .before .before .before .before .before .before .before .before .before .before .pre .1 .0) ((c .before .before .before .before .before .before .before .before .before .before .before .before .before .before .before .before .before .expr .kept .1 .1 .1 .1 .1 .1 .0) ∙ (c .before .before .before .before .before .before .before .before .before .before .before .before .before .before .before .before .before .before .before .before .before .before .before .before .before .before .before .before .before .loop .inv .1 .1 .1))) (c .before .before .before .before .before .larger .ensures .both) (c .before .before .before .before .before .larger .ensures .is) (c .before .before .next-split .ensures), (((c .before .before .before .before .before .before .before .before .before .before .before .before .before .before .before .before .before .expr .kept .1 .1 .1 .1 .0) ∙ (c .before .before .before .before .before .before .before .before .before .before .before .before .before .before .before .before .before .before .before .before .before .before .before .before .before .before .before .before .before .loop .inv .1 .0)), (((c .before .before .before .before .before .before .before .before .before .before .before .before .before .before .before .before .before .expr .kept .1 .1 .1 .1 .1 .0) ∙ (c .before .before .before .before .before .before .before .before .before .before .before .before .before .before .before .before .before .before .before .before .before .before .before .before .before .bind-fields .kept .1 .0) ∙ (c .before .before .before .before .before .before .before .before .before .before .before .before .before .before .before .before .before .before .before .before .before .before .before .before .before .before .before .before .before .loop .inv .1 .1 .0)), (c .before .before .next-split .kept .0) ∙ ((c .before .before .before .before .before .before .before .before .before .before .before .before .before .before .before .before .before .expr .kept .1 .1 .1 .1 .1 .1 .0) ∙ (c .before .before .before .before .before .before .before .before .before .before .before .before .before .before .before .before .before .before .before .before .before .before .before .before .before .before .before .before .before .loop .inv .1 .1 .1)))))
+
+at-splits-slotted-requires : (t : ℕ) → at-splits-lts.Need-slotted-requires (
+  fields-reads.Asked,
+  fields-reads.Learnt,
+  own-fields-reads.Asked,
+  own-fields-reads.Learnt,
+  nothing-yet-reads.Asked,
+  nothing-yet-reads.Learnt,
+  bind-fields-reads.Asked,
+  bind-fields-reads.Learnt,
+  moved-reads.Asked,
+  moved-reads.Learnt,
+  widen-reads.Asked,
+  widen-reads.Learnt,
+  expr-below t,
+  expr.Post,
+  is-kind-reads.Asked,
+  is-kind-reads.Learnt,
+  larger-reads.Asked,
+  larger-reads.Learnt,
+  next-split-reads.Asked,
+  next-split-reads.Learnt,
+  slotted-reads.Asked,
+  slotted-reads.Learnt,
+) (at-splits-at t) at-splits.Post at-splits-Inv-loop at-splits-μ-loop
+at-splits-slotted-requires t c κs = tt
+
+at-splits-same-length-7 : (t : ℕ) → at-splits-lts.Need-same-length-7 (
+  fields-reads.Asked,
+  fields-reads.Learnt,
+  own-fields-reads.Asked,
+  own-fields-reads.Learnt,
+  nothing-yet-reads.Asked,
+  nothing-yet-reads.Learnt,
+  bind-fields-reads.Asked,
+  bind-fields-reads.Learnt,
+  moved-reads.Asked,
+  moved-reads.Learnt,
+  widen-reads.Asked,
+  widen-reads.Learnt,
+  expr-below t,
+  expr.Post,
+  is-kind-reads.Asked,
+  is-kind-reads.Learnt,
+  larger-reads.Asked,
+  larger-reads.Learnt,
+  next-split-reads.Asked,
+  next-split-reads.Learnt,
+  slotted-reads.Asked,
+  slotted-reads.Learnt,
+) (at-splits-at t) at-splits.Post at-splits-Inv-loop at-splits-μ-loop
+at-splits-same-length-7 t c = (c .before .before .loop .inv .1 .0)
+
+at-splits-same-length-8 : (t : ℕ) → at-splits-lts.Need-same-length-8 (
+  fields-reads.Asked,
+  fields-reads.Learnt,
+  own-fields-reads.Asked,
+  own-fields-reads.Learnt,
+  nothing-yet-reads.Asked,
+  nothing-yet-reads.Learnt,
+  bind-fields-reads.Asked,
+  bind-fields-reads.Learnt,
+  moved-reads.Asked,
+  moved-reads.Learnt,
+  widen-reads.Asked,
+  widen-reads.Learnt,
+  expr-below t,
+  expr.Post,
+  is-kind-reads.Asked,
+  is-kind-reads.Learnt,
+  larger-reads.Asked,
+  larger-reads.Learnt,
+  next-split-reads.Asked,
+  next-split-reads.Learnt,
+  slotted-reads.Asked,
+  slotted-reads.Learnt,
+) (at-splits-at t) at-splits.Post at-splits-Inv-loop at-splits-μ-loop
+at-splits-same-length-8 t c = (c .before .before .loop .inv .1 .1 .0)
+
+at-splits-same-length-9 : (t : ℕ) → at-splits-lts.Need-same-length-9 (
+  fields-reads.Asked,
+  fields-reads.Learnt,
+  own-fields-reads.Asked,
+  own-fields-reads.Learnt,
+  nothing-yet-reads.Asked,
+  nothing-yet-reads.Learnt,
+  bind-fields-reads.Asked,
+  bind-fields-reads.Learnt,
+  moved-reads.Asked,
+  moved-reads.Learnt,
+  widen-reads.Asked,
+  widen-reads.Learnt,
+  expr-below t,
+  expr.Post,
+  is-kind-reads.Asked,
+  is-kind-reads.Learnt,
+  larger-reads.Asked,
+  larger-reads.Learnt,
+  next-split-reads.Asked,
+  next-split-reads.Learnt,
+  slotted-reads.Asked,
+  slotted-reads.Learnt,
+) (at-splits-at t) at-splits.Post at-splits-Inv-loop at-splits-μ-loop
+at-splits-same-length-9 t c = (c .before .before .loop .inv .1 .1 .1)
+
+at-splits-returns-3 : (t : ℕ) → at-splits-lts.Need-returns-3 (
+  fields-reads.Asked,
+  fields-reads.Learnt,
+  own-fields-reads.Asked,
+  own-fields-reads.Learnt,
+  nothing-yet-reads.Asked,
+  nothing-yet-reads.Learnt,
+  bind-fields-reads.Asked,
+  bind-fields-reads.Learnt,
+  moved-reads.Asked,
+  moved-reads.Learnt,
+  widen-reads.Asked,
+  widen-reads.Learnt,
+  expr-below t,
+  expr.Post,
+  is-kind-reads.Asked,
+  is-kind-reads.Learnt,
+  larger-reads.Asked,
+  larger-reads.Learnt,
+  next-split-reads.Asked,
+  next-split-reads.Learnt,
+  slotted-reads.Asked,
+  slotted-reads.Learnt,
+) (at-splits-at t) at-splits.Post at-splits-Inv-loop at-splits-μ-loop
+at-splits-returns-3 t c = splits-done (walks-are (c .before .loop-test .left) (c .before .before .loop .inv .0)) (c .before .before .before .before .before .before .fields .ensures) (c .slotted .ensures .held) (c .slotted .ensures .is)
+
+binding-expr-requires : (t : ℕ) → binding-lts.Need-expr-requires (
+  expr-below t,
+  expr.Post,
+  kind-word-reads.Asked,
+  kind-word-reads.Learnt,
+  put-reads.Asked,
+  put-reads.Learnt,
+  behind-reads.Asked,
+  behind-reads.Learnt,
+  widen-reads.Asked,
+  widen-reads.Learnt,
+  with-let-reads.Asked,
+  with-let-reads.Learnt,
+) (binding-at t) binding.Post
+binding-expr-requires t c κs = (load-same _ 900 (c .before .before .before .before .before .before .before .before .before .before .pre .0) 0 (omega arith), room-same (c .before .before .before .before .before .before .before .before .before .before .pre .1) (omega arith))
+
+binding-enum-known-x : (t : ℕ) → binding-lts.Need-enum-known-x (
+  expr-below t,
+  expr.Post,
+  kind-word-reads.Asked,
+  kind-word-reads.Learnt,
+  put-reads.Asked,
+  put-reads.Learnt,
+  behind-reads.Asked,
+  behind-reads.Learnt,
+  widen-reads.Asked,
+  widen-reads.Learnt,
+  with-let-reads.Asked,
+  with-let-reads.Learnt,
+) (binding-at t) binding.Post
+binding-enum-known-x t c = (c .match .keys1)
+
+binding-enum-told : (t : ℕ) → binding-lts.Need-enum-told (
+  expr-below t,
+  expr.Post,
+  kind-word-reads.Asked,
+  kind-word-reads.Learnt,
+  put-reads.Asked,
+  put-reads.Learnt,
+  behind-reads.Asked,
+  behind-reads.Learnt,
+  widen-reads.Asked,
+  widen-reads.Learnt,
+  with-let-reads.Asked,
+  with-let-reads.Learnt,
+) (binding-at t) binding.Post
+binding-enum-told t c = (c .match .keys2)
+
+binding-same-length : (t : ℕ) → binding-lts.Need-same-length (
+  expr-below t,
+  expr.Post,
+  kind-word-reads.Asked,
+  kind-word-reads.Learnt,
+  put-reads.Asked,
+  put-reads.Learnt,
+  behind-reads.Asked,
+  behind-reads.Learnt,
+  widen-reads.Asked,
+  widen-reads.Learnt,
+  with-let-reads.Asked,
+  with-let-reads.Learnt,
+) (binding-at t) binding.Post
+binding-same-length t c = (c .before .before .before .before .before .before .before .before .expr .kept .1 .1 .1 .1 .0)
+
+binding-same-length-2 : (t : ℕ) → binding-lts.Need-same-length-2 (
+  expr-below t,
+  expr.Post,
+  kind-word-reads.Asked,
+  kind-word-reads.Learnt,
+  put-reads.Asked,
+  put-reads.Learnt,
+  behind-reads.Asked,
+  behind-reads.Learnt,
+  widen-reads.Asked,
+  widen-reads.Learnt,
+  with-let-reads.Asked,
+  with-let-reads.Learnt,
+) (binding-at t) binding.Post
+binding-same-length-2 t c = (c .before .before .before .before .before .before .before .before .expr .kept .1 .1 .1 .1 .1 .0)
+
+binding-same-length-3 : (t : ℕ) → binding-lts.Need-same-length-3 (
+  expr-below t,
+  expr.Post,
+  kind-word-reads.Asked,
+  kind-word-reads.Learnt,
+  put-reads.Asked,
+  put-reads.Learnt,
+  behind-reads.Asked,
+  behind-reads.Learnt,
+  widen-reads.Asked,
+  widen-reads.Learnt,
+  with-let-reads.Asked,
+  with-let-reads.Learnt,
+) (binding-at t) binding.Post
+binding-same-length-3 t c = (c .before .before .before .before .before .before .before .before .expr .kept .1 .1 .1 .1 .1 .1 .0)
+
+binding-returns : (t : ℕ) → binding-lts.Need-returns (
+  expr-below t,
+  expr.Post,
+  kind-word-reads.Asked,
+  kind-word-reads.Learnt,
+  put-reads.Asked,
+  put-reads.Learnt,
+  behind-reads.Asked,
+  behind-reads.Learnt,
+  widen-reads.Asked,
+  widen-reads.Learnt,
+  with-let-reads.Asked,
+  with-let-reads.Learnt,
+) (binding-at t) binding.Post
+binding-returns t c = let-first (c .before .before .before .before .before .before .before .before .expr .ensures) (c .enum-told .given .1)
+
+binding-cast-put : (t : ℕ) → binding-lts.Need-cast-put (
+  expr-below t,
+  expr.Post,
+  kind-word-reads.Asked,
+  kind-word-reads.Learnt,
+  put-reads.Asked,
+  put-reads.Learnt,
+  behind-reads.Asked,
+  behind-reads.Learnt,
+  widen-reads.Asked,
+  widen-reads.Learnt,
+  with-let-reads.Asked,
+  with-let-reads.Learnt,
+) (binding-at t) binding.Post
+binding-cast-put t c = omega arith
+
+binding-kind-word-requires : (t : ℕ) → binding-lts.Need-kind-word-requires (
+  expr-below t,
+  expr.Post,
+  kind-word-reads.Asked,
+  kind-word-reads.Learnt,
+  put-reads.Asked,
+  put-reads.Learnt,
+  behind-reads.Asked,
+  behind-reads.Learnt,
+  widen-reads.Asked,
+  widen-reads.Learnt,
+  with-let-reads.Asked,
+  with-let-reads.Learnt,
+) (binding-at t) binding.Post
+binding-kind-word-requires t c κs = tt
+
+binding-put-requires : (t : ℕ) → binding-lts.Need-put-requires (
+  expr-below t,
+  expr.Post,
+  kind-word-reads.Asked,
+  kind-word-reads.Learnt,
+  put-reads.Asked,
+  put-reads.Learnt,
+  behind-reads.Asked,
+  behind-reads.Learnt,
+  widen-reads.Asked,
+  widen-reads.Learnt,
+  with-let-reads.Asked,
+  with-let-reads.Learnt,
+) (binding-at t) binding.Post
+binding-put-requires t c κs = tt
+
+binding-behind-requires : (t : ℕ) → binding-lts.Need-behind-requires (
+  expr-below t,
+  expr.Post,
+  kind-word-reads.Asked,
+  kind-word-reads.Learnt,
+  put-reads.Asked,
+  put-reads.Learnt,
+  behind-reads.Asked,
+  behind-reads.Learnt,
+  widen-reads.Asked,
+  widen-reads.Learnt,
+  with-let-reads.Asked,
+  with-let-reads.Learnt,
+) (binding-at t) binding.Post
+binding-behind-requires t c κs = tt
+
+binding-widen-requires : (t : ℕ) → binding-lts.Need-widen-requires (
+  expr-below t,
+  expr.Post,
+  kind-word-reads.Asked,
+  kind-word-reads.Learnt,
+  put-reads.Asked,
+  put-reads.Learnt,
+  behind-reads.Asked,
+  behind-reads.Learnt,
+  widen-reads.Asked,
+  widen-reads.Learnt,
+  with-let-reads.Asked,
+  with-let-reads.Learnt,
+) (binding-at t) binding.Post
+binding-widen-requires t c κs = room-widens (c .before .before .before .before .before .before .before .before .before .before .before .before .before .before .before .before .before .before .before .before .before .before .before .before .before .before .before .pre .1) (c .behind .ensures) (omega arith) (omega arith)
+
+binding-expr-requires-2 : (t : ℕ) → binding-lts.Need-expr-requires-2 (
+  expr-below t,
+  expr.Post,
+  kind-word-reads.Asked,
+  kind-word-reads.Learnt,
+  put-reads.Asked,
+  put-reads.Learnt,
+  behind-reads.Asked,
+  behind-reads.Learnt,
+  widen-reads.Asked,
+  widen-reads.Learnt,
+  with-let-reads.Asked,
+  with-let-reads.Learnt,
+) (binding-at t) binding.Post
+binding-expr-requires-2 t c κs = (load-wide _ 900 (c .before .before .before .before .before .before .before .before .before .before .before .before .before .before .before .before .before .before .before .before .before .before .before .before .before .before .before .before .before .before .before .pre .0) _ _ 1 0 0 (c .before .before .before .before .behind .ensures) (c .before .before .before .widen .ensures) (grows-to (c .before .before .before .before .before .before .before .before .before .before .before .before .before .before .before .before .before .before .before .before .expr .ensures .grows) (c .before .before .before .before .before .before .before .before .before .before .before .before .x .given .1)) (omega arith), room-wide (c .before .before .before .before .before .before .before .before .before .before .before .before .before .before .before .before .before .before .before .before .before .before .before .before .before .before .before .before .before .before .before .pre .1) (c .before .before .before .before .behind .ensures) (c .before .before .before .widen .ensures) ((c .before .before .before .before .before .before .before .put .kept .0) ∙ (c .before .before .before .before .before .before .before .before .before .before .before .before .before .before .before .before .before .before .before .before .expr .kept .1 .1 .1 .1 .1 .0)) ((c .before .before .before .before .before .before .before .before .before .before .before .before .before .before .before .before .before .before .before .before .expr .kept .1 .1 .1 .1 .1 .1 .0)) (omega arith) (omega arith))
+
+binding-enum-known-y : (t : ℕ) → binding-lts.Need-enum-known-y (
+  expr-below t,
+  expr.Post,
+  kind-word-reads.Asked,
+  kind-word-reads.Learnt,
+  put-reads.Asked,
+  put-reads.Learnt,
+  behind-reads.Asked,
+  behind-reads.Learnt,
+  widen-reads.Asked,
+  widen-reads.Learnt,
+  with-let-reads.Asked,
+  with-let-reads.Learnt,
+) (binding-at t) binding.Post
+binding-enum-known-y t c = (c .match2 .keys1)
+
+binding-enum-told-2 : (t : ℕ) → binding-lts.Need-enum-told-2 (
+  expr-below t,
+  expr.Post,
+  kind-word-reads.Asked,
+  kind-word-reads.Learnt,
+  put-reads.Asked,
+  put-reads.Learnt,
+  behind-reads.Asked,
+  behind-reads.Learnt,
+  widen-reads.Asked,
+  widen-reads.Learnt,
+  with-let-reads.Asked,
+  with-let-reads.Learnt,
+) (binding-at t) binding.Post
+binding-enum-told-2 t c = (c .match2 .keys2)
+
+binding-same-length-4 : (t : ℕ) → binding-lts.Need-same-length-4 (
+  expr-below t,
+  expr.Post,
+  kind-word-reads.Asked,
+  kind-word-reads.Learnt,
+  put-reads.Asked,
+  put-reads.Learnt,
+  behind-reads.Asked,
+  behind-reads.Learnt,
+  widen-reads.Asked,
+  widen-reads.Learnt,
+  with-let-reads.Asked,
+  with-let-reads.Learnt,
+) (binding-at t) binding.Post
+binding-same-length-4 t c = (c .before .before .before .before .before .before .before .before .expr2 .kept .1 .1 .1 .1 .0) ∙ (c .before .before .before .before .before .before .before .before .before .before .before .before .before .before .before .before .before .before .before .before .before .before .before .before .before .before .before .before .before .expr .kept .1 .1 .1 .1 .0)
+
+binding-same-length-5 : (t : ℕ) → binding-lts.Need-same-length-5 (
+  expr-below t,
+  expr.Post,
+  kind-word-reads.Asked,
+  kind-word-reads.Learnt,
+  put-reads.Asked,
+  put-reads.Learnt,
+  behind-reads.Asked,
+  behind-reads.Learnt,
+  widen-reads.Asked,
+  widen-reads.Learnt,
+  with-let-reads.Asked,
+  with-let-reads.Learnt,
+) (binding-at t) binding.Post
+binding-same-length-5 t c = (c .before .before .before .before .before .before .before .before .expr2 .kept .1 .1 .1 .1 .1 .0) ∙ (c .before .before .before .before .before .before .before .before .before .before .before .before .before .before .before .before .put .kept .0) ∙ (c .before .before .before .before .before .before .before .before .before .before .before .before .before .before .before .before .before .before .before .before .before .before .before .before .before .before .before .before .before .expr .kept .1 .1 .1 .1 .1 .0)
+
+binding-same-length-6 : (t : ℕ) → binding-lts.Need-same-length-6 (
+  expr-below t,
+  expr.Post,
+  kind-word-reads.Asked,
+  kind-word-reads.Learnt,
+  put-reads.Asked,
+  put-reads.Learnt,
+  behind-reads.Asked,
+  behind-reads.Learnt,
+  widen-reads.Asked,
+  widen-reads.Learnt,
+  with-let-reads.Asked,
+  with-let-reads.Learnt,
+) (binding-at t) binding.Post
+binding-same-length-6 t c = (c .before .before .before .before .before .before .before .before .expr2 .kept .1 .1 .1 .1 .1 .1 .0) ∙ (c .before .before .before .before .before .before .before .before .before .before .before .before .before .before .before .before .before .before .before .before .before .before .before .before .before .before .before .before .before .expr .kept .1 .1 .1 .1 .1 .1 .0)
+
+binding-returns-2 : (t : ℕ) → binding-lts.Need-returns-2 (
+  expr-below t,
+  expr.Post,
+  kind-word-reads.Asked,
+  kind-word-reads.Learnt,
+  put-reads.Asked,
+  put-reads.Learnt,
+  behind-reads.Asked,
+  behind-reads.Learnt,
+  widen-reads.Asked,
+  widen-reads.Learnt,
+  with-let-reads.Asked,
+  with-let-reads.Learnt,
+) (binding-at t) binding.Post
+binding-returns-2 t c = let-second (c .before .before .before .before .before .before .before .before .before .before .before .before .before .before .before .before .before .before .before .before .before .before .before .before .before .before .before .before .before .expr .ensures) (scope-long (c .before .before .before .before .before .before .before .before .before .before .before .before .before .before .before .before .before .before .before .before .before .before .before .before .before .before .before .before .before .before .before .before .before .before .before .before .before .before .before .before .pre .1) ((c .before .before .before .before .before .before .before .before .before .before .before .before .before .before .before .before .before .before .before .before .before .before .before .before .before .before .before .before .before .expr .kept .1 .1 .1 .1 .1 .0))) (c .before .before .before .before .before .before .before .before .before .before .before .before .before .before .before .before .before .before .before .before .before .x .given .1) (c .before .before .before .before .before .before .before .before .before .before .before .before .before .before .before .before .before .kind-word .ensures .is) (c .before .before .before .before .before .before .before .before .before .before .before .before .before .behind .ensures) (c .before .before .before .before .before .before .before .before .before .before .before .before .widen .ensures) (put-is (c .before .before .before .before .before .before .before .before .before .before .before .before .before .before .before .before .put .ensures) (c .before .before .before .before .before .before .before .before .expr2 .ensures)) (c .enum-told2 .given .1)
+
+binding-with-let-requires : (t : ℕ) → binding-lts.Need-with-let-requires (
+  expr-below t,
+  expr.Post,
+  kind-word-reads.Asked,
+  kind-word-reads.Learnt,
+  put-reads.Asked,
+  put-reads.Learnt,
+  behind-reads.Asked,
+  behind-reads.Learnt,
+  widen-reads.Asked,
+  widen-reads.Learnt,
+  with-let-reads.Asked,
+  with-let-reads.Learnt,
+) (binding-at t) binding.Post
+binding-with-let-requires t c κs = tt
+
+binding-same-length-7 : (t : ℕ) → binding-lts.Need-same-length-7 (
+  expr-below t,
+  expr.Post,
+  kind-word-reads.Asked,
+  kind-word-reads.Learnt,
+  put-reads.Asked,
+  put-reads.Learnt,
+  behind-reads.Asked,
+  behind-reads.Learnt,
+  widen-reads.Asked,
+  widen-reads.Learnt,
+  with-let-reads.Asked,
+  with-let-reads.Learnt,
+) (binding-at t) binding.Post
+binding-same-length-7 t c = (c .before .before .before .before .before .before .before .before .before .before .expr2 .kept .1 .1 .1 .1 .0) ∙ (c .before .before .before .before .before .before .before .before .before .before .before .before .before .before .before .before .before .before .before .before .before .before .before .before .before .before .before .before .before .before .before .expr .kept .1 .1 .1 .1 .0)
+
+binding-same-length-8 : (t : ℕ) → binding-lts.Need-same-length-8 (
+  expr-below t,
+  expr.Post,
+  kind-word-reads.Asked,
+  kind-word-reads.Learnt,
+  put-reads.Asked,
+  put-reads.Learnt,
+  behind-reads.Asked,
+  behind-reads.Learnt,
+  widen-reads.Asked,
+  widen-reads.Learnt,
+  with-let-reads.Asked,
+  with-let-reads.Learnt,
+) (binding-at t) binding.Post
+binding-same-length-8 t c = (c .before .before .before .before .before .before .before .before .before .before .expr2 .kept .1 .1 .1 .1 .1 .0) ∙ (c .before .before .before .before .before .before .before .before .before .before .before .before .before .before .before .before .before .before .put .kept .0) ∙ (c .before .before .before .before .before .before .before .before .before .before .before .before .before .before .before .before .before .before .before .before .before .before .before .before .before .before .before .before .before .before .before .expr .kept .1 .1 .1 .1 .1 .0)
+
+binding-same-length-9 : (t : ℕ) → binding-lts.Need-same-length-9 (
+  expr-below t,
+  expr.Post,
+  kind-word-reads.Asked,
+  kind-word-reads.Learnt,
+  put-reads.Asked,
+  put-reads.Learnt,
+  behind-reads.Asked,
+  behind-reads.Learnt,
+  widen-reads.Asked,
+  widen-reads.Learnt,
+  with-let-reads.Asked,
+  with-let-reads.Learnt,
+) (binding-at t) binding.Post
+binding-same-length-9 t c = (c .before .before .before .before .before .before .before .before .before .before .expr2 .kept .1 .1 .1 .1 .1 .1 .0) ∙ (c .before .before .before .before .before .before .before .before .before .before .before .before .before .before .before .before .before .before .before .before .before .before .before .before .before .before .before .before .before .before .before .expr .kept .1 .1 .1 .1 .1 .1 .0)
+
+binding-returns-3 : (t : ℕ) → binding-lts.Need-returns-3 (
+  expr-below t,
+  expr.Post,
+  kind-word-reads.Asked,
+  kind-word-reads.Learnt,
+  put-reads.Asked,
+  put-reads.Learnt,
+  behind-reads.Asked,
+  behind-reads.Learnt,
+  widen-reads.Asked,
+  widen-reads.Learnt,
+  with-let-reads.Asked,
+  with-let-reads.Learnt,
+) (binding-at t) binding.Post
+binding-returns-3 t c = let-done (c .before .before .before .before .before .before .before .before .before .before .before .before .before .before .before .before .before .before .before .before .before .before .before .before .before .before .before .before .before .before .before .expr .ensures) (scope-long (c .before .before .before .before .before .before .before .before .before .before .before .before .before .before .before .before .before .before .before .before .before .before .before .before .before .before .before .before .before .before .before .before .before .before .before .before .before .before .before .before .before .before .pre .1) ((c .before .before .before .before .before .before .before .before .before .before .before .before .before .before .before .before .before .before .before .before .before .before .before .before .before .before .before .before .before .before .before .expr .kept .1 .1 .1 .1 .1 .0))) (c .before .before .before .before .before .before .before .before .before .before .before .before .before .before .before .before .before .before .before .before .before .before .before .x .given .1) (c .before .before .before .before .before .before .before .before .before .before .before .before .before .before .before .before .before .before .before .kind-word .ensures .is) (c .before .before .before .before .before .before .before .before .before .before .before .before .before .before .before .behind .ensures) (c .before .before .before .before .before .before .before .before .before .before .before .before .before .before .widen .ensures) (put-is (c .before .before .before .before .before .before .before .before .before .before .before .before .before .before .before .before .before .before .put .ensures) (c .before .before .before .before .before .before .before .before .before .before .expr2 .ensures)) (c .before .before .y .given .1) (c .with-let .ensures .held) (c .with-let .ensures .all) (c .with-let .ensures .is)
+
+body-cast-if1 : (t : ℕ) → body-lts.Need-cast-if1 (
+  add-reads.Asked,
+  add-reads.Learnt,
+  body-place-reads.Asked,
+  body-place-reads.Learnt,
+  expr-below t,
+  expr.Post,
+  is-kind-reads.Asked,
+  is-kind-reads.Learnt,
+  finish-reads.Asked,
+  finish-reads.Learnt,
+  moved-reads.Asked,
+  moved-reads.Learnt,
+  leaf-reads.Asked,
+  leaf-reads.Learnt,
+) (body-at t) body.Post
+body-cast-if1 t c = omega arith
+
+body-add-t18 : (t : ℕ) → body-lts.Need-add-t18 (
+  add-reads.Asked,
+  add-reads.Learnt,
+  body-place-reads.Asked,
+  body-place-reads.Learnt,
+  expr-below t,
+  expr.Post,
+  is-kind-reads.Asked,
+  is-kind-reads.Learnt,
+  finish-reads.Asked,
+  finish-reads.Learnt,
+  moved-reads.Asked,
+  moved-reads.Learnt,
+  leaf-reads.Asked,
+  leaf-reads.Learnt,
+) (body-at t) body.Post
+body-add-t18 t c = omega (arith, (c .before .before .before .before .before .before .before .before .before .before .pre .1 .0 .line))
+
+body-returns : (t : ℕ) → body-lts.Need-returns (
+  add-reads.Asked,
+  add-reads.Learnt,
+  body-place-reads.Asked,
+  body-place-reads.Learnt,
+  expr-below t,
+  expr.Post,
+  is-kind-reads.Asked,
+  is-kind-reads.Learnt,
+  finish-reads.Asked,
+  finish-reads.Learnt,
+  moved-reads.Asked,
+  moved-reads.Learnt,
+  leaf-reads.Asked,
+  leaf-reads.Learnt,
+) (body-at t) body.Post
+body-returns t c = body-full _ _ (c .before .if1 .taken)
+
+body-add-requires : (t : ℕ) → body-lts.Need-add-requires (
+  add-reads.Asked,
+  add-reads.Learnt,
+  body-place-reads.Asked,
+  body-place-reads.Learnt,
+  expr-below t,
+  expr.Post,
+  is-kind-reads.Asked,
+  is-kind-reads.Learnt,
+  finish-reads.Asked,
+  finish-reads.Learnt,
+  moved-reads.Asked,
+  moved-reads.Learnt,
+  leaf-reads.Asked,
+  leaf-reads.Learnt,
+) (body-at t) body.Post
+body-add-requires t c κs = tt
+
+body-body-place-requires : (t : ℕ) → body-lts.Need-body-place-requires (
+  add-reads.Asked,
+  add-reads.Learnt,
+  body-place-reads.Asked,
+  body-place-reads.Learnt,
+  expr-below t,
+  expr.Post,
+  is-kind-reads.Asked,
+  is-kind-reads.Learnt,
+  finish-reads.Asked,
+  finish-reads.Learnt,
+  moved-reads.Asked,
+  moved-reads.Learnt,
+  leaf-reads.Asked,
+  leaf-reads.Learnt,
+) (body-at t) body.Post
+body-body-place-requires t c κs = ((c .before .before .before .before .before .before .before .before .before .before .before .before .before .before .pre .1 .0 .types), (omega (arith, (c .before .before .before .before .before .if1 .left)), (c .before .before .before .before .before .before .before .before .before .before .before .before .before .before .pre .1 .1 .function)))
+
+body-expr-requires : (t : ℕ) → body-lts.Need-expr-requires (
+  add-reads.Asked,
+  add-reads.Learnt,
+  body-place-reads.Asked,
+  body-place-reads.Learnt,
+  expr-below t,
+  expr.Post,
+  is-kind-reads.Asked,
+  is-kind-reads.Learnt,
+  finish-reads.Asked,
+  finish-reads.Learnt,
+  moved-reads.Asked,
+  moved-reads.Learnt,
+  leaf-reads.Asked,
+  leaf-reads.Learnt,
+) (body-at t) body.Post
+body-expr-requires t c κs = (load-body _ 80 (c .before .before .before .before .before .before .before .before .before .before .before .before .before .before .before .before .before .before .pre .0) (now (c .before .before .before .before .before .before .before .before .before .before .before .before .before .before .before .before .before .before .args .functions)) (c .before .before .before .before .before .before .before .before .before .before .before .before .before .before .before .before .before .before .args .e) _ (c .before .before .before .body-place .ensures) (omega (arith, (c .before .before .before .before .before .before .before .before .before .if1 .left))), room-body (now (c .before .before .before .before .before .before .before .before .before .before .before .before .before .before .before .before .before .before .args .functions)) (c .before .before .before .before .before .before .before .before .before .before .before .before .before .before .before .before .before .before .pre .1 .0) (c .before .before .before .before .before .before .before .before .before .before .before .before .before .before .before .before .before .before .pre .1 .1) (c .before .before .before .body-place .ensures))
+
+body-enum-known-x : (t : ℕ) → body-lts.Need-enum-known-x (
+  add-reads.Asked,
+  add-reads.Learnt,
+  body-place-reads.Asked,
+  body-place-reads.Learnt,
+  expr-below t,
+  expr.Post,
+  is-kind-reads.Asked,
+  is-kind-reads.Learnt,
+  finish-reads.Asked,
+  finish-reads.Learnt,
+  moved-reads.Asked,
+  moved-reads.Learnt,
+  leaf-reads.Asked,
+  leaf-reads.Learnt,
+) (body-at t) body.Post
+body-enum-known-x t c = (c .match .keys1)
+
+body-enum-told : (t : ℕ) → body-lts.Need-enum-told (
+  add-reads.Asked,
+  add-reads.Learnt,
+  body-place-reads.Asked,
+  body-place-reads.Learnt,
+  expr-below t,
+  expr.Post,
+  is-kind-reads.Asked,
+  is-kind-reads.Learnt,
+  finish-reads.Asked,
+  finish-reads.Learnt,
+  moved-reads.Asked,
+  moved-reads.Learnt,
+  leaf-reads.Asked,
+  leaf-reads.Learnt,
+) (body-at t) body.Post
+body-enum-told t c = (c .match .keys2)
+
+body-same-length : (t : ℕ) → body-lts.Need-same-length (
+  add-reads.Asked,
+  add-reads.Learnt,
+  body-place-reads.Asked,
+  body-place-reads.Learnt,
+  expr-below t,
+  expr.Post,
+  is-kind-reads.Asked,
+  is-kind-reads.Learnt,
+  finish-reads.Asked,
+  finish-reads.Learnt,
+  moved-reads.Asked,
+  moved-reads.Learnt,
+  leaf-reads.Asked,
+  leaf-reads.Learnt,
+) (body-at t) body.Post
+body-same-length t c = (c .before .before .before .before .before .before .before .before .expr .kept .1 .1 .1 .1 .0) ∙ (c .before .before .before .before .before .before .before .before .before .before .before .before .before .before .before .add .kept .0)
+
+body-same-length-2 : (t : ℕ) → body-lts.Need-same-length-2 (
+  add-reads.Asked,
+  add-reads.Learnt,
+  body-place-reads.Asked,
+  body-place-reads.Learnt,
+  expr-below t,
+  expr.Post,
+  is-kind-reads.Asked,
+  is-kind-reads.Learnt,
+  finish-reads.Asked,
+  finish-reads.Learnt,
+  moved-reads.Asked,
+  moved-reads.Learnt,
+  leaf-reads.Asked,
+  leaf-reads.Learnt,
+) (body-at t) body.Post
+body-same-length-2 t c = (c .before .before .before .before .before .before .before .before .expr .kept .1 .1 .1 .1 .1 .0)
+
+body-same-length-3 : (t : ℕ) → body-lts.Need-same-length-3 (
+  add-reads.Asked,
+  add-reads.Learnt,
+  body-place-reads.Asked,
+  body-place-reads.Learnt,
+  expr-below t,
+  expr.Post,
+  is-kind-reads.Asked,
+  is-kind-reads.Learnt,
+  finish-reads.Asked,
+  finish-reads.Learnt,
+  moved-reads.Asked,
+  moved-reads.Learnt,
+  leaf-reads.Asked,
+  leaf-reads.Learnt,
+) (body-at t) body.Post
+body-same-length-3 t c = (c .before .before .before .before .before .before .before .before .expr .kept .1 .1 .1 .1 .1 .1 .0)
+
+body-returns-2 : (t : ℕ) → body-lts.Need-returns-2 (
+  add-reads.Asked,
+  add-reads.Learnt,
+  body-place-reads.Asked,
+  body-place-reads.Learnt,
+  expr-below t,
+  expr.Post,
+  is-kind-reads.Asked,
+  is-kind-reads.Learnt,
+  finish-reads.Asked,
+  finish-reads.Learnt,
+  moved-reads.Asked,
+  moved-reads.Learnt,
+  leaf-reads.Asked,
+  leaf-reads.Learnt,
+) (body-at t) body.Post
+body-returns-2 t c = body-refused _ _ (omega (arith, (c .before .before .before .before .before .before .before .before .before .before .before .before .before .before .before .before .before .before .if1 .left))) (c .before .before .before .before .before .before .before .before .before .before .before .before .before .before .before .add .ensures) (c .before .before .before .before .before .before .before .before .before .before .before .before .body-place .ensures) (c .before .before .before .before .before .before .before .before .expr .ensures) (c .enum-told .given .1)
+
+body-is-kind-requires : (t : ℕ) → body-lts.Need-is-kind-requires (
+  add-reads.Asked,
+  add-reads.Learnt,
+  body-place-reads.Asked,
+  body-place-reads.Learnt,
+  expr-below t,
+  expr.Post,
+  is-kind-reads.Asked,
+  is-kind-reads.Learnt,
+  finish-reads.Asked,
+  finish-reads.Learnt,
+  moved-reads.Asked,
+  moved-reads.Learnt,
+  leaf-reads.Asked,
+  leaf-reads.Learnt,
+) (body-at t) body.Post
+body-is-kind-requires t c κs = tt
+
+body-add-t31 : (t : ℕ) → body-lts.Need-add-t31 (
+  add-reads.Asked,
+  add-reads.Learnt,
+  body-place-reads.Asked,
+  body-place-reads.Learnt,
+  expr-below t,
+  expr.Post,
+  is-kind-reads.Asked,
+  is-kind-reads.Learnt,
+  finish-reads.Asked,
+  finish-reads.Learnt,
+  moved-reads.Asked,
+  moved-reads.Learnt,
+  leaf-reads.Asked,
+  leaf-reads.Learnt,
+) (body-at t) body.Post
+body-add-t31 t c = omega (arith, ap (λ z. z .line) (c .before .before .before .before .before .before .before .before .before .before .before .before .before .before .before .before .body-place .ensures), (c .before .before .before .before .before .before .before .before .before .before .before .before .before .before .before .before .before .before .before .before .before .before .before .before .before .before .before .before .before .before .before .pre .1 .0 .types), (c .before .before .before .before .before .before .before .before .before .before .before .before .before .before .before .before .before .before .before .before .before .before .before .before .before .before .before .before .before .before .before .pre .1 .1 .function))
+
+body-same-length-4 : (t : ℕ) → body-lts.Need-same-length-4 (
+  add-reads.Asked,
+  add-reads.Learnt,
+  body-place-reads.Asked,
+  body-place-reads.Learnt,
+  expr-below t,
+  expr.Post,
+  is-kind-reads.Asked,
+  is-kind-reads.Learnt,
+  finish-reads.Asked,
+  finish-reads.Learnt,
+  moved-reads.Asked,
+  moved-reads.Learnt,
+  leaf-reads.Asked,
+  leaf-reads.Learnt,
+) (body-at t) body.Post
+body-same-length-4 t c = (c .before .before .before .before .before .before .before .before .before .before .before .before .expr .kept .1 .1 .1 .1 .0) ∙ (c .before .before .before .before .before .before .before .before .before .before .before .before .before .before .before .before .before .before .before .add .kept .0)
+
+body-same-length-5 : (t : ℕ) → body-lts.Need-same-length-5 (
+  add-reads.Asked,
+  add-reads.Learnt,
+  body-place-reads.Asked,
+  body-place-reads.Learnt,
+  expr-below t,
+  expr.Post,
+  is-kind-reads.Asked,
+  is-kind-reads.Learnt,
+  finish-reads.Asked,
+  finish-reads.Learnt,
+  moved-reads.Asked,
+  moved-reads.Learnt,
+  leaf-reads.Asked,
+  leaf-reads.Learnt,
+) (body-at t) body.Post
+body-same-length-5 t c = (c .before .before .before .before .before .before .before .before .before .before .before .before .expr .kept .1 .1 .1 .1 .1 .0)
+
+body-same-length-6 : (t : ℕ) → body-lts.Need-same-length-6 (
+  add-reads.Asked,
+  add-reads.Learnt,
+  body-place-reads.Asked,
+  body-place-reads.Learnt,
+  expr-below t,
+  expr.Post,
+  is-kind-reads.Asked,
+  is-kind-reads.Learnt,
+  finish-reads.Asked,
+  finish-reads.Learnt,
+  moved-reads.Asked,
+  moved-reads.Learnt,
+  leaf-reads.Asked,
+  leaf-reads.Learnt,
+) (body-at t) body.Post
+body-same-length-6 t c = (c .before .before .before .before .before .before .before .before .before .before .before .before .expr .kept .1 .1 .1 .1 .1 .1 .0)
+
+body-returns-3 : (t : ℕ) → body-lts.Need-returns-3 (
+  add-reads.Asked,
+  add-reads.Learnt,
+  body-place-reads.Asked,
+  body-place-reads.Learnt,
+  expr-below t,
+  expr.Post,
+  is-kind-reads.Asked,
+  is-kind-reads.Learnt,
+  finish-reads.Asked,
+  finish-reads.Learnt,
+  moved-reads.Asked,
+  moved-reads.Learnt,
+  leaf-reads.Asked,
+  leaf-reads.Learnt,
+) (body-at t) body.Post
+body-returns-3 t c = body-differs _ _ (omega (arith, (c .before .before .before .before .before .before .before .before .before .before .before .before .before .before .before .before .before .before .before .before .before .before .if1 .left))) (c .before .before .before .before .before .before .before .before .before .before .before .before .before .before .before .before .before .before .before .add .ensures) (c .before .before .before .before .before .before .before .before .before .before .before .before .before .before .before .before .body-place .ensures) (c .before .before .before .before .before .before .before .before .before .before .before .before .expr .ensures) (c .before .before .before .before .x .given .1) (c .before .before .is-kind .ensures) (not-true _ (c .before .if2 .taken))
+
+body-finish-requires : (t : ℕ) → body-lts.Need-finish-requires (
+  add-reads.Asked,
+  add-reads.Learnt,
+  body-place-reads.Asked,
+  body-place-reads.Learnt,
+  expr-below t,
+  expr.Post,
+  is-kind-reads.Asked,
+  is-kind-reads.Learnt,
+  finish-reads.Asked,
+  finish-reads.Learnt,
+  moved-reads.Asked,
+  moved-reads.Learnt,
+  leaf-reads.Asked,
+  leaf-reads.Learnt,
+) (body-at t) body.Post
+body-finish-requires t c κs = tt
+
+body-moved-requires : (t : ℕ) → body-lts.Need-moved-requires (
+  add-reads.Asked,
+  add-reads.Learnt,
+  body-place-reads.Asked,
+  body-place-reads.Learnt,
+  expr-below t,
+  expr.Post,
+  is-kind-reads.Asked,
+  is-kind-reads.Learnt,
+  finish-reads.Asked,
+  finish-reads.Learnt,
+  moved-reads.Asked,
+  moved-reads.Learnt,
+  leaf-reads.Asked,
+  leaf-reads.Learnt,
+) (body-at t) body.Post
+body-moved-requires t c κs = tt
+
+body-leaf-requires : (t : ℕ) → body-lts.Need-leaf-requires (
+  add-reads.Asked,
+  add-reads.Learnt,
+  body-place-reads.Asked,
+  body-place-reads.Learnt,
+  expr-below t,
+  expr.Post,
+  is-kind-reads.Asked,
+  is-kind-reads.Learnt,
+  finish-reads.Asked,
+  finish-reads.Learnt,
+  moved-reads.Asked,
+  moved-reads.Learnt,
+  leaf-reads.Asked,
+  leaf-reads.Learnt,
+) (body-at t) body.Post
+body-leaf-requires t c κs = tt
+
+body-same-length-7 : (t : ℕ) → body-lts.Need-same-length-7 (
+  add-reads.Asked,
+  add-reads.Learnt,
+  body-place-reads.Asked,
+  body-place-reads.Learnt,
+  expr-below t,
+  expr.Post,
+  is-kind-reads.Asked,
+  is-kind-reads.Learnt,
+  finish-reads.Asked,
+  finish-reads.Learnt,
+  moved-reads.Asked,
+  moved-reads.Learnt,
+  leaf-reads.Asked,
+  leaf-reads.Learnt,
+) (body-at t) body.Post
+body-same-length-7 t c = (c .before .before .before .before .before .finish .kept .0) ∙ (c .before .before .before .before .before .before .before .before .before .before .before .before .before .before .before .before .before .before .before .expr .kept .1 .1 .1 .1 .0) ∙ (c .before .before .before .before .before .before .before .before .before .before .before .before .before .before .before .before .before .before .before .before .before .before .before .before .before .before .add .kept .0)
+
+body-same-length-8 : (t : ℕ) → body-lts.Need-same-length-8 (
+  add-reads.Asked,
+  add-reads.Learnt,
+  body-place-reads.Asked,
+  body-place-reads.Learnt,
+  expr-below t,
+  expr.Post,
+  is-kind-reads.Asked,
+  is-kind-reads.Learnt,
+  finish-reads.Asked,
+  finish-reads.Learnt,
+  moved-reads.Asked,
+  moved-reads.Learnt,
+  leaf-reads.Asked,
+  leaf-reads.Learnt,
+) (body-at t) body.Post
+body-same-length-8 t c = (c .before .before .before .before .before .before .before .before .before .before .before .before .before .before .before .before .before .before .before .expr .kept .1 .1 .1 .1 .1 .0)
+
+body-same-length-9 : (t : ℕ) → body-lts.Need-same-length-9 (
+  add-reads.Asked,
+  add-reads.Learnt,
+  body-place-reads.Asked,
+  body-place-reads.Learnt,
+  expr-below t,
+  expr.Post,
+  is-kind-reads.Asked,
+  is-kind-reads.Learnt,
+  finish-reads.Asked,
+  finish-reads.Learnt,
+  moved-reads.Asked,
+  moved-reads.Learnt,
+  leaf-reads.Asked,
+  leaf-reads.Learnt,
+) (body-at t) body.Post
+body-same-length-9 t c = (c .before .before .before .before .before .before .before .before .before .before .before .before .before .before .before .before .before .before .before .expr .kept .1 .1 .1 .1 .1 .1 .0)
+
+body-returns-4 : (t : ℕ) → body-lts.Need-returns-4 (
+  add-reads.Asked,
+  add-reads.Learnt,
+  body-place-reads.Asked,
+  body-place-reads.Learnt,
+  expr-below t,
+  expr.Post,
+  is-kind-reads.Asked,
+  is-kind-reads.Learnt,
+  finish-reads.Asked,
+  finish-reads.Learnt,
+  moved-reads.Asked,
+  moved-reads.Learnt,
+  leaf-reads.Asked,
+  leaf-reads.Learnt,
+) (body-at t) body.Post
+body-returns-4 t c = body-done _ _ (omega (arith, (c .before .before .before .before .before .before .before .before .before .before .before .before .before .before .before .before .before .before .before .before .before .before .before .before .before .before .before .before .before .if1 .left))) (c .before .before .before .before .before .before .before .before .before .before .before .before .before .before .before .before .before .before .before .before .before .before .before .before .before .before .add .ensures) (c .before .before .before .before .before .before .before .before .before .before .before .before .before .before .before .before .before .before .before .before .before .before .before .body-place .ensures) (c .before .before .before .before .before .before .before .before .before .before .before .before .before .before .before .before .before .before .before .expr .ensures) (c .before .before .before .before .before .before .before .before .before .before .before .x .given .1) (c .before .before .before .before .before .before .before .before .before .is-kind .ensures) (not-false _ (c .before .before .before .before .before .before .before .before .if2 .left)) (c .before .before .before .before .before .finish .ensures) (c .before .moved .ensures) (c .leaf .ensures)
+
+branch-own-fields-requires : (t : ℕ) → branch-lts.Need-own-fields-requires (
+  own-fields-reads.Asked,
+  own-fields-reads.Learnt,
+  frame-line-reads.Asked,
+  frame-line-reads.Learnt,
+  skip-reads.Asked,
+  skip-reads.Learnt,
+  nothing-reads.Asked,
+  nothing-reads.Learnt,
+  moved-reads.Asked,
+  moved-reads.Learnt,
+  leaf-reads.Asked,
+  leaf-reads.Learnt,
+  first-split-reads.Asked,
+  first-split-reads.Learnt,
+  at-splits-below t,
+  at-splits.Post,
+) (branch-at t) branch.Post
+branch-own-fields-requires t c κs = tt
+
+branch-cast-if1 : (t : ℕ) → branch-lts.Need-cast-if1 (
+  own-fields-reads.Asked,
+  own-fields-reads.Learnt,
+  frame-line-reads.Asked,
+  frame-line-reads.Learnt,
+  skip-reads.Asked,
+  skip-reads.Learnt,
+  nothing-reads.Asked,
+  nothing-reads.Learnt,
+  moved-reads.Asked,
+  moved-reads.Learnt,
+  leaf-reads.Asked,
+  leaf-reads.Learnt,
+  first-split-reads.Asked,
+  first-split-reads.Learnt,
+  at-splits-below t,
+  at-splits.Post,
+) (branch-at t) branch.Post
+branch-cast-if1 t c = omega arith
+
+branch-frame-line-requires : (t : ℕ) → branch-lts.Need-frame-line-requires (
+  own-fields-reads.Asked,
+  own-fields-reads.Learnt,
+  frame-line-reads.Asked,
+  frame-line-reads.Learnt,
+  skip-reads.Asked,
+  skip-reads.Learnt,
+  nothing-reads.Asked,
+  nothing-reads.Learnt,
+  moved-reads.Asked,
+  moved-reads.Learnt,
+  leaf-reads.Asked,
+  leaf-reads.Learnt,
+  first-split-reads.Asked,
+  first-split-reads.Learnt,
+  at-splits-below t,
+  at-splits.Post,
+) (branch-at t) branch.Post
+branch-frame-line-requires t c κs = tt
+
+branch-skip-requires : (t : ℕ) → branch-lts.Need-skip-requires (
+  own-fields-reads.Asked,
+  own-fields-reads.Learnt,
+  frame-line-reads.Asked,
+  frame-line-reads.Learnt,
+  skip-reads.Asked,
+  skip-reads.Learnt,
+  nothing-reads.Asked,
+  nothing-reads.Learnt,
+  moved-reads.Asked,
+  moved-reads.Learnt,
+  leaf-reads.Asked,
+  leaf-reads.Learnt,
+  first-split-reads.Asked,
+  first-split-reads.Learnt,
+  at-splits-below t,
+  at-splits.Post,
+) (branch-at t) branch.Post
+branch-skip-requires t c κs = tt
+
+branch-nothing-requires : (t : ℕ) → branch-lts.Need-nothing-requires (
+  own-fields-reads.Asked,
+  own-fields-reads.Learnt,
+  frame-line-reads.Asked,
+  frame-line-reads.Learnt,
+  skip-reads.Asked,
+  skip-reads.Learnt,
+  nothing-reads.Asked,
+  nothing-reads.Learnt,
+  moved-reads.Asked,
+  moved-reads.Learnt,
+  leaf-reads.Asked,
+  leaf-reads.Learnt,
+  first-split-reads.Asked,
+  first-split-reads.Learnt,
+  at-splits-below t,
+  at-splits.Post,
+) (branch-at t) branch.Post
+branch-nothing-requires t c κs = tt
+
+branch-moved-requires : (t : ℕ) → branch-lts.Need-moved-requires (
+  own-fields-reads.Asked,
+  own-fields-reads.Learnt,
+  frame-line-reads.Asked,
+  frame-line-reads.Learnt,
+  skip-reads.Asked,
+  skip-reads.Learnt,
+  nothing-reads.Asked,
+  nothing-reads.Learnt,
+  moved-reads.Asked,
+  moved-reads.Learnt,
+  leaf-reads.Asked,
+  leaf-reads.Learnt,
+  first-split-reads.Asked,
+  first-split-reads.Learnt,
+  at-splits-below t,
+  at-splits.Post,
+) (branch-at t) branch.Post
+branch-moved-requires t c κs = tt
+
+branch-leaf-requires : (t : ℕ) → branch-lts.Need-leaf-requires (
+  own-fields-reads.Asked,
+  own-fields-reads.Learnt,
+  frame-line-reads.Asked,
+  frame-line-reads.Learnt,
+  skip-reads.Asked,
+  skip-reads.Learnt,
+  nothing-reads.Asked,
+  nothing-reads.Learnt,
+  moved-reads.Asked,
+  moved-reads.Learnt,
+  leaf-reads.Asked,
+  leaf-reads.Learnt,
+  first-split-reads.Asked,
+  first-split-reads.Learnt,
+  at-splits-below t,
+  at-splits.Post,
+) (branch-at t) branch.Post
+branch-leaf-requires t c κs = tt
+
+branch-returns : (t : ℕ) → branch-lts.Need-returns (
+  own-fields-reads.Asked,
+  own-fields-reads.Learnt,
+  frame-line-reads.Asked,
+  frame-line-reads.Learnt,
+  skip-reads.Asked,
+  skip-reads.Learnt,
+  nothing-reads.Asked,
+  nothing-reads.Learnt,
+  moved-reads.Asked,
+  moved-reads.Learnt,
+  leaf-reads.Asked,
+  leaf-reads.Learnt,
+  first-split-reads.Asked,
+  first-split-reads.Learnt,
+  at-splits-below t,
+  at-splits.Post,
+) (branch-at t) branch.Post
+branch-returns t c = branch-skipped (c .before .before .before .before .before .before .before .own-fields .ensures) (c .before .before .before .before .before .before .if1 .taken) (c .before .before .before .before .frame-line .ensures) (c .before .before .before .skip .ensures) (c .before .moved .ensures) (c .before .before .nothing .ensures) (c .leaf .ensures)
+
+branch-cast-first-split : (t : ℕ) → branch-lts.Need-cast-first-split (
+  own-fields-reads.Asked,
+  own-fields-reads.Learnt,
+  frame-line-reads.Asked,
+  frame-line-reads.Learnt,
+  skip-reads.Asked,
+  skip-reads.Learnt,
+  nothing-reads.Asked,
+  nothing-reads.Learnt,
+  moved-reads.Asked,
+  moved-reads.Learnt,
+  leaf-reads.Asked,
+  leaf-reads.Learnt,
+  first-split-reads.Asked,
+  first-split-reads.Learnt,
+  at-splits-below t,
+  at-splits.Post,
+) (branch-at t) branch.Post
+branch-cast-first-split t c = omega arith
+
+branch-sub-first-split : (t : ℕ) → branch-lts.Need-sub-first-split (
+  own-fields-reads.Asked,
+  own-fields-reads.Learnt,
+  frame-line-reads.Asked,
+  frame-line-reads.Learnt,
+  skip-reads.Asked,
+  skip-reads.Learnt,
+  nothing-reads.Asked,
+  nothing-reads.Learnt,
+  moved-reads.Asked,
+  moved-reads.Learnt,
+  leaf-reads.Asked,
+  leaf-reads.Learnt,
+  first-split-reads.Asked,
+  first-split-reads.Learnt,
+  at-splits-below t,
+  at-splits.Post,
+) (branch-at t) branch.Post
+branch-sub-first-split t c = omega (arith, (c .before .before .if1 .left))
+
+branch-first-split-requires : (t : ℕ) → branch-lts.Need-first-split-requires (
+  own-fields-reads.Asked,
+  own-fields-reads.Learnt,
+  frame-line-reads.Asked,
+  frame-line-reads.Learnt,
+  skip-reads.Asked,
+  skip-reads.Learnt,
+  nothing-reads.Asked,
+  nothing-reads.Learnt,
+  moved-reads.Asked,
+  moved-reads.Learnt,
+  leaf-reads.Asked,
+  leaf-reads.Learnt,
+  first-split-reads.Asked,
+  first-split-reads.Learnt,
+  at-splits-below t,
+  at-splits.Post,
+) (branch-at t) branch.Post
+branch-first-split-requires t c κs = tt
+
+branch-at-splits-requires : (t : ℕ) → branch-lts.Need-at-splits-requires (
+  own-fields-reads.Asked,
+  own-fields-reads.Learnt,
+  frame-line-reads.Asked,
+  frame-line-reads.Learnt,
+  skip-reads.Asked,
+  skip-reads.Learnt,
+  nothing-reads.Asked,
+  nothing-reads.Learnt,
+  moved-reads.Asked,
+  moved-reads.Learnt,
+  leaf-reads.Asked,
+  leaf-reads.Learnt,
+  first-split-reads.Asked,
+  first-split-reads.Learnt,
+  at-splits-below t,
+  at-splits.Post,
+) (branch-at t) branch.Post
+branch-at-splits-requires t c κs = (load-same _ 200 (c .before .before .before .before .before .before .before .before .before .before .before .before .before .before .before .before .before .pre .0) 100 (omega arith), (room-kept (c .before .before .before .before .before .before .before .before .before .before .before .before .before .before .before .before .before .pre .1 .0) (refl) ((c .before .before .before .before .before .first-split .kept .0)), (c .before .before .before .before .before .before .before .before .before .before .before .before .before .before .before .before .before .pre .1 .1)))
+
+branch-same-length : (t : ℕ) → branch-lts.Need-same-length (
+  own-fields-reads.Asked,
+  own-fields-reads.Learnt,
+  frame-line-reads.Asked,
+  frame-line-reads.Learnt,
+  skip-reads.Asked,
+  skip-reads.Learnt,
+  nothing-reads.Asked,
+  nothing-reads.Learnt,
+  moved-reads.Asked,
+  moved-reads.Learnt,
+  leaf-reads.Asked,
+  leaf-reads.Learnt,
+  first-split-reads.Asked,
+  first-split-reads.Learnt,
+  at-splits-below t,
+  at-splits.Post,
+) (branch-at t) branch.Post
+branch-same-length t c = (c .before .before .before .before .before .before .at-splits .kept .1 .1 .1 .1 .0)
+
+branch-same-length-2 : (t : ℕ) → branch-lts.Need-same-length-2 (
+  own-fields-reads.Asked,
+  own-fields-reads.Learnt,
+  frame-line-reads.Asked,
+  frame-line-reads.Learnt,
+  skip-reads.Asked,
+  skip-reads.Learnt,
+  nothing-reads.Asked,
+  nothing-reads.Learnt,
+  moved-reads.Asked,
+  moved-reads.Learnt,
+  leaf-reads.Asked,
+  leaf-reads.Learnt,
+  first-split-reads.Asked,
+  first-split-reads.Learnt,
+  at-splits-below t,
+  at-splits.Post,
+) (branch-at t) branch.Post
+branch-same-length-2 t c = (c .before .before .before .before .before .before .at-splits .kept .1 .1 .1 .1 .1 .0)
+
+branch-same-length-3 : (t : ℕ) → branch-lts.Need-same-length-3 (
+  own-fields-reads.Asked,
+  own-fields-reads.Learnt,
+  frame-line-reads.Asked,
+  frame-line-reads.Learnt,
+  skip-reads.Asked,
+  skip-reads.Learnt,
+  nothing-reads.Asked,
+  nothing-reads.Learnt,
+  moved-reads.Asked,
+  moved-reads.Learnt,
+  leaf-reads.Asked,
+  leaf-reads.Learnt,
+  first-split-reads.Asked,
+  first-split-reads.Learnt,
+  at-splits-below t,
+  at-splits.Post,
+) (branch-at t) branch.Post
+branch-same-length-3 t c = (c .before .before .before .before .before .before .at-splits .kept .1 .1 .1 .1 .1 .1 .0) ∙ (c .before .before .before .before .before .before .before .before .before .before .before .before .first-split .kept .0)
+
+branch-returns-2 : (t : ℕ) → branch-lts.Need-returns-2 (
+  own-fields-reads.Asked,
+  own-fields-reads.Learnt,
+  frame-line-reads.Asked,
+  frame-line-reads.Learnt,
+  skip-reads.Asked,
+  skip-reads.Learnt,
+  nothing-reads.Asked,
+  nothing-reads.Learnt,
+  moved-reads.Asked,
+  moved-reads.Learnt,
+  leaf-reads.Asked,
+  leaf-reads.Learnt,
+  first-split-reads.Asked,
+  first-split-reads.Learnt,
+  at-splits-below t,
+  at-splits.Post,
+) (branch-at t) branch.Post
+branch-returns-2 t c = branch-split (c .before .before .before .before .before .before .before .before .before .before .before .before .before .before .before .before .own-fields .ensures) (c .before .before .before .before .before .before .before .before .before .before .before .before .before .before .before .if1 .left) (sizes-long (c .before .before .before .before .before .before .before .before .before .before .before .before .before .before .before .before .before .before .before .before .before .before .before .before .pre .1 .0) refl) (c .before .before .before .before .before .before .before .before .before .before .before .before .first-split .ensures) (c .before .before .before .before .before .before .at-splits .ensures)
+
+branches-constructors-requires : (t : ℕ) → branches-lts.Need-constructors-requires (
+  constructors-reads.Asked,
+  constructors-reads.Learnt,
+  nothing-reads.Asked,
+  nothing-reads.Learnt,
+  leaf-reads.Asked,
+  leaf-reads.Learnt,
+  branch-below t,
+  branch.Post,
+  behind-reads.Asked,
+  behind-reads.Learnt,
+  branches-below t,
+  branches.Post,
+  branched-reads.Asked,
+  branched-reads.Learnt,
+) (branches-at t) branches.Post
+branches-constructors-requires t c κs = tt
+
+branches-nothing-requires : (t : ℕ) → branches-lts.Need-nothing-requires (
+  constructors-reads.Asked,
+  constructors-reads.Learnt,
+  nothing-reads.Asked,
+  nothing-reads.Learnt,
+  leaf-reads.Asked,
+  leaf-reads.Learnt,
+  branch-below t,
+  branch.Post,
+  behind-reads.Asked,
+  behind-reads.Learnt,
+  branches-below t,
+  branches.Post,
+  branched-reads.Asked,
+  branched-reads.Learnt,
+) (branches-at t) branches.Post
+branches-nothing-requires t c κs = tt
+
+branches-leaf-requires : (t : ℕ) → branches-lts.Need-leaf-requires (
+  constructors-reads.Asked,
+  constructors-reads.Learnt,
+  nothing-reads.Asked,
+  nothing-reads.Learnt,
+  leaf-reads.Asked,
+  leaf-reads.Learnt,
+  branch-below t,
+  branch.Post,
+  behind-reads.Asked,
+  behind-reads.Learnt,
+  branches-below t,
+  branches.Post,
+  branched-reads.Asked,
+  branched-reads.Learnt,
+) (branches-at t) branches.Post
+branches-leaf-requires t c κs = tt
+
+branches-returns : (t : ℕ) → branches-lts.Need-returns (
+  constructors-reads.Asked,
+  constructors-reads.Learnt,
+  nothing-reads.Asked,
+  nothing-reads.Learnt,
+  leaf-reads.Asked,
+  leaf-reads.Learnt,
+  branch-below t,
+  branch.Post,
+  behind-reads.Asked,
+  behind-reads.Learnt,
+  branches-below t,
+  branches.Post,
+  branched-reads.Asked,
+  branched-reads.Learnt,
+) (branches-at t) branches.Post
+branches-returns t c = branches-none (c .before .before .before .constructors .ensures) (c .before .before .if1 .taken) (c .before .nothing .ensures) (c .leaf .ensures)
+
+branches-branch-requires : (t : ℕ) → branches-lts.Need-branch-requires (
+  constructors-reads.Asked,
+  constructors-reads.Learnt,
+  nothing-reads.Asked,
+  nothing-reads.Learnt,
+  leaf-reads.Asked,
+  leaf-reads.Learnt,
+  branch-below t,
+  branch.Post,
+  behind-reads.Asked,
+  behind-reads.Learnt,
+  branches-below t,
+  branches.Post,
+  branched-reads.Asked,
+  branched-reads.Learnt,
+) (branches-at t) branches.Post
+branches-branch-requires t c κs = (load-same _ _ (c .before .before .before .before .before .before .before .before .before .before .before .before .pre .0) 200 (omega arith), ((c .before .before .before .before .before .before .before .before .before .before .before .before .pre .1 .0), ((c .before .before .before .before .before .before .before .before .before .before .before .before .pre .1 .1 .0), omega (arith, (c .before .before .before .if1 .left), (c .before .before .before .before .constructors .ensures .1)))))
+
+branches-enum-known-x : (t : ℕ) → branches-lts.Need-enum-known-x (
+  constructors-reads.Asked,
+  constructors-reads.Learnt,
+  nothing-reads.Asked,
+  nothing-reads.Learnt,
+  leaf-reads.Asked,
+  leaf-reads.Learnt,
+  branch-below t,
+  branch.Post,
+  behind-reads.Asked,
+  behind-reads.Learnt,
+  branches-below t,
+  branches.Post,
+  branched-reads.Asked,
+  branched-reads.Learnt,
+) (branches-at t) branches.Post
+branches-enum-known-x t c = (c .match .keys1)
+
+branches-enum-told : (t : ℕ) → branches-lts.Need-enum-told (
+  constructors-reads.Asked,
+  constructors-reads.Learnt,
+  nothing-reads.Asked,
+  nothing-reads.Learnt,
+  leaf-reads.Asked,
+  leaf-reads.Learnt,
+  branch-below t,
+  branch.Post,
+  behind-reads.Asked,
+  behind-reads.Learnt,
+  branches-below t,
+  branches.Post,
+  branched-reads.Asked,
+  branched-reads.Learnt,
+) (branches-at t) branches.Post
+branches-enum-told t c = (c .match .keys2)
+
+branches-same-length : (t : ℕ) → branches-lts.Need-same-length (
+  constructors-reads.Asked,
+  constructors-reads.Learnt,
+  nothing-reads.Asked,
+  nothing-reads.Learnt,
+  leaf-reads.Asked,
+  leaf-reads.Learnt,
+  branch-below t,
+  branch.Post,
+  behind-reads.Asked,
+  behind-reads.Learnt,
+  branches-below t,
+  branches.Post,
+  branched-reads.Asked,
+  branched-reads.Learnt,
+) (branches-at t) branches.Post
+branches-same-length t c = (c .before .before .before .before .before .before .before .before .branch .kept .1 .1 .1 .1 .0)
+
+branches-same-length-2 : (t : ℕ) → branches-lts.Need-same-length-2 (
+  constructors-reads.Asked,
+  constructors-reads.Learnt,
+  nothing-reads.Asked,
+  nothing-reads.Learnt,
+  leaf-reads.Asked,
+  leaf-reads.Learnt,
+  branch-below t,
+  branch.Post,
+  behind-reads.Asked,
+  behind-reads.Learnt,
+  branches-below t,
+  branches.Post,
+  branched-reads.Asked,
+  branched-reads.Learnt,
+) (branches-at t) branches.Post
+branches-same-length-2 t c = (c .before .before .before .before .before .before .before .before .branch .kept .1 .1 .1 .1 .1 .0)
+
+branches-same-length-3 : (t : ℕ) → branches-lts.Need-same-length-3 (
+  constructors-reads.Asked,
+  constructors-reads.Learnt,
+  nothing-reads.Asked,
+  nothing-reads.Learnt,
+  leaf-reads.Asked,
+  leaf-reads.Learnt,
+  branch-below t,
+  branch.Post,
+  behind-reads.Asked,
+  behind-reads.Learnt,
+  branches-below t,
+  branches.Post,
+  branched-reads.Asked,
+  branched-reads.Learnt,
+) (branches-at t) branches.Post
+branches-same-length-3 t c = (c .before .before .before .before .before .before .before .before .branch .kept .1 .1 .1 .1 .1 .1 .0)
+
+branches-returns-2 : (t : ℕ) → branches-lts.Need-returns-2 (
+  constructors-reads.Asked,
+  constructors-reads.Learnt,
+  nothing-reads.Asked,
+  nothing-reads.Learnt,
+  leaf-reads.Asked,
+  leaf-reads.Learnt,
+  branch-below t,
+  branch.Post,
+  behind-reads.Asked,
+  behind-reads.Learnt,
+  branches-below t,
+  branches.Post,
+  branched-reads.Asked,
+  branched-reads.Learnt,
+) (branches-at t) branches.Post
+branches-returns-2 t c = branches-first (c .before .before .before .before .before .before .before .before .before .before .before .before .before .constructors .ensures) (c .before .before .before .before .before .before .before .before .before .before .before .before .if1 .left) (c .before .before .before .before .before .before .before .before .branch .ensures) (c .enum-told .given .1)
+
+branches-behind-requires : (t : ℕ) → branches-lts.Need-behind-requires (
+  constructors-reads.Asked,
+  constructors-reads.Learnt,
+  nothing-reads.Asked,
+  nothing-reads.Learnt,
+  leaf-reads.Asked,
+  leaf-reads.Learnt,
+  branch-below t,
+  branch.Post,
+  behind-reads.Asked,
+  behind-reads.Learnt,
+  branches-below t,
+  branches.Post,
+  branched-reads.Asked,
+  branched-reads.Learnt,
+) (branches-at t) branches.Post
+branches-behind-requires t c κs = tt
+
+branches-add-j : (t : ℕ) → branches-lts.Need-add-j (
+  constructors-reads.Asked,
+  constructors-reads.Learnt,
+  nothing-reads.Asked,
+  nothing-reads.Learnt,
+  leaf-reads.Asked,
+  leaf-reads.Learnt,
+  branch-below t,
+  branch.Post,
+  behind-reads.Asked,
+  behind-reads.Learnt,
+  branches-below t,
+  branches.Post,
+  branched-reads.Asked,
+  branched-reads.Learnt,
+) (branches-at t) branches.Post
+branches-add-j t c = omega (arith, (c .before .before .before .before .before .before .before .before .before .before .before .before .before .before .if1 .left), (c .before .before .before .before .before .before .before .before .before .before .before .before .before .before .before .constructors .ensures .1))
+
+branches-branches-requires : (t : ℕ) → branches-lts.Need-branches-requires (
+  constructors-reads.Asked,
+  constructors-reads.Learnt,
+  nothing-reads.Asked,
+  nothing-reads.Learnt,
+  leaf-reads.Asked,
+  leaf-reads.Learnt,
+  branch-below t,
+  branch.Post,
+  behind-reads.Asked,
+  behind-reads.Learnt,
+  branches-below t,
+  branches.Post,
+  branched-reads.Asked,
+  branched-reads.Learnt,
+) (branches-at t) branches.Post
+branches-branches-requires t c κs = (load-moved _ _ (c .before .before .before .before .before .before .before .before .before .before .before .before .before .before .before .before .before .before .before .before .before .before .before .before .before .before .pre .0) _ _ (c .before .before .before .behind .ensures) (grows-to (c .before .before .before .before .before .before .before .before .before .before .before .before .before .branch .ensures .grows) (c .before .before .before .before .before .x .given .1)) (omega (arith, (c .before .before .before .before .before .before .before .before .before .before .before .before .before .before .before .before .before .if1 .left), (c .before .before .before .before .before .before .before .before .before .before .before .before .before .before .before .before .before .before .constructors .ensures .1))), (room-rest (c .before .before .before .before .before .before .before .before .before .before .before .before .before .before .before .before .before .before .before .before .before .before .before .before .before .before .pre .1 .0) (c .before .before .before .behind .ensures) ((c .before .before .before .before .before .before .before .before .before .before .before .before .before .branch .kept .1 .1 .1 .1 .1 .0)) ((c .before .before .before .before .before .before .before .before .before .before .before .before .before .branch .kept .1 .1 .1 .1 .1 .1 .0)), ((c .before .before .before .before .before .before .before .before .before .before .before .before .before .before .before .before .before .before .before .before .before .before .before .before .before .before .pre .1 .1 .0), omega (arith, (c .before .before .before .before .before .before .before .before .before .before .before .before .before .before .before .before .before .if1 .left), (c .before .before .before .before .before .before .before .before .before .before .before .before .before .before .before .before .before .before .constructors .ensures .1)))))
+
+branches-enum-known-y : (t : ℕ) → branches-lts.Need-enum-known-y (
+  constructors-reads.Asked,
+  constructors-reads.Learnt,
+  nothing-reads.Asked,
+  nothing-reads.Learnt,
+  leaf-reads.Asked,
+  leaf-reads.Learnt,
+  branch-below t,
+  branch.Post,
+  behind-reads.Asked,
+  behind-reads.Learnt,
+  branches-below t,
+  branches.Post,
+  branched-reads.Asked,
+  branched-reads.Learnt,
+) (branches-at t) branches.Post
+branches-enum-known-y t c = (c .match2 .keys1)
+
+branches-enum-told-2 : (t : ℕ) → branches-lts.Need-enum-told-2 (
+  constructors-reads.Asked,
+  constructors-reads.Learnt,
+  nothing-reads.Asked,
+  nothing-reads.Learnt,
+  leaf-reads.Asked,
+  leaf-reads.Learnt,
+  branch-below t,
+  branch.Post,
+  behind-reads.Asked,
+  behind-reads.Learnt,
+  branches-below t,
+  branches.Post,
+  branched-reads.Asked,
+  branched-reads.Learnt,
+) (branches-at t) branches.Post
+branches-enum-told-2 t c = (c .match2 .keys2)
+
+branches-same-length-4 : (t : ℕ) → branches-lts.Need-same-length-4 (
+  constructors-reads.Asked,
+  constructors-reads.Learnt,
+  nothing-reads.Asked,
+  nothing-reads.Learnt,
+  leaf-reads.Asked,
+  leaf-reads.Learnt,
+  branch-below t,
+  branch.Post,
+  behind-reads.Asked,
+  behind-reads.Learnt,
+  branches-below t,
+  branches.Post,
+  branched-reads.Asked,
+  branched-reads.Learnt,
+) (branches-at t) branches.Post
+branches-same-length-4 t c = (c .before .before .before .before .before .before .before .before .branches .kept .1 .1 .1 .1 .0) ∙ (c .before .before .before .before .before .before .before .before .before .before .before .before .before .before .before .before .before .before .before .before .before .before .branch .kept .1 .1 .1 .1 .0)
+
+branches-same-length-5 : (t : ℕ) → branches-lts.Need-same-length-5 (
+  constructors-reads.Asked,
+  constructors-reads.Learnt,
+  nothing-reads.Asked,
+  nothing-reads.Learnt,
+  leaf-reads.Asked,
+  leaf-reads.Learnt,
+  branch-below t,
+  branch.Post,
+  behind-reads.Asked,
+  behind-reads.Learnt,
+  branches-below t,
+  branches.Post,
+  branched-reads.Asked,
+  branched-reads.Learnt,
+) (branches-at t) branches.Post
+branches-same-length-5 t c = (c .before .before .before .before .before .before .before .before .branches .kept .1 .1 .1 .1 .1 .0) ∙ (c .before .before .before .before .before .before .before .before .before .before .before .before .before .before .before .before .before .before .before .before .before .before .branch .kept .1 .1 .1 .1 .1 .0)
+
+branches-same-length-6 : (t : ℕ) → branches-lts.Need-same-length-6 (
+  constructors-reads.Asked,
+  constructors-reads.Learnt,
+  nothing-reads.Asked,
+  nothing-reads.Learnt,
+  leaf-reads.Asked,
+  leaf-reads.Learnt,
+  branch-below t,
+  branch.Post,
+  behind-reads.Asked,
+  behind-reads.Learnt,
+  branches-below t,
+  branches.Post,
+  branched-reads.Asked,
+  branched-reads.Learnt,
+) (branches-at t) branches.Post
+branches-same-length-6 t c = (c .before .before .before .before .before .before .before .before .branches .kept .1 .1 .1 .1 .1 .1 .0) ∙ (c .before .before .before .before .before .before .before .before .before .before .before .before .before .before .before .before .before .before .before .before .before .before .branch .kept .1 .1 .1 .1 .1 .1 .0)
+
+branches-returns-3 : (t : ℕ) → branches-lts.Need-returns-3 (
+  constructors-reads.Asked,
+  constructors-reads.Learnt,
+  nothing-reads.Asked,
+  nothing-reads.Learnt,
+  leaf-reads.Asked,
+  leaf-reads.Learnt,
+  branch-below t,
+  branch.Post,
+  behind-reads.Asked,
+  behind-reads.Learnt,
+  branches-below t,
+  branches.Post,
+  branched-reads.Asked,
+  branched-reads.Learnt,
+) (branches-at t) branches.Post
+branches-returns-3 t c = branches-rest (c .before .before .before .before .before .before .before .before .before .before .before .before .before .before .before .before .before .before .before .before .before .before .before .before .before .before .before .constructors .ensures) (c .before .before .before .before .before .before .before .before .before .before .before .before .before .before .before .before .before .before .before .before .before .before .before .before .before .before .if1 .left) (c .before .before .before .before .before .before .before .before .before .before .before .before .before .before .before .before .before .before .before .before .before .before .branch .ensures) (c .before .before .before .before .before .before .before .before .before .before .before .before .before .before .x .given .1) (c .before .before .before .before .before .before .before .before .before .before .before .before .behind .ensures) (c .before .before .before .before .before .before .before .before .branches .ensures) (c .enum-told2 .given .1)
+
+branches-branched-requires : (t : ℕ) → branches-lts.Need-branched-requires (
+  constructors-reads.Asked,
+  constructors-reads.Learnt,
+  nothing-reads.Asked,
+  nothing-reads.Learnt,
+  leaf-reads.Asked,
+  leaf-reads.Learnt,
+  branch-below t,
+  branch.Post,
+  behind-reads.Asked,
+  behind-reads.Learnt,
+  branches-below t,
+  branches.Post,
+  branched-reads.Asked,
+  branched-reads.Learnt,
+) (branches-at t) branches.Post
+branches-branched-requires t c κs = tt
+
+branches-same-length-7 : (t : ℕ) → branches-lts.Need-same-length-7 (
+  constructors-reads.Asked,
+  constructors-reads.Learnt,
+  nothing-reads.Asked,
+  nothing-reads.Learnt,
+  leaf-reads.Asked,
+  leaf-reads.Learnt,
+  branch-below t,
+  branch.Post,
+  behind-reads.Asked,
+  behind-reads.Learnt,
+  branches-below t,
+  branches.Post,
+  branched-reads.Asked,
+  branched-reads.Learnt,
+) (branches-at t) branches.Post
+branches-same-length-7 t c = (c .before .before .before .before .before .before .before .before .before .before .branches .kept .1 .1 .1 .1 .0) ∙ (c .before .before .before .before .before .before .before .before .before .before .before .before .before .before .before .before .before .before .before .before .before .before .before .before .branch .kept .1 .1 .1 .1 .0)
+
+branches-same-length-8 : (t : ℕ) → branches-lts.Need-same-length-8 (
+  constructors-reads.Asked,
+  constructors-reads.Learnt,
+  nothing-reads.Asked,
+  nothing-reads.Learnt,
+  leaf-reads.Asked,
+  leaf-reads.Learnt,
+  branch-below t,
+  branch.Post,
+  behind-reads.Asked,
+  behind-reads.Learnt,
+  branches-below t,
+  branches.Post,
+  branched-reads.Asked,
+  branched-reads.Learnt,
+) (branches-at t) branches.Post
+branches-same-length-8 t c = (c .before .before .before .before .before .before .before .before .before .before .branches .kept .1 .1 .1 .1 .1 .0) ∙ (c .before .before .before .before .before .before .before .before .before .before .before .before .before .before .before .before .before .before .before .before .before .before .before .before .branch .kept .1 .1 .1 .1 .1 .0)
+
+branches-same-length-9 : (t : ℕ) → branches-lts.Need-same-length-9 (
+  constructors-reads.Asked,
+  constructors-reads.Learnt,
+  nothing-reads.Asked,
+  nothing-reads.Learnt,
+  leaf-reads.Asked,
+  leaf-reads.Learnt,
+  branch-below t,
+  branch.Post,
+  behind-reads.Asked,
+  behind-reads.Learnt,
+  branches-below t,
+  branches.Post,
+  branched-reads.Asked,
+  branched-reads.Learnt,
+) (branches-at t) branches.Post
+branches-same-length-9 t c = (c .before .before .before .before .before .before .before .before .before .before .branches .kept .1 .1 .1 .1 .1 .1 .0) ∙ (c .before .before .before .before .before .before .before .before .before .before .before .before .before .before .before .before .before .before .before .before .before .before .before .before .branch .kept .1 .1 .1 .1 .1 .1 .0)
+
+branches-returns-4 : (t : ℕ) → branches-lts.Need-returns-4 (
+  constructors-reads.Asked,
+  constructors-reads.Learnt,
+  nothing-reads.Asked,
+  nothing-reads.Learnt,
+  leaf-reads.Asked,
+  leaf-reads.Learnt,
+  branch-below t,
+  branch.Post,
+  behind-reads.Asked,
+  behind-reads.Learnt,
+  branches-below t,
+  branches.Post,
+  branched-reads.Asked,
+  branched-reads.Learnt,
+) (branches-at t) branches.Post
+branches-returns-4 t c = branches-done (c .before .before .before .before .before .before .before .before .before .before .before .before .before .before .before .before .before .before .before .before .before .before .before .before .before .before .before .before .before .constructors .ensures) (c .before .before .before .before .before .before .before .before .before .before .before .before .before .before .before .before .before .before .before .before .before .before .before .before .before .before .before .before .if1 .left) (c .before .before .before .before .before .before .before .before .before .before .before .before .before .before .before .before .before .before .before .before .before .before .before .before .branch .ensures) (c .before .before .before .before .before .before .before .before .before .before .before .before .before .before .before .before .x .given .1) (c .before .before .before .before .before .before .before .before .before .before .before .before .before .before .behind .ensures) (c .before .before .before .before .before .before .before .before .before .before .branches .ensures) (c .before .before .y .given .1) (c .branched .ensures .all) (c .branched .ensures .is)
+
+call-arity-requires : (t : ℕ) → call-lts.Need-arity-requires (
+  arity-reads.Asked,
+  arity-reads.Learnt,
+  several-below t,
+  several.Post,
+  refused-reads.Asked,
+  refused-reads.Learnt,
+  apply-below t,
+  apply.Post,
+) (call-at t) call.Post
+call-arity-requires t c κs = tt
+
+call-slice-aggregate-several : (t : ℕ) → call-lts.Need-slice-aggregate-several (
+  arity-reads.Asked,
+  arity-reads.Learnt,
+  several-below t,
+  several.Post,
+  refused-reads.Asked,
+  refused-reads.Learnt,
+  apply-below t,
+  apply.Post,
+) (call-at t) call.Post
+call-slice-aggregate-several t c = refl
+
+call-several-requires : (t : ℕ) → call-lts.Need-several-requires (
+  arity-reads.Asked,
+  arity-reads.Learnt,
+  several-below t,
+  several.Post,
+  refused-reads.Asked,
+  refused-reads.Learnt,
+  apply-below t,
+  apply.Post,
+) (call-at t) call.Post
+call-several-requires t c κs = (load-same _ 900 (c .before .before .before .before .before .before .before .before .before .before .before .before .pre .0) _ (omega (arith, (c .before .before .before .before .arity .ensures .1))), ((c .before .before .before .before .before .before .before .before .before .before .before .before .pre .1 .0), (c .before .before .before .before .arity .ensures .1)))
+
+call-enum-known-x : (t : ℕ) → call-lts.Need-enum-known-x (
+  arity-reads.Asked,
+  arity-reads.Learnt,
+  several-below t,
+  several.Post,
+  refused-reads.Asked,
+  refused-reads.Learnt,
+  apply-below t,
+  apply.Post,
+) (call-at t) call.Post
+call-enum-known-x t c = (c .match .keys1)
+
+call-enum-told : (t : ℕ) → call-lts.Need-enum-told (
+  arity-reads.Asked,
+  arity-reads.Learnt,
+  several-below t,
+  several.Post,
+  refused-reads.Asked,
+  refused-reads.Learnt,
+  apply-below t,
+  apply.Post,
+) (call-at t) call.Post
+call-enum-told t c = (c .match .keys2)
+
+call-refused-requires : (t : ℕ) → call-lts.Need-refused-requires (
+  arity-reads.Asked,
+  arity-reads.Learnt,
+  several-below t,
+  several.Post,
+  refused-reads.Asked,
+  refused-reads.Learnt,
+  apply-below t,
+  apply.Post,
+) (call-at t) call.Post
+call-refused-requires t c κs = tt
+
+call-same-length : (t : ℕ) → call-lts.Need-same-length (
+  arity-reads.Asked,
+  arity-reads.Learnt,
+  several-below t,
+  several.Post,
+  refused-reads.Asked,
+  refused-reads.Learnt,
+  apply-below t,
+  apply.Post,
+) (call-at t) call.Post
+call-same-length t c = (c .before .before .before .before .before .before .before .before .before .before .several .kept .1 .1 .1 .1 .0)
+
+call-same-length-2 : (t : ℕ) → call-lts.Need-same-length-2 (
+  arity-reads.Asked,
+  arity-reads.Learnt,
+  several-below t,
+  several.Post,
+  refused-reads.Asked,
+  refused-reads.Learnt,
+  apply-below t,
+  apply.Post,
+) (call-at t) call.Post
+call-same-length-2 t c = (c .before .before .before .before .before .before .before .before .before .before .several .kept .1 .1 .1 .1 .1 .0)
+
+call-same-length-3 : (t : ℕ) → call-lts.Need-same-length-3 (
+  arity-reads.Asked,
+  arity-reads.Learnt,
+  several-below t,
+  several.Post,
+  refused-reads.Asked,
+  refused-reads.Learnt,
+  apply-below t,
+  apply.Post,
+) (call-at t) call.Post
+call-same-length-3 t c = (c .before .before .before .before .before .before .before .before .before .before .several .kept .1 .1 .1 .1 .1 .1 .0)
+
+call-returns : (t : ℕ) → call-lts.Need-returns (
+  arity-reads.Asked,
+  arity-reads.Learnt,
+  several-below t,
+  several.Post,
+  refused-reads.Asked,
+  refused-reads.Learnt,
+  apply-below t,
+  apply.Post,
+) (call-at t) call.Post
+call-returns t c = call-arguments (c .before .before .before .before .before .before .before .before .before .before .before .before .before .before .before .arity .ensures) (omega arith) (c .before .before .before .before .before .before .before .before .before .before .several .ensures) (c .before .enum-told .given .1) (c .refused .ensures)
+
+call-slice-aggregate-apply : (t : ℕ) → call-lts.Need-slice-aggregate-apply (
+  arity-reads.Asked,
+  arity-reads.Learnt,
+  several-below t,
+  several.Post,
+  refused-reads.Asked,
+  refused-reads.Learnt,
+  apply-below t,
+  apply.Post,
+) (call-at t) call.Post
+call-slice-aggregate-apply t c = search needs
+
+call-apply-requires : (t : ℕ) → call-lts.Need-apply-requires (
+  arity-reads.Asked,
+  arity-reads.Learnt,
+  several-below t,
+  several.Post,
+  refused-reads.Asked,
+  refused-reads.Learnt,
+  apply-below t,
+  apply.Post,
+) (call-at t) call.Post
+call-apply-requires t c κs = (load-same _ 900 (c .before .before .before .before .before .before .before .before .before .before .before .before .before .before .before .before .before .before .before .before .before .before .before .before .before .pre .0) 800 (omega arith), (room-row (c .before .before .before .before .before .before .before .before .before .before .before .before .before .before .before .before .before .before .before .before .before .before .before .before .before .pre .1 .0) (omega (arith, (c .before .before .before .before .before .before .before .before .before .before .before .before .several .kept .1 .1 .1 .1 .1 .1 .1 .1 .0))), (grows-all-to (c .before .before .before .before .before .before .before .before .before .before .before .before .several .ensures .grows) (c .before .before .before .x .given .1), ((c .before .before .before .before .before .before .before .before .before .before .before .before .before .before .before .before .before .before .before .before .before .before .before .before .before .pre .1 .1), (c .before .before .before .before .before .before .before .before .before .before .before .before .before .before .before .before .before .arity .ensures .1)))))
+
+call-same-length-4 : (t : ℕ) → call-lts.Need-same-length-4 (
+  arity-reads.Asked,
+  arity-reads.Learnt,
+  several-below t,
+  several.Post,
+  refused-reads.Asked,
+  refused-reads.Learnt,
+  apply-below t,
+  apply.Post,
+) (call-at t) call.Post
+call-same-length-4 t c = (c .before .before .before .apply .kept .1 .1 .1 .1 .0) ∙ (c .before .before .before .before .before .before .before .before .before .before .before .before .before .before .before .before .several .kept .1 .1 .1 .1 .0)
+
+call-same-length-5 : (t : ℕ) → call-lts.Need-same-length-5 (
+  arity-reads.Asked,
+  arity-reads.Learnt,
+  several-below t,
+  several.Post,
+  refused-reads.Asked,
+  refused-reads.Learnt,
+  apply-below t,
+  apply.Post,
+) (call-at t) call.Post
+call-same-length-5 t c = (c .before .before .before .before .before .before .before .before .before .before .before .before .before .before .before .before .several .kept .1 .1 .1 .1 .1 .0)
+
+call-same-length-6 : (t : ℕ) → call-lts.Need-same-length-6 (
+  arity-reads.Asked,
+  arity-reads.Learnt,
+  several-below t,
+  several.Post,
+  refused-reads.Asked,
+  refused-reads.Learnt,
+  apply-below t,
+  apply.Post,
+) (call-at t) call.Post
+call-same-length-6 t c = (c .before .before .before .before .before .before .before .before .before .before .before .before .before .before .before .before .several .kept .1 .1 .1 .1 .1 .1 .0)
+
+call-returns-2 : (t : ℕ) → call-lts.Need-returns-2 (
+  arity-reads.Asked,
+  arity-reads.Learnt,
+  several-below t,
+  several.Post,
+  refused-reads.Asked,
+  refused-reads.Learnt,
+  apply-below t,
+  apply.Post,
+) (call-at t) call.Post
+call-returns-2 t c = call-applied (c .before .before .before .before .before .before .before .before .before .before .before .before .before .before .before .before .before .before .before .before .before .arity .ensures) (omega arith) (c .before .before .before .before .before .before .before .before .before .before .before .before .before .before .before .before .several .ensures) (c .before .before .before .before .before .before .before .x .given .1) (c .before .before .before .apply .ensures)
+
+case-of-expr-requires : (t : ℕ) → case-of-lts.Need-expr-requires (
+  expr-below t,
+  expr.Post,
+  frame-line-reads.Asked,
+  frame-line-reads.Learnt,
+  type-at-reads.Asked,
+  type-at-reads.Learnt,
+  subject-reads.Asked,
+  subject-reads.Learnt,
+  moved-reads.Asked,
+  moved-reads.Learnt,
+  branches-below t,
+  branches.Post,
+  cased-reads.Asked,
+  cased-reads.Learnt,
+) (case-of-at t) case-of.Post
+case-of-expr-requires t c κs = (load-same _ 900 (c .before .before .before .before .before .before .before .before .before .before .pre .0) 0 (omega arith), room-same (c .before .before .before .before .before .before .before .before .before .before .pre .1 .0) (omega arith))
+
+case-of-enum-known-x : (t : ℕ) → case-of-lts.Need-enum-known-x (
+  expr-below t,
+  expr.Post,
+  frame-line-reads.Asked,
+  frame-line-reads.Learnt,
+  type-at-reads.Asked,
+  type-at-reads.Learnt,
+  subject-reads.Asked,
+  subject-reads.Learnt,
+  moved-reads.Asked,
+  moved-reads.Learnt,
+  branches-below t,
+  branches.Post,
+  cased-reads.Asked,
+  cased-reads.Learnt,
+) (case-of-at t) case-of.Post
+case-of-enum-known-x t c = (c .match .keys1)
+
+case-of-enum-told : (t : ℕ) → case-of-lts.Need-enum-told (
+  expr-below t,
+  expr.Post,
+  frame-line-reads.Asked,
+  frame-line-reads.Learnt,
+  type-at-reads.Asked,
+  type-at-reads.Learnt,
+  subject-reads.Asked,
+  subject-reads.Learnt,
+  moved-reads.Asked,
+  moved-reads.Learnt,
+  branches-below t,
+  branches.Post,
+  cased-reads.Asked,
+  cased-reads.Learnt,
+) (case-of-at t) case-of.Post
+case-of-enum-told t c = (c .match .keys2)
+
+case-of-same-length : (t : ℕ) → case-of-lts.Need-same-length (
+  expr-below t,
+  expr.Post,
+  frame-line-reads.Asked,
+  frame-line-reads.Learnt,
+  type-at-reads.Asked,
+  type-at-reads.Learnt,
+  subject-reads.Asked,
+  subject-reads.Learnt,
+  moved-reads.Asked,
+  moved-reads.Learnt,
+  branches-below t,
+  branches.Post,
+  cased-reads.Asked,
+  cased-reads.Learnt,
+) (case-of-at t) case-of.Post
+case-of-same-length t c = (c .before .before .before .before .before .before .before .before .expr .kept .1 .1 .1 .1 .0)
+
+case-of-same-length-2 : (t : ℕ) → case-of-lts.Need-same-length-2 (
+  expr-below t,
+  expr.Post,
+  frame-line-reads.Asked,
+  frame-line-reads.Learnt,
+  type-at-reads.Asked,
+  type-at-reads.Learnt,
+  subject-reads.Asked,
+  subject-reads.Learnt,
+  moved-reads.Asked,
+  moved-reads.Learnt,
+  branches-below t,
+  branches.Post,
+  cased-reads.Asked,
+  cased-reads.Learnt,
+) (case-of-at t) case-of.Post
+case-of-same-length-2 t c = (c .before .before .before .before .before .before .before .before .expr .kept .1 .1 .1 .1 .1 .0)
+
+case-of-same-length-3 : (t : ℕ) → case-of-lts.Need-same-length-3 (
+  expr-below t,
+  expr.Post,
+  frame-line-reads.Asked,
+  frame-line-reads.Learnt,
+  type-at-reads.Asked,
+  type-at-reads.Learnt,
+  subject-reads.Asked,
+  subject-reads.Learnt,
+  moved-reads.Asked,
+  moved-reads.Learnt,
+  branches-below t,
+  branches.Post,
+  cased-reads.Asked,
+  cased-reads.Learnt,
+) (case-of-at t) case-of.Post
+case-of-same-length-3 t c = (c .before .before .before .before .before .before .before .before .expr .kept .1 .1 .1 .1 .1 .1 .0)
+
+case-of-returns : (t : ℕ) → case-of-lts.Need-returns (
+  expr-below t,
+  expr.Post,
+  frame-line-reads.Asked,
+  frame-line-reads.Learnt,
+  type-at-reads.Asked,
+  type-at-reads.Learnt,
+  subject-reads.Asked,
+  subject-reads.Learnt,
+  moved-reads.Asked,
+  moved-reads.Learnt,
+  branches-below t,
+  branches.Post,
+  cased-reads.Asked,
+  cased-reads.Learnt,
+) (case-of-at t) case-of.Post
+case-of-returns t c = case-first (c .before .before .before .before .before .before .before .before .expr .ensures) (c .enum-told .given .1)
+
+case-of-enum-known-kind : (t : ℕ) → case-of-lts.Need-enum-known-kind (
+  expr-below t,
+  expr.Post,
+  frame-line-reads.Asked,
+  frame-line-reads.Learnt,
+  type-at-reads.Asked,
+  type-at-reads.Learnt,
+  subject-reads.Asked,
+  subject-reads.Learnt,
+  moved-reads.Asked,
+  moved-reads.Learnt,
+  branches-below t,
+  branches.Post,
+  cased-reads.Asked,
+  cased-reads.Learnt,
+) (case-of-at t) case-of.Post
+case-of-enum-known-kind t c = (c .match2 .keys1)
+
+case-of-add-t29 : (t : ℕ) → case-of-lts.Need-add-t29 (
+  expr-below t,
+  expr.Post,
+  frame-line-reads.Asked,
+  frame-line-reads.Learnt,
+  type-at-reads.Asked,
+  type-at-reads.Learnt,
+  subject-reads.Asked,
+  subject-reads.Learnt,
+  moved-reads.Asked,
+  moved-reads.Learnt,
+  branches-below t,
+  branches.Post,
+  cased-reads.Asked,
+  cased-reads.Learnt,
+) (case-of-at t) case-of.Post
+case-of-add-t29 t c = omega (arith, (c .before .before .before .before .before .before .before .before .before .before .before .before .before .before .before .before .before .before .before .before .before .before .pre .1 .0 .line))
+
+case-of-same-length-4 : (t : ℕ) → case-of-lts.Need-same-length-4 (
+  expr-below t,
+  expr.Post,
+  frame-line-reads.Asked,
+  frame-line-reads.Learnt,
+  type-at-reads.Asked,
+  type-at-reads.Learnt,
+  subject-reads.Asked,
+  subject-reads.Learnt,
+  moved-reads.Asked,
+  moved-reads.Learnt,
+  branches-below t,
+  branches.Post,
+  cased-reads.Asked,
+  cased-reads.Learnt,
+) (case-of-at t) case-of.Post
+case-of-same-length-4 t c = (c .before .before .before .before .before .before .before .before .before .before .before .expr .kept .1 .1 .1 .1 .0)
+
+case-of-same-length-5 : (t : ℕ) → case-of-lts.Need-same-length-5 (
+  expr-below t,
+  expr.Post,
+  frame-line-reads.Asked,
+  frame-line-reads.Learnt,
+  type-at-reads.Asked,
+  type-at-reads.Learnt,
+  subject-reads.Asked,
+  subject-reads.Learnt,
+  moved-reads.Asked,
+  moved-reads.Learnt,
+  branches-below t,
+  branches.Post,
+  cased-reads.Asked,
+  cased-reads.Learnt,
+) (case-of-at t) case-of.Post
+case-of-same-length-5 t c = (c .before .before .before .before .before .before .before .before .before .before .before .expr .kept .1 .1 .1 .1 .1 .0)
+
+case-of-same-length-6 : (t : ℕ) → case-of-lts.Need-same-length-6 (
+  expr-below t,
+  expr.Post,
+  frame-line-reads.Asked,
+  frame-line-reads.Learnt,
+  type-at-reads.Asked,
+  type-at-reads.Learnt,
+  subject-reads.Asked,
+  subject-reads.Learnt,
+  moved-reads.Asked,
+  moved-reads.Learnt,
+  branches-below t,
+  branches.Post,
+  cased-reads.Asked,
+  cased-reads.Learnt,
+) (case-of-at t) case-of.Post
+case-of-same-length-6 t c = (c .before .before .before .before .before .before .before .before .before .before .before .expr .kept .1 .1 .1 .1 .1 .1 .0)
+
+case-of-returns-2 : (t : ℕ) → case-of-lts.Need-returns-2 (
+  expr-below t,
+  expr.Post,
+  frame-line-reads.Asked,
+  frame-line-reads.Learnt,
+  type-at-reads.Asked,
+  type-at-reads.Learnt,
+  subject-reads.Asked,
+  subject-reads.Learnt,
+  moved-reads.Asked,
+  moved-reads.Learnt,
+  branches-below t,
+  branches.Post,
+  cased-reads.Asked,
+  cased-reads.Learnt,
+) (case-of-at t) case-of.Post
+case-of-returns-2 t c = case-plain (c .before .before .before .before .before .before .before .before .before .before .before .expr .ensures) (c .before .before .before .x .given .1) (not-named _ (c .before .match2 .keys2))
+
+case-of-frame-line-requires : (t : ℕ) → case-of-lts.Need-frame-line-requires (
+  expr-below t,
+  expr.Post,
+  frame-line-reads.Asked,
+  frame-line-reads.Learnt,
+  type-at-reads.Asked,
+  type-at-reads.Learnt,
+  subject-reads.Asked,
+  subject-reads.Learnt,
+  moved-reads.Asked,
+  moved-reads.Learnt,
+  branches-below t,
+  branches.Post,
+  cased-reads.Asked,
+  cased-reads.Learnt,
+) (case-of-at t) case-of.Post
+case-of-frame-line-requires t c κs = tt
+
+case-of-type-at-requires : (t : ℕ) → case-of-lts.Need-type-at-requires (
+  expr-below t,
+  expr.Post,
+  frame-line-reads.Asked,
+  frame-line-reads.Learnt,
+  type-at-reads.Asked,
+  type-at-reads.Learnt,
+  subject-reads.Asked,
+  subject-reads.Learnt,
+  moved-reads.Asked,
+  moved-reads.Learnt,
+  branches-below t,
+  branches.Post,
+  cased-reads.Asked,
+  cased-reads.Learnt,
+) (case-of-at t) case-of.Post
+case-of-type-at-requires t c κs = tt
+
+case-of-enum-known-y : (t : ℕ) → case-of-lts.Need-enum-known-y (
+  expr-below t,
+  expr.Post,
+  frame-line-reads.Asked,
+  frame-line-reads.Learnt,
+  type-at-reads.Asked,
+  type-at-reads.Learnt,
+  subject-reads.Asked,
+  subject-reads.Learnt,
+  moved-reads.Asked,
+  moved-reads.Learnt,
+  branches-below t,
+  branches.Post,
+  cased-reads.Asked,
+  cased-reads.Learnt,
+) (case-of-at t) case-of.Post
+case-of-enum-known-y t c = (c .match3 .keys1)
+
+case-of-enum-told-2 : (t : ℕ) → case-of-lts.Need-enum-told-2 (
+  expr-below t,
+  expr.Post,
+  frame-line-reads.Asked,
+  frame-line-reads.Learnt,
+  type-at-reads.Asked,
+  type-at-reads.Learnt,
+  subject-reads.Asked,
+  subject-reads.Learnt,
+  moved-reads.Asked,
+  moved-reads.Learnt,
+  branches-below t,
+  branches.Post,
+  cased-reads.Asked,
+  cased-reads.Learnt,
+) (case-of-at t) case-of.Post
+case-of-enum-told-2 t c = (c .match3 .keys2)
+
+case-of-add-t32 : (t : ℕ) → case-of-lts.Need-add-t32 (
+  expr-below t,
+  expr.Post,
+  frame-line-reads.Asked,
+  frame-line-reads.Learnt,
+  type-at-reads.Asked,
+  type-at-reads.Learnt,
+  subject-reads.Asked,
+  subject-reads.Learnt,
+  moved-reads.Asked,
+  moved-reads.Learnt,
+  branches-below t,
+  branches.Post,
+  cased-reads.Asked,
+  cased-reads.Learnt,
+) (case-of-at t) case-of.Post
+case-of-add-t32 t c = omega (arith, (c .before .before .before .before .before .before .before .before .before .before .before .before .before .before .before .before .before .before .before .before .before .before .before .before .before .before .before .before .before .before .pre .1 .0 .line))
+
+case-of-same-length-7 : (t : ℕ) → case-of-lts.Need-same-length-7 (
+  expr-below t,
+  expr.Post,
+  frame-line-reads.Asked,
+  frame-line-reads.Learnt,
+  type-at-reads.Asked,
+  type-at-reads.Learnt,
+  subject-reads.Asked,
+  subject-reads.Learnt,
+  moved-reads.Asked,
+  moved-reads.Learnt,
+  branches-below t,
+  branches.Post,
+  cased-reads.Asked,
+  cased-reads.Learnt,
+) (case-of-at t) case-of.Post
+case-of-same-length-7 t c = (c .before .before .before .before .before .before .before .before .before .before .before .before .before .before .before .before .before .before .before .expr .kept .1 .1 .1 .1 .0)
+
+case-of-same-length-8 : (t : ℕ) → case-of-lts.Need-same-length-8 (
+  expr-below t,
+  expr.Post,
+  frame-line-reads.Asked,
+  frame-line-reads.Learnt,
+  type-at-reads.Asked,
+  type-at-reads.Learnt,
+  subject-reads.Asked,
+  subject-reads.Learnt,
+  moved-reads.Asked,
+  moved-reads.Learnt,
+  branches-below t,
+  branches.Post,
+  cased-reads.Asked,
+  cased-reads.Learnt,
+) (case-of-at t) case-of.Post
+case-of-same-length-8 t c = (c .before .before .before .before .before .before .before .before .before .before .before .before .before .before .before .before .before .before .before .expr .kept .1 .1 .1 .1 .1 .0)
+
+case-of-same-length-9 : (t : ℕ) → case-of-lts.Need-same-length-9 (
+  expr-below t,
+  expr.Post,
+  frame-line-reads.Asked,
+  frame-line-reads.Learnt,
+  type-at-reads.Asked,
+  type-at-reads.Learnt,
+  subject-reads.Asked,
+  subject-reads.Learnt,
+  moved-reads.Asked,
+  moved-reads.Learnt,
+  branches-below t,
+  branches.Post,
+  cased-reads.Asked,
+  cased-reads.Learnt,
+) (case-of-at t) case-of.Post
+case-of-same-length-9 t c = (c .before .before .before .before .before .before .before .before .before .before .before .before .before .before .before .before .before .before .before .expr .kept .1 .1 .1 .1 .1 .1 .0)
+
+case-of-returns-3 : (t : ℕ) → case-of-lts.Need-returns-3 (
+  expr-below t,
+  expr.Post,
+  frame-line-reads.Asked,
+  frame-line-reads.Learnt,
+  type-at-reads.Asked,
+  type-at-reads.Learnt,
+  subject-reads.Asked,
+  subject-reads.Learnt,
+  moved-reads.Asked,
+  moved-reads.Learnt,
+  branches-below t,
+  branches.Post,
+  cased-reads.Asked,
+  cased-reads.Learnt,
+) (case-of-at t) case-of.Post
+case-of-returns-3 t c = case-outside (c .before .before .before .before .before .before .before .before .before .before .before .before .before .before .before .before .before .before .before .expr .ensures) (c .before .before .before .before .before .before .before .before .before .before .before .x .given .1) (c .before .before .before .before .before .before .before .before .kind .given .1) (c .before .before .before .before .before .frame-line .ensures) (c .before .before .before .type-at .ensures) (c .before .enum-told2 .given .1)
+
+case-of-subject-requires : (t : ℕ) → case-of-lts.Need-subject-requires (
+  expr-below t,
+  expr.Post,
+  frame-line-reads.Asked,
+  frame-line-reads.Learnt,
+  type-at-reads.Asked,
+  type-at-reads.Learnt,
+  subject-reads.Asked,
+  subject-reads.Learnt,
+  moved-reads.Asked,
+  moved-reads.Learnt,
+  branches-below t,
+  branches.Post,
+  cased-reads.Asked,
+  cased-reads.Learnt,
+) (case-of-at t) case-of.Post
+case-of-subject-requires t c κs = tt
+
+case-of-moved-requires : (t : ℕ) → case-of-lts.Need-moved-requires (
+  expr-below t,
+  expr.Post,
+  frame-line-reads.Asked,
+  frame-line-reads.Learnt,
+  type-at-reads.Asked,
+  type-at-reads.Learnt,
+  subject-reads.Asked,
+  subject-reads.Learnt,
+  moved-reads.Asked,
+  moved-reads.Learnt,
+  branches-below t,
+  branches.Post,
+  cased-reads.Asked,
+  cased-reads.Learnt,
+) (case-of-at t) case-of.Post
+case-of-moved-requires t c κs = tt
+
+case-of-branches-requires : (t : ℕ) → case-of-lts.Need-branches-requires (
+  expr-below t,
+  expr.Post,
+  frame-line-reads.Asked,
+  frame-line-reads.Learnt,
+  type-at-reads.Asked,
+  type-at-reads.Learnt,
+  subject-reads.Asked,
+  subject-reads.Learnt,
+  moved-reads.Asked,
+  moved-reads.Learnt,
+  branches-below t,
+  branches.Post,
+  cased-reads.Asked,
+  cased-reads.Learnt,
+) (case-of-at t) case-of.Post
+case-of-branches-requires t c κs = (load-moved _ 900 (c .before .before .before .before .before .before .before .before .before .before .before .before .before .before .before .before .before .before .before .before .before .before .before .before .before .before .before .before .before .before .before .before .before .before .before .pre .0) _ _ (c .before .before .before .moved .ensures) (grows-to (c .before .before .before .before .before .before .before .before .before .before .before .before .before .before .before .before .before .before .before .before .before .before .before .before .expr .ensures .grows) (c .before .before .before .before .before .before .before .before .before .before .before .before .before .before .before .before .x .given .1)) (omega arith), (room-rest (c .before .before .before .before .before .before .before .before .before .before .before .before .before .before .before .before .before .before .before .before .before .before .before .before .before .before .before .before .before .before .before .before .before .before .before .pre .1 .0) (c .before .before .before .moved .ensures) ((c .before .before .before .before .before .before .before .before .before .before .before .before .before .before .before .before .before .before .before .before .before .before .before .before .expr .kept .1 .1 .1 .1 .1 .0)) ((c .before .before .before .before .before .before .before .before .before .before .before .before .before .before .before .before .before .before .before .before .before .before .before .before .expr .kept .1 .1 .1 .1 .1 .1 .0)), (omega (arith, ap (λ z. z .of) (c .before .before .before .before .subject .ensures), (c .before .before .before .before .before .before .before .before .before .before .before .before .before .before .before .before .before .before .before .before .before .before .before .before .before .before .before .before .before .before .before .before .before .before .before .pre .1 .1)), omega arith)))
+
+case-of-enum-known-z : (t : ℕ) → case-of-lts.Need-enum-known-z (
+  expr-below t,
+  expr.Post,
+  frame-line-reads.Asked,
+  frame-line-reads.Learnt,
+  type-at-reads.Asked,
+  type-at-reads.Learnt,
+  subject-reads.Asked,
+  subject-reads.Learnt,
+  moved-reads.Asked,
+  moved-reads.Learnt,
+  branches-below t,
+  branches.Post,
+  cased-reads.Asked,
+  cased-reads.Learnt,
+) (case-of-at t) case-of.Post
+case-of-enum-known-z t c = (c .match4 .keys1)
+
+case-of-enum-told-3 : (t : ℕ) → case-of-lts.Need-enum-told-3 (
+  expr-below t,
+  expr.Post,
+  frame-line-reads.Asked,
+  frame-line-reads.Learnt,
+  type-at-reads.Asked,
+  type-at-reads.Learnt,
+  subject-reads.Asked,
+  subject-reads.Learnt,
+  moved-reads.Asked,
+  moved-reads.Learnt,
+  branches-below t,
+  branches.Post,
+  cased-reads.Asked,
+  cased-reads.Learnt,
+) (case-of-at t) case-of.Post
+case-of-enum-told-3 t c = (c .match4 .keys2)
+
+case-of-same-length-10 : (t : ℕ) → case-of-lts.Need-same-length-10 (
+  expr-below t,
+  expr.Post,
+  frame-line-reads.Asked,
+  frame-line-reads.Learnt,
+  type-at-reads.Asked,
+  type-at-reads.Learnt,
+  subject-reads.Asked,
+  subject-reads.Learnt,
+  moved-reads.Asked,
+  moved-reads.Learnt,
+  branches-below t,
+  branches.Post,
+  cased-reads.Asked,
+  cased-reads.Learnt,
+) (case-of-at t) case-of.Post
+case-of-same-length-10 t c = (c .before .before .before .before .before .before .before .before .branches .kept .1 .1 .1 .1 .0) ∙ (c .before .before .before .before .before .before .before .before .before .before .before .before .before .before .before .before .before .before .before .before .before .before .before .before .before .before .before .before .before .before .before .before .before .expr .kept .1 .1 .1 .1 .0)
+
+case-of-same-length-11 : (t : ℕ) → case-of-lts.Need-same-length-11 (
+  expr-below t,
+  expr.Post,
+  frame-line-reads.Asked,
+  frame-line-reads.Learnt,
+  type-at-reads.Asked,
+  type-at-reads.Learnt,
+  subject-reads.Asked,
+  subject-reads.Learnt,
+  moved-reads.Asked,
+  moved-reads.Learnt,
+  branches-below t,
+  branches.Post,
+  cased-reads.Asked,
+  cased-reads.Learnt,
+) (case-of-at t) case-of.Post
+case-of-same-length-11 t c = (c .before .before .before .before .before .before .before .before .branches .kept .1 .1 .1 .1 .1 .0) ∙ (c .before .before .before .before .before .before .before .before .before .before .before .before .before .before .before .before .before .before .before .before .before .before .before .before .before .before .before .before .before .before .before .before .before .expr .kept .1 .1 .1 .1 .1 .0)
+
+case-of-same-length-12 : (t : ℕ) → case-of-lts.Need-same-length-12 (
+  expr-below t,
+  expr.Post,
+  frame-line-reads.Asked,
+  frame-line-reads.Learnt,
+  type-at-reads.Asked,
+  type-at-reads.Learnt,
+  subject-reads.Asked,
+  subject-reads.Learnt,
+  moved-reads.Asked,
+  moved-reads.Learnt,
+  branches-below t,
+  branches.Post,
+  cased-reads.Asked,
+  cased-reads.Learnt,
+) (case-of-at t) case-of.Post
+case-of-same-length-12 t c = (c .before .before .before .before .before .before .before .before .branches .kept .1 .1 .1 .1 .1 .1 .0) ∙ (c .before .before .before .before .before .before .before .before .before .before .before .before .before .before .before .before .before .before .before .before .before .before .before .before .before .before .before .before .before .before .before .before .before .expr .kept .1 .1 .1 .1 .1 .1 .0)
+
+case-of-returns-4 : (t : ℕ) → case-of-lts.Need-returns-4 (
+  expr-below t,
+  expr.Post,
+  frame-line-reads.Asked,
+  frame-line-reads.Learnt,
+  type-at-reads.Asked,
+  type-at-reads.Learnt,
+  subject-reads.Asked,
+  subject-reads.Learnt,
+  moved-reads.Asked,
+  moved-reads.Learnt,
+  branches-below t,
+  branches.Post,
+  cased-reads.Asked,
+  cased-reads.Learnt,
+) (case-of-at t) case-of.Post
+case-of-returns-4 t c = case-branches (c .before .before .before .before .before .before .before .before .before .before .before .before .before .before .before .before .before .before .before .before .before .before .before .before .before .before .before .before .before .before .before .before .before .expr .ensures) (c .before .before .before .before .before .before .before .before .before .before .before .before .before .before .before .before .before .before .before .before .before .before .before .before .before .x .given .1) (c .before .before .before .before .before .before .before .before .before .before .before .before .before .before .before .before .before .before .before .before .before .before .kind .given .1) (c .before .before .before .before .before .before .before .before .before .before .before .before .before .before .before .before .before .before .before .frame-line .ensures) (c .before .before .before .before .before .before .before .before .before .before .before .before .before .before .before .before .before .type-at .ensures) (c .before .before .before .before .before .before .before .before .before .before .before .before .before .before .before .y .given .1) (c .before .before .before .before .before .before .before .before .before .before .before .before .moved .ensures) (c .before .before .before .before .before .before .before .before .before .before .before .before .before .subject .ensures) (c .before .before .before .before .before .before .before .before .branches .ensures) (c .enum-told3 .given .1)
+
+case-of-cased-requires : (t : ℕ) → case-of-lts.Need-cased-requires (
+  expr-below t,
+  expr.Post,
+  frame-line-reads.Asked,
+  frame-line-reads.Learnt,
+  type-at-reads.Asked,
+  type-at-reads.Learnt,
+  subject-reads.Asked,
+  subject-reads.Learnt,
+  moved-reads.Asked,
+  moved-reads.Learnt,
+  branches-below t,
+  branches.Post,
+  cased-reads.Asked,
+  cased-reads.Learnt,
+) (case-of-at t) case-of.Post
+case-of-cased-requires t c κs = tt
+
+case-of-same-length-13 : (t : ℕ) → case-of-lts.Need-same-length-13 (
+  expr-below t,
+  expr.Post,
+  frame-line-reads.Asked,
+  frame-line-reads.Learnt,
+  type-at-reads.Asked,
+  type-at-reads.Learnt,
+  subject-reads.Asked,
+  subject-reads.Learnt,
+  moved-reads.Asked,
+  moved-reads.Learnt,
+  branches-below t,
+  branches.Post,
+  cased-reads.Asked,
+  cased-reads.Learnt,
+) (case-of-at t) case-of.Post
+case-of-same-length-13 t c = (c .before .before .before .before .before .before .before .before .before .before .branches .kept .1 .1 .1 .1 .0) ∙ (c .before .before .before .before .before .before .before .before .before .before .before .before .before .before .before .before .before .before .before .before .before .before .before .before .before .before .before .before .before .before .before .before .before .before .before .expr .kept .1 .1 .1 .1 .0)
+
+case-of-same-length-14 : (t : ℕ) → case-of-lts.Need-same-length-14 (
+  expr-below t,
+  expr.Post,
+  frame-line-reads.Asked,
+  frame-line-reads.Learnt,
+  type-at-reads.Asked,
+  type-at-reads.Learnt,
+  subject-reads.Asked,
+  subject-reads.Learnt,
+  moved-reads.Asked,
+  moved-reads.Learnt,
+  branches-below t,
+  branches.Post,
+  cased-reads.Asked,
+  cased-reads.Learnt,
+) (case-of-at t) case-of.Post
+case-of-same-length-14 t c = (c .before .before .before .before .before .before .before .before .before .before .branches .kept .1 .1 .1 .1 .1 .0) ∙ (c .before .before .before .before .before .before .before .before .before .before .before .before .before .before .before .before .before .before .before .before .before .before .before .before .before .before .before .before .before .before .before .before .before .before .before .expr .kept .1 .1 .1 .1 .1 .0)
+
+case-of-same-length-15 : (t : ℕ) → case-of-lts.Need-same-length-15 (
+  expr-below t,
+  expr.Post,
+  frame-line-reads.Asked,
+  frame-line-reads.Learnt,
+  type-at-reads.Asked,
+  type-at-reads.Learnt,
+  subject-reads.Asked,
+  subject-reads.Learnt,
+  moved-reads.Asked,
+  moved-reads.Learnt,
+  branches-below t,
+  branches.Post,
+  cased-reads.Asked,
+  cased-reads.Learnt,
+) (case-of-at t) case-of.Post
+case-of-same-length-15 t c = (c .before .before .before .before .before .before .before .before .before .before .branches .kept .1 .1 .1 .1 .1 .1 .0) ∙ (c .before .before .before .before .before .before .before .before .before .before .before .before .before .before .before .before .before .before .before .before .before .before .before .before .before .before .before .before .before .before .before .before .before .before .before .expr .kept .1 .1 .1 .1 .1 .1 .0)
+
+case-of-returns-5 : (t : ℕ) → case-of-lts.Need-returns-5 (
+  expr-below t,
+  expr.Post,
+  frame-line-reads.Asked,
+  frame-line-reads.Learnt,
+  type-at-reads.Asked,
+  type-at-reads.Learnt,
+  subject-reads.Asked,
+  subject-reads.Learnt,
+  moved-reads.Asked,
+  moved-reads.Learnt,
+  branches-below t,
+  branches.Post,
+  cased-reads.Asked,
+  cased-reads.Learnt,
+) (case-of-at t) case-of.Post
+case-of-returns-5 t c = case-done (c .before .before .before .before .before .before .before .before .before .before .before .before .before .before .before .before .before .before .before .before .before .before .before .before .before .before .before .before .before .before .before .before .before .before .before .expr .ensures) (c .before .before .before .before .before .before .before .before .before .before .before .before .before .before .before .before .before .before .before .before .before .before .before .before .before .before .before .x .given .1) (c .before .before .before .before .before .before .before .before .before .before .before .before .before .before .before .before .before .before .before .before .before .before .before .before .kind .given .1) (c .before .before .before .before .before .before .before .before .before .before .before .before .before .before .before .before .before .before .before .before .before .frame-line .ensures) (c .before .before .before .before .before .before .before .before .before .before .before .before .before .before .before .before .before .before .before .type-at .ensures) (c .before .before .before .before .before .before .before .before .before .before .before .before .before .before .before .before .before .y .given .1) (c .before .before .before .before .before .before .before .before .before .before .before .before .before .before .moved .ensures) (c .before .before .before .before .before .before .before .before .before .before .before .before .before .before .before .subject .ensures) (c .before .before .before .before .before .before .before .before .before .before .branches .ensures) (c .before .before .z .given .1) (c .cased .ensures .all) (c .cased .ensures .is)
+
+choice-expr-requires : (t : ℕ) → choice-lts.Need-expr-requires (
+  expr-below t,
+  expr.Post,
+  behind-reads.Asked,
+  behind-reads.Learnt,
+  agree-reads.Asked,
+  agree-reads.Learnt,
+  chosen-reads.Asked,
+  chosen-reads.Learnt,
+) (choice-at t) choice.Post
+choice-expr-requires t c κs = (load-same _ 900 (c .before .before .before .before .before .before .before .before .before .before .pre .0) 0 (omega arith), room-same (c .before .before .before .before .before .before .before .before .before .before .pre .1) (omega arith))
+
+choice-enum-known-x : (t : ℕ) → choice-lts.Need-enum-known-x (
+  expr-below t,
+  expr.Post,
+  behind-reads.Asked,
+  behind-reads.Learnt,
+  agree-reads.Asked,
+  agree-reads.Learnt,
+  chosen-reads.Asked,
+  chosen-reads.Learnt,
+) (choice-at t) choice.Post
+choice-enum-known-x t c = (c .match .keys1)
+
+choice-enum-told : (t : ℕ) → choice-lts.Need-enum-told (
+  expr-below t,
+  expr.Post,
+  behind-reads.Asked,
+  behind-reads.Learnt,
+  agree-reads.Asked,
+  agree-reads.Learnt,
+  chosen-reads.Asked,
+  chosen-reads.Learnt,
+) (choice-at t) choice.Post
+choice-enum-told t c = (c .match .keys2)
+
+choice-same-length : (t : ℕ) → choice-lts.Need-same-length (
+  expr-below t,
+  expr.Post,
+  behind-reads.Asked,
+  behind-reads.Learnt,
+  agree-reads.Asked,
+  agree-reads.Learnt,
+  chosen-reads.Asked,
+  chosen-reads.Learnt,
+) (choice-at t) choice.Post
+choice-same-length t c = (c .before .before .before .before .before .before .before .before .expr .kept .1 .1 .1 .1 .0)
+
+choice-same-length-2 : (t : ℕ) → choice-lts.Need-same-length-2 (
+  expr-below t,
+  expr.Post,
+  behind-reads.Asked,
+  behind-reads.Learnt,
+  agree-reads.Asked,
+  agree-reads.Learnt,
+  chosen-reads.Asked,
+  chosen-reads.Learnt,
+) (choice-at t) choice.Post
+choice-same-length-2 t c = (c .before .before .before .before .before .before .before .before .expr .kept .1 .1 .1 .1 .1 .0)
+
+choice-same-length-3 : (t : ℕ) → choice-lts.Need-same-length-3 (
+  expr-below t,
+  expr.Post,
+  behind-reads.Asked,
+  behind-reads.Learnt,
+  agree-reads.Asked,
+  agree-reads.Learnt,
+  chosen-reads.Asked,
+  chosen-reads.Learnt,
+) (choice-at t) choice.Post
+choice-same-length-3 t c = (c .before .before .before .before .before .before .before .before .expr .kept .1 .1 .1 .1 .1 .1 .0)
+
+choice-returns : (t : ℕ) → choice-lts.Need-returns (
+  expr-below t,
+  expr.Post,
+  behind-reads.Asked,
+  behind-reads.Learnt,
+  agree-reads.Asked,
+  agree-reads.Learnt,
+  chosen-reads.Asked,
+  chosen-reads.Learnt,
+) (choice-at t) choice.Post
+choice-returns t c = if-first (c .before .before .before .before .before .before .before .before .expr .ensures) (c .enum-told .given .1)
+
+choice-behind-requires : (t : ℕ) → choice-lts.Need-behind-requires (
+  expr-below t,
+  expr.Post,
+  behind-reads.Asked,
+  behind-reads.Learnt,
+  agree-reads.Asked,
+  agree-reads.Learnt,
+  chosen-reads.Asked,
+  chosen-reads.Learnt,
+) (choice-at t) choice.Post
+choice-behind-requires t c κs = tt
+
+choice-expr-requires-2 : (t : ℕ) → choice-lts.Need-expr-requires-2 (
+  expr-below t,
+  expr.Post,
+  behind-reads.Asked,
+  behind-reads.Learnt,
+  agree-reads.Asked,
+  agree-reads.Learnt,
+  chosen-reads.Asked,
+  chosen-reads.Learnt,
+) (choice-at t) choice.Post
+choice-expr-requires-2 t c κs = (load-moved _ 900 (c .before .before .before .before .before .before .before .before .before .before .before .before .before .before .before .before .before .before .before .before .before .before .before .before .pre .0) _ 0 (c .before .before .before .behind .ensures) (grows-to (c .before .before .before .before .before .before .before .before .before .before .before .before .before .expr .ensures .grows) (c .before .before .before .before .before .x .given .1)) (omega arith), room-behind (c .before .before .before .before .before .before .before .before .before .before .before .before .before .before .before .before .before .before .before .before .before .before .before .before .pre .1) (c .before .before .before .behind .ensures) ((c .before .before .before .before .before .before .before .before .before .before .before .before .before .expr .kept .1 .1 .1 .1 .1 .0)) ((c .before .before .before .before .before .before .before .before .before .before .before .before .before .expr .kept .1 .1 .1 .1 .1 .1 .0)))
+
+choice-enum-known-y : (t : ℕ) → choice-lts.Need-enum-known-y (
+  expr-below t,
+  expr.Post,
+  behind-reads.Asked,
+  behind-reads.Learnt,
+  agree-reads.Asked,
+  agree-reads.Learnt,
+  chosen-reads.Asked,
+  chosen-reads.Learnt,
+) (choice-at t) choice.Post
+choice-enum-known-y t c = (c .match2 .keys1)
+
+choice-enum-told-2 : (t : ℕ) → choice-lts.Need-enum-told-2 (
+  expr-below t,
+  expr.Post,
+  behind-reads.Asked,
+  behind-reads.Learnt,
+  agree-reads.Asked,
+  agree-reads.Learnt,
+  chosen-reads.Asked,
+  chosen-reads.Learnt,
+) (choice-at t) choice.Post
+choice-enum-told-2 t c = (c .match2 .keys2)
+
+choice-same-length-4 : (t : ℕ) → choice-lts.Need-same-length-4 (
+  expr-below t,
+  expr.Post,
+  behind-reads.Asked,
+  behind-reads.Learnt,
+  agree-reads.Asked,
+  agree-reads.Learnt,
+  chosen-reads.Asked,
+  chosen-reads.Learnt,
+) (choice-at t) choice.Post
+choice-same-length-4 t c = (c .before .before .before .before .before .before .before .before .expr2 .kept .1 .1 .1 .1 .0) ∙ (c .before .before .before .before .before .before .before .before .before .before .before .before .before .before .before .before .before .before .before .before .before .before .expr .kept .1 .1 .1 .1 .0)
+
+choice-same-length-5 : (t : ℕ) → choice-lts.Need-same-length-5 (
+  expr-below t,
+  expr.Post,
+  behind-reads.Asked,
+  behind-reads.Learnt,
+  agree-reads.Asked,
+  agree-reads.Learnt,
+  chosen-reads.Asked,
+  chosen-reads.Learnt,
+) (choice-at t) choice.Post
+choice-same-length-5 t c = (c .before .before .before .before .before .before .before .before .expr2 .kept .1 .1 .1 .1 .1 .0) ∙ (c .before .before .before .before .before .before .before .before .before .before .before .before .before .before .before .before .before .before .before .before .before .before .expr .kept .1 .1 .1 .1 .1 .0)
+
+choice-same-length-6 : (t : ℕ) → choice-lts.Need-same-length-6 (
+  expr-below t,
+  expr.Post,
+  behind-reads.Asked,
+  behind-reads.Learnt,
+  agree-reads.Asked,
+  agree-reads.Learnt,
+  chosen-reads.Asked,
+  chosen-reads.Learnt,
+) (choice-at t) choice.Post
+choice-same-length-6 t c = (c .before .before .before .before .before .before .before .before .expr2 .kept .1 .1 .1 .1 .1 .1 .0) ∙ (c .before .before .before .before .before .before .before .before .before .before .before .before .before .before .before .before .before .before .before .before .before .before .expr .kept .1 .1 .1 .1 .1 .1 .0)
+
+choice-returns-2 : (t : ℕ) → choice-lts.Need-returns-2 (
+  expr-below t,
+  expr.Post,
+  behind-reads.Asked,
+  behind-reads.Learnt,
+  agree-reads.Asked,
+  agree-reads.Learnt,
+  chosen-reads.Asked,
+  chosen-reads.Learnt,
+) (choice-at t) choice.Post
+choice-returns-2 t c = if-second (c .before .before .before .before .before .before .before .before .before .before .before .before .before .before .before .before .before .before .before .before .before .before .expr .ensures) (c .before .before .before .before .before .before .before .before .before .before .before .before .before .before .x .given .1) (c .before .before .before .before .before .before .before .before .before .before .before .before .behind .ensures) (c .before .before .before .before .before .before .before .before .expr2 .ensures) (c .enum-told2 .given .1)
+
+choice-behind-requires-2 : (t : ℕ) → choice-lts.Need-behind-requires-2 (
+  expr-below t,
+  expr.Post,
+  behind-reads.Asked,
+  behind-reads.Learnt,
+  agree-reads.Asked,
+  agree-reads.Learnt,
+  chosen-reads.Asked,
+  chosen-reads.Learnt,
+) (choice-at t) choice.Post
+choice-behind-requires-2 t c κs = tt
+
+choice-expr-requires-3 : (t : ℕ) → choice-lts.Need-expr-requires-3 (
+  expr-below t,
+  expr.Post,
+  behind-reads.Asked,
+  behind-reads.Learnt,
+  agree-reads.Asked,
+  agree-reads.Learnt,
+  chosen-reads.Asked,
+  chosen-reads.Learnt,
+) (choice-at t) choice.Post
+choice-expr-requires-3 t c κs = (load-moved _ 900 (c .before .before .before .before .before .before .before .before .before .before .before .before .before .before .before .before .before .before .before .before .before .before .before .before .before .before .before .before .before .before .before .before .before .before .before .before .before .before .pre .0) _ 0 (c .before .before .before .behind2 .ensures) (grows-behind (c .before .before .before .before .before .before .before .before .before .before .before .before .before .before .before .before .before .before .before .before .before .before .before .before .before .before .before .before .before .before .before .before .before .before .before .before .before .before .args .p) (grows-to (c .before .before .before .before .before .before .before .before .before .before .before .before .before .before .before .before .before .before .before .before .before .before .before .before .before .before .before .expr .ensures .grows) (c .before .before .before .before .before .before .before .before .before .before .before .before .before .before .before .before .before .before .before .x .given .1)) (c .before .before .before .before .before .before .before .before .before .before .before .before .before .before .before .before .before .behind .ensures) (c .before .before .before .before .before .before .before .before .before .before .before .before .before .expr2 .ensures .grows) (c .before .before .before .before .before .y .given .1)) (omega arith), room-behind (c .before .before .before .before .before .before .before .before .before .before .before .before .before .before .before .before .before .before .before .before .before .before .before .before .before .before .before .before .before .before .before .before .before .before .before .before .before .before .pre .1) (c .before .before .before .behind2 .ensures) ((c .before .before .before .before .before .before .before .before .before .before .before .before .before .expr2 .kept .1 .1 .1 .1 .1 .0) ∙ (c .before .before .before .before .before .before .before .before .before .before .before .before .before .before .before .before .before .before .before .before .before .before .before .before .before .before .before .expr .kept .1 .1 .1 .1 .1 .0)) ((c .before .before .before .before .before .before .before .before .before .before .before .before .before .expr2 .kept .1 .1 .1 .1 .1 .1 .0) ∙ (c .before .before .before .before .before .before .before .before .before .before .before .before .before .before .before .before .before .before .before .before .before .before .before .before .before .before .before .expr .kept .1 .1 .1 .1 .1 .1 .0)))
+
+choice-enum-known-z : (t : ℕ) → choice-lts.Need-enum-known-z (
+  expr-below t,
+  expr.Post,
+  behind-reads.Asked,
+  behind-reads.Learnt,
+  agree-reads.Asked,
+  agree-reads.Learnt,
+  chosen-reads.Asked,
+  chosen-reads.Learnt,
+) (choice-at t) choice.Post
+choice-enum-known-z t c = (c .match3 .keys1)
+
+choice-enum-told-3 : (t : ℕ) → choice-lts.Need-enum-told-3 (
+  expr-below t,
+  expr.Post,
+  behind-reads.Asked,
+  behind-reads.Learnt,
+  agree-reads.Asked,
+  agree-reads.Learnt,
+  chosen-reads.Asked,
+  chosen-reads.Learnt,
+) (choice-at t) choice.Post
+choice-enum-told-3 t c = (c .match3 .keys2)
+
+choice-same-length-7 : (t : ℕ) → choice-lts.Need-same-length-7 (
+  expr-below t,
+  expr.Post,
+  behind-reads.Asked,
+  behind-reads.Learnt,
+  agree-reads.Asked,
+  agree-reads.Learnt,
+  chosen-reads.Asked,
+  chosen-reads.Learnt,
+) (choice-at t) choice.Post
+choice-same-length-7 t c = (c .before .before .before .before .before .before .before .before .expr3 .kept .1 .1 .1 .1 .0) ∙ (c .before .before .before .before .before .before .before .before .before .before .before .before .before .before .before .before .before .before .before .before .before .before .expr2 .kept .1 .1 .1 .1 .0) ∙ (c .before .before .before .before .before .before .before .before .before .before .before .before .before .before .before .before .before .before .before .before .before .before .before .before .before .before .before .before .before .before .before .before .before .before .before .before .expr .kept .1 .1 .1 .1 .0)
+
+choice-same-length-8 : (t : ℕ) → choice-lts.Need-same-length-8 (
+  expr-below t,
+  expr.Post,
+  behind-reads.Asked,
+  behind-reads.Learnt,
+  agree-reads.Asked,
+  agree-reads.Learnt,
+  chosen-reads.Asked,
+  chosen-reads.Learnt,
+) (choice-at t) choice.Post
+choice-same-length-8 t c = (c .before .before .before .before .before .before .before .before .expr3 .kept .1 .1 .1 .1 .1 .0) ∙ (c .before .before .before .before .before .before .before .before .before .before .before .before .before .before .before .before .before .before .before .before .before .before .expr2 .kept .1 .1 .1 .1 .1 .0) ∙ (c .before .before .before .before .before .before .before .before .before .before .before .before .before .before .before .before .before .before .before .before .before .before .before .before .before .before .before .before .before .before .before .before .before .before .before .before .expr .kept .1 .1 .1 .1 .1 .0)
+
+choice-same-length-9 : (t : ℕ) → choice-lts.Need-same-length-9 (
+  expr-below t,
+  expr.Post,
+  behind-reads.Asked,
+  behind-reads.Learnt,
+  agree-reads.Asked,
+  agree-reads.Learnt,
+  chosen-reads.Asked,
+  chosen-reads.Learnt,
+) (choice-at t) choice.Post
+choice-same-length-9 t c = (c .before .before .before .before .before .before .before .before .expr3 .kept .1 .1 .1 .1 .1 .1 .0) ∙ (c .before .before .before .before .before .before .before .before .before .before .before .before .before .before .before .before .before .before .before .before .before .before .expr2 .kept .1 .1 .1 .1 .1 .1 .0) ∙ (c .before .before .before .before .before .before .before .before .before .before .before .before .before .before .before .before .before .before .before .before .before .before .before .before .before .before .before .before .before .before .before .before .before .before .before .before .expr .kept .1 .1 .1 .1 .1 .1 .0)
+
+choice-returns-3 : (t : ℕ) → choice-lts.Need-returns-3 (
+  expr-below t,
+  expr.Post,
+  behind-reads.Asked,
+  behind-reads.Learnt,
+  agree-reads.Asked,
+  agree-reads.Learnt,
+  chosen-reads.Asked,
+  chosen-reads.Learnt,
+) (choice-at t) choice.Post
+choice-returns-3 t c = if-third (c .before .before .before .before .before .before .before .before .before .before .before .before .before .before .before .before .before .before .before .before .before .before .before .before .before .before .before .before .before .before .before .before .before .before .before .before .expr .ensures) (c .before .before .before .before .before .before .before .before .before .before .before .before .before .before .before .before .before .before .before .before .before .before .before .before .before .before .before .before .x .given .1) (c .before .before .before .before .before .before .before .before .before .before .before .before .before .before .before .before .before .before .before .before .before .before .before .before .before .before .behind .ensures) (c .before .before .before .before .before .before .before .before .before .before .before .before .before .before .before .before .before .before .before .before .before .before .expr2 .ensures) (c .before .before .before .before .before .before .before .before .before .before .before .before .before .before .y .given .1) (c .before .before .before .before .before .before .before .before .before .before .before .before .behind2 .ensures) (c .before .before .before .before .before .before .before .before .expr3 .ensures) (c .enum-told3 .given .1)
+
+choice-agree-requires : (t : ℕ) → choice-lts.Need-agree-requires (
+  expr-below t,
+  expr.Post,
+  behind-reads.Asked,
+  behind-reads.Learnt,
+  agree-reads.Asked,
+  agree-reads.Learnt,
+  chosen-reads.Asked,
+  chosen-reads.Learnt,
+) (choice-at t) choice.Post
+choice-agree-requires t c κs = tt
+
+choice-add-t37 : (t : ℕ) → choice-lts.Need-add-t37 (
+  expr-below t,
+  expr.Post,
+  behind-reads.Asked,
+  behind-reads.Learnt,
+  agree-reads.Asked,
+  agree-reads.Learnt,
+  chosen-reads.Asked,
+  chosen-reads.Learnt,
+) (choice-at t) choice.Post
+choice-add-t37 t c = omega (arith, (c .before .before .before .before .before .before .before .before .before .before .before .before .before .before .before .before .before .before .before .before .before .before .before .before .before .before .before .before .before .before .before .before .before .before .before .before .before .before .before .before .before .before .before .before .before .before .before .before .before .before .before .pre .1 .line))
+
+choice-same-length-10 : (t : ℕ) → choice-lts.Need-same-length-10 (
+  expr-below t,
+  expr.Post,
+  behind-reads.Asked,
+  behind-reads.Learnt,
+  agree-reads.Asked,
+  agree-reads.Learnt,
+  chosen-reads.Asked,
+  chosen-reads.Learnt,
+) (choice-at t) choice.Post
+choice-same-length-10 t c = (c .before .before .before .before .before .before .before .before .before .before .before .before .expr3 .kept .1 .1 .1 .1 .0) ∙ (c .before .before .before .before .before .before .before .before .before .before .before .before .before .before .before .before .before .before .before .before .before .before .before .before .before .before .expr2 .kept .1 .1 .1 .1 .0) ∙ (c .before .before .before .before .before .before .before .before .before .before .before .before .before .before .before .before .before .before .before .before .before .before .before .before .before .before .before .before .before .before .before .before .before .before .before .before .before .before .before .before .expr .kept .1 .1 .1 .1 .0)
+
+choice-same-length-11 : (t : ℕ) → choice-lts.Need-same-length-11 (
+  expr-below t,
+  expr.Post,
+  behind-reads.Asked,
+  behind-reads.Learnt,
+  agree-reads.Asked,
+  agree-reads.Learnt,
+  chosen-reads.Asked,
+  chosen-reads.Learnt,
+) (choice-at t) choice.Post
+choice-same-length-11 t c = (c .before .before .before .before .before .before .before .before .before .before .before .before .expr3 .kept .1 .1 .1 .1 .1 .0) ∙ (c .before .before .before .before .before .before .before .before .before .before .before .before .before .before .before .before .before .before .before .before .before .before .before .before .before .before .expr2 .kept .1 .1 .1 .1 .1 .0) ∙ (c .before .before .before .before .before .before .before .before .before .before .before .before .before .before .before .before .before .before .before .before .before .before .before .before .before .before .before .before .before .before .before .before .before .before .before .before .before .before .before .before .expr .kept .1 .1 .1 .1 .1 .0)
+
+choice-same-length-12 : (t : ℕ) → choice-lts.Need-same-length-12 (
+  expr-below t,
+  expr.Post,
+  behind-reads.Asked,
+  behind-reads.Learnt,
+  agree-reads.Asked,
+  agree-reads.Learnt,
+  chosen-reads.Asked,
+  chosen-reads.Learnt,
+) (choice-at t) choice.Post
+choice-same-length-12 t c = (c .before .before .before .before .before .before .before .before .before .before .before .before .expr3 .kept .1 .1 .1 .1 .1 .1 .0) ∙ (c .before .before .before .before .before .before .before .before .before .before .before .before .before .before .before .before .before .before .before .before .before .before .before .before .before .before .expr2 .kept .1 .1 .1 .1 .1 .1 .0) ∙ (c .before .before .before .before .before .before .before .before .before .before .before .before .before .before .before .before .before .before .before .before .before .before .before .before .before .before .before .before .before .before .before .before .before .before .before .before .before .before .before .before .expr .kept .1 .1 .1 .1 .1 .1 .0)
+
+choice-returns-4 : (t : ℕ) → choice-lts.Need-returns-4 (
+  expr-below t,
+  expr.Post,
+  behind-reads.Asked,
+  behind-reads.Learnt,
+  agree-reads.Asked,
+  agree-reads.Learnt,
+  chosen-reads.Asked,
+  chosen-reads.Learnt,
+) (choice-at t) choice.Post
+choice-returns-4 t c = if-differ (c .before .before .before .before .before .before .before .before .before .before .before .before .before .before .before .before .before .before .before .before .before .before .before .before .before .before .before .before .before .before .before .before .before .before .before .before .before .before .before .before .expr .ensures) (c .before .before .before .before .before .before .before .before .before .before .before .before .before .before .before .before .before .before .before .before .before .before .before .before .before .before .before .before .before .before .before .before .x .given .1) (c .before .before .before .before .before .before .before .before .before .before .before .before .before .before .before .before .before .before .before .before .before .before .before .before .before .before .before .before .before .before .behind .ensures) (c .before .before .before .before .before .before .before .before .before .before .before .before .before .before .before .before .before .before .before .before .before .before .before .before .before .before .expr2 .ensures) (c .before .before .before .before .before .before .before .before .before .before .before .before .before .before .before .before .before .before .y .given .1) (c .before .before .before .before .before .before .before .before .before .before .before .before .before .before .before .before .behind2 .ensures) (c .before .before .before .before .before .before .before .before .before .before .before .before .expr3 .ensures) (c .before .before .before .before .z .given .1) (c .before .before .agree .ensures) (not-true _ (c .before .if1 .taken))
+
+choice-chosen-requires : (t : ℕ) → choice-lts.Need-chosen-requires (
+  expr-below t,
+  expr.Post,
+  behind-reads.Asked,
+  behind-reads.Learnt,
+  agree-reads.Asked,
+  agree-reads.Learnt,
+  chosen-reads.Asked,
+  chosen-reads.Learnt,
+) (choice-at t) choice.Post
+choice-chosen-requires t c κs = tt
+
+choice-same-length-13 : (t : ℕ) → choice-lts.Need-same-length-13 (
+  expr-below t,
+  expr.Post,
+  behind-reads.Asked,
+  behind-reads.Learnt,
+  agree-reads.Asked,
+  agree-reads.Learnt,
+  chosen-reads.Asked,
+  chosen-reads.Learnt,
+) (choice-at t) choice.Post
+choice-same-length-13 t c = (c .before .before .before .before .before .before .before .before .before .before .before .before .expr3 .kept .1 .1 .1 .1 .0) ∙ (c .before .before .before .before .before .before .before .before .before .before .before .before .before .before .before .before .before .before .before .before .before .before .before .before .before .before .expr2 .kept .1 .1 .1 .1 .0) ∙ (c .before .before .before .before .before .before .before .before .before .before .before .before .before .before .before .before .before .before .before .before .before .before .before .before .before .before .before .before .before .before .before .before .before .before .before .before .before .before .before .before .expr .kept .1 .1 .1 .1 .0)
+
+choice-same-length-14 : (t : ℕ) → choice-lts.Need-same-length-14 (
+  expr-below t,
+  expr.Post,
+  behind-reads.Asked,
+  behind-reads.Learnt,
+  agree-reads.Asked,
+  agree-reads.Learnt,
+  chosen-reads.Asked,
+  chosen-reads.Learnt,
+) (choice-at t) choice.Post
+choice-same-length-14 t c = (c .before .before .before .before .before .before .before .before .before .before .before .before .expr3 .kept .1 .1 .1 .1 .1 .0) ∙ (c .before .before .before .before .before .before .before .before .before .before .before .before .before .before .before .before .before .before .before .before .before .before .before .before .before .before .expr2 .kept .1 .1 .1 .1 .1 .0) ∙ (c .before .before .before .before .before .before .before .before .before .before .before .before .before .before .before .before .before .before .before .before .before .before .before .before .before .before .before .before .before .before .before .before .before .before .before .before .before .before .before .before .expr .kept .1 .1 .1 .1 .1 .0)
+
+choice-same-length-15 : (t : ℕ) → choice-lts.Need-same-length-15 (
+  expr-below t,
+  expr.Post,
+  behind-reads.Asked,
+  behind-reads.Learnt,
+  agree-reads.Asked,
+  agree-reads.Learnt,
+  chosen-reads.Asked,
+  chosen-reads.Learnt,
+) (choice-at t) choice.Post
+choice-same-length-15 t c = (c .before .before .before .before .before .before .before .before .before .before .before .before .expr3 .kept .1 .1 .1 .1 .1 .1 .0) ∙ (c .before .before .before .before .before .before .before .before .before .before .before .before .before .before .before .before .before .before .before .before .before .before .before .before .before .before .expr2 .kept .1 .1 .1 .1 .1 .1 .0) ∙ (c .before .before .before .before .before .before .before .before .before .before .before .before .before .before .before .before .before .before .before .before .before .before .before .before .before .before .before .before .before .before .before .before .before .before .before .before .before .before .before .before .expr .kept .1 .1 .1 .1 .1 .1 .0)
+
+choice-returns-5 : (t : ℕ) → choice-lts.Need-returns-5 (
+  expr-below t,
+  expr.Post,
+  behind-reads.Asked,
+  behind-reads.Learnt,
+  agree-reads.Asked,
+  agree-reads.Learnt,
+  chosen-reads.Asked,
+  chosen-reads.Learnt,
+) (choice-at t) choice.Post
+choice-returns-5 t c = if-done (c .before .before .before .before .before .before .before .before .before .before .before .before .before .before .before .before .before .before .before .before .before .before .before .before .before .before .before .before .before .before .before .before .before .before .before .before .before .before .before .before .expr .ensures) (c .before .before .before .before .before .before .before .before .before .before .before .before .before .before .before .before .before .before .before .before .before .before .before .before .before .before .before .before .before .before .before .before .x .given .1) (c .before .before .before .before .before .before .before .before .before .before .before .before .before .before .before .before .before .before .before .before .before .before .before .before .before .before .before .before .before .before .behind .ensures) (c .before .before .before .before .before .before .before .before .before .before .before .before .before .before .before .before .before .before .before .before .before .before .before .before .before .before .expr2 .ensures) (c .before .before .before .before .before .before .before .before .before .before .before .before .before .before .before .before .before .before .y .given .1) (c .before .before .before .before .before .before .before .before .before .before .before .before .before .before .before .before .behind2 .ensures) (c .before .before .before .before .before .before .before .before .before .before .before .before .expr3 .ensures) (c .before .before .before .before .z .given .1) (c .before .before .agree .ensures) (not-false _ (c .before .if1 .left)) (c .chosen .ensures .both) (c .chosen .ensures .all) (c .chosen .ensures .is)
+
+compound-enum-told : (t : ℕ) → compound-lts.Need-enum-told (
+  binding-below t,
+  binding.Post,
+  choice-below t,
+  choice.Post,
+  operation-below t,
+  operation.Post,
+  call-below t,
+  call.Post,
+  construct-below t,
+  construct.Post,
+  case-of-below t,
+  case-of.Post,
+  adjust-below t,
+  adjust.Post,
+  fit-below t,
+  fit.Post,
+) (compound-at t) compound.Post
+compound-enum-told t c = (c .match .keys1)
+
+compound-binding-requires : (t : ℕ) → compound-lts.Need-binding-requires (
+  binding-below t,
+  binding.Post,
+  choice-below t,
+  choice.Post,
+  operation-below t,
+  operation.Post,
+  call-below t,
+  call.Post,
+  construct-below t,
+  construct.Post,
+  case-of-below t,
+  case-of.Post,
+  adjust-below t,
+  adjust.Post,
+  fit-below t,
+  fit.Post,
+) (compound-at t) compound.Post
+compound-binding-requires t c κs = (load-same _ 1000 (c .before .before .before .before .before .before .before .before .before .before .before .before .pre .0) 900 (omega arith), (c .before .before .before .before .before .before .before .before .before .before .before .before .pre .1 .0))
+
+compound-enum-told-2 : (t : ℕ) → compound-lts.Need-enum-told-2 (
+  binding-below t,
+  binding.Post,
+  choice-below t,
+  choice.Post,
+  operation-below t,
+  operation.Post,
+  call-below t,
+  call.Post,
+  construct-below t,
+  construct.Post,
+  case-of-below t,
+  case-of.Post,
+  adjust-below t,
+  adjust.Post,
+  fit-below t,
+  fit.Post,
+) (compound-at t) compound.Post
+compound-enum-told-2 t c = (c .match .keys2)
+
+compound-choice-requires : (t : ℕ) → compound-lts.Need-choice-requires (
+  binding-below t,
+  binding.Post,
+  choice-below t,
+  choice.Post,
+  operation-below t,
+  operation.Post,
+  call-below t,
+  call.Post,
+  construct-below t,
+  construct.Post,
+  case-of-below t,
+  case-of.Post,
+  adjust-below t,
+  adjust.Post,
+  fit-below t,
+  fit.Post,
+) (compound-at t) compound.Post
+compound-choice-requires t c κs = (load-same _ 1000 (c .before .before .before .before .before .before .before .before .before .before .before .before .pre .0) 900 (omega arith), (c .before .before .before .before .before .before .before .before .before .before .before .before .pre .1 .0))
+
+compound-enum-known-form : (t : ℕ) → compound-lts.Need-enum-known-form (
+  binding-below t,
+  binding.Post,
+  choice-below t,
+  choice.Post,
+  operation-below t,
+  operation.Post,
+  call-below t,
+  call.Post,
+  construct-below t,
+  construct.Post,
+  case-of-below t,
+  case-of.Post,
+  adjust-below t,
+  adjust.Post,
+  fit-below t,
+  fit.Post,
+) (compound-at t) compound.Post
+compound-enum-known-form t c = (c .match .keys3)
+
+compound-operation-requires : (t : ℕ) → compound-lts.Need-operation-requires (
+  binding-below t,
+  binding.Post,
+  choice-below t,
+  choice.Post,
+  operation-below t,
+  operation.Post,
+  call-below t,
+  call.Post,
+  construct-below t,
+  construct.Post,
+  case-of-below t,
+  case-of.Post,
+  adjust-below t,
+  adjust.Post,
+  fit-below t,
+  fit.Post,
+) (compound-at t) compound.Post
+compound-operation-requires t c κs = (load-same _ 1000 (c .before .before .before .before .before .before .before .before .before .before .before .before .before .pre .0) 900 (omega arith), (c .before .before .before .before .before .before .before .before .before .before .before .before .before .pre .1 .0))
+
+compound-enum-known-form-2 : (t : ℕ) → compound-lts.Need-enum-known-form-2 (
+  binding-below t,
+  binding.Post,
+  choice-below t,
+  choice.Post,
+  operation-below t,
+  operation.Post,
+  call-below t,
+  call.Post,
+  construct-below t,
+  construct.Post,
+  case-of-below t,
+  case-of.Post,
+  adjust-below t,
+  adjust.Post,
+  fit-below t,
+  fit.Post,
+) (compound-at t) compound.Post
+compound-enum-known-form-2 t c = (c .match .keys4)
+
+compound-call-requires : (t : ℕ) → compound-lts.Need-call-requires (
+  binding-below t,
+  binding.Post,
+  choice-below t,
+  choice.Post,
+  operation-below t,
+  operation.Post,
+  call-below t,
+  call.Post,
+  construct-below t,
+  construct.Post,
+  case-of-below t,
+  case-of.Post,
+  adjust-below t,
+  adjust.Post,
+  fit-below t,
+  fit.Post,
+) (compound-at t) compound.Post
+compound-call-requires t c κs = (load-same _ 1000 (c .before .before .before .before .before .before .before .before .before .before .before .before .before .pre .0) 900 (omega arith), ((c .before .before .before .before .before .before .before .before .before .before .before .before .before .pre .1 .0), subst Operands (c .before .before .before .before .form2 .given .1) (c .before .before .before .before .before .before .before .before .before .before .before .before .before .pre .1 .1)))
+
+compound-enum-known-form-3 : (t : ℕ) → compound-lts.Need-enum-known-form-3 (
+  binding-below t,
+  binding.Post,
+  choice-below t,
+  choice.Post,
+  operation-below t,
+  operation.Post,
+  call-below t,
+  call.Post,
+  construct-below t,
+  construct.Post,
+  case-of-below t,
+  case-of.Post,
+  adjust-below t,
+  adjust.Post,
+  fit-below t,
+  fit.Post,
+) (compound-at t) compound.Post
+compound-enum-known-form-3 t c = (c .match .keys5)
+
+compound-construct-requires : (t : ℕ) → compound-lts.Need-construct-requires (
+  binding-below t,
+  binding.Post,
+  choice-below t,
+  choice.Post,
+  operation-below t,
+  operation.Post,
+  call-below t,
+  call.Post,
+  construct-below t,
+  construct.Post,
+  case-of-below t,
+  case-of.Post,
+  adjust-below t,
+  adjust.Post,
+  fit-below t,
+  fit.Post,
+) (compound-at t) compound.Post
+compound-construct-requires t c κs = (load-same _ 1000 (c .before .before .before .before .before .before .before .before .before .before .before .before .before .pre .0) 900 (omega arith), ((c .before .before .before .before .before .before .before .before .before .before .before .before .before .pre .1 .0), subst Operands (c .before .before .before .before .form3 .given .1) (c .before .before .before .before .before .before .before .before .before .before .before .before .before .pre .1 .1)))
+
+compound-enum-known-form-4 : (t : ℕ) → compound-lts.Need-enum-known-form-4 (
+  binding-below t,
+  binding.Post,
+  choice-below t,
+  choice.Post,
+  operation-below t,
+  operation.Post,
+  call-below t,
+  call.Post,
+  construct-below t,
+  construct.Post,
+  case-of-below t,
+  case-of.Post,
+  adjust-below t,
+  adjust.Post,
+  fit-below t,
+  fit.Post,
+) (compound-at t) compound.Post
+compound-enum-known-form-4 t c = (c .match .keys6)
+
+compound-case-of-requires : (t : ℕ) → compound-lts.Need-case-of-requires (
+  binding-below t,
+  binding.Post,
+  choice-below t,
+  choice.Post,
+  operation-below t,
+  operation.Post,
+  call-below t,
+  call.Post,
+  construct-below t,
+  construct.Post,
+  case-of-below t,
+  case-of.Post,
+  adjust-below t,
+  adjust.Post,
+  fit-below t,
+  fit.Post,
+) (compound-at t) compound.Post
+compound-case-of-requires t c κs = (load-same _ 1000 (c .before .before .before .before .before .before .before .before .before .before .before .before .before .pre .0) 900 (omega arith), ((c .before .before .before .before .before .before .before .before .before .before .before .before .before .pre .1 .0), subst Operands (c .before .before .before .before .form4 .given .1) (c .before .before .before .before .before .before .before .before .before .before .before .before .before .pre .1 .1)))
+
+compound-enum-told-3 : (t : ℕ) → compound-lts.Need-enum-told-3 (
+  binding-below t,
+  binding.Post,
+  choice-below t,
+  choice.Post,
+  operation-below t,
+  operation.Post,
+  call-below t,
+  call.Post,
+  construct-below t,
+  construct.Post,
+  case-of-below t,
+  case-of.Post,
+  adjust-below t,
+  adjust.Post,
+  fit-below t,
+  fit.Post,
+) (compound-at t) compound.Post
+compound-enum-told-3 t c = (c .match .keys7)
+
+compound-adjust-requires : (t : ℕ) → compound-lts.Need-adjust-requires (
+  binding-below t,
+  binding.Post,
+  choice-below t,
+  choice.Post,
+  operation-below t,
+  operation.Post,
+  call-below t,
+  call.Post,
+  construct-below t,
+  construct.Post,
+  case-of-below t,
+  case-of.Post,
+  adjust-below t,
+  adjust.Post,
+  fit-below t,
+  fit.Post,
+) (compound-at t) compound.Post
+compound-adjust-requires t c κs = (load-same _ 1000 (c .before .before .before .before .before .before .before .before .before .before .before .before .pre .0) 900 (omega arith), (c .before .before .before .before .before .before .before .before .before .before .before .before .pre .1 .0))
+
+compound-enum-known-form-5 : (t : ℕ) → compound-lts.Need-enum-known-form-5 (
+  binding-below t,
+  binding.Post,
+  choice-below t,
+  choice.Post,
+  operation-below t,
+  operation.Post,
+  call-below t,
+  call.Post,
+  construct-below t,
+  construct.Post,
+  case-of-below t,
+  case-of.Post,
+  adjust-below t,
+  adjust.Post,
+  fit-below t,
+  fit.Post,
+) (compound-at t) compound.Post
+compound-enum-known-form-5 t c = (c .match .keys8)
+
+compound-fit-requires : (t : ℕ) → compound-lts.Need-fit-requires (
+  binding-below t,
+  binding.Post,
+  choice-below t,
+  choice.Post,
+  operation-below t,
+  operation.Post,
+  call-below t,
+  call.Post,
+  construct-below t,
+  construct.Post,
+  case-of-below t,
+  case-of.Post,
+  adjust-below t,
+  adjust.Post,
+  fit-below t,
+  fit.Post,
+) (compound-at t) compound.Post
+compound-fit-requires t c κs = (load-same _ 1000 (c .before .before .before .before .before .before .before .before .before .before .before .before .before .pre .0) 900 (omega arith), ((c .before .before .before .before .before .before .before .before .before .before .before .before .before .pre .1 .0), subst Operands (c .before .before .before .before .form5 .given .1) (c .before .before .before .before .before .before .before .before .before .before .before .before .before .pre .1 .1)))
+
+compound-add-t65 : (t : ℕ) → compound-lts.Need-add-t65 (
+  binding-below t,
+  binding.Post,
+  choice-below t,
+  choice.Post,
+  operation-below t,
+  operation.Post,
+  call-below t,
+  call.Post,
+  construct-below t,
+  construct.Post,
+  case-of-below t,
+  case-of.Post,
+  adjust-below t,
+  adjust.Post,
+  fit-below t,
+  fit.Post,
+) (compound-at t) compound.Post
+compound-add-t65 t c = omega (arith, (c .before .before .before .before .before .before .before .before .before .pre .1 .0 .line))
+
+compound-same-length : (t : ℕ) → compound-lts.Need-same-length (
+  binding-below t,
+  binding.Post,
+  choice-below t,
+  choice.Post,
+  operation-below t,
+  operation.Post,
+  call-below t,
+  call.Post,
+  construct-below t,
+  construct.Post,
+  case-of-below t,
+  case-of.Post,
+  adjust-below t,
+  adjust.Post,
+  fit-below t,
+  fit.Post,
+) (compound-at t) compound.Post
+compound-same-length t c = (c .before .before .before .before .before .before .binding .kept .1 .1 .1 .1 .0)
+
+compound-same-length-2 : (t : ℕ) → compound-lts.Need-same-length-2 (
+  binding-below t,
+  binding.Post,
+  choice-below t,
+  choice.Post,
+  operation-below t,
+  operation.Post,
+  call-below t,
+  call.Post,
+  construct-below t,
+  construct.Post,
+  case-of-below t,
+  case-of.Post,
+  adjust-below t,
+  adjust.Post,
+  fit-below t,
+  fit.Post,
+) (compound-at t) compound.Post
+compound-same-length-2 t c = (c .before .before .before .before .before .before .binding .kept .1 .1 .1 .1 .1 .0)
+
+compound-same-length-3 : (t : ℕ) → compound-lts.Need-same-length-3 (
+  binding-below t,
+  binding.Post,
+  choice-below t,
+  choice.Post,
+  operation-below t,
+  operation.Post,
+  call-below t,
+  call.Post,
+  construct-below t,
+  construct.Post,
+  case-of-below t,
+  case-of.Post,
+  adjust-below t,
+  adjust.Post,
+  fit-below t,
+  fit.Post,
+) (compound-at t) compound.Post
+compound-same-length-3 t c = (c .before .before .before .before .before .before .binding .kept .1 .1 .1 .1 .1 .1 .0)
+
+compound-returns : (t : ℕ) → compound-lts.Need-returns (
+  binding-below t,
+  binding.Post,
+  choice-below t,
+  choice.Post,
+  operation-below t,
+  operation.Post,
+  call-below t,
+  call.Post,
+  construct-below t,
+  construct.Post,
+  case-of-below t,
+  case-of.Post,
+  adjust-below t,
+  adjust.Post,
+  fit-below t,
+  fit.Post,
+) (compound-at t) compound.Post
+compound-returns t c = compound-is (c .before .before .before .before .before .before .before .before .before .before .enum-told .given .1) (c .before .before .before .before .before .before .binding .ensures)
+
+compound-same-length-4 : (t : ℕ) → compound-lts.Need-same-length-4 (
+  binding-below t,
+  binding.Post,
+  choice-below t,
+  choice.Post,
+  operation-below t,
+  operation.Post,
+  call-below t,
+  call.Post,
+  construct-below t,
+  construct.Post,
+  case-of-below t,
+  case-of.Post,
+  adjust-below t,
+  adjust.Post,
+  fit-below t,
+  fit.Post,
+) (compound-at t) compound.Post
+compound-same-length-4 t c = (c .before .before .before .before .before .before .choice .kept .1 .1 .1 .1 .0)
+
+compound-same-length-5 : (t : ℕ) → compound-lts.Need-same-length-5 (
+  binding-below t,
+  binding.Post,
+  choice-below t,
+  choice.Post,
+  operation-below t,
+  operation.Post,
+  call-below t,
+  call.Post,
+  construct-below t,
+  construct.Post,
+  case-of-below t,
+  case-of.Post,
+  adjust-below t,
+  adjust.Post,
+  fit-below t,
+  fit.Post,
+) (compound-at t) compound.Post
+compound-same-length-5 t c = (c .before .before .before .before .before .before .choice .kept .1 .1 .1 .1 .1 .0)
+
+compound-same-length-6 : (t : ℕ) → compound-lts.Need-same-length-6 (
+  binding-below t,
+  binding.Post,
+  choice-below t,
+  choice.Post,
+  operation-below t,
+  operation.Post,
+  call-below t,
+  call.Post,
+  construct-below t,
+  construct.Post,
+  case-of-below t,
+  case-of.Post,
+  adjust-below t,
+  adjust.Post,
+  fit-below t,
+  fit.Post,
+) (compound-at t) compound.Post
+compound-same-length-6 t c = (c .before .before .before .before .before .before .choice .kept .1 .1 .1 .1 .1 .1 .0)
+
+compound-returns-2 : (t : ℕ) → compound-lts.Need-returns-2 (
+  binding-below t,
+  binding.Post,
+  choice-below t,
+  choice.Post,
+  operation-below t,
+  operation.Post,
+  call-below t,
+  call.Post,
+  construct-below t,
+  construct.Post,
+  case-of-below t,
+  case-of.Post,
+  adjust-below t,
+  adjust.Post,
+  fit-below t,
+  fit.Post,
+) (compound-at t) compound.Post
+compound-returns-2 t c = compound-is (c .before .before .before .before .before .before .before .before .before .before .enum-told2 .given .1) (c .before .before .before .before .before .before .choice .ensures)
+
+compound-same-length-7 : (t : ℕ) → compound-lts.Need-same-length-7 (
+  binding-below t,
+  binding.Post,
+  choice-below t,
+  choice.Post,
+  operation-below t,
+  operation.Post,
+  call-below t,
+  call.Post,
+  construct-below t,
+  construct.Post,
+  case-of-below t,
+  case-of.Post,
+  adjust-below t,
+  adjust.Post,
+  fit-below t,
+  fit.Post,
+) (compound-at t) compound.Post
+compound-same-length-7 t c = (c .before .before .before .before .before .before .operation .kept .1 .1 .1 .1 .0)
+
+compound-same-length-8 : (t : ℕ) → compound-lts.Need-same-length-8 (
+  binding-below t,
+  binding.Post,
+  choice-below t,
+  choice.Post,
+  operation-below t,
+  operation.Post,
+  call-below t,
+  call.Post,
+  construct-below t,
+  construct.Post,
+  case-of-below t,
+  case-of.Post,
+  adjust-below t,
+  adjust.Post,
+  fit-below t,
+  fit.Post,
+) (compound-at t) compound.Post
+compound-same-length-8 t c = (c .before .before .before .before .before .before .operation .kept .1 .1 .1 .1 .1 .0)
+
+compound-same-length-9 : (t : ℕ) → compound-lts.Need-same-length-9 (
+  binding-below t,
+  binding.Post,
+  choice-below t,
+  choice.Post,
+  operation-below t,
+  operation.Post,
+  call-below t,
+  call.Post,
+  construct-below t,
+  construct.Post,
+  case-of-below t,
+  case-of.Post,
+  adjust-below t,
+  adjust.Post,
+  fit-below t,
+  fit.Post,
+) (compound-at t) compound.Post
+compound-same-length-9 t c = (c .before .before .before .before .before .before .operation .kept .1 .1 .1 .1 .1 .1 .0)
+
+compound-returns-3 : (t : ℕ) → compound-lts.Need-returns-3 (
+  binding-below t,
+  binding.Post,
+  choice-below t,
+  choice.Post,
+  operation-below t,
+  operation.Post,
+  call-below t,
+  call.Post,
+  construct-below t,
+  construct.Post,
+  case-of-below t,
+  case-of.Post,
+  adjust-below t,
+  adjust.Post,
+  fit-below t,
+  fit.Post,
+) (compound-at t) compound.Post
+compound-returns-3 t c = compound-is (c .before .before .before .before .before .before .before .before .before .before .before .form .given .1) (c .before .before .before .before .before .before .operation .ensures)
+
+compound-same-length-10 : (t : ℕ) → compound-lts.Need-same-length-10 (
+  binding-below t,
+  binding.Post,
+  choice-below t,
+  choice.Post,
+  operation-below t,
+  operation.Post,
+  call-below t,
+  call.Post,
+  construct-below t,
+  construct.Post,
+  case-of-below t,
+  case-of.Post,
+  adjust-below t,
+  adjust.Post,
+  fit-below t,
+  fit.Post,
+) (compound-at t) compound.Post
+compound-same-length-10 t c = (c .before .before .before .before .before .before .call .kept .1 .1 .1 .1 .0)
+
+compound-same-length-11 : (t : ℕ) → compound-lts.Need-same-length-11 (
+  binding-below t,
+  binding.Post,
+  choice-below t,
+  choice.Post,
+  operation-below t,
+  operation.Post,
+  call-below t,
+  call.Post,
+  construct-below t,
+  construct.Post,
+  case-of-below t,
+  case-of.Post,
+  adjust-below t,
+  adjust.Post,
+  fit-below t,
+  fit.Post,
+) (compound-at t) compound.Post
+compound-same-length-11 t c = (c .before .before .before .before .before .before .call .kept .1 .1 .1 .1 .1 .0)
+
+compound-same-length-12 : (t : ℕ) → compound-lts.Need-same-length-12 (
+  binding-below t,
+  binding.Post,
+  choice-below t,
+  choice.Post,
+  operation-below t,
+  operation.Post,
+  call-below t,
+  call.Post,
+  construct-below t,
+  construct.Post,
+  case-of-below t,
+  case-of.Post,
+  adjust-below t,
+  adjust.Post,
+  fit-below t,
+  fit.Post,
+) (compound-at t) compound.Post
+compound-same-length-12 t c = (c .before .before .before .before .before .before .call .kept .1 .1 .1 .1 .1 .1 .0)
+
+compound-returns-4 : (t : ℕ) → compound-lts.Need-returns-4 (
+  binding-below t,
+  binding.Post,
+  choice-below t,
+  choice.Post,
+  operation-below t,
+  operation.Post,
+  call-below t,
+  call.Post,
+  construct-below t,
+  construct.Post,
+  case-of-below t,
+  case-of.Post,
+  adjust-below t,
+  adjust.Post,
+  fit-below t,
+  fit.Post,
+) (compound-at t) compound.Post
+compound-returns-4 t c = compound-is (c .before .before .before .before .before .before .before .before .before .before .before .form2 .given .1) (c .before .before .before .before .before .before .call .ensures)
+
+compound-same-length-13 : (t : ℕ) → compound-lts.Need-same-length-13 (
+  binding-below t,
+  binding.Post,
+  choice-below t,
+  choice.Post,
+  operation-below t,
+  operation.Post,
+  call-below t,
+  call.Post,
+  construct-below t,
+  construct.Post,
+  case-of-below t,
+  case-of.Post,
+  adjust-below t,
+  adjust.Post,
+  fit-below t,
+  fit.Post,
+) (compound-at t) compound.Post
+compound-same-length-13 t c = (c .before .before .before .before .before .before .construct .kept .1 .1 .1 .1 .0)
+
+compound-same-length-14 : (t : ℕ) → compound-lts.Need-same-length-14 (
+  binding-below t,
+  binding.Post,
+  choice-below t,
+  choice.Post,
+  operation-below t,
+  operation.Post,
+  call-below t,
+  call.Post,
+  construct-below t,
+  construct.Post,
+  case-of-below t,
+  case-of.Post,
+  adjust-below t,
+  adjust.Post,
+  fit-below t,
+  fit.Post,
+) (compound-at t) compound.Post
+compound-same-length-14 t c = (c .before .before .before .before .before .before .construct .kept .1 .1 .1 .1 .1 .0)
+
+compound-same-length-15 : (t : ℕ) → compound-lts.Need-same-length-15 (
+  binding-below t,
+  binding.Post,
+  choice-below t,
+  choice.Post,
+  operation-below t,
+  operation.Post,
+  call-below t,
+  call.Post,
+  construct-below t,
+  construct.Post,
+  case-of-below t,
+  case-of.Post,
+  adjust-below t,
+  adjust.Post,
+  fit-below t,
+  fit.Post,
+) (compound-at t) compound.Post
+compound-same-length-15 t c = (c .before .before .before .before .before .before .construct .kept .1 .1 .1 .1 .1 .1 .0)
+
+compound-returns-5 : (t : ℕ) → compound-lts.Need-returns-5 (
+  binding-below t,
+  binding.Post,
+  choice-below t,
+  choice.Post,
+  operation-below t,
+  operation.Post,
+  call-below t,
+  call.Post,
+  construct-below t,
+  construct.Post,
+  case-of-below t,
+  case-of.Post,
+  adjust-below t,
+  adjust.Post,
+  fit-below t,
+  fit.Post,
+) (compound-at t) compound.Post
+compound-returns-5 t c = compound-is (c .before .before .before .before .before .before .before .before .before .before .before .form3 .given .1) (c .before .before .before .before .before .before .construct .ensures)
+
+compound-same-length-16 : (t : ℕ) → compound-lts.Need-same-length-16 (
+  binding-below t,
+  binding.Post,
+  choice-below t,
+  choice.Post,
+  operation-below t,
+  operation.Post,
+  call-below t,
+  call.Post,
+  construct-below t,
+  construct.Post,
+  case-of-below t,
+  case-of.Post,
+  adjust-below t,
+  adjust.Post,
+  fit-below t,
+  fit.Post,
+) (compound-at t) compound.Post
+compound-same-length-16 t c = (c .before .before .before .before .before .before .case-of .kept .1 .1 .1 .1 .0)
+
+compound-same-length-17 : (t : ℕ) → compound-lts.Need-same-length-17 (
+  binding-below t,
+  binding.Post,
+  choice-below t,
+  choice.Post,
+  operation-below t,
+  operation.Post,
+  call-below t,
+  call.Post,
+  construct-below t,
+  construct.Post,
+  case-of-below t,
+  case-of.Post,
+  adjust-below t,
+  adjust.Post,
+  fit-below t,
+  fit.Post,
+) (compound-at t) compound.Post
+compound-same-length-17 t c = (c .before .before .before .before .before .before .case-of .kept .1 .1 .1 .1 .1 .0)
+
+compound-same-length-18 : (t : ℕ) → compound-lts.Need-same-length-18 (
+  binding-below t,
+  binding.Post,
+  choice-below t,
+  choice.Post,
+  operation-below t,
+  operation.Post,
+  call-below t,
+  call.Post,
+  construct-below t,
+  construct.Post,
+  case-of-below t,
+  case-of.Post,
+  adjust-below t,
+  adjust.Post,
+  fit-below t,
+  fit.Post,
+) (compound-at t) compound.Post
+compound-same-length-18 t c = (c .before .before .before .before .before .before .case-of .kept .1 .1 .1 .1 .1 .1 .0)
+
+compound-returns-6 : (t : ℕ) → compound-lts.Need-returns-6 (
+  binding-below t,
+  binding.Post,
+  choice-below t,
+  choice.Post,
+  operation-below t,
+  operation.Post,
+  call-below t,
+  call.Post,
+  construct-below t,
+  construct.Post,
+  case-of-below t,
+  case-of.Post,
+  adjust-below t,
+  adjust.Post,
+  fit-below t,
+  fit.Post,
+) (compound-at t) compound.Post
+compound-returns-6 t c = compound-is (c .before .before .before .before .before .before .before .before .before .before .before .form4 .given .1) (c .before .before .before .before .before .before .case-of .ensures)
+
+compound-same-length-19 : (t : ℕ) → compound-lts.Need-same-length-19 (
+  binding-below t,
+  binding.Post,
+  choice-below t,
+  choice.Post,
+  operation-below t,
+  operation.Post,
+  call-below t,
+  call.Post,
+  construct-below t,
+  construct.Post,
+  case-of-below t,
+  case-of.Post,
+  adjust-below t,
+  adjust.Post,
+  fit-below t,
+  fit.Post,
+) (compound-at t) compound.Post
+compound-same-length-19 t c = (c .before .before .before .before .before .before .adjust .kept .1 .1 .1 .1 .0)
+
+compound-same-length-20 : (t : ℕ) → compound-lts.Need-same-length-20 (
+  binding-below t,
+  binding.Post,
+  choice-below t,
+  choice.Post,
+  operation-below t,
+  operation.Post,
+  call-below t,
+  call.Post,
+  construct-below t,
+  construct.Post,
+  case-of-below t,
+  case-of.Post,
+  adjust-below t,
+  adjust.Post,
+  fit-below t,
+  fit.Post,
+) (compound-at t) compound.Post
+compound-same-length-20 t c = (c .before .before .before .before .before .before .adjust .kept .1 .1 .1 .1 .1 .0)
+
+compound-same-length-21 : (t : ℕ) → compound-lts.Need-same-length-21 (
+  binding-below t,
+  binding.Post,
+  choice-below t,
+  choice.Post,
+  operation-below t,
+  operation.Post,
+  call-below t,
+  call.Post,
+  construct-below t,
+  construct.Post,
+  case-of-below t,
+  case-of.Post,
+  adjust-below t,
+  adjust.Post,
+  fit-below t,
+  fit.Post,
+) (compound-at t) compound.Post
+compound-same-length-21 t c = (c .before .before .before .before .before .before .adjust .kept .1 .1 .1 .1 .1 .1 .0)
+
+compound-returns-7 : (t : ℕ) → compound-lts.Need-returns-7 (
+  binding-below t,
+  binding.Post,
+  choice-below t,
+  choice.Post,
+  operation-below t,
+  operation.Post,
+  call-below t,
+  call.Post,
+  construct-below t,
+  construct.Post,
+  case-of-below t,
+  case-of.Post,
+  adjust-below t,
+  adjust.Post,
+  fit-below t,
+  fit.Post,
+) (compound-at t) compound.Post
+compound-returns-7 t c = compound-is (c .before .before .before .before .before .before .before .before .before .before .enum-told3 .given .1) (c .before .before .before .before .before .before .adjust .ensures)
+
+compound-same-length-22 : (t : ℕ) → compound-lts.Need-same-length-22 (
+  binding-below t,
+  binding.Post,
+  choice-below t,
+  choice.Post,
+  operation-below t,
+  operation.Post,
+  call-below t,
+  call.Post,
+  construct-below t,
+  construct.Post,
+  case-of-below t,
+  case-of.Post,
+  adjust-below t,
+  adjust.Post,
+  fit-below t,
+  fit.Post,
+) (compound-at t) compound.Post
+compound-same-length-22 t c = (c .before .before .before .before .before .before .fit .kept .1 .1 .1 .1 .0)
+
+compound-same-length-23 : (t : ℕ) → compound-lts.Need-same-length-23 (
+  binding-below t,
+  binding.Post,
+  choice-below t,
+  choice.Post,
+  operation-below t,
+  operation.Post,
+  call-below t,
+  call.Post,
+  construct-below t,
+  construct.Post,
+  case-of-below t,
+  case-of.Post,
+  adjust-below t,
+  adjust.Post,
+  fit-below t,
+  fit.Post,
+) (compound-at t) compound.Post
+compound-same-length-23 t c = (c .before .before .before .before .before .before .fit .kept .1 .1 .1 .1 .1 .0)
+
+compound-same-length-24 : (t : ℕ) → compound-lts.Need-same-length-24 (
+  binding-below t,
+  binding.Post,
+  choice-below t,
+  choice.Post,
+  operation-below t,
+  operation.Post,
+  call-below t,
+  call.Post,
+  construct-below t,
+  construct.Post,
+  case-of-below t,
+  case-of.Post,
+  adjust-below t,
+  adjust.Post,
+  fit-below t,
+  fit.Post,
+) (compound-at t) compound.Post
+compound-same-length-24 t c = (c .before .before .before .before .before .before .fit .kept .1 .1 .1 .1 .1 .1 .0)
+
+compound-returns-8 : (t : ℕ) → compound-lts.Need-returns-8 (
+  binding-below t,
+  binding.Post,
+  choice-below t,
+  choice.Post,
+  operation-below t,
+  operation.Post,
+  call-below t,
+  call.Post,
+  construct-below t,
+  construct.Post,
+  case-of-below t,
+  case-of.Post,
+  adjust-below t,
+  adjust.Post,
+  fit-below t,
+  fit.Post,
+) (compound-at t) compound.Post
+compound-returns-8 t c = compound-is (c .before .before .before .before .before .before .before .before .before .before .before .form5 .given .1) (c .before .before .before .before .before .before .fit .ensures)
+
+compound-returns-9 : (t : ℕ) → compound-lts.Need-returns-9 (
+  binding-below t,
+  binding.Post,
+  choice-below t,
+  choice.Post,
+  operation-below t,
+  operation.Post,
+  call-below t,
+  call.Post,
+  construct-below t,
+  construct.Post,
+  case-of-below t,
+  case-of.Post,
+  adjust-below t,
+  adjust.Post,
+  fit-below t,
+  fit.Post,
+) (compound-at t) compound.Post
+compound-returns-9 t c = compound-none (c .before .before .before .before .before .before .before .before .before .args .form) (no-parts (c .before .before .before .before .before .before .before .before .before .args .form) (leaf-or-missing _ (c .before .match .keys9)))
+
+construct-fields-requires : (t : ℕ) → construct-lts.Need-fields-requires (
+  fields-reads.Asked,
+  fields-reads.Learnt,
+  several-below t,
+  several.Post,
+  refused-reads.Asked,
+  refused-reads.Learnt,
+  made-reads.Asked,
+  made-reads.Learnt,
+) (construct-at t) construct.Post
+construct-fields-requires t c κs = tt
+
+construct-slice-aggregate-several : (t : ℕ) → construct-lts.Need-slice-aggregate-several (
+  fields-reads.Asked,
+  fields-reads.Learnt,
+  several-below t,
+  several.Post,
+  refused-reads.Asked,
+  refused-reads.Learnt,
+  made-reads.Asked,
+  made-reads.Learnt,
+) (construct-at t) construct.Post
+construct-slice-aggregate-several t c = refl
+
+construct-several-requires : (t : ℕ) → construct-lts.Need-several-requires (
+  fields-reads.Asked,
+  fields-reads.Learnt,
+  several-below t,
+  several.Post,
+  refused-reads.Asked,
+  refused-reads.Learnt,
+  made-reads.Asked,
+  made-reads.Learnt,
+) (construct-at t) construct.Post
+construct-several-requires t c κs = (load-same _ 900 (c .before .before .before .before .before .before .before .before .before .before .before .before .pre .0) _ (omega (arith, (c .before .before .before .before .fields .ensures .1))), ((c .before .before .before .before .before .before .before .before .before .before .before .before .pre .1 .0), (c .before .before .before .before .fields .ensures .1)))
+
+construct-enum-known-x : (t : ℕ) → construct-lts.Need-enum-known-x (
+  fields-reads.Asked,
+  fields-reads.Learnt,
+  several-below t,
+  several.Post,
+  refused-reads.Asked,
+  refused-reads.Learnt,
+  made-reads.Asked,
+  made-reads.Learnt,
+) (construct-at t) construct.Post
+construct-enum-known-x t c = (c .match .keys1)
+
+construct-enum-told : (t : ℕ) → construct-lts.Need-enum-told (
+  fields-reads.Asked,
+  fields-reads.Learnt,
+  several-below t,
+  several.Post,
+  refused-reads.Asked,
+  refused-reads.Learnt,
+  made-reads.Asked,
+  made-reads.Learnt,
+) (construct-at t) construct.Post
+construct-enum-told t c = (c .match .keys2)
+
+construct-refused-requires : (t : ℕ) → construct-lts.Need-refused-requires (
+  fields-reads.Asked,
+  fields-reads.Learnt,
+  several-below t,
+  several.Post,
+  refused-reads.Asked,
+  refused-reads.Learnt,
+  made-reads.Asked,
+  made-reads.Learnt,
+) (construct-at t) construct.Post
+construct-refused-requires t c κs = tt
+
+construct-same-length : (t : ℕ) → construct-lts.Need-same-length (
+  fields-reads.Asked,
+  fields-reads.Learnt,
+  several-below t,
+  several.Post,
+  refused-reads.Asked,
+  refused-reads.Learnt,
+  made-reads.Asked,
+  made-reads.Learnt,
+) (construct-at t) construct.Post
+construct-same-length t c = (c .before .before .before .before .before .before .before .before .before .before .several .kept .1 .1 .1 .1 .0)
+
+construct-same-length-2 : (t : ℕ) → construct-lts.Need-same-length-2 (
+  fields-reads.Asked,
+  fields-reads.Learnt,
+  several-below t,
+  several.Post,
+  refused-reads.Asked,
+  refused-reads.Learnt,
+  made-reads.Asked,
+  made-reads.Learnt,
+) (construct-at t) construct.Post
+construct-same-length-2 t c = (c .before .before .before .before .before .before .before .before .before .before .several .kept .1 .1 .1 .1 .1 .0)
+
+construct-same-length-3 : (t : ℕ) → construct-lts.Need-same-length-3 (
+  fields-reads.Asked,
+  fields-reads.Learnt,
+  several-below t,
+  several.Post,
+  refused-reads.Asked,
+  refused-reads.Learnt,
+  made-reads.Asked,
+  made-reads.Learnt,
+) (construct-at t) construct.Post
+construct-same-length-3 t c = (c .before .before .before .before .before .before .before .before .before .before .several .kept .1 .1 .1 .1 .1 .1 .0)
+
+construct-returns : (t : ℕ) → construct-lts.Need-returns (
+  fields-reads.Asked,
+  fields-reads.Learnt,
+  several-below t,
+  several.Post,
+  refused-reads.Asked,
+  refused-reads.Learnt,
+  made-reads.Asked,
+  made-reads.Learnt,
+) (construct-at t) construct.Post
+construct-returns t c = con-fields (c .before .before .before .before .before .before .before .before .before .before .before .before .before .before .before .fields .ensures) (omega arith) (c .before .before .before .before .before .before .before .before .before .before .several .ensures) (c .before .enum-told .given .1) (c .refused .ensures)
+
+construct-slice-aggregate-made : (t : ℕ) → construct-lts.Need-slice-aggregate-made (
+  fields-reads.Asked,
+  fields-reads.Learnt,
+  several-below t,
+  several.Post,
+  refused-reads.Asked,
+  refused-reads.Learnt,
+  made-reads.Asked,
+  made-reads.Learnt,
+) (construct-at t) construct.Post
+construct-slice-aggregate-made t c = search needs
+
+construct-made-requires : (t : ℕ) → construct-lts.Need-made-requires (
+  fields-reads.Asked,
+  fields-reads.Learnt,
+  several-below t,
+  several.Post,
+  refused-reads.Asked,
+  refused-reads.Learnt,
+  made-reads.Asked,
+  made-reads.Learnt,
+) (construct-at t) construct.Post
+construct-made-requires t c κs = ((c .before .before .before .before .before .before .before .before .before .before .before .before .before .before .before .before .before .before .before .before .before .before .before .before .pre .1 .0 .line), (c .before .before .before .before .before .before .before .before .before .before .before .before .before .before .before .before .before .before .before .before .before .before .before .before .pre .1 .1 .0))
+
+construct-same-length-4 : (t : ℕ) → construct-lts.Need-same-length-4 (
+  fields-reads.Asked,
+  fields-reads.Learnt,
+  several-below t,
+  several.Post,
+  refused-reads.Asked,
+  refused-reads.Learnt,
+  made-reads.Asked,
+  made-reads.Learnt,
+) (construct-at t) construct.Post
+construct-same-length-4 t c = (c .before .before .before .before .before .before .before .before .before .before .before .before .several .kept .1 .1 .1 .1 .0)
+
+construct-same-length-5 : (t : ℕ) → construct-lts.Need-same-length-5 (
+  fields-reads.Asked,
+  fields-reads.Learnt,
+  several-below t,
+  several.Post,
+  refused-reads.Asked,
+  refused-reads.Learnt,
+  made-reads.Asked,
+  made-reads.Learnt,
+) (construct-at t) construct.Post
+construct-same-length-5 t c = (c .before .before .before .before .before .before .before .before .before .before .before .before .several .kept .1 .1 .1 .1 .1 .0)
+
+construct-same-length-6 : (t : ℕ) → construct-lts.Need-same-length-6 (
+  fields-reads.Asked,
+  fields-reads.Learnt,
+  several-below t,
+  several.Post,
+  refused-reads.Asked,
+  refused-reads.Learnt,
+  made-reads.Asked,
+  made-reads.Learnt,
+) (construct-at t) construct.Post
+construct-same-length-6 t c = (c .before .before .before .before .before .before .before .before .before .before .before .before .several .kept .1 .1 .1 .1 .1 .1 .0)
+
+construct-returns-2 : (t : ℕ) → construct-lts.Need-returns-2 (
+  fields-reads.Asked,
+  fields-reads.Learnt,
+  several-below t,
+  several.Post,
+  refused-reads.Asked,
+  refused-reads.Learnt,
+  made-reads.Asked,
+  made-reads.Learnt,
+) (construct-at t) construct.Post
+construct-returns-2 t c = con-made (c .before .before .before .before .before .before .before .before .before .before .before .before .before .before .before .before .before .fields .ensures) (omega arith) (c .before .before .before .before .before .before .before .before .before .before .before .before .several .ensures) (c .before .before .before .x .given .1) (c .made .ensures)
+
+enter-find-requires : (t : ℕ) → enter-lts.Need-find-requires (
+  find-reads.Asked,
+  find-reads.Learnt,
+  leaf-reads.Asked,
+  leaf-reads.Learnt,
+  body-below t,
+  body.Post,
+) (enter-at t) enter.Post
+enter-find-requires t c κs = tt
+
+enter-enum-known-x : (t : ℕ) → enter-lts.Need-enum-known-x (
+  find-reads.Asked,
+  find-reads.Learnt,
+  leaf-reads.Asked,
+  leaf-reads.Learnt,
+  body-below t,
+  body.Post,
+) (enter-at t) enter.Post
+enter-enum-known-x t c = (c .match .keys1)
+
+enter-leaf-requires : (t : ℕ) → enter-lts.Need-leaf-requires (
+  find-reads.Asked,
+  find-reads.Learnt,
+  leaf-reads.Asked,
+  leaf-reads.Learnt,
+  body-below t,
+  body.Post,
+) (enter-at t) enter.Post
+enter-leaf-requires t c κs = tt
+
+enter-enum-told : (t : ℕ) → enter-lts.Need-enum-told (
+  find-reads.Asked,
+  find-reads.Learnt,
+  leaf-reads.Asked,
+  leaf-reads.Learnt,
+  body-below t,
+  body.Post,
+) (enter-at t) enter.Post
+enter-enum-told t c = (c .match .keys2)
+
+enter-body-requires : (t : ℕ) → enter-lts.Need-body-requires (
+  find-reads.Asked,
+  find-reads.Learnt,
+  leaf-reads.Asked,
+  leaf-reads.Learnt,
+  body-below t,
+  body.Post,
+) (enter-at t) enter.Post
+enter-body-requires t c κs = (load-same _ 90 (c .before .before .before .before .before .before .before .before .before .before .before .before .before .before .before .pre .0) 80 (omega arith), ((c .before .before .before .before .before .before .before .before .before .before .before .before .before .before .before .pre .1 .0), (c .before .before .before .before .before .before .before .before .before .before .before .before .before .before .before .pre .1 .1)))
+
+enter-same-length : (t : ℕ) → enter-lts.Need-same-length (
+  find-reads.Asked,
+  find-reads.Learnt,
+  leaf-reads.Asked,
+  leaf-reads.Learnt,
+  body-below t,
+  body.Post,
+) (enter-at t) enter.Post
+enter-same-length t c = refl
+
+enter-same-length-2 : (t : ℕ) → enter-lts.Need-same-length-2 (
+  find-reads.Asked,
+  find-reads.Learnt,
+  leaf-reads.Asked,
+  leaf-reads.Learnt,
+  body-below t,
+  body.Post,
+) (enter-at t) enter.Post
+enter-same-length-2 t c = refl
+
+enter-returns : (t : ℕ) → enter-lts.Need-returns (
+  find-reads.Asked,
+  find-reads.Learnt,
+  leaf-reads.Asked,
+  leaf-reads.Learnt,
+  body-below t,
+  body.Post,
+) (enter-at t) enter.Post
+enter-returns t c = enter-found (c .before .before .before .before .find .ensures) (c .before .before .x .given .1) (c .leaf .ensures)
+
+enter-same-length-3 : (t : ℕ) → enter-lts.Need-same-length-3 (
+  find-reads.Asked,
+  find-reads.Learnt,
+  leaf-reads.Asked,
+  leaf-reads.Learnt,
+  body-below t,
+  body.Post,
+) (enter-at t) enter.Post
+enter-same-length-3 t c = (c .before .before .before .before .before .before .body .kept .1 .1 .1 .1 .0)
+
+enter-same-length-4 : (t : ℕ) → enter-lts.Need-same-length-4 (
+  find-reads.Asked,
+  find-reads.Learnt,
+  leaf-reads.Asked,
+  leaf-reads.Learnt,
+  body-below t,
+  body.Post,
+) (enter-at t) enter.Post
+enter-same-length-4 t c = (c .before .before .before .before .before .before .body .kept .1 .1 .1 .1 .1 .0)
+
+enter-same-length-5 : (t : ℕ) → enter-lts.Need-same-length-5 (
+  find-reads.Asked,
+  find-reads.Learnt,
+  leaf-reads.Asked,
+  leaf-reads.Learnt,
+  body-below t,
+  body.Post,
+) (enter-at t) enter.Post
+enter-same-length-5 t c = (c .before .before .before .before .before .before .body .kept .1 .1 .1 .1 .1 .1 .0)
+
+enter-returns-2 : (t : ℕ) → enter-lts.Need-returns-2 (
+  find-reads.Asked,
+  find-reads.Learnt,
+  leaf-reads.Asked,
+  leaf-reads.Learnt,
+  body-below t,
+  body.Post,
+) (enter-at t) enter.Post
+enter-returns-2 t c = enter-absent (c .before .before .before .before .before .before .before .before .before .before .before .before .find .ensures) (c .before .before .before .before .before .before .before .before .before .before .enum-told .given .1) (c .before .before .before .before .before .before .body .ensures)
+
+expr-add-t19 : (t : ℕ) → expr-lts.Need-add-t19 (
+  frame-line-reads.Asked,
+  frame-line-reads.Learnt,
+  head-at-reads.Asked,
+  head-at-reads.Learnt,
+  down-reads.Asked,
+  down-reads.Learnt,
+  one-cell-reads.Asked,
+  one-cell-reads.Learnt,
+  leaf-reads.Asked,
+  leaf-reads.Learnt,
+  type-in-reads.Asked,
+  type-in-reads.Learnt,
+  nothing-reads.Asked,
+  nothing-reads.Learnt,
+  channel-type-reads.Asked,
+  channel-type-reads.Learnt,
+  compound-below t,
+  compound.Post,
+) (expr-at t) expr.Post
+expr-add-t19 t c = omega (arith, (c .before .before .before .before .before .before .before .before .before .before .pre .1 .line))
+
+expr-returns : (t : ℕ) → expr-lts.Need-returns (
+  frame-line-reads.Asked,
+  frame-line-reads.Learnt,
+  head-at-reads.Asked,
+  head-at-reads.Learnt,
+  down-reads.Asked,
+  down-reads.Learnt,
+  one-cell-reads.Asked,
+  one-cell-reads.Learnt,
+  leaf-reads.Asked,
+  leaf-reads.Learnt,
+  type-in-reads.Asked,
+  type-in-reads.Learnt,
+  nothing-reads.Asked,
+  nothing-reads.Learnt,
+  channel-type-reads.Asked,
+  channel-type-reads.Learnt,
+  compound-below t,
+  compound.Post,
+) (expr-at t) expr.Post
+expr-returns t c = expr-deep (c .before .if1 .taken)
+
+expr-frame-line-requires : (t : ℕ) → expr-lts.Need-frame-line-requires (
+  frame-line-reads.Asked,
+  frame-line-reads.Learnt,
+  head-at-reads.Asked,
+  head-at-reads.Learnt,
+  down-reads.Asked,
+  down-reads.Learnt,
+  one-cell-reads.Asked,
+  one-cell-reads.Learnt,
+  leaf-reads.Asked,
+  leaf-reads.Learnt,
+  type-in-reads.Asked,
+  type-in-reads.Learnt,
+  nothing-reads.Asked,
+  nothing-reads.Learnt,
+  channel-type-reads.Asked,
+  channel-type-reads.Learnt,
+  compound-below t,
+  compound.Post,
+) (expr-at t) expr.Post
+expr-frame-line-requires t c κs = tt
+
+expr-head-at-requires : (t : ℕ) → expr-lts.Need-head-at-requires (
+  frame-line-reads.Asked,
+  frame-line-reads.Learnt,
+  head-at-reads.Asked,
+  head-at-reads.Learnt,
+  down-reads.Asked,
+  down-reads.Learnt,
+  one-cell-reads.Asked,
+  one-cell-reads.Learnt,
+  leaf-reads.Asked,
+  leaf-reads.Learnt,
+  type-in-reads.Asked,
+  type-in-reads.Learnt,
+  nothing-reads.Asked,
+  nothing-reads.Learnt,
+  channel-type-reads.Asked,
+  channel-type-reads.Learnt,
+  compound-below t,
+  compound.Post,
+) (expr-at t) expr.Post
+expr-head-at-requires t c κs = tt
+
+expr-down-requires : (t : ℕ) → expr-lts.Need-down-requires (
+  frame-line-reads.Asked,
+  frame-line-reads.Learnt,
+  head-at-reads.Asked,
+  head-at-reads.Learnt,
+  down-reads.Asked,
+  down-reads.Learnt,
+  one-cell-reads.Asked,
+  one-cell-reads.Learnt,
+  leaf-reads.Asked,
+  leaf-reads.Learnt,
+  type-in-reads.Asked,
+  type-in-reads.Learnt,
+  nothing-reads.Asked,
+  nothing-reads.Learnt,
+  channel-type-reads.Asked,
+  channel-type-reads.Learnt,
+  compound-below t,
+  compound.Post,
+) (expr-at t) expr.Post
+expr-down-requires t c κs = omega (arith, (c .before .before .before .before .if1 .left))
+
+expr-enum-told : (t : ℕ) → expr-lts.Need-enum-told (
+  frame-line-reads.Asked,
+  frame-line-reads.Learnt,
+  head-at-reads.Asked,
+  head-at-reads.Learnt,
+  down-reads.Asked,
+  down-reads.Learnt,
+  one-cell-reads.Asked,
+  one-cell-reads.Learnt,
+  leaf-reads.Asked,
+  leaf-reads.Learnt,
+  type-in-reads.Asked,
+  type-in-reads.Learnt,
+  nothing-reads.Asked,
+  nothing-reads.Learnt,
+  channel-type-reads.Asked,
+  channel-type-reads.Learnt,
+  compound-below t,
+  compound.Post,
+) (expr-at t) expr.Post
+expr-enum-told t c = (c .match .keys1)
+
+expr-one-cell-requires : (t : ℕ) → expr-lts.Need-one-cell-requires (
+  frame-line-reads.Asked,
+  frame-line-reads.Learnt,
+  head-at-reads.Asked,
+  head-at-reads.Learnt,
+  down-reads.Asked,
+  down-reads.Learnt,
+  one-cell-reads.Asked,
+  one-cell-reads.Learnt,
+  leaf-reads.Asked,
+  leaf-reads.Learnt,
+  type-in-reads.Asked,
+  type-in-reads.Learnt,
+  nothing-reads.Asked,
+  nothing-reads.Learnt,
+  channel-type-reads.Asked,
+  channel-type-reads.Learnt,
+  compound-below t,
+  compound.Post,
+) (expr-at t) expr.Post
+expr-one-cell-requires t c κs = tt
+
+expr-leaf-requires : (t : ℕ) → expr-lts.Need-leaf-requires (
+  frame-line-reads.Asked,
+  frame-line-reads.Learnt,
+  head-at-reads.Asked,
+  head-at-reads.Learnt,
+  down-reads.Asked,
+  down-reads.Learnt,
+  one-cell-reads.Asked,
+  one-cell-reads.Learnt,
+  leaf-reads.Asked,
+  leaf-reads.Learnt,
+  type-in-reads.Asked,
+  type-in-reads.Learnt,
+  nothing-reads.Asked,
+  nothing-reads.Learnt,
+  channel-type-reads.Asked,
+  channel-type-reads.Learnt,
+  compound-below t,
+  compound.Post,
+) (expr-at t) expr.Post
+expr-leaf-requires t c κs = tt
+
+expr-enum-told-2 : (t : ℕ) → expr-lts.Need-enum-told-2 (
+  frame-line-reads.Asked,
+  frame-line-reads.Learnt,
+  head-at-reads.Asked,
+  head-at-reads.Learnt,
+  down-reads.Asked,
+  down-reads.Learnt,
+  one-cell-reads.Asked,
+  one-cell-reads.Learnt,
+  leaf-reads.Asked,
+  leaf-reads.Learnt,
+  type-in-reads.Asked,
+  type-in-reads.Learnt,
+  nothing-reads.Asked,
+  nothing-reads.Learnt,
+  channel-type-reads.Asked,
+  channel-type-reads.Learnt,
+  compound-below t,
+  compound.Post,
+) (expr-at t) expr.Post
+expr-enum-told-2 t c = (c .match .keys2)
+
+expr-one-cell-requires-2 : (t : ℕ) → expr-lts.Need-one-cell-requires-2 (
+  frame-line-reads.Asked,
+  frame-line-reads.Learnt,
+  head-at-reads.Asked,
+  head-at-reads.Learnt,
+  down-reads.Asked,
+  down-reads.Learnt,
+  one-cell-reads.Asked,
+  one-cell-reads.Learnt,
+  leaf-reads.Asked,
+  leaf-reads.Learnt,
+  type-in-reads.Asked,
+  type-in-reads.Learnt,
+  nothing-reads.Asked,
+  nothing-reads.Learnt,
+  channel-type-reads.Asked,
+  channel-type-reads.Learnt,
+  compound-below t,
+  compound.Post,
+) (expr-at t) expr.Post
+expr-one-cell-requires-2 t c κs = tt
+
+expr-leaf-requires-2 : (t : ℕ) → expr-lts.Need-leaf-requires-2 (
+  frame-line-reads.Asked,
+  frame-line-reads.Learnt,
+  head-at-reads.Asked,
+  head-at-reads.Learnt,
+  down-reads.Asked,
+  down-reads.Learnt,
+  one-cell-reads.Asked,
+  one-cell-reads.Learnt,
+  leaf-reads.Asked,
+  leaf-reads.Learnt,
+  type-in-reads.Asked,
+  type-in-reads.Learnt,
+  nothing-reads.Asked,
+  nothing-reads.Learnt,
+  channel-type-reads.Asked,
+  channel-type-reads.Learnt,
+  compound-below t,
+  compound.Post,
+) (expr-at t) expr.Post
+expr-leaf-requires-2 t c κs = tt
+
+expr-enum-known-form : (t : ℕ) → expr-lts.Need-enum-known-form (
+  frame-line-reads.Asked,
+  frame-line-reads.Learnt,
+  head-at-reads.Asked,
+  head-at-reads.Learnt,
+  down-reads.Asked,
+  down-reads.Learnt,
+  one-cell-reads.Asked,
+  one-cell-reads.Learnt,
+  leaf-reads.Asked,
+  leaf-reads.Learnt,
+  type-in-reads.Asked,
+  type-in-reads.Learnt,
+  nothing-reads.Asked,
+  nothing-reads.Learnt,
+  channel-type-reads.Asked,
+  channel-type-reads.Learnt,
+  compound-below t,
+  compound.Post,
+) (expr-at t) expr.Post
+expr-enum-known-form t c = (c .match .keys3)
+
+expr-cast-type-in : (t : ℕ) → expr-lts.Need-cast-type-in (
+  frame-line-reads.Asked,
+  frame-line-reads.Learnt,
+  head-at-reads.Asked,
+  head-at-reads.Learnt,
+  down-reads.Asked,
+  down-reads.Learnt,
+  one-cell-reads.Asked,
+  one-cell-reads.Learnt,
+  leaf-reads.Asked,
+  leaf-reads.Learnt,
+  type-in-reads.Asked,
+  type-in-reads.Learnt,
+  nothing-reads.Asked,
+  nothing-reads.Learnt,
+  channel-type-reads.Asked,
+  channel-type-reads.Learnt,
+  compound-below t,
+  compound.Post,
+) (expr-at t) expr.Post
+expr-cast-type-in t c = omega arith
+
+expr-type-in-requires : (t : ℕ) → expr-lts.Need-type-in-requires (
+  frame-line-reads.Asked,
+  frame-line-reads.Learnt,
+  head-at-reads.Asked,
+  head-at-reads.Learnt,
+  down-reads.Asked,
+  down-reads.Learnt,
+  one-cell-reads.Asked,
+  one-cell-reads.Learnt,
+  leaf-reads.Asked,
+  leaf-reads.Learnt,
+  type-in-reads.Asked,
+  type-in-reads.Learnt,
+  nothing-reads.Asked,
+  nothing-reads.Learnt,
+  channel-type-reads.Asked,
+  channel-type-reads.Learnt,
+  compound-below t,
+  compound.Post,
+) (expr-at t) expr.Post
+expr-type-in-requires t c κs = tt
+
+expr-nothing-requires : (t : ℕ) → expr-lts.Need-nothing-requires (
+  frame-line-reads.Asked,
+  frame-line-reads.Learnt,
+  head-at-reads.Asked,
+  head-at-reads.Learnt,
+  down-reads.Asked,
+  down-reads.Learnt,
+  one-cell-reads.Asked,
+  one-cell-reads.Learnt,
+  leaf-reads.Asked,
+  leaf-reads.Learnt,
+  type-in-reads.Asked,
+  type-in-reads.Learnt,
+  nothing-reads.Asked,
+  nothing-reads.Learnt,
+  channel-type-reads.Asked,
+  channel-type-reads.Learnt,
+  compound-below t,
+  compound.Post,
+) (expr-at t) expr.Post
+expr-nothing-requires t c κs = tt
+
+expr-leaf-requires-3 : (t : ℕ) → expr-lts.Need-leaf-requires-3 (
+  frame-line-reads.Asked,
+  frame-line-reads.Learnt,
+  head-at-reads.Asked,
+  head-at-reads.Learnt,
+  down-reads.Asked,
+  down-reads.Learnt,
+  one-cell-reads.Asked,
+  one-cell-reads.Learnt,
+  leaf-reads.Asked,
+  leaf-reads.Learnt,
+  type-in-reads.Asked,
+  type-in-reads.Learnt,
+  nothing-reads.Asked,
+  nothing-reads.Learnt,
+  channel-type-reads.Asked,
+  channel-type-reads.Learnt,
+  compound-below t,
+  compound.Post,
+) (expr-at t) expr.Post
+expr-leaf-requires-3 t c κs = tt
+
+expr-enum-known-form-2 : (t : ℕ) → expr-lts.Need-enum-known-form-2 (
+  frame-line-reads.Asked,
+  frame-line-reads.Learnt,
+  head-at-reads.Asked,
+  head-at-reads.Learnt,
+  down-reads.Asked,
+  down-reads.Learnt,
+  one-cell-reads.Asked,
+  one-cell-reads.Learnt,
+  leaf-reads.Asked,
+  leaf-reads.Learnt,
+  type-in-reads.Asked,
+  type-in-reads.Learnt,
+  nothing-reads.Asked,
+  nothing-reads.Learnt,
+  channel-type-reads.Asked,
+  channel-type-reads.Learnt,
+  compound-below t,
+  compound.Post,
+) (expr-at t) expr.Post
+expr-enum-known-form-2 t c = (c .match .keys4)
+
+expr-channel-type-requires : (t : ℕ) → expr-lts.Need-channel-type-requires (
+  frame-line-reads.Asked,
+  frame-line-reads.Learnt,
+  head-at-reads.Asked,
+  head-at-reads.Learnt,
+  down-reads.Asked,
+  down-reads.Learnt,
+  one-cell-reads.Asked,
+  one-cell-reads.Learnt,
+  leaf-reads.Asked,
+  leaf-reads.Learnt,
+  type-in-reads.Asked,
+  type-in-reads.Learnt,
+  nothing-reads.Asked,
+  nothing-reads.Learnt,
+  channel-type-reads.Asked,
+  channel-type-reads.Learnt,
+  compound-below t,
+  compound.Post,
+) (expr-at t) expr.Post
+expr-channel-type-requires t c κs = now-counted (c .before .before .before .before .before .head-at .ensures) (c .before .form2 .given .1) (c .before .before .before .before .before .before .before .before .before .before .before .before .before .before .before .before .before .pre .1 .first)
+
+expr-nothing-requires-2 : (t : ℕ) → expr-lts.Need-nothing-requires-2 (
+  frame-line-reads.Asked,
+  frame-line-reads.Learnt,
+  head-at-reads.Asked,
+  head-at-reads.Learnt,
+  down-reads.Asked,
+  down-reads.Learnt,
+  one-cell-reads.Asked,
+  one-cell-reads.Learnt,
+  leaf-reads.Asked,
+  leaf-reads.Learnt,
+  type-in-reads.Asked,
+  type-in-reads.Learnt,
+  nothing-reads.Asked,
+  nothing-reads.Learnt,
+  channel-type-reads.Asked,
+  channel-type-reads.Learnt,
+  compound-below t,
+  compound.Post,
+) (expr-at t) expr.Post
+expr-nothing-requires-2 t c κs = tt
+
+expr-leaf-requires-4 : (t : ℕ) → expr-lts.Need-leaf-requires-4 (
+  frame-line-reads.Asked,
+  frame-line-reads.Learnt,
+  head-at-reads.Asked,
+  head-at-reads.Learnt,
+  down-reads.Asked,
+  down-reads.Learnt,
+  one-cell-reads.Asked,
+  one-cell-reads.Learnt,
+  leaf-reads.Asked,
+  leaf-reads.Learnt,
+  type-in-reads.Asked,
+  type-in-reads.Learnt,
+  nothing-reads.Asked,
+  nothing-reads.Learnt,
+  channel-type-reads.Asked,
+  channel-type-reads.Learnt,
+  compound-below t,
+  compound.Post,
+) (expr-at t) expr.Post
+expr-leaf-requires-4 t c κs = tt
+
+expr-enum-known-form-3 : (t : ℕ) → expr-lts.Need-enum-known-form-3 (
+  frame-line-reads.Asked,
+  frame-line-reads.Learnt,
+  head-at-reads.Asked,
+  head-at-reads.Learnt,
+  down-reads.Asked,
+  down-reads.Learnt,
+  one-cell-reads.Asked,
+  one-cell-reads.Learnt,
+  leaf-reads.Asked,
+  leaf-reads.Learnt,
+  type-in-reads.Asked,
+  type-in-reads.Learnt,
+  nothing-reads.Asked,
+  nothing-reads.Learnt,
+  channel-type-reads.Asked,
+  channel-type-reads.Learnt,
+  compound-below t,
+  compound.Post,
+) (expr-at t) expr.Post
+expr-enum-known-form-3 t c = (c .match .keys5)
+
+expr-channel-type-requires-2 : (t : ℕ) → expr-lts.Need-channel-type-requires-2 (
+  frame-line-reads.Asked,
+  frame-line-reads.Learnt,
+  head-at-reads.Asked,
+  head-at-reads.Learnt,
+  down-reads.Asked,
+  down-reads.Learnt,
+  one-cell-reads.Asked,
+  one-cell-reads.Learnt,
+  leaf-reads.Asked,
+  leaf-reads.Learnt,
+  type-in-reads.Asked,
+  type-in-reads.Learnt,
+  nothing-reads.Asked,
+  nothing-reads.Learnt,
+  channel-type-reads.Asked,
+  channel-type-reads.Learnt,
+  compound-below t,
+  compound.Post,
+) (expr-at t) expr.Post
+expr-channel-type-requires-2 t c κs = last-counted (c .before .before .before .before .before .head-at .ensures) (c .before .form3 .given .1) (c .before .before .before .before .before .before .before .before .before .before .before .before .before .before .before .before .before .pre .1 .first)
+
+expr-nothing-requires-3 : (t : ℕ) → expr-lts.Need-nothing-requires-3 (
+  frame-line-reads.Asked,
+  frame-line-reads.Learnt,
+  head-at-reads.Asked,
+  head-at-reads.Learnt,
+  down-reads.Asked,
+  down-reads.Learnt,
+  one-cell-reads.Asked,
+  one-cell-reads.Learnt,
+  leaf-reads.Asked,
+  leaf-reads.Learnt,
+  type-in-reads.Asked,
+  type-in-reads.Learnt,
+  nothing-reads.Asked,
+  nothing-reads.Learnt,
+  channel-type-reads.Asked,
+  channel-type-reads.Learnt,
+  compound-below t,
+  compound.Post,
+) (expr-at t) expr.Post
+expr-nothing-requires-3 t c κs = tt
+
+expr-leaf-requires-5 : (t : ℕ) → expr-lts.Need-leaf-requires-5 (
+  frame-line-reads.Asked,
+  frame-line-reads.Learnt,
+  head-at-reads.Asked,
+  head-at-reads.Learnt,
+  down-reads.Asked,
+  down-reads.Learnt,
+  one-cell-reads.Asked,
+  one-cell-reads.Learnt,
+  leaf-reads.Asked,
+  leaf-reads.Learnt,
+  type-in-reads.Asked,
+  type-in-reads.Learnt,
+  nothing-reads.Asked,
+  nothing-reads.Learnt,
+  channel-type-reads.Asked,
+  channel-type-reads.Learnt,
+  compound-below t,
+  compound.Post,
+) (expr-at t) expr.Post
+expr-leaf-requires-5 t c κs = tt
+
+expr-compound-requires : (t : ℕ) → expr-lts.Need-compound-requires (
+  frame-line-reads.Asked,
+  frame-line-reads.Learnt,
+  head-at-reads.Asked,
+  head-at-reads.Learnt,
+  down-reads.Asked,
+  down-reads.Learnt,
+  one-cell-reads.Asked,
+  one-cell-reads.Learnt,
+  leaf-reads.Asked,
+  leaf-reads.Learnt,
+  type-in-reads.Asked,
+  type-in-reads.Learnt,
+  nothing-reads.Asked,
+  nothing-reads.Learnt,
+  channel-type-reads.Asked,
+  channel-type-reads.Learnt,
+  compound-below t,
+  compound.Post,
+) (expr-at t) expr.Post
+expr-compound-requires t c κs = (load-down _ 0 (c .before .before .before .before .before .before .before .before .before .before .before .before .before .before .before .before .before .before .pre .0) _ 1000 (c .before .before .before .before .down .ensures) (omega (arith, (c .before .before .before .before .before .before .before .before .before .if1 .left))) (omega arith), (room-down (c .before .before .before .before .before .before .before .before .before .before .before .before .before .before .before .before .before .before .pre .1) (c .before .before .before .before .down .ensures) (omega (arith, (c .before .before .before .before .before .before .before .before .before .if1 .left))) refl, operands-of (c .before .before .before .before .before .before .head-at .ensures) _ refl))
+
+expr-returns-2 : (t : ℕ) → expr-lts.Need-returns-2 (
+  frame-line-reads.Asked,
+  frame-line-reads.Learnt,
+  head-at-reads.Asked,
+  head-at-reads.Learnt,
+  down-reads.Asked,
+  down-reads.Learnt,
+  one-cell-reads.Asked,
+  one-cell-reads.Learnt,
+  leaf-reads.Asked,
+  leaf-reads.Learnt,
+  type-in-reads.Asked,
+  type-in-reads.Learnt,
+  nothing-reads.Asked,
+  nothing-reads.Learnt,
+  channel-type-reads.Asked,
+  channel-type-reads.Learnt,
+  compound-below t,
+  compound.Post,
+) (expr-at t) expr.Post
+expr-returns-2 t c = expr-bool (c .before .before .before .before .before .before .before .frame-line .ensures) (c .before .before .before .before .before .before .head-at .ensures) (c .before .before .before .before .down .ensures) (c .before .before .enum-told .given .1) (c .leaf .ensures) (c .before .one-cell .ensures)
+
+expr-returns-3 : (t : ℕ) → expr-lts.Need-returns-3 (
+  frame-line-reads.Asked,
+  frame-line-reads.Learnt,
+  head-at-reads.Asked,
+  head-at-reads.Learnt,
+  down-reads.Asked,
+  down-reads.Learnt,
+  one-cell-reads.Asked,
+  one-cell-reads.Learnt,
+  leaf-reads.Asked,
+  leaf-reads.Learnt,
+  type-in-reads.Asked,
+  type-in-reads.Learnt,
+  nothing-reads.Asked,
+  nothing-reads.Learnt,
+  channel-type-reads.Asked,
+  channel-type-reads.Learnt,
+  compound-below t,
+  compound.Post,
+) (expr-at t) expr.Post
+expr-returns-3 t c = expr-int (c .before .before .before .before .before .before .before .frame-line .ensures) (c .before .before .before .before .before .before .head-at .ensures) (c .before .before .before .before .down .ensures) (c .before .before .enum-told2 .given .1) (c .leaf2 .ensures) (c .before .one-cell2 .ensures)
+
+expr-same-length : (t : ℕ) → expr-lts.Need-same-length (
+  frame-line-reads.Asked,
+  frame-line-reads.Learnt,
+  head-at-reads.Asked,
+  head-at-reads.Learnt,
+  down-reads.Asked,
+  down-reads.Learnt,
+  one-cell-reads.Asked,
+  one-cell-reads.Learnt,
+  leaf-reads.Asked,
+  leaf-reads.Learnt,
+  type-in-reads.Asked,
+  type-in-reads.Learnt,
+  nothing-reads.Asked,
+  nothing-reads.Learnt,
+  channel-type-reads.Asked,
+  channel-type-reads.Learnt,
+  compound-below t,
+  compound.Post,
+) (expr-at t) expr.Post
+expr-same-length t c = refl
+
+expr-returns-4 : (t : ℕ) → expr-lts.Need-returns-4 (
+  frame-line-reads.Asked,
+  frame-line-reads.Learnt,
+  head-at-reads.Asked,
+  head-at-reads.Learnt,
+  down-reads.Asked,
+  down-reads.Learnt,
+  one-cell-reads.Asked,
+  one-cell-reads.Learnt,
+  leaf-reads.Asked,
+  leaf-reads.Learnt,
+  type-in-reads.Asked,
+  type-in-reads.Learnt,
+  nothing-reads.Asked,
+  nothing-reads.Learnt,
+  channel-type-reads.Asked,
+  channel-type-reads.Learnt,
+  compound-below t,
+  compound.Post,
+) (expr-at t) expr.Post
+expr-returns-4 t c = expr-variable (c .before .before .before .before .before .before .before .before .before .before .frame-line .ensures) (c .before .before .before .before .before .before .before .before .before .head-at .ensures) (c .before .before .before .before .before .before .before .down .ensures) (c .before .before .before .before .before .form .given .1) (c .before .before .type-in .ensures) (c .leaf3 .ensures) (c .before .nothing .ensures)
+
+expr-returns-5 : (t : ℕ) → expr-lts.Need-returns-5 (
+  frame-line-reads.Asked,
+  frame-line-reads.Learnt,
+  head-at-reads.Asked,
+  head-at-reads.Learnt,
+  down-reads.Asked,
+  down-reads.Learnt,
+  one-cell-reads.Asked,
+  one-cell-reads.Learnt,
+  leaf-reads.Asked,
+  leaf-reads.Learnt,
+  type-in-reads.Asked,
+  type-in-reads.Learnt,
+  nothing-reads.Asked,
+  nothing-reads.Learnt,
+  channel-type-reads.Asked,
+  channel-type-reads.Learnt,
+  compound-below t,
+  compound.Post,
+) (expr-at t) expr.Post
+expr-returns-5 t c = expr-now (c .before .before .before .before .before .before .before .before .before .frame-line .ensures) (c .before .before .before .before .before .before .before .before .head-at .ensures) (c .before .before .before .before .before .before .down .ensures) (c .before .before .before .before .form2 .given .1) (c .before .before .channel-type .ensures) (c .leaf4 .ensures) (c .before .nothing2 .ensures)
+
+expr-returns-6 : (t : ℕ) → expr-lts.Need-returns-6 (
+  frame-line-reads.Asked,
+  frame-line-reads.Learnt,
+  head-at-reads.Asked,
+  head-at-reads.Learnt,
+  down-reads.Asked,
+  down-reads.Learnt,
+  one-cell-reads.Asked,
+  one-cell-reads.Learnt,
+  leaf-reads.Asked,
+  leaf-reads.Learnt,
+  type-in-reads.Asked,
+  type-in-reads.Learnt,
+  nothing-reads.Asked,
+  nothing-reads.Learnt,
+  channel-type-reads.Asked,
+  channel-type-reads.Learnt,
+  compound-below t,
+  compound.Post,
+) (expr-at t) expr.Post
+expr-returns-6 t c = expr-last (c .before .before .before .before .before .before .before .before .before .frame-line .ensures) (c .before .before .before .before .before .before .before .before .head-at .ensures) (c .before .before .before .before .before .before .down .ensures) (c .before .before .before .before .form3 .given .1) (c .before .before .channel-type2 .ensures) (c .leaf5 .ensures) (c .before .nothing3 .ensures)
+
+expr-same-length-2 : (t : ℕ) → expr-lts.Need-same-length-2 (
+  frame-line-reads.Asked,
+  frame-line-reads.Learnt,
+  head-at-reads.Asked,
+  head-at-reads.Learnt,
+  down-reads.Asked,
+  down-reads.Learnt,
+  one-cell-reads.Asked,
+  one-cell-reads.Learnt,
+  leaf-reads.Asked,
+  leaf-reads.Learnt,
+  type-in-reads.Asked,
+  type-in-reads.Learnt,
+  nothing-reads.Asked,
+  nothing-reads.Learnt,
+  channel-type-reads.Asked,
+  channel-type-reads.Learnt,
+  compound-below t,
+  compound.Post,
+) (expr-at t) expr.Post
+expr-same-length-2 t c = (c .before .before .before .before .before .before .compound .kept .1 .1 .1 .1 .0)
+
+expr-same-length-3 : (t : ℕ) → expr-lts.Need-same-length-3 (
+  frame-line-reads.Asked,
+  frame-line-reads.Learnt,
+  head-at-reads.Asked,
+  head-at-reads.Learnt,
+  down-reads.Asked,
+  down-reads.Learnt,
+  one-cell-reads.Asked,
+  one-cell-reads.Learnt,
+  leaf-reads.Asked,
+  leaf-reads.Learnt,
+  type-in-reads.Asked,
+  type-in-reads.Learnt,
+  nothing-reads.Asked,
+  nothing-reads.Learnt,
+  channel-type-reads.Asked,
+  channel-type-reads.Learnt,
+  compound-below t,
+  compound.Post,
+) (expr-at t) expr.Post
+expr-same-length-3 t c = (c .before .before .before .before .before .before .compound .kept .1 .1 .1 .1 .1 .0)
+
+expr-same-length-4 : (t : ℕ) → expr-lts.Need-same-length-4 (
+  frame-line-reads.Asked,
+  frame-line-reads.Learnt,
+  head-at-reads.Asked,
+  head-at-reads.Learnt,
+  down-reads.Asked,
+  down-reads.Learnt,
+  one-cell-reads.Asked,
+  one-cell-reads.Learnt,
+  leaf-reads.Asked,
+  leaf-reads.Learnt,
+  type-in-reads.Asked,
+  type-in-reads.Learnt,
+  nothing-reads.Asked,
+  nothing-reads.Learnt,
+  channel-type-reads.Asked,
+  channel-type-reads.Learnt,
+  compound-below t,
+  compound.Post,
+) (expr-at t) expr.Post
+expr-same-length-4 t c = (c .before .before .before .before .before .before .compound .kept .1 .1 .1 .1 .1 .1 .0)
+
+expr-returns-7 : (t : ℕ) → expr-lts.Need-returns-7 (
+  frame-line-reads.Asked,
+  frame-line-reads.Learnt,
+  head-at-reads.Asked,
+  head-at-reads.Learnt,
+  down-reads.Asked,
+  down-reads.Learnt,
+  one-cell-reads.Asked,
+  one-cell-reads.Learnt,
+  leaf-reads.Asked,
+  leaf-reads.Learnt,
+  type-in-reads.Asked,
+  type-in-reads.Learnt,
+  nothing-reads.Asked,
+  nothing-reads.Learnt,
+  channel-type-reads.Asked,
+  channel-type-reads.Learnt,
+  compound-below t,
+  compound.Post,
+) (expr-at t) expr.Post
+expr-returns-7 t c = expr-compound (c .before .before .before .before .before .before .before .before .before .before .before .before .before .before .frame-line .ensures) (c .before .before .before .before .before .before .before .before .before .before .before .before .before .head-at .ensures) (c .before .before .before .before .before .before .before .before .before .before .before .down .ensures) (c .before .before .before .before .before .before .before .before .before .before .before .before .before .head-at .result .form) refl (no-leaf (c .before .before .before .before .before .before .before .before .before .before .before .before .before .head-at .result .form) (behind-leaves _ (c .before .before .before .before .before .before .before .before .before .before .match .keys6))) (c .before .before .before .before .before .before .compound .ensures)
+
+fit-expr-requires : (t : ℕ) → fit-lts.Need-expr-requires (
+  expr-below t,
+  expr.Post,
+  word-of-reads.Asked,
+  word-of-reads.Learnt,
+  put-reads.Asked,
+  put-reads.Learnt,
+  behind-reads.Asked,
+  behind-reads.Learnt,
+  widen-reads.Asked,
+  widen-reads.Learnt,
+  agree-reads.Asked,
+  agree-reads.Learnt,
+  fitted-reads.Asked,
+  fitted-reads.Learnt,
+) (fit-at t) fit.Post
+fit-expr-requires t c κs = (load-same _ 900 (c .before .before .before .before .before .before .before .before .before .before .pre .0) 0 (omega arith), room-same (c .before .before .before .before .before .before .before .before .before .before .pre .1 .0) (omega arith))
+
+fit-enum-known-x : (t : ℕ) → fit-lts.Need-enum-known-x (
+  expr-below t,
+  expr.Post,
+  word-of-reads.Asked,
+  word-of-reads.Learnt,
+  put-reads.Asked,
+  put-reads.Learnt,
+  behind-reads.Asked,
+  behind-reads.Learnt,
+  widen-reads.Asked,
+  widen-reads.Learnt,
+  agree-reads.Asked,
+  agree-reads.Learnt,
+  fitted-reads.Asked,
+  fitted-reads.Learnt,
+) (fit-at t) fit.Post
+fit-enum-known-x t c = (c .match .keys1)
+
+fit-enum-told : (t : ℕ) → fit-lts.Need-enum-told (
+  expr-below t,
+  expr.Post,
+  word-of-reads.Asked,
+  word-of-reads.Learnt,
+  put-reads.Asked,
+  put-reads.Learnt,
+  behind-reads.Asked,
+  behind-reads.Learnt,
+  widen-reads.Asked,
+  widen-reads.Learnt,
+  agree-reads.Asked,
+  agree-reads.Learnt,
+  fitted-reads.Asked,
+  fitted-reads.Learnt,
+) (fit-at t) fit.Post
+fit-enum-told t c = (c .match .keys2)
+
+fit-same-length : (t : ℕ) → fit-lts.Need-same-length (
+  expr-below t,
+  expr.Post,
+  word-of-reads.Asked,
+  word-of-reads.Learnt,
+  put-reads.Asked,
+  put-reads.Learnt,
+  behind-reads.Asked,
+  behind-reads.Learnt,
+  widen-reads.Asked,
+  widen-reads.Learnt,
+  agree-reads.Asked,
+  agree-reads.Learnt,
+  fitted-reads.Asked,
+  fitted-reads.Learnt,
+) (fit-at t) fit.Post
+fit-same-length t c = (c .before .before .before .before .before .before .before .before .expr .kept .1 .1 .1 .1 .0)
+
+fit-same-length-2 : (t : ℕ) → fit-lts.Need-same-length-2 (
+  expr-below t,
+  expr.Post,
+  word-of-reads.Asked,
+  word-of-reads.Learnt,
+  put-reads.Asked,
+  put-reads.Learnt,
+  behind-reads.Asked,
+  behind-reads.Learnt,
+  widen-reads.Asked,
+  widen-reads.Learnt,
+  agree-reads.Asked,
+  agree-reads.Learnt,
+  fitted-reads.Asked,
+  fitted-reads.Learnt,
+) (fit-at t) fit.Post
+fit-same-length-2 t c = (c .before .before .before .before .before .before .before .before .expr .kept .1 .1 .1 .1 .1 .0)
+
+fit-same-length-3 : (t : ℕ) → fit-lts.Need-same-length-3 (
+  expr-below t,
+  expr.Post,
+  word-of-reads.Asked,
+  word-of-reads.Learnt,
+  put-reads.Asked,
+  put-reads.Learnt,
+  behind-reads.Asked,
+  behind-reads.Learnt,
+  widen-reads.Asked,
+  widen-reads.Learnt,
+  agree-reads.Asked,
+  agree-reads.Learnt,
+  fitted-reads.Asked,
+  fitted-reads.Learnt,
+) (fit-at t) fit.Post
+fit-same-length-3 t c = (c .before .before .before .before .before .before .before .before .expr .kept .1 .1 .1 .1 .1 .1 .0)
+
+fit-returns : (t : ℕ) → fit-lts.Need-returns (
+  expr-below t,
+  expr.Post,
+  word-of-reads.Asked,
+  word-of-reads.Learnt,
+  put-reads.Asked,
+  put-reads.Learnt,
+  behind-reads.Asked,
+  behind-reads.Learnt,
+  widen-reads.Asked,
+  widen-reads.Learnt,
+  agree-reads.Asked,
+  agree-reads.Learnt,
+  fitted-reads.Asked,
+  fitted-reads.Learnt,
+) (fit-at t) fit.Post
+fit-returns t c = fit-subject _ (c .before .before .before .before .before .before .before .before .expr .ensures) (c .enum-told .given .1)
+
+fit-enum-known-kind : (t : ℕ) → fit-lts.Need-enum-known-kind (
+  expr-below t,
+  expr.Post,
+  word-of-reads.Asked,
+  word-of-reads.Learnt,
+  put-reads.Asked,
+  put-reads.Learnt,
+  behind-reads.Asked,
+  behind-reads.Learnt,
+  widen-reads.Asked,
+  widen-reads.Learnt,
+  agree-reads.Asked,
+  agree-reads.Learnt,
+  fitted-reads.Asked,
+  fitted-reads.Learnt,
+) (fit-at t) fit.Post
+fit-enum-known-kind t c = (c .match2 .keys1)
+
+fit-add-t27 : (t : ℕ) → fit-lts.Need-add-t27 (
+  expr-below t,
+  expr.Post,
+  word-of-reads.Asked,
+  word-of-reads.Learnt,
+  put-reads.Asked,
+  put-reads.Learnt,
+  behind-reads.Asked,
+  behind-reads.Learnt,
+  widen-reads.Asked,
+  widen-reads.Learnt,
+  agree-reads.Asked,
+  agree-reads.Learnt,
+  fitted-reads.Asked,
+  fitted-reads.Learnt,
+) (fit-at t) fit.Post
+fit-add-t27 t c = omega (arith, (c .before .before .before .before .before .before .before .before .before .before .before .before .before .before .before .before .before .before .before .before .before .before .pre .1 .0 .line))
+
+fit-same-length-4 : (t : ℕ) → fit-lts.Need-same-length-4 (
+  expr-below t,
+  expr.Post,
+  word-of-reads.Asked,
+  word-of-reads.Learnt,
+  put-reads.Asked,
+  put-reads.Learnt,
+  behind-reads.Asked,
+  behind-reads.Learnt,
+  widen-reads.Asked,
+  widen-reads.Learnt,
+  agree-reads.Asked,
+  agree-reads.Learnt,
+  fitted-reads.Asked,
+  fitted-reads.Learnt,
+) (fit-at t) fit.Post
+fit-same-length-4 t c = (c .before .before .before .before .before .before .before .before .before .before .before .expr .kept .1 .1 .1 .1 .0)
+
+fit-same-length-5 : (t : ℕ) → fit-lts.Need-same-length-5 (
+  expr-below t,
+  expr.Post,
+  word-of-reads.Asked,
+  word-of-reads.Learnt,
+  put-reads.Asked,
+  put-reads.Learnt,
+  behind-reads.Asked,
+  behind-reads.Learnt,
+  widen-reads.Asked,
+  widen-reads.Learnt,
+  agree-reads.Asked,
+  agree-reads.Learnt,
+  fitted-reads.Asked,
+  fitted-reads.Learnt,
+) (fit-at t) fit.Post
+fit-same-length-5 t c = (c .before .before .before .before .before .before .before .before .before .before .before .expr .kept .1 .1 .1 .1 .1 .0)
+
+fit-same-length-6 : (t : ℕ) → fit-lts.Need-same-length-6 (
+  expr-below t,
+  expr.Post,
+  word-of-reads.Asked,
+  word-of-reads.Learnt,
+  put-reads.Asked,
+  put-reads.Learnt,
+  behind-reads.Asked,
+  behind-reads.Learnt,
+  widen-reads.Asked,
+  widen-reads.Learnt,
+  agree-reads.Asked,
+  agree-reads.Learnt,
+  fitted-reads.Asked,
+  fitted-reads.Learnt,
+) (fit-at t) fit.Post
+fit-same-length-6 t c = (c .before .before .before .before .before .before .before .before .before .before .before .expr .kept .1 .1 .1 .1 .1 .1 .0)
+
+fit-returns-2 : (t : ℕ) → fit-lts.Need-returns-2 (
+  expr-below t,
+  expr.Post,
+  word-of-reads.Asked,
+  word-of-reads.Learnt,
+  put-reads.Asked,
+  put-reads.Learnt,
+  behind-reads.Asked,
+  behind-reads.Learnt,
+  widen-reads.Asked,
+  widen-reads.Learnt,
+  agree-reads.Asked,
+  agree-reads.Learnt,
+  fitted-reads.Asked,
+  fitted-reads.Learnt,
+) (fit-at t) fit.Post
+fit-returns-2 t c = fit-plain _ (c .before .before .before .before .before .before .before .before .before .before .before .expr .ensures) (c .before .before .before .x .given .1) (not-named _ (c .before .match2 .keys2))
+
+fit-cast-t28 : (t : ℕ) → fit-lts.Need-cast-t28 (
+  expr-below t,
+  expr.Post,
+  word-of-reads.Asked,
+  word-of-reads.Learnt,
+  put-reads.Asked,
+  put-reads.Learnt,
+  behind-reads.Asked,
+  behind-reads.Learnt,
+  widen-reads.Asked,
+  widen-reads.Learnt,
+  agree-reads.Asked,
+  agree-reads.Learnt,
+  fitted-reads.Asked,
+  fitted-reads.Learnt,
+) (fit-at t) fit.Post
+fit-cast-t28 t c = omega (arith, (c .before .before .before .before .before .before .before .before .before .before .before .before .before .before .before .before .before .before .before .before .before .before .before .pre .1 .1))
+
+fit-word-of-requires : (t : ℕ) → fit-lts.Need-word-of-requires (
+  expr-below t,
+  expr.Post,
+  word-of-reads.Asked,
+  word-of-reads.Learnt,
+  put-reads.Asked,
+  put-reads.Learnt,
+  behind-reads.Asked,
+  behind-reads.Learnt,
+  widen-reads.Asked,
+  widen-reads.Learnt,
+  agree-reads.Asked,
+  agree-reads.Learnt,
+  fitted-reads.Asked,
+  fitted-reads.Learnt,
+) (fit-at t) fit.Post
+fit-word-of-requires t c κs = tt
+
+fit-cast-put : (t : ℕ) → fit-lts.Need-cast-put (
+  expr-below t,
+  expr.Post,
+  word-of-reads.Asked,
+  word-of-reads.Learnt,
+  put-reads.Asked,
+  put-reads.Learnt,
+  behind-reads.Asked,
+  behind-reads.Learnt,
+  widen-reads.Asked,
+  widen-reads.Learnt,
+  agree-reads.Asked,
+  agree-reads.Learnt,
+  fitted-reads.Asked,
+  fitted-reads.Learnt,
+) (fit-at t) fit.Post
+fit-cast-put t c = omega arith
+
+fit-put-requires : (t : ℕ) → fit-lts.Need-put-requires (
+  expr-below t,
+  expr.Post,
+  word-of-reads.Asked,
+  word-of-reads.Learnt,
+  put-reads.Asked,
+  put-reads.Learnt,
+  behind-reads.Asked,
+  behind-reads.Learnt,
+  widen-reads.Asked,
+  widen-reads.Learnt,
+  agree-reads.Asked,
+  agree-reads.Learnt,
+  fitted-reads.Asked,
+  fitted-reads.Learnt,
+) (fit-at t) fit.Post
+fit-put-requires t c κs = tt
+
+fit-behind-requires : (t : ℕ) → fit-lts.Need-behind-requires (
+  expr-below t,
+  expr.Post,
+  word-of-reads.Asked,
+  word-of-reads.Learnt,
+  put-reads.Asked,
+  put-reads.Learnt,
+  behind-reads.Asked,
+  behind-reads.Learnt,
+  widen-reads.Asked,
+  widen-reads.Learnt,
+  agree-reads.Asked,
+  agree-reads.Learnt,
+  fitted-reads.Asked,
+  fitted-reads.Learnt,
+) (fit-at t) fit.Post
+fit-behind-requires t c κs = tt
+
+fit-widen-requires : (t : ℕ) → fit-lts.Need-widen-requires (
+  expr-below t,
+  expr.Post,
+  word-of-reads.Asked,
+  word-of-reads.Learnt,
+  put-reads.Asked,
+  put-reads.Learnt,
+  behind-reads.Asked,
+  behind-reads.Learnt,
+  widen-reads.Asked,
+  widen-reads.Learnt,
+  agree-reads.Asked,
+  agree-reads.Learnt,
+  fitted-reads.Asked,
+  fitted-reads.Learnt,
+) (fit-at t) fit.Post
+fit-widen-requires t c κs = room-widens (c .before .before .before .before .before .before .before .before .before .before .before .before .before .before .before .before .before .before .before .before .before .before .before .before .before .before .before .before .before .before .pre .1 .0) (c .behind .ensures) (omega arith) (omega arith)
+
+fit-expr-requires-2 : (t : ℕ) → fit-lts.Need-expr-requires-2 (
+  expr-below t,
+  expr.Post,
+  word-of-reads.Asked,
+  word-of-reads.Learnt,
+  put-reads.Asked,
+  put-reads.Learnt,
+  behind-reads.Asked,
+  behind-reads.Learnt,
+  widen-reads.Asked,
+  widen-reads.Learnt,
+  agree-reads.Asked,
+  agree-reads.Learnt,
+  fitted-reads.Asked,
+  fitted-reads.Learnt,
+) (fit-at t) fit.Post
+fit-expr-requires-2 t c κs = (load-wide _ 900 (c .before .before .before .before .before .before .before .before .before .before .before .before .before .before .before .before .before .before .before .before .before .before .before .before .before .before .before .before .before .before .before .before .before .before .pre .0) _ _ 1 0 0 (c .before .before .before .before .behind .ensures) (c .before .before .before .widen .ensures) (grows-to (c .before .before .before .before .before .before .before .before .before .before .before .before .before .before .before .before .before .before .before .before .before .before .before .expr .ensures .grows) (c .before .before .before .before .before .before .before .before .before .before .before .before .before .before .before .x .given .1)) (omega arith), room-wide (c .before .before .before .before .before .before .before .before .before .before .before .before .before .before .before .before .before .before .before .before .before .before .before .before .before .before .before .before .before .before .before .before .before .before .pre .1 .0) (c .before .before .before .before .behind .ensures) (c .before .before .before .widen .ensures) ((c .before .before .before .before .before .before .before .put .kept .0) ∙ (c .before .before .before .before .before .before .before .before .before .before .before .before .before .before .before .before .before .before .before .before .before .before .before .expr .kept .1 .1 .1 .1 .1 .0)) ((c .before .before .before .before .before .before .before .before .before .before .before .before .before .before .before .before .before .before .before .before .before .before .before .expr .kept .1 .1 .1 .1 .1 .1 .0)) (omega arith) (omega arith))
+
+fit-enum-known-y : (t : ℕ) → fit-lts.Need-enum-known-y (
+  expr-below t,
+  expr.Post,
+  word-of-reads.Asked,
+  word-of-reads.Learnt,
+  put-reads.Asked,
+  put-reads.Learnt,
+  behind-reads.Asked,
+  behind-reads.Learnt,
+  widen-reads.Asked,
+  widen-reads.Learnt,
+  agree-reads.Asked,
+  agree-reads.Learnt,
+  fitted-reads.Asked,
+  fitted-reads.Learnt,
+) (fit-at t) fit.Post
+fit-enum-known-y t c = (c .match3 .keys1)
+
+fit-enum-told-2 : (t : ℕ) → fit-lts.Need-enum-told-2 (
+  expr-below t,
+  expr.Post,
+  word-of-reads.Asked,
+  word-of-reads.Learnt,
+  put-reads.Asked,
+  put-reads.Learnt,
+  behind-reads.Asked,
+  behind-reads.Learnt,
+  widen-reads.Asked,
+  widen-reads.Learnt,
+  agree-reads.Asked,
+  agree-reads.Learnt,
+  fitted-reads.Asked,
+  fitted-reads.Learnt,
+) (fit-at t) fit.Post
+fit-enum-told-2 t c = (c .match3 .keys2)
+
+fit-same-length-7 : (t : ℕ) → fit-lts.Need-same-length-7 (
+  expr-below t,
+  expr.Post,
+  word-of-reads.Asked,
+  word-of-reads.Learnt,
+  put-reads.Asked,
+  put-reads.Learnt,
+  behind-reads.Asked,
+  behind-reads.Learnt,
+  widen-reads.Asked,
+  widen-reads.Learnt,
+  agree-reads.Asked,
+  agree-reads.Learnt,
+  fitted-reads.Asked,
+  fitted-reads.Learnt,
+) (fit-at t) fit.Post
+fit-same-length-7 t c = (c .before .before .before .before .before .before .before .before .expr2 .kept .1 .1 .1 .1 .0) ∙ (c .before .before .before .before .before .before .before .before .before .before .before .before .before .before .before .before .before .before .before .before .before .before .before .before .before .before .before .before .before .before .before .before .expr .kept .1 .1 .1 .1 .0)
+
+fit-same-length-8 : (t : ℕ) → fit-lts.Need-same-length-8 (
+  expr-below t,
+  expr.Post,
+  word-of-reads.Asked,
+  word-of-reads.Learnt,
+  put-reads.Asked,
+  put-reads.Learnt,
+  behind-reads.Asked,
+  behind-reads.Learnt,
+  widen-reads.Asked,
+  widen-reads.Learnt,
+  agree-reads.Asked,
+  agree-reads.Learnt,
+  fitted-reads.Asked,
+  fitted-reads.Learnt,
+) (fit-at t) fit.Post
+fit-same-length-8 t c = (c .before .before .before .before .before .before .before .before .expr2 .kept .1 .1 .1 .1 .1 .0) ∙ (c .before .before .before .before .before .before .before .before .before .before .before .before .before .before .before .before .put .kept .0) ∙ (c .before .before .before .before .before .before .before .before .before .before .before .before .before .before .before .before .before .before .before .before .before .before .before .before .before .before .before .before .before .before .before .before .expr .kept .1 .1 .1 .1 .1 .0)
+
+fit-same-length-9 : (t : ℕ) → fit-lts.Need-same-length-9 (
+  expr-below t,
+  expr.Post,
+  word-of-reads.Asked,
+  word-of-reads.Learnt,
+  put-reads.Asked,
+  put-reads.Learnt,
+  behind-reads.Asked,
+  behind-reads.Learnt,
+  widen-reads.Asked,
+  widen-reads.Learnt,
+  agree-reads.Asked,
+  agree-reads.Learnt,
+  fitted-reads.Asked,
+  fitted-reads.Learnt,
+) (fit-at t) fit.Post
+fit-same-length-9 t c = (c .before .before .before .before .before .before .before .before .expr2 .kept .1 .1 .1 .1 .1 .1 .0) ∙ (c .before .before .before .before .before .before .before .before .before .before .before .before .before .before .before .before .before .before .before .before .before .before .before .before .before .before .before .before .before .before .before .before .expr .kept .1 .1 .1 .1 .1 .1 .0)
+
+fit-returns-3 : (t : ℕ) → fit-lts.Need-returns-3 (
+  expr-below t,
+  expr.Post,
+  word-of-reads.Asked,
+  word-of-reads.Learnt,
+  put-reads.Asked,
+  put-reads.Learnt,
+  behind-reads.Asked,
+  behind-reads.Learnt,
+  widen-reads.Asked,
+  widen-reads.Learnt,
+  agree-reads.Asked,
+  agree-reads.Learnt,
+  fitted-reads.Asked,
+  fitted-reads.Learnt,
+) (fit-at t) fit.Post
+fit-returns-3 t c = fit-first _ (c .before .before .before .before .before .before .before .before .before .before .before .before .before .before .before .before .before .before .before .before .before .before .before .before .before .before .before .before .before .before .before .before .expr .ensures) (scope-long (c .before .before .before .before .before .before .before .before .before .before .before .before .before .before .before .before .before .before .before .before .before .before .before .before .before .before .before .before .before .before .before .before .before .before .before .before .before .before .before .before .before .before .before .pre .1 .0) ((c .before .before .before .before .before .before .before .before .before .before .before .before .before .before .before .before .before .before .before .before .before .before .before .before .before .before .before .before .before .before .before .before .expr .kept .1 .1 .1 .1 .1 .0))) (c .before .before .before .before .before .before .before .before .before .before .before .before .before .before .before .before .before .before .before .before .before .before .before .before .x .given .1) (c .before .before .before .before .before .before .before .before .before .before .before .before .before .before .before .before .before .before .before .before .before .kind .given .1) (c .before .before .before .before .before .before .before .before .before .before .before .before .before .before .before .before .before .before .before .word-of .ensures .is) (c .before .before .before .before .before .before .before .before .before .before .before .before .before .behind .ensures) (c .before .before .before .before .before .before .before .before .before .before .before .before .widen .ensures) (put-is (c .before .before .before .before .before .before .before .before .before .before .before .before .before .before .before .before .put .ensures) (c .before .before .before .before .before .before .before .before .expr2 .ensures)) (c .enum-told2 .given .1)
+
+fit-behind-requires-2 : (t : ℕ) → fit-lts.Need-behind-requires-2 (
+  expr-below t,
+  expr.Post,
+  word-of-reads.Asked,
+  word-of-reads.Learnt,
+  put-reads.Asked,
+  put-reads.Learnt,
+  behind-reads.Asked,
+  behind-reads.Learnt,
+  widen-reads.Asked,
+  widen-reads.Learnt,
+  agree-reads.Asked,
+  agree-reads.Learnt,
+  fitted-reads.Asked,
+  fitted-reads.Learnt,
+) (fit-at t) fit.Post
+fit-behind-requires-2 t c κs = tt
+
+fit-expr-requires-3 : (t : ℕ) → fit-lts.Need-expr-requires-3 (
+  expr-below t,
+  expr.Post,
+  word-of-reads.Asked,
+  word-of-reads.Learnt,
+  put-reads.Asked,
+  put-reads.Learnt,
+  behind-reads.Asked,
+  behind-reads.Learnt,
+  widen-reads.Asked,
+  widen-reads.Learnt,
+  agree-reads.Asked,
+  agree-reads.Learnt,
+  fitted-reads.Asked,
+  fitted-reads.Learnt,
+) (fit-at t) fit.Post
+fit-expr-requires-3 t c κs = (load-moved _ 900 (c .before .before .before .before .before .before .before .before .before .before .before .before .before .before .before .before .before .before .before .before .before .before .before .before .before .before .before .before .before .before .before .before .before .before .before .before .before .before .before .before .before .before .before .before .before .before .before .before .pre .0) _ 0 (c .before .before .before .behind2 .ensures) (grows-wide (c .before .before .before .before .before .before .before .before .before .before .before .before .before .before .before .before .before .before .before .before .before .before .before .before .before .before .before .before .before .before .before .before .before .before .before .before .before .before .before .before .before .before .before .before .before .before .before .before .args .p) 1 0 (grows-to (c .before .before .before .before .before .before .before .before .before .before .before .before .before .before .before .before .before .before .before .before .before .before .before .before .before .before .before .before .before .before .before .before .before .before .before .before .before .expr .ensures .grows) (c .before .before .before .before .before .before .before .before .before .before .before .before .before .before .before .before .before .before .before .before .before .before .before .before .before .before .before .before .before .x .given .1)) (c .before .before .before .before .before .before .before .before .before .before .before .before .before .before .before .before .before .before .behind .ensures) (c .before .before .before .before .before .before .before .before .before .before .before .before .before .before .before .before .before .widen .ensures) (c .before .before .before .before .before .before .before .before .before .before .before .before .before .expr2 .ensures .grows) (c .before .before .before .before .before .y .given .1)) (omega arith), room-behind (c .before .before .before .before .before .before .before .before .before .before .before .before .before .before .before .before .before .before .before .before .before .before .before .before .before .before .before .before .before .before .before .before .before .before .before .before .before .before .before .before .before .before .before .before .before .before .before .before .pre .1 .0) (c .before .before .before .behind2 .ensures) ((c .before .before .before .before .before .before .before .before .before .before .before .before .before .expr2 .kept .1 .1 .1 .1 .1 .0) ∙ (c .before .before .before .before .before .before .before .before .before .before .before .before .before .before .before .before .before .before .before .before .before .put .kept .0) ∙ (c .before .before .before .before .before .before .before .before .before .before .before .before .before .before .before .before .before .before .before .before .before .before .before .before .before .before .before .before .before .before .before .before .before .before .before .before .before .expr .kept .1 .1 .1 .1 .1 .0)) ((c .before .before .before .before .before .before .before .before .before .before .before .before .before .expr2 .kept .1 .1 .1 .1 .1 .1 .0) ∙ (c .before .before .before .before .before .before .before .before .before .before .before .before .before .before .before .before .before .before .before .before .before .before .before .before .before .before .before .before .before .before .before .before .before .before .before .before .before .expr .kept .1 .1 .1 .1 .1 .1 .0)))
+
+fit-enum-known-z : (t : ℕ) → fit-lts.Need-enum-known-z (
+  expr-below t,
+  expr.Post,
+  word-of-reads.Asked,
+  word-of-reads.Learnt,
+  put-reads.Asked,
+  put-reads.Learnt,
+  behind-reads.Asked,
+  behind-reads.Learnt,
+  widen-reads.Asked,
+  widen-reads.Learnt,
+  agree-reads.Asked,
+  agree-reads.Learnt,
+  fitted-reads.Asked,
+  fitted-reads.Learnt,
+) (fit-at t) fit.Post
+fit-enum-known-z t c = (c .match4 .keys1)
+
+fit-enum-told-3 : (t : ℕ) → fit-lts.Need-enum-told-3 (
+  expr-below t,
+  expr.Post,
+  word-of-reads.Asked,
+  word-of-reads.Learnt,
+  put-reads.Asked,
+  put-reads.Learnt,
+  behind-reads.Asked,
+  behind-reads.Learnt,
+  widen-reads.Asked,
+  widen-reads.Learnt,
+  agree-reads.Asked,
+  agree-reads.Learnt,
+  fitted-reads.Asked,
+  fitted-reads.Learnt,
+) (fit-at t) fit.Post
+fit-enum-told-3 t c = (c .match4 .keys2)
+
+fit-same-length-10 : (t : ℕ) → fit-lts.Need-same-length-10 (
+  expr-below t,
+  expr.Post,
+  word-of-reads.Asked,
+  word-of-reads.Learnt,
+  put-reads.Asked,
+  put-reads.Learnt,
+  behind-reads.Asked,
+  behind-reads.Learnt,
+  widen-reads.Asked,
+  widen-reads.Learnt,
+  agree-reads.Asked,
+  agree-reads.Learnt,
+  fitted-reads.Asked,
+  fitted-reads.Learnt,
+) (fit-at t) fit.Post
+fit-same-length-10 t c = (c .before .before .before .before .before .before .before .before .expr3 .kept .1 .1 .1 .1 .0) ∙ (c .before .before .before .before .before .before .before .before .before .before .before .before .before .before .before .before .before .before .before .before .before .before .expr2 .kept .1 .1 .1 .1 .0) ∙ (c .before .before .before .before .before .before .before .before .before .before .before .before .before .before .before .before .before .before .before .before .before .before .before .before .before .before .before .before .before .before .before .before .before .before .before .before .before .before .before .before .before .before .before .before .before .before .expr .kept .1 .1 .1 .1 .0)
+
+fit-same-length-11 : (t : ℕ) → fit-lts.Need-same-length-11 (
+  expr-below t,
+  expr.Post,
+  word-of-reads.Asked,
+  word-of-reads.Learnt,
+  put-reads.Asked,
+  put-reads.Learnt,
+  behind-reads.Asked,
+  behind-reads.Learnt,
+  widen-reads.Asked,
+  widen-reads.Learnt,
+  agree-reads.Asked,
+  agree-reads.Learnt,
+  fitted-reads.Asked,
+  fitted-reads.Learnt,
+) (fit-at t) fit.Post
+fit-same-length-11 t c = (c .before .before .before .before .before .before .before .before .expr3 .kept .1 .1 .1 .1 .1 .0) ∙ (c .before .before .before .before .before .before .before .before .before .before .before .before .before .before .before .before .before .before .before .before .before .before .expr2 .kept .1 .1 .1 .1 .1 .0) ∙ (c .before .before .before .before .before .before .before .before .before .before .before .before .before .before .before .before .before .before .before .before .before .before .before .before .before .before .before .before .before .before .put .kept .0) ∙ (c .before .before .before .before .before .before .before .before .before .before .before .before .before .before .before .before .before .before .before .before .before .before .before .before .before .before .before .before .before .before .before .before .before .before .before .before .before .before .before .before .before .before .before .before .before .before .expr .kept .1 .1 .1 .1 .1 .0)
+
+fit-same-length-12 : (t : ℕ) → fit-lts.Need-same-length-12 (
+  expr-below t,
+  expr.Post,
+  word-of-reads.Asked,
+  word-of-reads.Learnt,
+  put-reads.Asked,
+  put-reads.Learnt,
+  behind-reads.Asked,
+  behind-reads.Learnt,
+  widen-reads.Asked,
+  widen-reads.Learnt,
+  agree-reads.Asked,
+  agree-reads.Learnt,
+  fitted-reads.Asked,
+  fitted-reads.Learnt,
+) (fit-at t) fit.Post
+fit-same-length-12 t c = (c .before .before .before .before .before .before .before .before .expr3 .kept .1 .1 .1 .1 .1 .1 .0) ∙ (c .before .before .before .before .before .before .before .before .before .before .before .before .before .before .before .before .before .before .before .before .before .before .expr2 .kept .1 .1 .1 .1 .1 .1 .0) ∙ (c .before .before .before .before .before .before .before .before .before .before .before .before .before .before .before .before .before .before .before .before .before .before .before .before .before .before .before .before .before .before .before .before .before .before .before .before .before .before .before .before .before .before .before .before .before .before .expr .kept .1 .1 .1 .1 .1 .1 .0)
+
+fit-returns-4 : (t : ℕ) → fit-lts.Need-returns-4 (
+  expr-below t,
+  expr.Post,
+  word-of-reads.Asked,
+  word-of-reads.Learnt,
+  put-reads.Asked,
+  put-reads.Learnt,
+  behind-reads.Asked,
+  behind-reads.Learnt,
+  widen-reads.Asked,
+  widen-reads.Learnt,
+  agree-reads.Asked,
+  agree-reads.Learnt,
+  fitted-reads.Asked,
+  fitted-reads.Learnt,
+) (fit-at t) fit.Post
+fit-returns-4 t c = fit-other _ (c .before .before .before .before .before .before .before .before .before .before .before .before .before .before .before .before .before .before .before .before .before .before .before .before .before .before .before .before .before .before .before .before .before .before .before .before .before .before .before .before .before .before .before .before .before .before .expr .ensures) (scope-long (c .before .before .before .before .before .before .before .before .before .before .before .before .before .before .before .before .before .before .before .before .before .before .before .before .before .before .before .before .before .before .before .before .before .before .before .before .before .before .before .before .before .before .before .before .before .before .before .before .before .before .before .before .before .before .before .before .before .pre .1 .0) ((c .before .before .before .before .before .before .before .before .before .before .before .before .before .before .before .before .before .before .before .before .before .before .before .before .before .before .before .before .before .before .before .before .before .before .before .before .before .before .before .before .before .before .before .before .before .before .expr .kept .1 .1 .1 .1 .1 .0))) (c .before .before .before .before .before .before .before .before .before .before .before .before .before .before .before .before .before .before .before .before .before .before .before .before .before .before .before .before .before .before .before .before .before .before .before .before .before .before .x .given .1) (c .before .before .before .before .before .before .before .before .before .before .before .before .before .before .before .before .before .before .before .before .before .before .before .before .before .before .before .before .before .before .before .before .before .before .before .kind .given .1) (c .before .before .before .before .before .before .before .before .before .before .before .before .before .before .before .before .before .before .before .before .before .before .before .before .before .before .before .before .before .before .before .before .before .word-of .ensures .is) (c .before .before .before .before .before .before .before .before .before .before .before .before .before .before .before .before .before .before .before .before .before .before .before .before .before .before .before .behind .ensures) (c .before .before .before .before .before .before .before .before .before .before .before .before .before .before .before .before .before .before .before .before .before .before .before .before .before .before .widen .ensures) (put-is (c .before .before .before .before .before .before .before .before .before .before .before .before .before .before .before .before .before .before .before .before .before .before .before .before .before .before .before .before .before .before .put .ensures) (c .before .before .before .before .before .before .before .before .before .before .before .before .before .before .before .before .before .before .before .before .before .before .expr2 .ensures)) (c .before .before .before .before .before .before .before .before .before .before .before .before .before .before .y .given .1) (c .before .before .before .before .before .before .before .before .before .before .before .before .behind2 .ensures) (c .before .before .before .before .before .before .before .before .expr3 .ensures) (c .enum-told3 .given .1)
+
+fit-agree-requires : (t : ℕ) → fit-lts.Need-agree-requires (
+  expr-below t,
+  expr.Post,
+  word-of-reads.Asked,
+  word-of-reads.Learnt,
+  put-reads.Asked,
+  put-reads.Learnt,
+  behind-reads.Asked,
+  behind-reads.Learnt,
+  widen-reads.Asked,
+  widen-reads.Learnt,
+  agree-reads.Asked,
+  agree-reads.Learnt,
+  fitted-reads.Asked,
+  fitted-reads.Learnt,
+) (fit-at t) fit.Post
+fit-agree-requires t c κs = tt
+
+fit-add-t49 : (t : ℕ) → fit-lts.Need-add-t49 (
+  expr-below t,
+  expr.Post,
+  word-of-reads.Asked,
+  word-of-reads.Learnt,
+  put-reads.Asked,
+  put-reads.Learnt,
+  behind-reads.Asked,
+  behind-reads.Learnt,
+  widen-reads.Asked,
+  widen-reads.Learnt,
+  agree-reads.Asked,
+  agree-reads.Learnt,
+  fitted-reads.Asked,
+  fitted-reads.Learnt,
+) (fit-at t) fit.Post
+fit-add-t49 t c = omega (arith, (c .before .before .before .before .before .before .before .before .before .before .before .before .before .before .before .before .before .before .before .before .before .before .before .before .before .before .before .before .before .before .before .before .before .before .before .before .before .before .before .before .before .before .before .before .before .before .before .before .before .before .before .before .before .before .before .before .before .before .before .before .before .pre .1 .0 .line))
+
+fit-same-length-13 : (t : ℕ) → fit-lts.Need-same-length-13 (
+  expr-below t,
+  expr.Post,
+  word-of-reads.Asked,
+  word-of-reads.Learnt,
+  put-reads.Asked,
+  put-reads.Learnt,
+  behind-reads.Asked,
+  behind-reads.Learnt,
+  widen-reads.Asked,
+  widen-reads.Learnt,
+  agree-reads.Asked,
+  agree-reads.Learnt,
+  fitted-reads.Asked,
+  fitted-reads.Learnt,
+) (fit-at t) fit.Post
+fit-same-length-13 t c = (c .before .before .before .before .before .before .before .before .before .before .before .before .expr3 .kept .1 .1 .1 .1 .0) ∙ (c .before .before .before .before .before .before .before .before .before .before .before .before .before .before .before .before .before .before .before .before .before .before .before .before .before .before .expr2 .kept .1 .1 .1 .1 .0) ∙ (c .before .before .before .before .before .before .before .before .before .before .before .before .before .before .before .before .before .before .before .before .before .before .before .before .before .before .before .before .before .before .before .before .before .before .before .before .before .before .before .before .before .before .before .before .before .before .before .before .before .before .expr .kept .1 .1 .1 .1 .0)
+
+fit-same-length-14 : (t : ℕ) → fit-lts.Need-same-length-14 (
+  expr-below t,
+  expr.Post,
+  word-of-reads.Asked,
+  word-of-reads.Learnt,
+  put-reads.Asked,
+  put-reads.Learnt,
+  behind-reads.Asked,
+  behind-reads.Learnt,
+  widen-reads.Asked,
+  widen-reads.Learnt,
+  agree-reads.Asked,
+  agree-reads.Learnt,
+  fitted-reads.Asked,
+  fitted-reads.Learnt,
+) (fit-at t) fit.Post
+fit-same-length-14 t c = (c .before .before .before .before .before .before .before .before .before .before .before .before .expr3 .kept .1 .1 .1 .1 .1 .0) ∙ (c .before .before .before .before .before .before .before .before .before .before .before .before .before .before .before .before .before .before .before .before .before .before .before .before .before .before .expr2 .kept .1 .1 .1 .1 .1 .0) ∙ (c .before .before .before .before .before .before .before .before .before .before .before .before .before .before .before .before .before .before .before .before .before .before .before .before .before .before .before .before .before .before .before .before .before .before .put .kept .0) ∙ (c .before .before .before .before .before .before .before .before .before .before .before .before .before .before .before .before .before .before .before .before .before .before .before .before .before .before .before .before .before .before .before .before .before .before .before .before .before .before .before .before .before .before .before .before .before .before .before .before .before .before .expr .kept .1 .1 .1 .1 .1 .0)
+
+fit-same-length-15 : (t : ℕ) → fit-lts.Need-same-length-15 (
+  expr-below t,
+  expr.Post,
+  word-of-reads.Asked,
+  word-of-reads.Learnt,
+  put-reads.Asked,
+  put-reads.Learnt,
+  behind-reads.Asked,
+  behind-reads.Learnt,
+  widen-reads.Asked,
+  widen-reads.Learnt,
+  agree-reads.Asked,
+  agree-reads.Learnt,
+  fitted-reads.Asked,
+  fitted-reads.Learnt,
+) (fit-at t) fit.Post
+fit-same-length-15 t c = (c .before .before .before .before .before .before .before .before .before .before .before .before .expr3 .kept .1 .1 .1 .1 .1 .1 .0) ∙ (c .before .before .before .before .before .before .before .before .before .before .before .before .before .before .before .before .before .before .before .before .before .before .before .before .before .before .expr2 .kept .1 .1 .1 .1 .1 .1 .0) ∙ (c .before .before .before .before .before .before .before .before .before .before .before .before .before .before .before .before .before .before .before .before .before .before .before .before .before .before .before .before .before .before .before .before .before .before .before .before .before .before .before .before .before .before .before .before .before .before .before .before .before .before .expr .kept .1 .1 .1 .1 .1 .1 .0)
+
+fit-returns-5 : (t : ℕ) → fit-lts.Need-returns-5 (
+  expr-below t,
+  expr.Post,
+  word-of-reads.Asked,
+  word-of-reads.Learnt,
+  put-reads.Asked,
+  put-reads.Learnt,
+  behind-reads.Asked,
+  behind-reads.Learnt,
+  widen-reads.Asked,
+  widen-reads.Learnt,
+  agree-reads.Asked,
+  agree-reads.Learnt,
+  fitted-reads.Asked,
+  fitted-reads.Learnt,
+) (fit-at t) fit.Post
+fit-returns-5 t c = fit-differ _ (c .before .before .before .before .before .before .before .before .before .before .before .before .before .before .before .before .before .before .before .before .before .before .before .before .before .before .before .before .before .before .before .before .before .before .before .before .before .before .before .before .before .before .before .before .before .before .before .before .before .before .expr .ensures) (scope-long (c .before .before .before .before .before .before .before .before .before .before .before .before .before .before .before .before .before .before .before .before .before .before .before .before .before .before .before .before .before .before .before .before .before .before .before .before .before .before .before .before .before .before .before .before .before .before .before .before .before .before .before .before .before .before .before .before .before .before .before .before .before .pre .1 .0) ((c .before .before .before .before .before .before .before .before .before .before .before .before .before .before .before .before .before .before .before .before .before .before .before .before .before .before .before .before .before .before .before .before .before .before .before .before .before .before .before .before .before .before .before .before .before .before .before .before .before .before .expr .kept .1 .1 .1 .1 .1 .0))) (c .before .before .before .before .before .before .before .before .before .before .before .before .before .before .before .before .before .before .before .before .before .before .before .before .before .before .before .before .before .before .before .before .before .before .before .before .before .before .before .before .before .before .x .given .1) (c .before .before .before .before .before .before .before .before .before .before .before .before .before .before .before .before .before .before .before .before .before .before .before .before .before .before .before .before .before .before .before .before .before .before .before .before .before .before .before .kind .given .1) (c .before .before .before .before .before .before .before .before .before .before .before .before .before .before .before .before .before .before .before .before .before .before .before .before .before .before .before .before .before .before .before .before .before .before .before .before .before .word-of .ensures .is) (c .before .before .before .before .before .before .before .before .before .before .before .before .before .before .before .before .before .before .before .before .before .before .before .before .before .before .before .before .before .before .before .behind .ensures) (c .before .before .before .before .before .before .before .before .before .before .before .before .before .before .before .before .before .before .before .before .before .before .before .before .before .before .before .before .before .before .widen .ensures) (put-is (c .before .before .before .before .before .before .before .before .before .before .before .before .before .before .before .before .before .before .before .before .before .before .before .before .before .before .before .before .before .before .before .before .before .before .put .ensures) (c .before .before .before .before .before .before .before .before .before .before .before .before .before .before .before .before .before .before .before .before .before .before .before .before .before .before .expr2 .ensures)) (c .before .before .before .before .before .before .before .before .before .before .before .before .before .before .before .before .before .before .y .given .1) (c .before .before .before .before .before .before .before .before .before .before .before .before .before .before .before .before .behind2 .ensures) (c .before .before .before .before .before .before .before .before .before .before .before .before .expr3 .ensures) (c .before .before .before .before .z .given .1) (c .before .before .agree .ensures) (not-true _ (c .before .if1 .taken))
+
+fit-fitted-requires : (t : ℕ) → fit-lts.Need-fitted-requires (
+  expr-below t,
+  expr.Post,
+  word-of-reads.Asked,
+  word-of-reads.Learnt,
+  put-reads.Asked,
+  put-reads.Learnt,
+  behind-reads.Asked,
+  behind-reads.Learnt,
+  widen-reads.Asked,
+  widen-reads.Learnt,
+  agree-reads.Asked,
+  agree-reads.Learnt,
+  fitted-reads.Asked,
+  fitted-reads.Learnt,
+) (fit-at t) fit.Post
+fit-fitted-requires t c κs = tt
+
+fit-same-length-16 : (t : ℕ) → fit-lts.Need-same-length-16 (
+  expr-below t,
+  expr.Post,
+  word-of-reads.Asked,
+  word-of-reads.Learnt,
+  put-reads.Asked,
+  put-reads.Learnt,
+  behind-reads.Asked,
+  behind-reads.Learnt,
+  widen-reads.Asked,
+  widen-reads.Learnt,
+  agree-reads.Asked,
+  agree-reads.Learnt,
+  fitted-reads.Asked,
+  fitted-reads.Learnt,
+) (fit-at t) fit.Post
+fit-same-length-16 t c = (c .before .before .before .before .before .before .before .before .before .before .before .before .expr3 .kept .1 .1 .1 .1 .0) ∙ (c .before .before .before .before .before .before .before .before .before .before .before .before .before .before .before .before .before .before .before .before .before .before .before .before .before .before .expr2 .kept .1 .1 .1 .1 .0) ∙ (c .before .before .before .before .before .before .before .before .before .before .before .before .before .before .before .before .before .before .before .before .before .before .before .before .before .before .before .before .before .before .before .before .before .before .before .before .before .before .before .before .before .before .before .before .before .before .before .before .before .before .expr .kept .1 .1 .1 .1 .0)
+
+fit-same-length-17 : (t : ℕ) → fit-lts.Need-same-length-17 (
+  expr-below t,
+  expr.Post,
+  word-of-reads.Asked,
+  word-of-reads.Learnt,
+  put-reads.Asked,
+  put-reads.Learnt,
+  behind-reads.Asked,
+  behind-reads.Learnt,
+  widen-reads.Asked,
+  widen-reads.Learnt,
+  agree-reads.Asked,
+  agree-reads.Learnt,
+  fitted-reads.Asked,
+  fitted-reads.Learnt,
+) (fit-at t) fit.Post
+fit-same-length-17 t c = (c .before .before .before .before .before .before .before .before .before .before .before .before .expr3 .kept .1 .1 .1 .1 .1 .0) ∙ (c .before .before .before .before .before .before .before .before .before .before .before .before .before .before .before .before .before .before .before .before .before .before .before .before .before .before .expr2 .kept .1 .1 .1 .1 .1 .0) ∙ (c .before .before .before .before .before .before .before .before .before .before .before .before .before .before .before .before .before .before .before .before .before .before .before .before .before .before .before .before .before .before .before .before .before .before .put .kept .0) ∙ (c .before .before .before .before .before .before .before .before .before .before .before .before .before .before .before .before .before .before .before .before .before .before .before .before .before .before .before .before .before .before .before .before .before .before .before .before .before .before .before .before .before .before .before .before .before .before .before .before .before .before .expr .kept .1 .1 .1 .1 .1 .0)
+
+fit-same-length-18 : (t : ℕ) → fit-lts.Need-same-length-18 (
+  expr-below t,
+  expr.Post,
+  word-of-reads.Asked,
+  word-of-reads.Learnt,
+  put-reads.Asked,
+  put-reads.Learnt,
+  behind-reads.Asked,
+  behind-reads.Learnt,
+  widen-reads.Asked,
+  widen-reads.Learnt,
+  agree-reads.Asked,
+  agree-reads.Learnt,
+  fitted-reads.Asked,
+  fitted-reads.Learnt,
+) (fit-at t) fit.Post
+fit-same-length-18 t c = (c .before .before .before .before .before .before .before .before .before .before .before .before .expr3 .kept .1 .1 .1 .1 .1 .1 .0) ∙ (c .before .before .before .before .before .before .before .before .before .before .before .before .before .before .before .before .before .before .before .before .before .before .before .before .before .before .expr2 .kept .1 .1 .1 .1 .1 .1 .0) ∙ (c .before .before .before .before .before .before .before .before .before .before .before .before .before .before .before .before .before .before .before .before .before .before .before .before .before .before .before .before .before .before .before .before .before .before .before .before .before .before .before .before .before .before .before .before .before .before .before .before .before .before .expr .kept .1 .1 .1 .1 .1 .1 .0)
+
+fit-returns-6 : (t : ℕ) → fit-lts.Need-returns-6 (
+  expr-below t,
+  expr.Post,
+  word-of-reads.Asked,
+  word-of-reads.Learnt,
+  put-reads.Asked,
+  put-reads.Learnt,
+  behind-reads.Asked,
+  behind-reads.Learnt,
+  widen-reads.Asked,
+  widen-reads.Learnt,
+  agree-reads.Asked,
+  agree-reads.Learnt,
+  fitted-reads.Asked,
+  fitted-reads.Learnt,
+) (fit-at t) fit.Post
+fit-returns-6 t c = fit-done _ (c .before .before .before .before .before .before .before .before .before .before .before .before .before .before .before .before .before .before .before .before .before .before .before .before .before .before .before .before .before .before .before .before .before .before .before .before .before .before .before .before .before .before .before .before .before .before .before .before .before .before .expr .ensures) (scope-long (c .before .before .before .before .before .before .before .before .before .before .before .before .before .before .before .before .before .before .before .before .before .before .before .before .before .before .before .before .before .before .before .before .before .before .before .before .before .before .before .before .before .before .before .before .before .before .before .before .before .before .before .before .before .before .before .before .before .before .before .before .before .pre .1 .0) ((c .before .before .before .before .before .before .before .before .before .before .before .before .before .before .before .before .before .before .before .before .before .before .before .before .before .before .before .before .before .before .before .before .before .before .before .before .before .before .before .before .before .before .before .before .before .before .before .before .before .before .expr .kept .1 .1 .1 .1 .1 .0))) (c .before .before .before .before .before .before .before .before .before .before .before .before .before .before .before .before .before .before .before .before .before .before .before .before .before .before .before .before .before .before .before .before .before .before .before .before .before .before .before .before .before .before .x .given .1) (c .before .before .before .before .before .before .before .before .before .before .before .before .before .before .before .before .before .before .before .before .before .before .before .before .before .before .before .before .before .before .before .before .before .before .before .before .before .before .before .kind .given .1) (c .before .before .before .before .before .before .before .before .before .before .before .before .before .before .before .before .before .before .before .before .before .before .before .before .before .before .before .before .before .before .before .before .before .before .before .before .before .word-of .ensures .is) (c .before .before .before .before .before .before .before .before .before .before .before .before .before .before .before .before .before .before .before .before .before .before .before .before .before .before .before .before .before .before .before .behind .ensures) (c .before .before .before .before .before .before .before .before .before .before .before .before .before .before .before .before .before .before .before .before .before .before .before .before .before .before .before .before .before .before .widen .ensures) (put-is (c .before .before .before .before .before .before .before .before .before .before .before .before .before .before .before .before .before .before .before .before .before .before .before .before .before .before .before .before .before .before .before .before .before .before .put .ensures) (c .before .before .before .before .before .before .before .before .before .before .before .before .before .before .before .before .before .before .before .before .before .before .before .before .before .before .expr2 .ensures)) (c .before .before .before .before .before .before .before .before .before .before .before .before .before .before .before .before .before .before .y .given .1) (c .before .before .before .before .before .before .before .before .before .before .before .before .before .before .before .before .behind2 .ensures) (c .before .before .before .before .before .before .before .before .before .before .before .before .expr3 .ensures) (c .before .before .before .before .z .given .1) (c .before .before .agree .ensures) (not-false _ (c .before .if1 .left)) (c .fitted .ensures .held) (c .fitted .ensures .both) (c .fitted .ensures .all) (c .fitted .ensures .is)
+
+operation-expr-requires : (t : ℕ) → operation-lts.Need-expr-requires (
+  expr-below t,
+  expr.Post,
+  behind-reads.Asked,
+  behind-reads.Learnt,
+  operated-reads.Asked,
+  operated-reads.Learnt,
+) (operation-at t) operation.Post
+operation-expr-requires t c κs = (load-same _ 900 (c .before .before .before .before .before .before .before .before .before .before .pre .0) 0 (omega arith), room-same (c .before .before .before .before .before .before .before .before .before .before .pre .1) (omega arith))
+
+operation-enum-known-x : (t : ℕ) → operation-lts.Need-enum-known-x (
+  expr-below t,
+  expr.Post,
+  behind-reads.Asked,
+  behind-reads.Learnt,
+  operated-reads.Asked,
+  operated-reads.Learnt,
+) (operation-at t) operation.Post
+operation-enum-known-x t c = (c .match .keys1)
+
+operation-enum-told : (t : ℕ) → operation-lts.Need-enum-told (
+  expr-below t,
+  expr.Post,
+  behind-reads.Asked,
+  behind-reads.Learnt,
+  operated-reads.Asked,
+  operated-reads.Learnt,
+) (operation-at t) operation.Post
+operation-enum-told t c = (c .match .keys2)
+
+operation-same-length : (t : ℕ) → operation-lts.Need-same-length (
+  expr-below t,
+  expr.Post,
+  behind-reads.Asked,
+  behind-reads.Learnt,
+  operated-reads.Asked,
+  operated-reads.Learnt,
+) (operation-at t) operation.Post
+operation-same-length t c = (c .before .before .before .before .before .before .before .before .expr .kept .1 .1 .1 .1 .0)
+
+operation-same-length-2 : (t : ℕ) → operation-lts.Need-same-length-2 (
+  expr-below t,
+  expr.Post,
+  behind-reads.Asked,
+  behind-reads.Learnt,
+  operated-reads.Asked,
+  operated-reads.Learnt,
+) (operation-at t) operation.Post
+operation-same-length-2 t c = (c .before .before .before .before .before .before .before .before .expr .kept .1 .1 .1 .1 .1 .0)
+
+operation-same-length-3 : (t : ℕ) → operation-lts.Need-same-length-3 (
+  expr-below t,
+  expr.Post,
+  behind-reads.Asked,
+  behind-reads.Learnt,
+  operated-reads.Asked,
+  operated-reads.Learnt,
+) (operation-at t) operation.Post
+operation-same-length-3 t c = (c .before .before .before .before .before .before .before .before .expr .kept .1 .1 .1 .1 .1 .1 .0)
+
+operation-returns : (t : ℕ) → operation-lts.Need-returns (
+  expr-below t,
+  expr.Post,
+  behind-reads.Asked,
+  behind-reads.Learnt,
+  operated-reads.Asked,
+  operated-reads.Learnt,
+) (operation-at t) operation.Post
+operation-returns t c = op-first (c .before .before .before .before .before .before .before .before .expr .ensures) (c .enum-told .given .1)
+
+operation-behind-requires : (t : ℕ) → operation-lts.Need-behind-requires (
+  expr-below t,
+  expr.Post,
+  behind-reads.Asked,
+  behind-reads.Learnt,
+  operated-reads.Asked,
+  operated-reads.Learnt,
+) (operation-at t) operation.Post
+operation-behind-requires t c κs = tt
+
+operation-expr-requires-2 : (t : ℕ) → operation-lts.Need-expr-requires-2 (
+  expr-below t,
+  expr.Post,
+  behind-reads.Asked,
+  behind-reads.Learnt,
+  operated-reads.Asked,
+  operated-reads.Learnt,
+) (operation-at t) operation.Post
+operation-expr-requires-2 t c κs = (load-moved _ 900 (c .before .before .before .before .before .before .before .before .before .before .before .before .before .before .before .before .before .before .before .before .before .before .before .before .pre .0) _ 0 (c .before .before .before .behind .ensures) (grows-to (c .before .before .before .before .before .before .before .before .before .before .before .before .before .expr .ensures .grows) (c .before .before .before .before .before .x .given .1)) (omega arith), room-behind (c .before .before .before .before .before .before .before .before .before .before .before .before .before .before .before .before .before .before .before .before .before .before .before .before .pre .1) (c .before .before .before .behind .ensures) ((c .before .before .before .before .before .before .before .before .before .before .before .before .before .expr .kept .1 .1 .1 .1 .1 .0)) ((c .before .before .before .before .before .before .before .before .before .before .before .before .before .expr .kept .1 .1 .1 .1 .1 .1 .0)))
+
+operation-enum-known-y : (t : ℕ) → operation-lts.Need-enum-known-y (
+  expr-below t,
+  expr.Post,
+  behind-reads.Asked,
+  behind-reads.Learnt,
+  operated-reads.Asked,
+  operated-reads.Learnt,
+) (operation-at t) operation.Post
+operation-enum-known-y t c = (c .match2 .keys1)
+
+operation-enum-told-2 : (t : ℕ) → operation-lts.Need-enum-told-2 (
+  expr-below t,
+  expr.Post,
+  behind-reads.Asked,
+  behind-reads.Learnt,
+  operated-reads.Asked,
+  operated-reads.Learnt,
+) (operation-at t) operation.Post
+operation-enum-told-2 t c = (c .match2 .keys2)
+
+operation-same-length-4 : (t : ℕ) → operation-lts.Need-same-length-4 (
+  expr-below t,
+  expr.Post,
+  behind-reads.Asked,
+  behind-reads.Learnt,
+  operated-reads.Asked,
+  operated-reads.Learnt,
+) (operation-at t) operation.Post
+operation-same-length-4 t c = (c .before .before .before .before .before .before .before .before .expr2 .kept .1 .1 .1 .1 .0) ∙ (c .before .before .before .before .before .before .before .before .before .before .before .before .before .before .before .before .before .before .before .before .before .before .expr .kept .1 .1 .1 .1 .0)
+
+operation-same-length-5 : (t : ℕ) → operation-lts.Need-same-length-5 (
+  expr-below t,
+  expr.Post,
+  behind-reads.Asked,
+  behind-reads.Learnt,
+  operated-reads.Asked,
+  operated-reads.Learnt,
+) (operation-at t) operation.Post
+operation-same-length-5 t c = (c .before .before .before .before .before .before .before .before .expr2 .kept .1 .1 .1 .1 .1 .0) ∙ (c .before .before .before .before .before .before .before .before .before .before .before .before .before .before .before .before .before .before .before .before .before .before .expr .kept .1 .1 .1 .1 .1 .0)
+
+operation-same-length-6 : (t : ℕ) → operation-lts.Need-same-length-6 (
+  expr-below t,
+  expr.Post,
+  behind-reads.Asked,
+  behind-reads.Learnt,
+  operated-reads.Asked,
+  operated-reads.Learnt,
+) (operation-at t) operation.Post
+operation-same-length-6 t c = (c .before .before .before .before .before .before .before .before .expr2 .kept .1 .1 .1 .1 .1 .1 .0) ∙ (c .before .before .before .before .before .before .before .before .before .before .before .before .before .before .before .before .before .before .before .before .before .before .expr .kept .1 .1 .1 .1 .1 .1 .0)
+
+operation-returns-2 : (t : ℕ) → operation-lts.Need-returns-2 (
+  expr-below t,
+  expr.Post,
+  behind-reads.Asked,
+  behind-reads.Learnt,
+  operated-reads.Asked,
+  operated-reads.Learnt,
+) (operation-at t) operation.Post
+operation-returns-2 t c = op-second (c .before .before .before .before .before .before .before .before .before .before .before .before .before .before .before .before .before .before .before .before .before .before .expr .ensures) (c .before .before .before .before .before .before .before .before .before .before .before .before .before .before .x .given .1) (c .before .before .before .before .before .before .before .before .before .before .before .before .behind .ensures) (c .before .before .before .before .before .before .before .before .expr2 .ensures) (c .enum-told2 .given .1)
+
+operation-operated-requires : (t : ℕ) → operation-lts.Need-operated-requires (
+  expr-below t,
+  expr.Post,
+  behind-reads.Asked,
+  behind-reads.Learnt,
+  operated-reads.Asked,
+  operated-reads.Learnt,
+) (operation-at t) operation.Post
+operation-operated-requires t c κs = tt
+
+operation-same-length-7 : (t : ℕ) → operation-lts.Need-same-length-7 (
+  expr-below t,
+  expr.Post,
+  behind-reads.Asked,
+  behind-reads.Learnt,
+  operated-reads.Asked,
+  operated-reads.Learnt,
+) (operation-at t) operation.Post
+operation-same-length-7 t c = (c .before .before .before .before .before .before .before .before .before .before .expr2 .kept .1 .1 .1 .1 .0) ∙ (c .before .before .before .before .before .before .before .before .before .before .before .before .before .before .before .before .before .before .before .before .before .before .before .before .expr .kept .1 .1 .1 .1 .0)
+
+operation-same-length-8 : (t : ℕ) → operation-lts.Need-same-length-8 (
+  expr-below t,
+  expr.Post,
+  behind-reads.Asked,
+  behind-reads.Learnt,
+  operated-reads.Asked,
+  operated-reads.Learnt,
+) (operation-at t) operation.Post
+operation-same-length-8 t c = (c .before .before .before .before .before .before .before .before .before .before .expr2 .kept .1 .1 .1 .1 .1 .0) ∙ (c .before .before .before .before .before .before .before .before .before .before .before .before .before .before .before .before .before .before .before .before .before .before .before .before .expr .kept .1 .1 .1 .1 .1 .0)
+
+operation-same-length-9 : (t : ℕ) → operation-lts.Need-same-length-9 (
+  expr-below t,
+  expr.Post,
+  behind-reads.Asked,
+  behind-reads.Learnt,
+  operated-reads.Asked,
+  operated-reads.Learnt,
+) (operation-at t) operation.Post
+operation-same-length-9 t c = (c .before .before .before .before .before .before .before .before .before .before .expr2 .kept .1 .1 .1 .1 .1 .1 .0) ∙ (c .before .before .before .before .before .before .before .before .before .before .before .before .before .before .before .before .before .before .before .before .before .before .before .before .expr .kept .1 .1 .1 .1 .1 .1 .0)
+
+operation-returns-3 : (t : ℕ) → operation-lts.Need-returns-3 (
+  expr-below t,
+  expr.Post,
+  behind-reads.Asked,
+  behind-reads.Learnt,
+  operated-reads.Asked,
+  operated-reads.Learnt,
+) (operation-at t) operation.Post
+operation-returns-3 t c = op-done (c .before .before .before .before .before .before .before .before .before .before .before .before .before .before .before .before .before .before .before .before .before .before .before .before .expr .ensures) (c .before .before .before .before .before .before .before .before .before .before .before .before .before .before .before .before .x .given .1) (c .before .before .before .before .before .before .before .before .before .before .before .before .before .before .behind .ensures) (c .before .before .before .before .before .before .before .before .before .before .expr2 .ensures) (c .before .before .y .given .1) (c .operated .ensures .typed) (c .operated .ensures .both) (c .operated .ensures .one) (c .operated .ensures .all) (c .operated .ensures .is)
+
+several-none-requires : (t : ℕ) → several-lts.Need-none-requires (
+  none-reads.Asked,
+  none-reads.Learnt,
+  expr-below t,
+  expr.Post,
+  refused-all-reads.Asked,
+  refused-all-reads.Learnt,
+  kind-word-reads.Asked,
+  kind-word-reads.Learnt,
+  put-reads.Asked,
+  put-reads.Learnt,
+  behind-reads.Asked,
+  behind-reads.Learnt,
+  several-below t,
+  several.Post,
+  one-more-reads.Asked,
+  one-more-reads.Learnt,
+) (several-at t) several.Post
+several-none-requires t c κs = tt
+
+several-returns : (t : ℕ) → several-lts.Need-returns (
+  none-reads.Asked,
+  none-reads.Learnt,
+  expr-below t,
+  expr.Post,
+  refused-all-reads.Asked,
+  refused-all-reads.Learnt,
+  kind-word-reads.Asked,
+  kind-word-reads.Learnt,
+  put-reads.Asked,
+  put-reads.Learnt,
+  behind-reads.Asked,
+  behind-reads.Learnt,
+  several-below t,
+  several.Post,
+  one-more-reads.Asked,
+  one-more-reads.Learnt,
+) (several-at t) several.Post
+several-returns t c = several-none _ (c .before .if1 .taken) (c .none .ensures .none) (c .none .ensures .is)
+
+several-expr-requires : (t : ℕ) → several-lts.Need-expr-requires (
+  none-reads.Asked,
+  none-reads.Learnt,
+  expr-below t,
+  expr.Post,
+  refused-all-reads.Asked,
+  refused-all-reads.Learnt,
+  kind-word-reads.Asked,
+  kind-word-reads.Learnt,
+  put-reads.Asked,
+  put-reads.Learnt,
+  behind-reads.Asked,
+  behind-reads.Learnt,
+  several-below t,
+  several.Post,
+  one-more-reads.Asked,
+  one-more-reads.Learnt,
+) (several-at t) several.Post
+several-expr-requires t c κs = (load-same _ _ (c .before .before .before .before .before .before .before .before .before .before .before .before .pre .0) 0 (omega arith), room-same (c .before .before .before .before .before .before .before .before .before .before .before .before .pre .1 .0) (omega arith))
+
+several-enum-known-x : (t : ℕ) → several-lts.Need-enum-known-x (
+  none-reads.Asked,
+  none-reads.Learnt,
+  expr-below t,
+  expr.Post,
+  refused-all-reads.Asked,
+  refused-all-reads.Learnt,
+  kind-word-reads.Asked,
+  kind-word-reads.Learnt,
+  put-reads.Asked,
+  put-reads.Learnt,
+  behind-reads.Asked,
+  behind-reads.Learnt,
+  several-below t,
+  several.Post,
+  one-more-reads.Asked,
+  one-more-reads.Learnt,
+) (several-at t) several.Post
+several-enum-known-x t c = (c .match .keys1)
+
+several-enum-told : (t : ℕ) → several-lts.Need-enum-told (
+  none-reads.Asked,
+  none-reads.Learnt,
+  expr-below t,
+  expr.Post,
+  refused-all-reads.Asked,
+  refused-all-reads.Learnt,
+  kind-word-reads.Asked,
+  kind-word-reads.Learnt,
+  put-reads.Asked,
+  put-reads.Learnt,
+  behind-reads.Asked,
+  behind-reads.Learnt,
+  several-below t,
+  several.Post,
+  one-more-reads.Asked,
+  one-more-reads.Learnt,
+) (several-at t) several.Post
+several-enum-told t c = (c .match .keys2)
+
+several-refused-all-requires : (t : ℕ) → several-lts.Need-refused-all-requires (
+  none-reads.Asked,
+  none-reads.Learnt,
+  expr-below t,
+  expr.Post,
+  refused-all-reads.Asked,
+  refused-all-reads.Learnt,
+  kind-word-reads.Asked,
+  kind-word-reads.Learnt,
+  put-reads.Asked,
+  put-reads.Learnt,
+  behind-reads.Asked,
+  behind-reads.Learnt,
+  several-below t,
+  several.Post,
+  one-more-reads.Asked,
+  one-more-reads.Learnt,
+) (several-at t) several.Post
+several-refused-all-requires t c κs = tt
+
+several-same-length : (t : ℕ) → several-lts.Need-same-length (
+  none-reads.Asked,
+  none-reads.Learnt,
+  expr-below t,
+  expr.Post,
+  refused-all-reads.Asked,
+  refused-all-reads.Learnt,
+  kind-word-reads.Asked,
+  kind-word-reads.Learnt,
+  put-reads.Asked,
+  put-reads.Learnt,
+  behind-reads.Asked,
+  behind-reads.Learnt,
+  several-below t,
+  several.Post,
+  one-more-reads.Asked,
+  one-more-reads.Learnt,
+) (several-at t) several.Post
+several-same-length t c = (c .before .before .before .before .before .before .before .before .before .expr .kept .1 .1 .1 .1 .0)
+
+several-same-length-2 : (t : ℕ) → several-lts.Need-same-length-2 (
+  none-reads.Asked,
+  none-reads.Learnt,
+  expr-below t,
+  expr.Post,
+  refused-all-reads.Asked,
+  refused-all-reads.Learnt,
+  kind-word-reads.Asked,
+  kind-word-reads.Learnt,
+  put-reads.Asked,
+  put-reads.Learnt,
+  behind-reads.Asked,
+  behind-reads.Learnt,
+  several-below t,
+  several.Post,
+  one-more-reads.Asked,
+  one-more-reads.Learnt,
+) (several-at t) several.Post
+several-same-length-2 t c = (c .before .before .before .before .before .before .before .before .before .expr .kept .1 .1 .1 .1 .1 .0)
+
+several-same-length-3 : (t : ℕ) → several-lts.Need-same-length-3 (
+  none-reads.Asked,
+  none-reads.Learnt,
+  expr-below t,
+  expr.Post,
+  refused-all-reads.Asked,
+  refused-all-reads.Learnt,
+  kind-word-reads.Asked,
+  kind-word-reads.Learnt,
+  put-reads.Asked,
+  put-reads.Learnt,
+  behind-reads.Asked,
+  behind-reads.Learnt,
+  several-below t,
+  several.Post,
+  one-more-reads.Asked,
+  one-more-reads.Learnt,
+) (several-at t) several.Post
+several-same-length-3 t c = (c .before .before .before .before .before .before .before .before .before .expr .kept .1 .1 .1 .1 .1 .1 .0)
+
+several-returns-2 : (t : ℕ) → several-lts.Need-returns-2 (
+  none-reads.Asked,
+  none-reads.Learnt,
+  expr-below t,
+  expr.Post,
+  refused-all-reads.Asked,
+  refused-all-reads.Learnt,
+  kind-word-reads.Asked,
+  kind-word-reads.Learnt,
+  put-reads.Asked,
+  put-reads.Learnt,
+  behind-reads.Asked,
+  behind-reads.Learnt,
+  several-below t,
+  several.Post,
+  one-more-reads.Asked,
+  one-more-reads.Learnt,
+) (several-at t) several.Post
+several-returns-2 t c = several-first _ (c .before .before .before .before .before .before .before .before .before .before .before .before .before .if1 .left) (c .before .before .before .before .before .before .before .before .before .expr .ensures) (c .before .enum-told .given .1) (c .refused-all .ensures)
+
+several-kind-word-requires : (t : ℕ) → several-lts.Need-kind-word-requires (
+  none-reads.Asked,
+  none-reads.Learnt,
+  expr-below t,
+  expr.Post,
+  refused-all-reads.Asked,
+  refused-all-reads.Learnt,
+  kind-word-reads.Asked,
+  kind-word-reads.Learnt,
+  put-reads.Asked,
+  put-reads.Learnt,
+  behind-reads.Asked,
+  behind-reads.Learnt,
+  several-below t,
+  several.Post,
+  one-more-reads.Asked,
+  one-more-reads.Learnt,
+) (several-at t) several.Post
+several-kind-word-requires t c κs = tt
+
+several-put-requires : (t : ℕ) → several-lts.Need-put-requires (
+  none-reads.Asked,
+  none-reads.Learnt,
+  expr-below t,
+  expr.Post,
+  refused-all-reads.Asked,
+  refused-all-reads.Learnt,
+  kind-word-reads.Asked,
+  kind-word-reads.Learnt,
+  put-reads.Asked,
+  put-reads.Learnt,
+  behind-reads.Asked,
+  behind-reads.Learnt,
+  several-below t,
+  several.Post,
+  one-more-reads.Asked,
+  one-more-reads.Learnt,
+) (several-at t) several.Post
+several-put-requires t c κs = tt
+
+several-behind-requires : (t : ℕ) → several-lts.Need-behind-requires (
+  none-reads.Asked,
+  none-reads.Learnt,
+  expr-below t,
+  expr.Post,
+  refused-all-reads.Asked,
+  refused-all-reads.Learnt,
+  kind-word-reads.Asked,
+  kind-word-reads.Learnt,
+  put-reads.Asked,
+  put-reads.Learnt,
+  behind-reads.Asked,
+  behind-reads.Learnt,
+  several-below t,
+  several.Post,
+  one-more-reads.Asked,
+  one-more-reads.Learnt,
+) (several-at t) several.Post
+several-behind-requires t c κs = tt
+
+several-add-several : (t : ℕ) → several-lts.Need-add-several (
+  none-reads.Asked,
+  none-reads.Learnt,
+  expr-below t,
+  expr.Post,
+  refused-all-reads.Asked,
+  refused-all-reads.Learnt,
+  kind-word-reads.Asked,
+  kind-word-reads.Learnt,
+  put-reads.Asked,
+  put-reads.Learnt,
+  behind-reads.Asked,
+  behind-reads.Learnt,
+  several-below t,
+  several.Post,
+  one-more-reads.Asked,
+  one-more-reads.Learnt,
+) (several-at t) several.Post
+several-add-several t c = omega (arith, (c .before .before .before .before .before .before .before .before .before .before .before .before .before .before .before .before .before .before .before .before .before .before .before .if1 .left), (c .before .before .before .before .before .before .before .before .before .before .before .before .before .before .before .before .before .before .before .before .before .before .before .before .before .before .before .before .before .before .before .before .pre .1 .1))
+
+several-several-requires : (t : ℕ) → several-lts.Need-several-requires (
+  none-reads.Asked,
+  none-reads.Learnt,
+  expr-below t,
+  expr.Post,
+  refused-all-reads.Asked,
+  refused-all-reads.Learnt,
+  kind-word-reads.Asked,
+  kind-word-reads.Learnt,
+  put-reads.Asked,
+  put-reads.Learnt,
+  behind-reads.Asked,
+  behind-reads.Learnt,
+  several-below t,
+  several.Post,
+  one-more-reads.Asked,
+  one-more-reads.Learnt,
+) (several-at t) several.Post
+several-several-requires t c κs = (load-moved _ _ (c .before .before .before .before .before .before .before .before .before .before .before .before .before .before .before .before .before .before .before .before .before .before .before .before .before .before .before .before .before .before .before .before .pre .0) _ _ (c .before .behind .ensures) (grows-to (c .before .before .before .before .before .before .before .before .before .before .before .before .before .before .before .before .before .before .before .expr .ensures .grows) (c .before .before .before .before .before .before .before .before .before .before .before .x .given .1)) (omega (arith, (c .before .before .before .before .before .before .before .before .before .before .before .before .before .before .before .before .before .before .before .before .before .before .before .if1 .left))), (room-rest (c .before .before .before .before .before .before .before .before .before .before .before .before .before .before .before .before .before .before .before .before .before .before .before .before .before .before .before .before .before .before .before .before .pre .1 .0) (c .before .behind .ensures) ((c .before .before .before .before .before .before .before .before .before .before .before .before .before .before .before .before .before .before .before .expr .kept .1 .1 .1 .1 .1 .0)) ((c .before .before .before .before .before .before .before .before .before .before .before .before .before .before .before .before .before .before .before .expr .kept .1 .1 .1 .1 .1 .1 .0)), (c .before .before .before .before .before .before .before .before .before .before .before .before .before .before .before .before .before .before .before .before .before .before .before .before .before .before .before .before .before .before .before .before .pre .1 .1)))
+
+several-one-more-requires : (t : ℕ) → several-lts.Need-one-more-requires (
+  none-reads.Asked,
+  none-reads.Learnt,
+  expr-below t,
+  expr.Post,
+  refused-all-reads.Asked,
+  refused-all-reads.Learnt,
+  kind-word-reads.Asked,
+  kind-word-reads.Learnt,
+  put-reads.Asked,
+  put-reads.Learnt,
+  behind-reads.Asked,
+  behind-reads.Learnt,
+  several-below t,
+  several.Post,
+  one-more-reads.Asked,
+  one-more-reads.Learnt,
+) (several-at t) several.Post
+several-one-more-requires t c κs = tt
+
+several-same-length-4 : (t : ℕ) → several-lts.Need-same-length-4 (
+  none-reads.Asked,
+  none-reads.Learnt,
+  expr-below t,
+  expr.Post,
+  refused-all-reads.Asked,
+  refused-all-reads.Learnt,
+  kind-word-reads.Asked,
+  kind-word-reads.Learnt,
+  put-reads.Asked,
+  put-reads.Learnt,
+  behind-reads.Asked,
+  behind-reads.Learnt,
+  several-below t,
+  several.Post,
+  one-more-reads.Asked,
+  one-more-reads.Learnt,
+) (several-at t) several.Post
+several-same-length-4 t c = (c .before .before .before .before .before .before .before .before .before .several .kept .1 .1 .1 .1 .0) ∙ (c .before .before .before .before .before .before .before .before .before .before .before .before .before .before .before .before .before .before .before .before .before .before .before .before .before .before .before .before .before .expr .kept .1 .1 .1 .1 .0)
+
+several-same-length-5 : (t : ℕ) → several-lts.Need-same-length-5 (
+  none-reads.Asked,
+  none-reads.Learnt,
+  expr-below t,
+  expr.Post,
+  refused-all-reads.Asked,
+  refused-all-reads.Learnt,
+  kind-word-reads.Asked,
+  kind-word-reads.Learnt,
+  put-reads.Asked,
+  put-reads.Learnt,
+  behind-reads.Asked,
+  behind-reads.Learnt,
+  several-below t,
+  several.Post,
+  one-more-reads.Asked,
+  one-more-reads.Learnt,
+) (several-at t) several.Post
+several-same-length-5 t c = (c .before .before .before .before .before .before .before .before .before .several .kept .1 .1 .1 .1 .1 .0) ∙ (c .before .before .before .before .before .before .before .before .before .before .before .before .before .before .before .before .before .before .before .before .before .before .before .before .before .before .before .before .before .expr .kept .1 .1 .1 .1 .1 .0)
+
+several-same-length-6 : (t : ℕ) → several-lts.Need-same-length-6 (
+  none-reads.Asked,
+  none-reads.Learnt,
+  expr-below t,
+  expr.Post,
+  refused-all-reads.Asked,
+  refused-all-reads.Learnt,
+  kind-word-reads.Asked,
+  kind-word-reads.Learnt,
+  put-reads.Asked,
+  put-reads.Learnt,
+  behind-reads.Asked,
+  behind-reads.Learnt,
+  several-below t,
+  several.Post,
+  one-more-reads.Asked,
+  one-more-reads.Learnt,
+) (several-at t) several.Post
+several-same-length-6 t c = (c .before .before .before .before .before .before .before .before .before .several .kept .1 .1 .1 .1 .1 .1 .0) ∙ (c .before .before .before .before .before .before .before .before .before .before .before .before .before .before .before .before .before .before .before .before .before .before .before .before .before .before .before .before .before .expr .kept .1 .1 .1 .1 .1 .1 .0)
+
+several-same-length-7 : (t : ℕ) → several-lts.Need-same-length-7 (
+  none-reads.Asked,
+  none-reads.Learnt,
+  expr-below t,
+  expr.Post,
+  refused-all-reads.Asked,
+  refused-all-reads.Learnt,
+  kind-word-reads.Asked,
+  kind-word-reads.Learnt,
+  put-reads.Asked,
+  put-reads.Learnt,
+  behind-reads.Asked,
+  behind-reads.Learnt,
+  several-below t,
+  several.Post,
+  one-more-reads.Asked,
+  one-more-reads.Learnt,
+) (several-at t) several.Post
+several-same-length-7 t c = (c .before .before .before .before .before .before .before .before .before .several .kept .1 .1 .1 .1 .1 .1 .1 .1 .0) ∙ (c .before .before .before .before .before .before .before .before .before .before .before .before .before .before .before .before .before .put .kept .0)
+
+several-returns-3 : (t : ℕ) → several-lts.Need-returns-3 (
+  none-reads.Asked,
+  none-reads.Learnt,
+  expr-below t,
+  expr.Post,
+  refused-all-reads.Asked,
+  refused-all-reads.Learnt,
+  kind-word-reads.Asked,
+  kind-word-reads.Learnt,
+  put-reads.Asked,
+  put-reads.Learnt,
+  behind-reads.Asked,
+  behind-reads.Learnt,
+  several-below t,
+  several.Post,
+  one-more-reads.Asked,
+  one-more-reads.Learnt,
+) (several-at t) several.Post
+several-returns-3 t c = several-more _ (c .before .before .before .before .before .before .before .before .before .before .before .before .before .before .before .before .before .before .before .before .before .before .before .before .before .before .before .before .before .before .before .before .before .if1 .left) (c .before .before .before .before .before .before .before .before .before .before .before .before .before .before .before .before .before .before .before .before .before .before .before .before .before .before .before .before .before .expr .ensures) (c .before .before .before .before .before .before .before .before .before .before .before .before .before .before .before .before .before .before .before .before .before .x .given .1) (c .before .before .before .before .before .before .before .before .before .before .before .before .before .before .before .before .before .before .kind-word .ensures .is) (c .before .before .before .before .before .before .before .before .before .before .before .before .before .before .before .before .before .put .ensures) (c .before .before .before .before .before .before .before .before .before .before .before .behind .ensures) (c .before .before .before .before .before .before .before .before .before .several .ensures) (c .one-more .ensures)
+
+pub +adjust+apply+at-splits+binding+body+branch+branches+call+case-of+choice+compound+construct+enter+expr+fit+operation+several-spec :
+    {M : Type 1} → statement M
++adjust+apply+at-splits+binding+body+branch+branches+call+case-of+choice+compound+construct+enter+expr+fit+operation+several-spec =
+    close
+    μ-adjust
+    μ-apply
+    μ-at-splits
+    μ-binding
+    μ-body
+    μ-branch
+    μ-branches
+    μ-call
+    μ-case-of
+    μ-choice
+    μ-compound
+    μ-construct
+    μ-enter
+    μ-expr
+    μ-fit
+    μ-operation
+    μ-several
+    (λ t. adjust-lts.spec (
+      frame-line-reads.Asked,
+      frame-line-reads.Learnt,
+      size-at-reads.Asked,
+      size-at-reads.Learnt,
+      moved-reads.Asked,
+      moved-reads.Learnt,
+      expr-below t,
+      expr.Post,
+      adjusted-reads.Asked,
+      adjusted-reads.Learnt,
+    )
+    (adjust-at t)
+    adjust.Post
+    (adjust-frame-line-requires t)
+    (adjust-size-at-requires t)
+    (adjust-enum-known-s t)
+    (adjust-enum-told t)
+    (adjust-add-t22 t)
+    (adjust-same-length t)
+    (adjust-returns t)
+    (adjust-moved-requires t)
+    (adjust-expr-requires t)
+    (adjust-enum-known-x t)
+    (adjust-enum-told-2 t)
+    (adjust-same-length-2 t)
+    (adjust-same-length-3 t)
+    (adjust-same-length-4 t)
+    (adjust-returns-2 t)
+    (adjust-enum-known-kind t)
+    (adjust-add-t29 t)
+    (adjust-same-length-5 t)
+    (adjust-same-length-6 t)
+    (adjust-same-length-7 t)
+    (adjust-returns-3 t)
+    (adjust-add-t31 t)
+    (adjust-same-length-8 t)
+    (adjust-same-length-9 t)
+    (adjust-same-length-10 t)
+    (adjust-returns-4 t)
+    (adjust-adjusted-requires t)
+    (adjust-same-length-11 t)
+    (adjust-same-length-12 t)
+    (adjust-same-length-13 t)
+    (adjust-returns-5 t))
+    (λ t. apply-lts.spec (
+      named-sizes-reads.Asked,
+      named-sizes-reads.Learnt,
+      moved-reads.Asked,
+      moved-reads.Learnt,
+      prepare-reads.Asked,
+      prepare-reads.Learnt,
+      not-entered-reads.Asked,
+      not-entered-reads.Learnt,
+      enter-below t,
+      enter.Post,
+      called-reads.Asked,
+      called-reads.Learnt,
+    )
+    (apply-at t)
+    apply.Post
+    (apply-slice-aggregate-named-sizes t)
+    (apply-named-sizes-requires t)
+    (apply-moved-requires t)
+    (apply-slice-aggregate-prepare t)
+    (apply-prepare-requires t)
+    (apply-enum-known-y t)
+    (apply-enum-told t)
+    (apply-not-entered-requires t)
+    (apply-same-length t)
+    (apply-returns t)
+    (apply-slice-aggregate-enter t)
+    (apply-enter-requires t)
+    (apply-enum-known-z t)
+    (apply-enum-told-2 t)
+    (apply-same-length-2 t)
+    (apply-same-length-3 t)
+    (apply-returns-2 t)
+    (apply-called-requires t)
+    (apply-same-length-4 t)
+    (apply-same-length-5 t)
+    (apply-returns-3 t))
+    (λ t. at-splits-lts.spec (
+      fields-reads.Asked,
+      fields-reads.Learnt,
+      own-fields-reads.Asked,
+      own-fields-reads.Learnt,
+      nothing-yet-reads.Asked,
+      nothing-yet-reads.Learnt,
+      bind-fields-reads.Asked,
+      bind-fields-reads.Learnt,
+      moved-reads.Asked,
+      moved-reads.Learnt,
+      widen-reads.Asked,
+      widen-reads.Learnt,
+      expr-below t,
+      expr.Post,
+      is-kind-reads.Asked,
+      is-kind-reads.Learnt,
+      larger-reads.Asked,
+      larger-reads.Learnt,
+      next-split-reads.Asked,
+      next-split-reads.Learnt,
+      slotted-reads.Asked,
+      slotted-reads.Learnt,
+    )
+    (at-splits-at t)
+    at-splits.Post
+    at-splits-Inv-loop
+    at-splits-μ-loop
+    (at-splits-fields-requires t)
+    (at-splits-own-fields-requires t)
+    (at-splits-nothing-yet-requires t)
+    (at-splits-loop-holds t)
+    (at-splits-bind-fields-requires t)
+    (at-splits-moved-requires t)
+    (at-splits-widen-requires t)
+    (at-splits-expr-requires t)
+    (at-splits-enum-known-x t)
+    (at-splits-enum-told t)
+    (at-splits-same-length t)
+    (at-splits-same-length-2 t)
+    (at-splits-same-length-3 t)
+    (at-splits-returns t)
+    (at-splits-is-kind-requires t)
+    (at-splits-add-t34 t)
+    (at-splits-same-length-4 t)
+    (at-splits-same-length-5 t)
+    (at-splits-same-length-6 t)
+    (at-splits-returns-2 t)
+    (at-splits-larger-requires t)
+    (at-splits-cast-next-split t)
+    (at-splits-next-split-requires t)
+    (at-splits-loop-less t)
+    (at-splits-loop-again t)
+    (at-splits-slotted-requires t)
+    (at-splits-same-length-7 t)
+    (at-splits-same-length-8 t)
+    (at-splits-same-length-9 t)
+    (at-splits-returns-3 t))
+    (λ t. binding-lts.spec (
+      expr-below t,
+      expr.Post,
+      kind-word-reads.Asked,
+      kind-word-reads.Learnt,
+      put-reads.Asked,
+      put-reads.Learnt,
+      behind-reads.Asked,
+      behind-reads.Learnt,
+      widen-reads.Asked,
+      widen-reads.Learnt,
+      with-let-reads.Asked,
+      with-let-reads.Learnt,
+    )
+    (binding-at t)
+    binding.Post
+    (binding-expr-requires t)
+    (binding-enum-known-x t)
+    (binding-enum-told t)
+    (binding-same-length t)
+    (binding-same-length-2 t)
+    (binding-same-length-3 t)
+    (binding-returns t)
+    (binding-cast-put t)
+    (binding-kind-word-requires t)
+    (binding-put-requires t)
+    (binding-behind-requires t)
+    (binding-widen-requires t)
+    (binding-expr-requires-2 t)
+    (binding-enum-known-y t)
+    (binding-enum-told-2 t)
+    (binding-same-length-4 t)
+    (binding-same-length-5 t)
+    (binding-same-length-6 t)
+    (binding-returns-2 t)
+    (binding-with-let-requires t)
+    (binding-same-length-7 t)
+    (binding-same-length-8 t)
+    (binding-same-length-9 t)
+    (binding-returns-3 t))
+    (λ t. body-lts.spec (
+      add-reads.Asked,
+      add-reads.Learnt,
+      body-place-reads.Asked,
+      body-place-reads.Learnt,
+      expr-below t,
+      expr.Post,
+      is-kind-reads.Asked,
+      is-kind-reads.Learnt,
+      finish-reads.Asked,
+      finish-reads.Learnt,
+      moved-reads.Asked,
+      moved-reads.Learnt,
+      leaf-reads.Asked,
+      leaf-reads.Learnt,
+    )
+    (body-at t)
+    body.Post
+    (body-cast-if1 t)
+    (body-add-t18 t)
+    (body-returns t)
+    (body-add-requires t)
+    (body-body-place-requires t)
+    (body-expr-requires t)
+    (body-enum-known-x t)
+    (body-enum-told t)
+    (body-same-length t)
+    (body-same-length-2 t)
+    (body-same-length-3 t)
+    (body-returns-2 t)
+    (body-is-kind-requires t)
+    (body-add-t31 t)
+    (body-same-length-4 t)
+    (body-same-length-5 t)
+    (body-same-length-6 t)
+    (body-returns-3 t)
+    (body-finish-requires t)
+    (body-moved-requires t)
+    (body-leaf-requires t)
+    (body-same-length-7 t)
+    (body-same-length-8 t)
+    (body-same-length-9 t)
+    (body-returns-4 t))
+    (λ t. branch-lts.spec (
+      own-fields-reads.Asked,
+      own-fields-reads.Learnt,
+      frame-line-reads.Asked,
+      frame-line-reads.Learnt,
+      skip-reads.Asked,
+      skip-reads.Learnt,
+      nothing-reads.Asked,
+      nothing-reads.Learnt,
+      moved-reads.Asked,
+      moved-reads.Learnt,
+      leaf-reads.Asked,
+      leaf-reads.Learnt,
+      first-split-reads.Asked,
+      first-split-reads.Learnt,
+      at-splits-below t,
+      at-splits.Post,
+    )
+    (branch-at t)
+    branch.Post
+    (branch-own-fields-requires t)
+    (branch-cast-if1 t)
+    (branch-frame-line-requires t)
+    (branch-skip-requires t)
+    (branch-nothing-requires t)
+    (branch-moved-requires t)
+    (branch-leaf-requires t)
+    (branch-returns t)
+    (branch-cast-first-split t)
+    (branch-sub-first-split t)
+    (branch-first-split-requires t)
+    (branch-at-splits-requires t)
+    (branch-same-length t)
+    (branch-same-length-2 t)
+    (branch-same-length-3 t)
+    (branch-returns-2 t))
+    (λ t. branches-lts.spec (
+      constructors-reads.Asked,
+      constructors-reads.Learnt,
+      nothing-reads.Asked,
+      nothing-reads.Learnt,
+      leaf-reads.Asked,
+      leaf-reads.Learnt,
+      branch-below t,
+      branch.Post,
+      behind-reads.Asked,
+      behind-reads.Learnt,
+      branches-below t,
+      branches.Post,
+      branched-reads.Asked,
+      branched-reads.Learnt,
+    )
+    (branches-at t)
+    branches.Post
+    (branches-constructors-requires t)
+    (branches-nothing-requires t)
+    (branches-leaf-requires t)
+    (branches-returns t)
+    (branches-branch-requires t)
+    (branches-enum-known-x t)
+    (branches-enum-told t)
+    (branches-same-length t)
+    (branches-same-length-2 t)
+    (branches-same-length-3 t)
+    (branches-returns-2 t)
+    (branches-behind-requires t)
+    (branches-add-j t)
+    (branches-branches-requires t)
+    (branches-enum-known-y t)
+    (branches-enum-told-2 t)
+    (branches-same-length-4 t)
+    (branches-same-length-5 t)
+    (branches-same-length-6 t)
+    (branches-returns-3 t)
+    (branches-branched-requires t)
+    (branches-same-length-7 t)
+    (branches-same-length-8 t)
+    (branches-same-length-9 t)
+    (branches-returns-4 t))
+    (λ t. call-lts.spec (
+      arity-reads.Asked,
+      arity-reads.Learnt,
+      several-below t,
+      several.Post,
+      refused-reads.Asked,
+      refused-reads.Learnt,
+      apply-below t,
+      apply.Post,
+    )
+    (call-at t)
+    call.Post
+    (call-arity-requires t)
+    (call-slice-aggregate-several t)
+    (call-several-requires t)
+    (call-enum-known-x t)
+    (call-enum-told t)
+    (call-refused-requires t)
+    (call-same-length t)
+    (call-same-length-2 t)
+    (call-same-length-3 t)
+    (call-returns t)
+    (call-slice-aggregate-apply t)
+    (call-apply-requires t)
+    (call-same-length-4 t)
+    (call-same-length-5 t)
+    (call-same-length-6 t)
+    (call-returns-2 t))
+    (λ t. case-of-lts.spec (
+      expr-below t,
+      expr.Post,
+      frame-line-reads.Asked,
+      frame-line-reads.Learnt,
+      type-at-reads.Asked,
+      type-at-reads.Learnt,
+      subject-reads.Asked,
+      subject-reads.Learnt,
+      moved-reads.Asked,
+      moved-reads.Learnt,
+      branches-below t,
+      branches.Post,
+      cased-reads.Asked,
+      cased-reads.Learnt,
+    )
+    (case-of-at t)
+    case-of.Post
+    (case-of-expr-requires t)
+    (case-of-enum-known-x t)
+    (case-of-enum-told t)
+    (case-of-same-length t)
+    (case-of-same-length-2 t)
+    (case-of-same-length-3 t)
+    (case-of-returns t)
+    (case-of-enum-known-kind t)
+    (case-of-add-t29 t)
+    (case-of-same-length-4 t)
+    (case-of-same-length-5 t)
+    (case-of-same-length-6 t)
+    (case-of-returns-2 t)
+    (case-of-frame-line-requires t)
+    (case-of-type-at-requires t)
+    (case-of-enum-known-y t)
+    (case-of-enum-told-2 t)
+    (case-of-add-t32 t)
+    (case-of-same-length-7 t)
+    (case-of-same-length-8 t)
+    (case-of-same-length-9 t)
+    (case-of-returns-3 t)
+    (case-of-subject-requires t)
+    (case-of-moved-requires t)
+    (case-of-branches-requires t)
+    (case-of-enum-known-z t)
+    (case-of-enum-told-3 t)
+    (case-of-same-length-10 t)
+    (case-of-same-length-11 t)
+    (case-of-same-length-12 t)
+    (case-of-returns-4 t)
+    (case-of-cased-requires t)
+    (case-of-same-length-13 t)
+    (case-of-same-length-14 t)
+    (case-of-same-length-15 t)
+    (case-of-returns-5 t))
+    (λ t. choice-lts.spec (
+      expr-below t,
+      expr.Post,
+      behind-reads.Asked,
+      behind-reads.Learnt,
+      agree-reads.Asked,
+      agree-reads.Learnt,
+      chosen-reads.Asked,
+      chosen-reads.Learnt,
+    )
+    (choice-at t)
+    choice.Post
+    (choice-expr-requires t)
+    (choice-enum-known-x t)
+    (choice-enum-told t)
+    (choice-same-length t)
+    (choice-same-length-2 t)
+    (choice-same-length-3 t)
+    (choice-returns t)
+    (choice-behind-requires t)
+    (choice-expr-requires-2 t)
+    (choice-enum-known-y t)
+    (choice-enum-told-2 t)
+    (choice-same-length-4 t)
+    (choice-same-length-5 t)
+    (choice-same-length-6 t)
+    (choice-returns-2 t)
+    (choice-behind-requires-2 t)
+    (choice-expr-requires-3 t)
+    (choice-enum-known-z t)
+    (choice-enum-told-3 t)
+    (choice-same-length-7 t)
+    (choice-same-length-8 t)
+    (choice-same-length-9 t)
+    (choice-returns-3 t)
+    (choice-agree-requires t)
+    (choice-add-t37 t)
+    (choice-same-length-10 t)
+    (choice-same-length-11 t)
+    (choice-same-length-12 t)
+    (choice-returns-4 t)
+    (choice-chosen-requires t)
+    (choice-same-length-13 t)
+    (choice-same-length-14 t)
+    (choice-same-length-15 t)
+    (choice-returns-5 t))
+    (λ t. compound-lts.spec (
+      binding-below t,
+      binding.Post,
+      choice-below t,
+      choice.Post,
+      operation-below t,
+      operation.Post,
+      call-below t,
+      call.Post,
+      construct-below t,
+      construct.Post,
+      case-of-below t,
+      case-of.Post,
+      adjust-below t,
+      adjust.Post,
+      fit-below t,
+      fit.Post,
+    )
+    (compound-at t)
+    compound.Post
+    (compound-enum-told t)
+    (compound-binding-requires t)
+    (compound-enum-told-2 t)
+    (compound-choice-requires t)
+    (compound-enum-known-form t)
+    (compound-operation-requires t)
+    (compound-enum-known-form-2 t)
+    (compound-call-requires t)
+    (compound-enum-known-form-3 t)
+    (compound-construct-requires t)
+    (compound-enum-known-form-4 t)
+    (compound-case-of-requires t)
+    (compound-enum-told-3 t)
+    (compound-adjust-requires t)
+    (compound-enum-known-form-5 t)
+    (compound-fit-requires t)
+    (compound-add-t65 t)
+    (compound-same-length t)
+    (compound-same-length-2 t)
+    (compound-same-length-3 t)
+    (compound-returns t)
+    (compound-same-length-4 t)
+    (compound-same-length-5 t)
+    (compound-same-length-6 t)
+    (compound-returns-2 t)
+    (compound-same-length-7 t)
+    (compound-same-length-8 t)
+    (compound-same-length-9 t)
+    (compound-returns-3 t)
+    (compound-same-length-10 t)
+    (compound-same-length-11 t)
+    (compound-same-length-12 t)
+    (compound-returns-4 t)
+    (compound-same-length-13 t)
+    (compound-same-length-14 t)
+    (compound-same-length-15 t)
+    (compound-returns-5 t)
+    (compound-same-length-16 t)
+    (compound-same-length-17 t)
+    (compound-same-length-18 t)
+    (compound-returns-6 t)
+    (compound-same-length-19 t)
+    (compound-same-length-20 t)
+    (compound-same-length-21 t)
+    (compound-returns-7 t)
+    (compound-same-length-22 t)
+    (compound-same-length-23 t)
+    (compound-same-length-24 t)
+    (compound-returns-8 t)
+    (compound-returns-9 t))
+    (λ t. construct-lts.spec (
+      fields-reads.Asked,
+      fields-reads.Learnt,
+      several-below t,
+      several.Post,
+      refused-reads.Asked,
+      refused-reads.Learnt,
+      made-reads.Asked,
+      made-reads.Learnt,
+    )
+    (construct-at t)
+    construct.Post
+    (construct-fields-requires t)
+    (construct-slice-aggregate-several t)
+    (construct-several-requires t)
+    (construct-enum-known-x t)
+    (construct-enum-told t)
+    (construct-refused-requires t)
+    (construct-same-length t)
+    (construct-same-length-2 t)
+    (construct-same-length-3 t)
+    (construct-returns t)
+    (construct-slice-aggregate-made t)
+    (construct-made-requires t)
+    (construct-same-length-4 t)
+    (construct-same-length-5 t)
+    (construct-same-length-6 t)
+    (construct-returns-2 t))
+    (λ t. enter-lts.spec (
+      find-reads.Asked,
+      find-reads.Learnt,
+      leaf-reads.Asked,
+      leaf-reads.Learnt,
+      body-below t,
+      body.Post,
+    )
+    (enter-at t)
+    enter.Post
+    (enter-find-requires t)
+    (enter-enum-known-x t)
+    (enter-leaf-requires t)
+    (enter-enum-told t)
+    (enter-body-requires t)
+    (enter-same-length t)
+    (enter-same-length-2 t)
+    (enter-returns t)
+    (enter-same-length-3 t)
+    (enter-same-length-4 t)
+    (enter-same-length-5 t)
+    (enter-returns-2 t))
+    (λ t. expr-lts.spec (
+      frame-line-reads.Asked,
+      frame-line-reads.Learnt,
+      head-at-reads.Asked,
+      head-at-reads.Learnt,
+      down-reads.Asked,
+      down-reads.Learnt,
+      one-cell-reads.Asked,
+      one-cell-reads.Learnt,
+      leaf-reads.Asked,
+      leaf-reads.Learnt,
+      type-in-reads.Asked,
+      type-in-reads.Learnt,
+      nothing-reads.Asked,
+      nothing-reads.Learnt,
+      channel-type-reads.Asked,
+      channel-type-reads.Learnt,
+      compound-below t,
+      compound.Post,
+    )
+    (expr-at t)
+    expr.Post
+    (expr-add-t19 t)
+    (expr-returns t)
+    (expr-frame-line-requires t)
+    (expr-head-at-requires t)
+    (expr-down-requires t)
+    (expr-enum-told t)
+    (expr-one-cell-requires t)
+    (expr-leaf-requires t)
+    (expr-enum-told-2 t)
+    (expr-one-cell-requires-2 t)
+    (expr-leaf-requires-2 t)
+    (expr-enum-known-form t)
+    (expr-cast-type-in t)
+    (expr-type-in-requires t)
+    (expr-nothing-requires t)
+    (expr-leaf-requires-3 t)
+    (expr-enum-known-form-2 t)
+    (expr-channel-type-requires t)
+    (expr-nothing-requires-2 t)
+    (expr-leaf-requires-4 t)
+    (expr-enum-known-form-3 t)
+    (expr-channel-type-requires-2 t)
+    (expr-nothing-requires-3 t)
+    (expr-leaf-requires-5 t)
+    (expr-compound-requires t)
+    (expr-returns-2 t)
+    (expr-returns-3 t)
+    (expr-same-length t)
+    (expr-returns-4 t)
+    (expr-returns-5 t)
+    (expr-returns-6 t)
+    (expr-same-length-2 t)
+    (expr-same-length-3 t)
+    (expr-same-length-4 t)
+    (expr-returns-7 t))
+    (λ t. fit-lts.spec (
+      expr-below t,
+      expr.Post,
+      word-of-reads.Asked,
+      word-of-reads.Learnt,
+      put-reads.Asked,
+      put-reads.Learnt,
+      behind-reads.Asked,
+      behind-reads.Learnt,
+      widen-reads.Asked,
+      widen-reads.Learnt,
+      agree-reads.Asked,
+      agree-reads.Learnt,
+      fitted-reads.Asked,
+      fitted-reads.Learnt,
+    )
+    (fit-at t)
+    fit.Post
+    (fit-expr-requires t)
+    (fit-enum-known-x t)
+    (fit-enum-told t)
+    (fit-same-length t)
+    (fit-same-length-2 t)
+    (fit-same-length-3 t)
+    (fit-returns t)
+    (fit-enum-known-kind t)
+    (fit-add-t27 t)
+    (fit-same-length-4 t)
+    (fit-same-length-5 t)
+    (fit-same-length-6 t)
+    (fit-returns-2 t)
+    (fit-cast-t28 t)
+    (fit-word-of-requires t)
+    (fit-cast-put t)
+    (fit-put-requires t)
+    (fit-behind-requires t)
+    (fit-widen-requires t)
+    (fit-expr-requires-2 t)
+    (fit-enum-known-y t)
+    (fit-enum-told-2 t)
+    (fit-same-length-7 t)
+    (fit-same-length-8 t)
+    (fit-same-length-9 t)
+    (fit-returns-3 t)
+    (fit-behind-requires-2 t)
+    (fit-expr-requires-3 t)
+    (fit-enum-known-z t)
+    (fit-enum-told-3 t)
+    (fit-same-length-10 t)
+    (fit-same-length-11 t)
+    (fit-same-length-12 t)
+    (fit-returns-4 t)
+    (fit-agree-requires t)
+    (fit-add-t49 t)
+    (fit-same-length-13 t)
+    (fit-same-length-14 t)
+    (fit-same-length-15 t)
+    (fit-returns-5 t)
+    (fit-fitted-requires t)
+    (fit-same-length-16 t)
+    (fit-same-length-17 t)
+    (fit-same-length-18 t)
+    (fit-returns-6 t))
+    (λ t. operation-lts.spec (
+      expr-below t,
+      expr.Post,
+      behind-reads.Asked,
+      behind-reads.Learnt,
+      operated-reads.Asked,
+      operated-reads.Learnt,
+    )
+    (operation-at t)
+    operation.Post
+    (operation-expr-requires t)
+    (operation-enum-known-x t)
+    (operation-enum-told t)
+    (operation-same-length t)
+    (operation-same-length-2 t)
+    (operation-same-length-3 t)
+    (operation-returns t)
+    (operation-behind-requires t)
+    (operation-expr-requires-2 t)
+    (operation-enum-known-y t)
+    (operation-enum-told-2 t)
+    (operation-same-length-4 t)
+    (operation-same-length-5 t)
+    (operation-same-length-6 t)
+    (operation-returns-2 t)
+    (operation-operated-requires t)
+    (operation-same-length-7 t)
+    (operation-same-length-8 t)
+    (operation-same-length-9 t)
+    (operation-returns-3 t))
+    λ t. several-lts.spec (
+      none-reads.Asked,
+      none-reads.Learnt,
+      expr-below t,
+      expr.Post,
+      refused-all-reads.Asked,
+      refused-all-reads.Learnt,
+      kind-word-reads.Asked,
+      kind-word-reads.Learnt,
+      put-reads.Asked,
+      put-reads.Learnt,
+      behind-reads.Asked,
+      behind-reads.Learnt,
+      several-below t,
+      several.Post,
+      one-more-reads.Asked,
+      one-more-reads.Learnt,
+    )
+    (several-at t)
+    several.Post
+    (several-none-requires t)
+    (several-returns t)
+    (several-expr-requires t)
+    (several-enum-known-x t)
+    (several-enum-told t)
+    (several-refused-all-requires t)
+    (several-same-length t)
+    (several-same-length-2 t)
+    (several-same-length-3 t)
+    (several-returns-2 t)
+    (several-kind-word-requires t)
+    (several-put-requires t)
+    (several-behind-requires t)
+    (several-add-several t)
+    (several-several-requires t)
+    (several-one-more-requires t)
+    (several-same-length-4 t)
+    (several-same-length-5 t)
+    (several-same-length-6 t)
+    (several-same-length-7 t)
+    (several-returns-3 t)

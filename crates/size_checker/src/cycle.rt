@@ -1,0 +1,651 @@
+// Expressions, arguments, branches and bodies: they call each other, falling by the instances left and by the levels left.
+ghost use Prim.Native.Nat.{suc, _<_, _≤_};
+ghost use lib.ListN.{length};
+ghost use Rattle.language.specs.Limits.{byteRange, sizeVariablesMost};
+ghost use Rattle.size_checker.specs.Sites.{Room};
+ghost use Rattle.size_checker.specs.Leaves.{Operands, Entered};
+ghost use Rattle.size_checker.specs.Promises.{lent, buffers, Sizes, ExprPart, SizesAll, Enters, EntersNew, Applies, SizesBranches, SizesBranch, SizesSplits};
+ghost use Rattle.size_checker.specs.Parts.{LetPart, IfPart, OpPart, AdjPart, FitPart, CompoundPart, CallPart, ConPart, CasePart};
+use super::Counted;
+use super::Counting;
+use super::Entering;
+use super::Entry;
+use super::Place;
+use super::Sizing;
+use super::Subject;
+use super::leaves::channel_type;
+use super::leaves::made;
+use super::leaves::prepare;
+use super::leaves::type_in;
+use super::numbers::adjusted;
+use super::numbers::agree;
+use super::numbers::branched;
+use super::numbers::called;
+use super::numbers::cased;
+use super::numbers::chosen;
+use super::numbers::fitted;
+use super::numbers::is_kind;
+use super::numbers::kind_word;
+use super::numbers::larger;
+use super::numbers::leaf;
+use super::numbers::none;
+use super::numbers::not_entered;
+use super::numbers::nothing_yet;
+use super::numbers::one_more;
+use super::numbers::operated;
+use super::numbers::refused;
+use super::numbers::refused_all;
+use super::numbers::slotted;
+use super::numbers::subject;
+use super::numbers::with_let;
+use super::places::behind;
+use super::places::body_place;
+use super::places::down;
+use super::places::moved;
+use super::places::widen;
+use estimate::nothing;
+use estimate::one_cell;
+use heads::Form;
+use heads::head_at;
+use heads::skip::skip;
+use index::arity;
+use index::constructors;
+use index::fields;
+use index::frames::frame_line;
+use index::own_fields;
+use index::put;
+use instances::Search;
+use instances::add;
+use instances::find;
+use instances::finish;
+use language::limits::FIELDS_MOST;
+use language::limits::INSTANCES_MOST;
+use language::limits::SIZE_VARIABLES_MOST;
+use language::limits::VARIABLES_MOST;
+use sizes::SizeAt;
+use sizes::SizedType;
+use sizes::TypeAt;
+use sizes::rows::bind_fields;
+use sizes::rows::named_sizes;
+use sizes::size_at;
+use sizes::type_at;
+use sizes::word_of;
+use splits::first_split;
+use splits::next_split;
+
+// An expression.
+pub fn expr(
+    text: &[u8],
+    frames: &[u32],
+    types: &[u32],
+    functions: &[u32],
+    list: &mut [u32],
+    scope: &mut [u32],
+    sizes: &mut [u8],
+    p: Place,
+) -> Sizing
+    requires { ⌜ Room (p .levels) (length (now scope)) (length (now sizes)) p ⌝ }
+    ensures { λ r. ⌜ Sizes ExprPart (lent (now (text .entry)) (now (frames .entry)) (now (types .entry)) (now (functions .entry))) (buffers (now (list .entry)) (now (scope .entry)) (now (sizes .entry))) p r (buffers (now (list .exit)) (now (scope .exit)) (now (sizes .exit))) ⌝ }
+{
+    if p.levels == 0 {
+        return Sizing::Refused(7, p.line + 1);
+    }
+    let at = p.at;
+    let line = frame_line(text, frames, p.line);
+    let h = head_at(line, at);
+    let form = h.form;
+    let next = h.next;
+    let q = down(p, next);
+    match form {
+        Form::Bool(_) => leaf(SizedType::Bool, one_cell(), q),
+        Form::Int(_) => leaf(SizedType::Int, one_cell(), q),
+        Form::Variable(v) => leaf(type_in(scope, v as usize), nothing(), q),
+        Form::Now(c) => leaf(channel_type(text, frames, p, c), nothing(), q),
+        Form::Last(c) => leaf(channel_type(text, frames, p, c), nothing(), q),
+        _ => compound(text, frames, types, functions, list, scope, sizes, q, form),
+    }
+}
+
+// `15` to `1C`; p stands behind the head.
+fn compound(
+    text: &[u8],
+    frames: &[u32],
+    types: &[u32],
+    functions: &[u32],
+    list: &mut [u32],
+    scope: &mut [u32],
+    sizes: &mut [u8],
+    p: Place,
+    form: Form,
+) -> Sizing
+    requires { ⌜ Room (suc (p .levels)) (length (now scope)) (length (now sizes)) p ⌝ }
+    requires { ⌜ Operands form ⌝ }
+    ensures { λ r. ⌜ Sizes (CompoundPart form) (lent (now (text .entry)) (now (frames .entry)) (now (types .entry)) (now (functions .entry))) (buffers (now (list .entry)) (now (scope .entry)) (now (sizes .entry))) p r (buffers (now (list .exit)) (now (scope .exit)) (now (sizes .exit))) ⌝ }
+{
+    match form {
+        Form::Let => binding(text, frames, types, functions, list, scope, sizes, p),
+        Form::If => choice(text, frames, types, functions, list, scope, sizes, p),
+        Form::Operator(o) => { operation(text, frames, types, functions, list, scope, sizes, p, o) }
+        Form::Call(f) => call(text, frames, types, functions, list, scope, sizes, p, f),
+        Form::Construct(t, c) => {
+            construct(text, frames, types, functions, list, scope, sizes, p, t, c)
+        }
+        Form::Case(t) => case_of(text, frames, types, functions, list, scope, sizes, p, t),
+        Form::Adjust => adjust(text, frames, types, functions, list, scope, sizes, p),
+        Form::Fit(k) => fit(text, frames, types, functions, list, scope, sizes, p, k),
+        _ => Sizing::Refused(5, p.line + 1),
+    }
+}
+
+// `15`: a let.
+fn binding(
+    text: &[u8],
+    frames: &[u32],
+    types: &[u32],
+    functions: &[u32],
+    list: &mut [u32],
+    scope: &mut [u32],
+    sizes: &mut [u8],
+    p: Place,
+) -> Sizing
+    requires { ⌜ Room (suc (p .levels)) (length (now scope)) (length (now sizes)) p ⌝ }
+    ensures { λ r. ⌜ Sizes LetPart (lent (now (text .entry)) (now (frames .entry)) (now (types .entry)) (now (functions .entry))) (buffers (now (list .entry)) (now (scope .entry)) (now (sizes .entry))) p r (buffers (now (list .exit)) (now (scope .exit)) (now (sizes .exit))) ⌝ }
+{
+    let x = expr(text, frames, types, functions, list, scope, sizes, p);
+    let Sizing::Is(a) = x else {
+        return x;
+    };
+    put(scope, p.variables as usize, kind_word(a));
+    let q = widen(behind(p, a), 1, 0);
+    let y = expr(text, frames, types, functions, list, scope, sizes, q);
+    let Sizing::Is(b) = y else {
+        return y;
+    };
+    with_let(a, b)
+}
+
+// `16`: an if, whose arms agree.
+fn choice(
+    text: &[u8],
+    frames: &[u32],
+    types: &[u32],
+    functions: &[u32],
+    list: &mut [u32],
+    scope: &mut [u32],
+    sizes: &mut [u8],
+    p: Place,
+) -> Sizing
+    requires { ⌜ Room (suc (p .levels)) (length (now scope)) (length (now sizes)) p ⌝ }
+    ensures { λ r. ⌜ Sizes IfPart (lent (now (text .entry)) (now (frames .entry)) (now (types .entry)) (now (functions .entry))) (buffers (now (list .entry)) (now (scope .entry)) (now (sizes .entry))) p r (buffers (now (list .exit)) (now (scope .exit)) (now (sizes .exit))) ⌝ }
+{
+    let x = expr(text, frames, types, functions, list, scope, sizes, p);
+    let Sizing::Is(a) = x else {
+        return x;
+    };
+    let q = behind(p, a);
+    let y = expr(text, frames, types, functions, list, scope, sizes, q);
+    let Sizing::Is(b) = y else {
+        return y;
+    };
+    let r = behind(p, b);
+    let z = expr(text, frames, types, functions, list, scope, sizes, r);
+    let Sizing::Is(d) = z else {
+        return z;
+    };
+    if !agree(d, b) {
+        return Sizing::Refused(11, p.line + 1);
+    }
+    chosen(a, b, d)
+}
+
+// `17`: an operator and its operands.
+fn operation(
+    text: &[u8],
+    frames: &[u32],
+    types: &[u32],
+    functions: &[u32],
+    list: &mut [u32],
+    scope: &mut [u32],
+    sizes: &mut [u8],
+    p: Place,
+    o: u32,
+) -> Sizing
+    requires { ⌜ Room (suc (p .levels)) (length (now scope)) (length (now sizes)) p ⌝ }
+    ensures { λ r. ⌜ Sizes (OpPart o) (lent (now (text .entry)) (now (frames .entry)) (now (types .entry)) (now (functions .entry))) (buffers (now (list .entry)) (now (scope .entry)) (now (sizes .entry))) p r (buffers (now (list .exit)) (now (scope .exit)) (now (sizes .exit))) ⌝ }
+{
+    let x = expr(text, frames, types, functions, list, scope, sizes, p);
+    let Sizing::Is(a) = x else {
+        return x;
+    };
+    let q = behind(p, a);
+    let y = expr(text, frames, types, functions, list, scope, sizes, q);
+    let Sizing::Is(b) = y else {
+        return y;
+    };
+    operated(o, a, b)
+}
+
+// Arguments or fields from number i of n on; the words of their types go into a row.
+fn several(
+    text: &[u8],
+    frames: &[u32],
+    types: &[u32],
+    functions: &[u32],
+    list: &mut [u32],
+    scope: &mut [u32],
+    sizes: &mut [u8],
+    p: Place,
+    row: &mut [u32],
+    i: u32,
+    n: u32,
+) -> Counting
+    requires { ⌜ Room (suc (p .levels)) (length (now scope)) (length (now sizes)) p × (n < byteRange) ⌝ }
+    ensures { λ r. ⌜ SizesAll (lent (now (text .entry)) (now (frames .entry)) (now (types .entry)) (now (functions .entry))) (buffers (now (list .entry)) (now (scope .entry)) (now (sizes .entry))) p i n (now (row .entry)) r (buffers (now (list .exit)) (now (scope .exit)) (now (sizes .exit))) (now (row .exit)) ⌝ }
+{
+    if n <= i {
+        return none(p);
+    }
+    let x = expr(text, frames, types, functions, list, scope, sizes, p);
+    let Sizing::Is(a) = x else {
+        return refused_all(x);
+    };
+    put(row, i as usize, kind_word(a));
+    let y = several(
+        text,
+        frames,
+        types,
+        functions,
+        list,
+        scope,
+        sizes,
+        behind(p, a),
+        row,
+        i + 1,
+        n,
+    );
+    one_more(a, y)
+}
+
+// `18`: a call and its arguments, which are the scope of its body.
+fn call(
+    text: &[u8],
+    frames: &[u32],
+    types: &[u32],
+    functions: &[u32],
+    list: &mut [u32],
+    scope: &mut [u32],
+    sizes: &mut [u8],
+    p: Place,
+    f: u32,
+) -> Sizing
+    requires { ⌜ Room (suc (p .levels)) (length (now scope)) (length (now sizes)) p ⌝ }
+    requires { ⌜ f < byteRange ⌝ }
+    ensures { λ r. ⌜ Sizes (CallPart f) (lent (now (text .entry)) (now (frames .entry)) (now (types .entry)) (now (functions .entry))) (buffers (now (list .entry)) (now (scope .entry)) (now (sizes .entry))) p r (buffers (now (list .exit)) (now (scope .exit)) (now (sizes .exit))) ⌝ }
+{
+    let n = arity(functions, f);
+    let mut row = [0u32; VARIABLES_MOST as usize];
+    let x = several(
+        text,
+        frames,
+        types,
+        functions,
+        list,
+        scope,
+        sizes,
+        p,
+        &mut row,
+        0,
+        n,
+    );
+    let Counting::Are(a) = x else {
+        return refused(x);
+    };
+    apply(text, frames, types, functions, list, &mut row, p, a, f, n)
+}
+
+// A call whose n arguments were checked: their types, which scope holds, and the sizes of the named ones are the scope of its body.
+fn apply(
+    text: &[u8],
+    frames: &[u32],
+    types: &[u32],
+    functions: &[u32],
+    list: &mut [u32],
+    scope: &mut [u32],
+    p: Place,
+    a: Counted,
+    f: u32,
+    n: u32,
+) -> Sizing
+    requires { ⌜ Room (suc (p .levels)) (length (now scope)) sizeVariablesMost p ⌝ }
+    requires { ⌜ (p .used ≤ a .used) × ((f < byteRange) × (n < byteRange)) ⌝ }
+    ensures { λ r. ⌜ Applies f n a (lent (now (text .entry)) (now (frames .entry)) (now (types .entry)) (now (functions .entry))) (now (list .entry)) (now (scope .entry)) p r (now (list .exit)) ⌝ }
+{
+    let mut held = [0u8; SIZE_VARIABLES_MOST as usize];
+    let m = named_sizes(scope, n, &mut held);
+    let next = a.next;
+    let q = moved(p, next, a.used);
+    let y = prepare(text, frames, functions, &held, q, f, n, m);
+    let Entering::Ready(e) = y else {
+        return not_entered(y);
+    };
+    let z = enter(text, frames, types, functions, list, scope, &mut held, q, e);
+    let Sizing::Is(b) = z else {
+        return z;
+    };
+    called(n, a, b)
+}
+
+// The numbers of an instance: those found in the list, or of its body.
+fn enter(
+    text: &[u8],
+    frames: &[u32],
+    types: &[u32],
+    functions: &[u32],
+    list: &mut [u32],
+    scope: &mut [u32],
+    sizes: &mut [u8],
+    p: Place,
+    e: Entry,
+) -> Sizing
+    requires { ⌜ Room (suc (p .levels)) (length (now scope)) (length (now sizes)) p ⌝ }
+    requires { ⌜ Entered e ⌝ }
+    ensures { λ r. ⌜ Enters e (lent (now (text .entry)) (now (frames .entry)) (now (types .entry)) (now (functions .entry))) (buffers (now (list .entry)) (now (scope .entry)) (now (sizes .entry))) p r (buffers (now (list .exit)) (now (scope .exit)) (now (sizes .exit))) ⌝ }
+{
+    let x = find(list, p.used, e.function, sizes);
+    let kind = e.kind;
+    match x {
+        Search::Found(numbers) => leaf(kind, numbers, p),
+        Search::Absent => body(text, frames, types, functions, list, scope, sizes, p, e),
+    }
+}
+
+// A body entered for the first time at its sizes: its record is added on entry, and filled in when it has been checked.
+fn body(
+    text: &[u8],
+    frames: &[u32],
+    types: &[u32],
+    functions: &[u32],
+    list: &mut [u32],
+    scope: &mut [u32],
+    sizes: &mut [u8],
+    p: Place,
+    e: Entry,
+) -> Sizing
+    requires { ⌜ Room (suc (p .levels)) (length (now scope)) (length (now sizes)) p ⌝ }
+    requires { ⌜ Entered e ⌝ }
+    ensures { λ r. ⌜ EntersNew e (lent (now (text .entry)) (now (frames .entry)) (now (types .entry)) (now (functions .entry))) (buffers (now (list .entry)) (now (scope .entry)) (now (sizes .entry))) p r (buffers (now (list .exit)) (now (scope .exit)) (now (sizes .exit))) ⌝ }
+{
+    if INSTANCES_MOST <= p.used as usize {
+        return Sizing::Refused(14, p.line + 1);
+    }
+    add(list, p.used, e.function, sizes);
+    let q = body_place(functions, p, e);
+    let x = expr(text, frames, types, functions, list, scope, sizes, q);
+    let Sizing::Is(a) = x else {
+        return x;
+    };
+    let kind = e.kind;
+    if !is_kind(a, kind) {
+        return Sizing::Refused(11, q.line + 1);
+    }
+    let numbers = a.numbers;
+    finish(list, p.used, numbers);
+    let at = p.at;
+    leaf(kind, numbers, moved(p, at, a.used))
+}
+
+// `19`: a constructor and its fields.
+fn construct(
+    text: &[u8],
+    frames: &[u32],
+    types: &[u32],
+    functions: &[u32],
+    list: &mut [u32],
+    scope: &mut [u32],
+    sizes: &mut [u8],
+    p: Place,
+    t: u32,
+    c: u32,
+) -> Sizing
+    requires { ⌜ Room (suc (p .levels)) (length (now scope)) (length (now sizes)) p ⌝ }
+    requires { ⌜ (t < byteRange) × (c < byteRange) ⌝ }
+    ensures { λ r. ⌜ Sizes (ConPart t c) (lent (now (text .entry)) (now (frames .entry)) (now (types .entry)) (now (functions .entry))) (buffers (now (list .entry)) (now (scope .entry)) (now (sizes .entry))) p r (buffers (now (list .exit)) (now (scope .exit)) (now (sizes .exit))) ⌝ }
+{
+    let n = fields(types, t, c);
+    let mut row = [0u32; FIELDS_MOST];
+    let x = several(
+        text,
+        frames,
+        types,
+        functions,
+        list,
+        scope,
+        sizes,
+        p,
+        &mut row,
+        0,
+        n,
+    );
+    let Counting::Are(a) = x else {
+        return refused(x);
+    };
+    made(types, &row, p, a, t, c)
+}
+
+// `1A`: a case over type t: its subject, its return type, its branches.
+fn case_of(
+    text: &[u8],
+    frames: &[u32],
+    types: &[u32],
+    functions: &[u32],
+    list: &mut [u32],
+    scope: &mut [u32],
+    sizes: &mut [u8],
+    p: Place,
+    t: u32,
+) -> Sizing
+    requires { ⌜ Room (suc (p .levels)) (length (now scope)) (length (now sizes)) p ⌝ }
+    requires { ⌜ t < byteRange ⌝ }
+    ensures { λ r. ⌜ Sizes (CasePart t) (lent (now (text .entry)) (now (frames .entry)) (now (types .entry)) (now (functions .entry))) (buffers (now (list .entry)) (now (scope .entry)) (now (sizes .entry))) p r (buffers (now (list .exit)) (now (scope .exit)) (now (sizes .exit))) ⌝ }
+{
+    let x = expr(text, frames, types, functions, list, scope, sizes, p);
+    let Sizing::Is(a) = x else {
+        return x;
+    };
+    let kind = a.kind;
+    let SizedType::Named(_, m) = kind else {
+        return Sizing::Refused(9, p.line + 1);
+    };
+    let written = a.next;
+    let line = frame_line(text, frames, p.line);
+    let y = type_at(line, written, sizes);
+    let TypeAt::Is(wanted, next) = y else {
+        return Sizing::Refused(10, p.line + 1);
+    };
+    let s = subject(t, m, wanted);
+    let q = moved(p, next, a.used);
+    let z = branches(text, frames, types, functions, list, scope, sizes, q, s, 0);
+    let Sizing::Is(b) = z else {
+        return z;
+    };
+    cased(a, b)
+}
+
+// The branches of a case from constructor k on.
+fn branches(
+    text: &[u8],
+    frames: &[u32],
+    types: &[u32],
+    functions: &[u32],
+    list: &mut [u32],
+    scope: &mut [u32],
+    sizes: &mut [u8],
+    p: Place,
+    s: Subject,
+    k: u32,
+) -> Sizing
+    requires { ⌜ Room (suc (p .levels)) (length (now scope)) (length (now sizes)) p ⌝ }
+    requires { ⌜ (s .of < byteRange) × (k ≤ byteRange) ⌝ }
+    ensures { λ r. ⌜ SizesBranches s k (lent (now (text .entry)) (now (frames .entry)) (now (types .entry)) (now (functions .entry))) (buffers (now (list .entry)) (now (scope .entry)) (now (sizes .entry))) p r (buffers (now (list .exit)) (now (scope .exit)) (now (sizes .exit))) ⌝ }
+{
+    if constructors(types, s.of) <= k {
+        let kind = s.kind;
+        return leaf(kind, nothing(), p);
+    }
+    let x = branch(text, frames, types, functions, list, scope, sizes, p, s, k);
+    let Sizing::Is(a) = x else {
+        return x;
+    };
+    let q = behind(p, a);
+    let j = k + 1;
+    let y = branches(text, frames, types, functions, list, scope, sizes, q, s, j);
+    let Sizing::Is(b) = y else {
+        return y;
+    };
+    branched(a, b)
+}
+
+// One branch: it is skipped where the subject is too small for its constructor, else checked for every split.
+fn branch(
+    text: &[u8],
+    frames: &[u32],
+    types: &[u32],
+    functions: &[u32],
+    list: &mut [u32],
+    scope: &mut [u32],
+    sizes: &mut [u8],
+    p: Place,
+    s: Subject,
+    k: u32,
+) -> Sizing
+    requires { ⌜ Room (suc (p .levels)) (length (now scope)) (length (now sizes)) p ⌝ }
+    requires { ⌜ (s .of < byteRange) × (k < byteRange) ⌝ }
+    ensures { λ r. ⌜ SizesBranch s k (lent (now (text .entry)) (now (frames .entry)) (now (types .entry)) (now (functions .entry))) (buffers (now (list .entry)) (now (scope .entry)) (now (sizes .entry))) p r (buffers (now (list .exit)) (now (scope .exit)) (now (sizes .exit))) ⌝ }
+{
+    let own = own_fields(types, s.of, k);
+    let m = s.size;
+    if (m as u32) <= own {
+        let at = p.at;
+        let kind = s.kind;
+        let line = frame_line(text, frames, p.line);
+        let next = skip(line, types, functions, at, p.levels);
+        return leaf(kind, nothing(), moved(p, next, p.used));
+    }
+    first_split(sizes, p.sizes as usize, own, m - 1);
+    at_splits(text, frames, types, functions, list, scope, sizes, p, s, k)
+}
+
+// A branch for every split from the one on that stands among the sizes.
+fn at_splits(
+    text: &[u8],
+    frames: &[u32],
+    types: &[u32],
+    functions: &[u32],
+    list: &mut [u32],
+    scope: &mut [u32],
+    sizes: &mut [u8],
+    p: Place,
+    s: Subject,
+    k: u32,
+) -> Sizing
+    requires { ⌜ Room (suc (p .levels)) (length (now scope)) (length (now sizes)) p ⌝ }
+    requires { ⌜ (s .of < byteRange) × (k < byteRange) ⌝ }
+    ensures { λ r. ⌜ SizesSplits s k (lent (now (text .entry)) (now (frames .entry)) (now (types .entry)) (now (functions .entry))) (buffers (now (list .entry)) (now (scope .entry)) (now (sizes .entry))) p r (buffers (now (list .exit)) (now (scope .exit)) (now (sizes .exit))) ⌝ }
+{
+    let n = fields(types, s.of, k);
+    let own = own_fields(types, s.of, k);
+    let at = p.at;
+    let kind = s.kind;
+    let mut all = nothing_yet(kind, p);
+    let mut more = true;
+    while more {
+        bind_fields(types, scope, sizes, s.of, k, p.variables, p.sizes);
+        let q = widen(moved(p, at, all.used), n, own);
+        let x = expr(text, frames, types, functions, list, scope, sizes, q);
+        let Sizing::Is(a) = x else {
+            return x;
+        };
+        if !is_kind(a, kind) {
+            return Sizing::Refused(11, p.line + 1);
+        }
+        all = larger(all, a);
+        more = next_split(sizes, p.sizes as usize, own);
+    }
+    slotted(n, all)
+}
+
+// `1B`: a written size, and the expression that it adjusts, which never lowers.
+fn adjust(
+    text: &[u8],
+    frames: &[u32],
+    types: &[u32],
+    functions: &[u32],
+    list: &mut [u32],
+    scope: &mut [u32],
+    sizes: &mut [u8],
+    p: Place,
+) -> Sizing
+    requires { ⌜ Room (suc (p .levels)) (length (now scope)) (length (now sizes)) p ⌝ }
+    ensures { λ r. ⌜ Sizes AdjPart (lent (now (text .entry)) (now (frames .entry)) (now (types .entry)) (now (functions .entry))) (buffers (now (list .entry)) (now (scope .entry)) (now (sizes .entry))) p r (buffers (now (list .exit)) (now (scope .exit)) (now (sizes .exit))) ⌝ }
+{
+    let at = p.at;
+    let line = frame_line(text, frames, p.line);
+    let s = size_at(line, at, sizes);
+    let SizeAt::Is(k, next) = s else {
+        return Sizing::Refused(10, p.line + 1);
+    };
+    let q = moved(p, next, p.used);
+    let x = expr(text, frames, types, functions, list, scope, sizes, q);
+    let Sizing::Is(a) = x else {
+        return x;
+    };
+    let kind = a.kind;
+    let SizedType::Named(t, j) = kind else {
+        return Sizing::Refused(9, p.line + 1);
+    };
+    if k < j {
+        return Sizing::Refused(11, p.line + 1);
+    }
+    adjusted(t, k, a)
+}
+
+// `1C`: a fit: the subject, the arm where it fits with a variable of size k, the other arm.
+fn fit(
+    text: &[u8],
+    frames: &[u32],
+    types: &[u32],
+    functions: &[u32],
+    list: &mut [u32],
+    scope: &mut [u32],
+    sizes: &mut [u8],
+    p: Place,
+    k: u32,
+) -> Sizing
+    requires { ⌜ Room (suc (p .levels)) (length (now scope)) (length (now sizes)) p × (k < byteRange) ⌝ }
+    ensures { λ r. ⌜ Sizes (FitPart k) (lent (now (text .entry)) (now (frames .entry)) (now (types .entry)) (now (functions .entry))) (buffers (now (list .entry)) (now (scope .entry)) (now (sizes .entry))) p r (buffers (now (list .exit)) (now (scope .exit)) (now (sizes .exit))) ⌝ }
+{
+    let x = expr(text, frames, types, functions, list, scope, sizes, p);
+    let Sizing::Is(a) = x else {
+        return x;
+    };
+    let kind = a.kind;
+    let SizedType::Named(t, _) = kind else {
+        return Sizing::Refused(9, p.line + 1);
+    };
+    let word = word_of(SizedType::Named(t, k as u8));
+    put(scope, p.variables as usize, word);
+    let q = widen(behind(p, a), 1, 0);
+    let y = expr(text, frames, types, functions, list, scope, sizes, q);
+    let Sizing::Is(b) = y else {
+        return y;
+    };
+    let r = behind(p, b);
+    let z = expr(text, frames, types, functions, list, scope, sizes, r);
+    let Sizing::Is(d) = z else {
+        return z;
+    };
+    if !agree(d, b) {
+        return Sizing::Refused(11, p.line + 1);
+    }
+    fitted(a, b, d)
+}

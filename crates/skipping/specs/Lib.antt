@@ -1,4 +1,0 @@
-pub mod Skips
-pub mod PartLaws
-pub mod HeadLaws
-pub mod SkipLaws

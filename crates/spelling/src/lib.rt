@@ -1,1 +1,0 @@
-// The lemmas stand in specs/; this crate has no code.
