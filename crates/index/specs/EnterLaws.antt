@@ -4,7 +4,7 @@ use mathlib.Core.List.{List, [], _∷_, _++_, append-nil, append-assoc}
 use mathlib.Core.Path.{_≡_, refl, sym, ap, _∙_}
 use native.Mathlib.Nat.{le-refl, mul-le-mul-left}
 use native.Mathlib.Omega.{arith}
-use lib.ListN.{length, set, length-append}
+use lib.ListN.{length, take, drop, set, length-append}
 use lib.Seq.{append-snoc}
 use Rattle.language.specs.Limits.{byteRange}
 use Rattle.language.specs.Format.{spellAll}
@@ -23,6 +23,8 @@ use Rattle.theory.specs.Padding.{padded-length}
 use Rattle.index.specs.Padded.{padded-next, padded-within}
 use Rattle.index.specs.Entries.{spell-length}
 use Rattle.index.specs.Enters.{Enters}
+use Rattle.index.specs.Sections.{section}
+use Rattle.index.specs.SectionLaws.{Outside, section-lent}
 use Rattle.index.specs.ParserLaws.{bad-is-not-got, got-value, many-begins, many-bad, many-length, count-most}
 
 -- the next word of a table, written behind those before
@@ -152,3 +154,9 @@ module _ {A : Type 0} (least most : ℕ) (p : Parser A) (entry : A → List ℕ)
           u .enters n (before ++ (f .value ∷ [])) all one (omega (arith, length-append before (f .value ∷ []))) (omega (arith, padded-length k (spellAll entry l)))
           ∙ sym (padded-within n (before ++ (f .value ∷ [])) k (spellAll entry l) long)
           ∙ ap (padded n) (append-snoc before (f .value) (padded k (spellAll entry l))) ∙ ap (λ i. padded n (before ++ (i ∷ padded k (spellAll entry l)))) (sym size)
+
+-- ---- what is entered in a section that is lent is entered in the whole
+pub enters-lent : {A : Type 0} {words : A → List ℕ} {line : List ℕ} {at to : ℕ} {r : Step} {x : Read A} (from n : ℕ) (part index : List ℕ) → from + n ≤ length index → length part ≡ length (take n (drop from index)) →
+    Enters words line at to (take n (drop from index)) r part x →
+    Enters words line at to (section from n index) r (section from n (take from index ++ (part ++ drop n (drop from index)))) x × Outside from n index (take from index ++ (part ++ drop n (drop from index)))
+enters-lent {words} {line} {at} {to} {r} {x} from n part index long same e = section-lent (λ a b. Enters words line at to a r b x) from n part index long same e

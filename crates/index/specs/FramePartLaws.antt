@@ -8,6 +8,7 @@ use lib.ListN.{length, take, drop, length-drop, drop-of-length-le}
 use lib.Seq.{take-all, drop-length}
 use Rattle.language.specs.Syntax.{File}
 use Rattle.encoding.specs.FrameSpells.{lineAt}
+use Rattle.index.specs.Sections.{framesOf}
 use Rattle.index.specs.Indexed.{framePlace, frameLength, framePart, lineCount, Indexed}
 
 module _ (t frames : List ℕ) (i : ℕ) {p n : ℕ} (place : p ≡ framePlace frames i) (size : n ≡ frameLength frames i) where
@@ -27,5 +28,5 @@ module _ (t frames : List ℕ) (i : ℕ) {p n : ℕ} (place : p ≡ framePlace f
   part-whole = let size : p + n - p ≡ n = omega arith in ap (λ m. take m (drop p t)) size ∙ words-part
 
 -- in an indexed text
-pub part-is-line : {text frames types functions channels : List ℕ} {P : File} → Indexed text frames types functions channels P → {r : List ℕ} (i : ℕ) → i < lineCount P → r ≡ framePart text frames i → r ≡ lineAt text i
+pub part-is-line : {text index : List ℕ} {P : File} → Indexed text index P → {r : List ℕ} (i : ℕ) → i < lineCount P → r ≡ framePart text (framesOf index) i → r ≡ lineAt text i
 part-is-line h i less part = part ∙ h .eachFrame i less .line

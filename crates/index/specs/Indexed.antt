@@ -19,6 +19,7 @@ use Rattle.encoding.specs.Spells.{byteAt, Spells, themselves}
 use Rattle.encoding.specs.FrameParts.{TypeSpelled}
 use Rattle.encoding.specs.FrameSpells.{lineAt}
 use Rattle.index.specs.declared.Counts.{Counts}
+use Rattle.index.specs.Sections.{countsIn, framesOf, typesOf, functionsOf, channelsOf}
 
 -- ---- the words of an entry, by name
 -- of frame i: where it starts in the text, how long it is, and that part of the text
@@ -95,26 +96,21 @@ pub record NodeIndexed (line channels : List ℕ) (c : ℕ) (n : Node) : Type 0 
   pub channel : ChannelIndexed line channels c (n .declared) (n .initial)
   pub update : Spells exprBytes line (updateAt channels c) (n .update)
 
--- ---- the text read, and its tables
-pub record Indexed (text frames types functions channels : List ℕ) (P : File) : Type 0 where
-  pub read : readFile text ≡ ok P
-  pub short : length text ≤ textMost
-  pub within : Within P
-  pub eachFrame : (i : ℕ) → i < lineCount P → FrameIndexed text frames i
-  pub eachType : (t : ℕ) → t < length (P .types) → TypeIndexed (lineAt text t) types t (constructorsOf P t)
-  pub eachFunction : (f : ℕ) {F : Function} → look (P .functions) f ≡ some F → FunctionIndexed (lineAt text (functionLine P f)) functions f F
-  pub eachInput : (c : ℕ) {i : Input} → look (P .inputs) c ≡ some i → ChannelIndexed (lineAt text (channelLine P c)) channels c (i .declared) (i .initial)
-  pub eachNode : (m : ℕ) {n : Node} → look (P .nodes) m ≡ some n → NodeIndexed (lineAt text (channelLine P (length (P .inputs) + m))) channels (length (P .inputs) + m) n
-
--- the reader's counts are the file's
+-- the counts are the file's
 pub record Counted (n : Counts) (P : File) : Type 0 where
   pub typeCount : length (P .types) ≡ n .types
   pub functionCount : length (P .functions) ≡ n .functions
   pub inputCount : length (P .inputs) ≡ n .inputs
   pub nodeCount : length (P .nodes) ≡ n .nodes
 
--- what a text that was read gives
-pub record ReadIndexed (text frames types functions channels : List ℕ) (n : Counts) : Type 0 where
-  pub file : File
-  pub indexed : Indexed text frames types functions channels file
-  pub counted : Counted n file
+-- ---- the text read, and its index
+pub record Indexed (text index : List ℕ) (P : File) : Type 0 where
+  pub read : readFile text ≡ ok P
+  pub short : length text ≤ textMost
+  pub within : Within P
+  pub counted : Counted (countsIn index) P
+  pub eachFrame : (i : ℕ) → i < lineCount P → FrameIndexed text (framesOf index) i
+  pub eachType : (t : ℕ) → t < length (P .types) → TypeIndexed (lineAt text t) (typesOf index) t (constructorsOf P t)
+  pub eachFunction : (f : ℕ) {F : Function} → look (P .functions) f ≡ some F → FunctionIndexed (lineAt text (functionLine P f)) (functionsOf index) f F
+  pub eachInput : (c : ℕ) {i : Input} → look (P .inputs) c ≡ some i → ChannelIndexed (lineAt text (channelLine P c)) (channelsOf index) c (i .declared) (i .initial)
+  pub eachNode : (m : ℕ) {n : Node} → look (P .nodes) m ≡ some n → NodeIndexed (lineAt text (channelLine P (length (P .inputs) + m))) (channelsOf index) (length (P .inputs) + m) n

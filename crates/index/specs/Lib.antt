@@ -1,4 +1,6 @@
 pub mod Tables
+pub mod Sections
+pub mod SectionLaws
 pub mod Padded
 pub mod Entries
 pub mod Enters

@@ -1,19 +1,29 @@
 // Function frames: the parameters are read into the function's entry, conditions and measure passed over.
-ghost use Prim.Native.Nat.{_*_, _^_, _<_, _≤_};
-ghost use lib.ListN.{length};
-ghost use Rattle.language.specs.Limits.{parametersMost, conditionsMost, measuresMost};
+ghost use mathlib.Core.Path.{_≡_};
+ghost use Prim.Native.Nat.{_+_, _*_, _^_, _%_, _<_, _≤_};
+ghost use lib.ListN.{length, getD, set};
+ghost use Rattle.language.specs.Limits.{byteRange, parametersMost, conditionsMost, measuresMost};
 ghost use Rattle.language.specs.Parser.{many, counted, index as indexRead};
 ghost use Rattle.language.specs.ReadExpr.{plain};
 ghost use Rattle.language.specs.Reader.{condition as conditionRead};
 ghost use Rattle.language.specs.Format.{spellAll};
 ghost use Rattle.text.specs.Bytes.{bytesOf, bytesFrom, Passes, forget};
 ghost use Rattle.index.specs.Tables.{functionWords};
+ghost use Rattle.index.specs.FunctionTable.{headWords};
+ghost use Rattle.index.specs.Sections.{indexWords, functionsFrom, functionTableWords, functionsOf};
+ghost use Rattle.index.specs.SectionLaws.{Outside};
+ghost use Rattle.index.specs.Indexed.{resultAt, conditionsAt, measureAt, bodyAt};
 ghost use Rattle.index.specs.Enters.{Enters, plainWords, parametersEntry, Named};
+use super::CHANNELS_FROM;
+use super::FUNCTIONS_FROM;
+use super::FUNCTION_TABLE;
 use super::FUNCTION_WORDS;
-use super::arity;
+use super::HEAD_WORDS;
+use super::INDEX_WORDS;
 use super::one_if;
 use super::put;
-use super::word_at;
+use super::section_word;
+use language::limits::BYTE_RANGE;
 use language::limits::CONDITIONS_MOST;
 use language::limits::MEASURES_MOST;
 use language::limits::NESTING_MOST;
@@ -64,8 +74,9 @@ fn parameters_into(
     Step::Next(next)
 }
 
-// Reads the parameters of function f, and writes the first words of its entry: how many, and each one's type.
-pub fn parameters(line: &[u8], functions: &mut [u32], c: Cursor, types: u32, f: u32) -> Step
+// Reads the parameters of function f, and writes the first words of its entry into the section of functions: how many, and each
+// one's type.
+fn head_into(line: &[u8], functions: &mut [u32], c: Cursor, types: u32, f: u32) -> Step
     ensures { λ r. ⌜ Enters parametersEntry (now (line .entry)) (c .at) (functionWords * f) (now (functions .entry)) r (now (functions .exit)) (counted 0 parametersMost (plain types) (bytesFrom (now (line .entry)) (c .at))) ⌝ }
 {
     let x = c.count(line, 0, PARAMETERS_MOST as u32);
@@ -79,16 +90,109 @@ pub fn parameters(line: &[u8], functions: &mut [u32], c: Cursor, types: u32, f: 
     parameters_into(line, functions, next, types, to + 1, n)
 }
 
-// How many parameters of a function are of named types.
-pub fn named(functions: &[u32], f: u32) -> u32
-    ensures { λ r. ⌜ Named (now (functions .entry)) f r ⌝ }
+// The same for the whole index.
+pub fn parameters(line: &[u8], index: &mut [u32], c: Cursor, types: u32, f: u32) -> Step
+    requires { ⌜ length (now index) ≡ indexWords ⌝ }
+    ensures { λ r. ⌜ Enters parametersEntry (now (line .entry)) (c .at) (functionWords * f) (functionsOf (now (index .entry))) r (functionsOf (now (index .exit))) (counted 0 parametersMost (plain types) (bytesFrom (now (line .entry)) (c .at))) × Outside functionsFrom functionTableWords (now (index .entry)) (now (index .exit)) ⌝ }
 {
-    let from = FUNCTION_WORDS * (f as usize) + 1;
-    let n = arity(functions, f);
+    head_into(
+        line,
+        &mut index[FUNCTIONS_FROM..CHANNELS_FROM],
+        c,
+        types,
+        f,
+    )
+}
+
+// Writes four places into the section of functions.
+fn places_into(functions: &mut [u32], to: usize, a: u32, b: u32, c: u32, d: u32)
+    requires { ⌜ to < 2 ^ 62 ⌝ }
+    ensures { λ _. ⌜ now (functions .exit) ≡ set (set (set (set (now (functions .entry)) to a) (to + 1) b) (to + 2) c) (to + 3) d ⌝ }
+{
+    put(functions, to, a);
+    put(functions, to + 1, b);
+    put(functions, to + 2, c);
+    put(functions, to + 3, d);
+}
+
+// Writes where the parts of function f start: its result, its conditions, its measure and its body.
+pub fn put_places(index: &mut [u32], f: u32, result: u32, conditions: u32, measure: u32, body: u32)
+    requires { ⌜ length (now index) ≡ indexWords ⌝ }
+    ensures { λ _. ⌜ (functionsOf (now (index .exit)) ≡ set (set (set (set (functionsOf (now (index .entry))) (functionWords * f + headWords) result) (functionWords * f + headWords + 1) conditions) (functionWords * f + headWords + 2) measure) (functionWords * f + headWords + 3) body) × Outside functionsFrom functionTableWords (now (index .entry)) (now (index .exit)) ⌝ }
+{
+    let to = FUNCTION_WORDS * (f as usize) + HEAD_WORDS;
+    places_into(
+        &mut index[FUNCTIONS_FROM..CHANNELS_FROM],
+        to,
+        result,
+        conditions,
+        measure,
+        body,
+    );
+}
+
+// A word of the section of functions.
+fn function_word(index: &[u32; INDEX_WORDS], i: usize) -> u32
+    ensures { λ r. ⌜ r ≡ getD (functionsOf (now (index .entry))) i 0 ⌝ }
+{
+    section_word(index, FUNCTIONS_FROM, FUNCTION_TABLE, i)
+}
+
+// How many parameters a function has, and the word of one's type.
+pub fn arity(index: &[u32; INDEX_WORDS], f: u32) -> u32
+    ensures { λ r. ⌜ (r ≡ getD (functionsOf (now (index .entry))) (functionWords * f) 0 % byteRange) × (r < byteRange) ⌝ }
+{
+    function_word(index, FUNCTION_WORDS * (f as usize)) % BYTE_RANGE
+}
+
+pub fn parameter_word(index: &[u32; INDEX_WORDS], f: u32, i: u32) -> u32
+    ensures { λ r. ⌜ r ≡ getD (functionsOf (now (index .entry))) (functionWords * f + 1 + i) 0 ⌝ }
+{
+    function_word(index, FUNCTION_WORDS * (f as usize) + 1 + (i as usize))
+}
+
+// Where a part of a function starts in its line; part 0 is its result, 1 its conditions, 2 its measure, 3 its body.
+fn part_start(index: &[u32; INDEX_WORDS], f: u32, part: usize) -> Cursor
+    requires { ⌜ part < 4 ⌝ }
+    ensures { λ r. ⌜ r .at ≡ getD (functionsOf (now (index .entry))) (functionWords * f + headWords + part) 0 ⌝ }
+{
+    let word = function_word(index, FUNCTION_WORDS * (f as usize) + HEAD_WORDS + part);
+    Cursor { at: word as usize }
+}
+
+pub fn result_start(index: &[u32; INDEX_WORDS], f: u32) -> Cursor
+    ensures { λ r. ⌜ r .at ≡ resultAt (functionsOf (now (index .entry))) f ⌝ }
+{
+    part_start(index, f, 0)
+}
+
+pub fn conditions_start(index: &[u32; INDEX_WORDS], f: u32) -> Cursor
+    ensures { λ r. ⌜ r .at ≡ conditionsAt (functionsOf (now (index .entry))) f ⌝ }
+{
+    part_start(index, f, 1)
+}
+
+pub fn measure_start(index: &[u32; INDEX_WORDS], f: u32) -> Cursor
+    ensures { λ r. ⌜ r .at ≡ measureAt (functionsOf (now (index .entry))) f ⌝ }
+{
+    part_start(index, f, 2)
+}
+
+pub fn body_start(index: &[u32; INDEX_WORDS], f: u32) -> Cursor
+    ensures { λ r. ⌜ r .at ≡ bodyAt (functionsOf (now (index .entry))) f ⌝ }
+{
+    part_start(index, f, 3)
+}
+
+// How many parameters of a function are of named types.
+pub fn named(index: &[u32; INDEX_WORDS], f: u32) -> u32
+    ensures { λ r. ⌜ Named (functionsOf (now (index .entry))) f r ⌝ }
+{
+    let n = arity(index, f);
     let mut sum: u32 = 0;
     let mut i: u32 = 0;
     while i < n {
-        let word = word_at(functions, from + (i as usize));
+        let word = parameter_word(index, f, i);
         sum += one_if(TYPE_STEP <= word);
         i += 1;
     }

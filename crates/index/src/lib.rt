@@ -1,31 +1,60 @@
-// The index that the reader leaves for later passes: tables of words, how they are read and written.
+// The index that the reader leaves for later passes: one row of words, the counts of the file and a section each for its frames,
+// types, functions and channels. Only this crate knows where a word stands.
+pub mod channels;
 pub mod frames;
 pub mod functions;
 pub mod types;
 
 ghost use mathlib.Core.Path.{_≡_};
-ghost use Prim.Native.Nat.{_+_, _*_, _%_, _<_, _≤_};
+ghost use Prim.Native.Nat.{_+_, _<_, _≤_};
 ghost use lib.ListN.{length, getD, set, replicate};
 ghost use Rattle.language.specs.Limits.{byteRange};
 ghost use Rattle.language.specs.Format.{bit};
-ghost use Rattle.index.specs.Tables.{typeWords, constructorWords, functionWords};
+ghost use Rattle.index.specs.Sections.{section, indexWords, countsIn, SmallCounts};
+ghost use Rattle.index.specs.SectionLaws.{CountsPut};
 use language::limits::BYTE_RANGE;
+use language::limits::CHANNELS_MOST;
 use language::limits::CONSTRUCTORS_MOST;
 use language::limits::FIELDS_MOST;
+use language::limits::FUNCTIONS_MOST;
+use language::limits::INPUTS_MOST;
+use language::limits::NODES_MOST;
 use language::limits::PARAMETERS_MOST;
+use language::limits::TYPES_MOST;
 
-pub const CONSTRUCTOR_WORDS: usize = 2 + FIELDS_MOST;
+// The words of an entry.
+const FRAME_WORDS: usize = 2;
 
-pub const TYPE_WORDS: usize = 1 + CONSTRUCTORS_MOST * CONSTRUCTOR_WORDS;
+const CONSTRUCTOR_WORDS: usize = 2 + FIELDS_MOST;
 
-// The parameters of a function come first in its entry.
-pub const HEAD_WORDS: usize = 1 + PARAMETERS_MOST;
+const TYPE_WORDS: usize = 1 + CONSTRUCTORS_MOST * CONSTRUCTOR_WORDS;
 
-pub const FUNCTION_WORDS: usize = HEAD_WORDS + 4;
+const HEAD_WORDS: usize = 1 + PARAMETERS_MOST;
 
-pub const CHANNEL_WORDS: usize = 3;
+const FUNCTION_WORDS: usize = HEAD_WORDS + 4;
 
-pub const FRAME_WORDS: usize = 2;
+const CHANNEL_WORDS: usize = 3;
+
+// How long the sections are, and where they start.
+const COUNT_WORDS: usize = 4;
+
+const FRAME_TABLE: usize = (TYPES_MOST + FUNCTIONS_MOST + INPUTS_MOST + NODES_MOST) * FRAME_WORDS;
+
+const TYPE_TABLE: usize = TYPES_MOST * TYPE_WORDS;
+
+const FUNCTION_TABLE: usize = FUNCTIONS_MOST * FUNCTION_WORDS;
+
+const CHANNEL_TABLE: usize = CHANNELS_MOST * CHANNEL_WORDS;
+
+const FRAMES_FROM: usize = COUNT_WORDS;
+
+const TYPES_FROM: usize = FRAMES_FROM + FRAME_TABLE;
+
+const FUNCTIONS_FROM: usize = TYPES_FROM + TYPE_TABLE;
+
+const CHANNELS_FROM: usize = FUNCTIONS_FROM + FUNCTION_TABLE;
+
+pub const INDEX_WORDS: usize = CHANNELS_FROM + CHANNEL_TABLE;
 
 // How many frames of each kind a file has.
 pub struct Counts {
@@ -35,32 +64,32 @@ pub struct Counts {
     pub nodes: u32,
 }
 
-// A word of a table; 0 beyond the table.
-pub fn word_at(table: &[u32], i: usize) -> u32
-    ensures { λ r. ⌜ r ≡ getD (now (table .entry)) i 0 ⌝ }
+// A word of a row; 0 beyond it.
+pub fn word_at(row: &[u32], i: usize) -> u32
+    ensures { λ r. ⌜ r ≡ getD (now (row .entry)) i 0 ⌝ }
 {
-    if i < table.len() {
-        return table[i];
+    if i < row.len() {
+        return row[i];
     }
     0
 }
 
-// Writes a word of a table; beyond the table nothing.
-pub fn put(table: &mut [u32], i: usize, word: u32)
-    ensures { λ _. ⌜ now (table .exit) ≡ set (now (table .entry)) i word ⌝ }
+// Writes a word of a row; beyond it nothing.
+pub fn put(row: &mut [u32], i: usize, word: u32)
+    ensures { λ _. ⌜ now (row .exit) ≡ set (now (row .entry)) i word ⌝ }
 {
-    if i < table.len() {
-        table[i] = word;
+    if i < row.len() {
+        row[i] = word;
     }
 }
 
 // Every word 0.
-pub fn clear(table: &mut [u32])
-    ensures { λ _. ⌜ now (table .exit) ≡ replicate (length (now (table .entry))) 0 ⌝ }
+pub fn clear(row: &mut [u32])
+    ensures { λ _. ⌜ now (row .exit) ≡ replicate (length (now (row .entry))) 0 ⌝ }
 {
     let mut i = 0;
-    while i < table.len() {
-        table[i] = 0;
+    while i < row.len() {
+        row[i] = 0;
         i += 1;
     }
 }
@@ -75,42 +104,36 @@ pub fn one_if(holds: bool) -> u32
     0
 }
 
-// A word of a table that is a count, a byte; 0 beyond the table.
-pub fn count_at(table: &[u32], i: usize) -> u32
-    ensures { λ r. ⌜ (r ≡ getD (now (table .entry)) i 0 % byteRange) × (r < byteRange) ⌝ }
+// Word i of the section of so many words from a place on; 0 beyond it.
+fn section_word(index: &[u32; INDEX_WORDS], from: usize, words: usize, i: usize) -> u32
+    requires { ⌜ from + words ≤ indexWords ⌝ }
+    ensures { λ r. ⌜ r ≡ getD (section from words (now (index .entry))) i 0 ⌝ }
 {
-    word_at(table, i) % BYTE_RANGE
+    if i < words {
+        return index[from + i];
+    }
+    0
 }
 
-// How many constructors a type has.
-pub fn constructors(types: &[u32], t: u32) -> u32
-    ensures { λ r. ⌜ (r ≡ getD (now (types .entry)) (typeWords * t) 0 % byteRange) × (r < byteRange) ⌝ }
+// How many frames of each kind the file has.
+pub fn frame_counts(index: &[u32; INDEX_WORDS]) -> Counts
+    ensures { λ r. ⌜ (r ≡ countsIn (now (index .entry))) × SmallCounts r ⌝ }
 {
-    count_at(types, TYPE_WORDS * (t as usize))
+    Counts {
+        types: section_word(index, 0, COUNT_WORDS, 0) % BYTE_RANGE,
+        functions: section_word(index, 0, COUNT_WORDS, 1) % BYTE_RANGE,
+        inputs: section_word(index, 0, COUNT_WORDS, 2) % BYTE_RANGE,
+        nodes: section_word(index, 0, COUNT_WORDS, 3) % BYTE_RANGE,
+    }
 }
 
-// How many fields a constructor has, and how many of them are of the type itself.
-pub fn fields(types: &[u32], t: u32, c: u32) -> u32
-    ensures { λ r. ⌜ (r ≡ getD (now (types .entry)) (typeWords * t + 1 + constructorWords * c) 0 % byteRange) × (r < byteRange) ⌝ }
+// Writes the counts.
+pub fn put_counts(index: &mut [u32], n: Counts)
+    requires { ⌜ length (now index) ≡ indexWords ⌝ }
+    ensures { λ _. ⌜ CountsPut n (now (index .entry)) (now (index .exit)) ⌝ }
 {
-    count_at(
-        types,
-        TYPE_WORDS * (t as usize) + 1 + CONSTRUCTOR_WORDS * (c as usize),
-    )
-}
-
-pub fn own_fields(types: &[u32], t: u32, c: u32) -> u32
-    ensures { λ r. ⌜ (r ≡ getD (now (types .entry)) (typeWords * t + 2 + constructorWords * c) 0 % byteRange) × (r < byteRange) ⌝ }
-{
-    count_at(
-        types,
-        TYPE_WORDS * (t as usize) + 2 + CONSTRUCTOR_WORDS * (c as usize),
-    )
-}
-
-// How many parameters a function has.
-pub fn arity(functions: &[u32], f: u32) -> u32
-    ensures { λ r. ⌜ (r ≡ getD (now (functions .entry)) (functionWords * f) 0 % byteRange) × (r < byteRange) ⌝ }
-{
-    count_at(functions, FUNCTION_WORDS * (f as usize))
+    put(index, 0, n.types);
+    put(index, 1, n.functions);
+    put(index, 2, n.inputs);
+    put(index, 3, n.nodes);
 }

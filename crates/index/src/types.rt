@@ -1,20 +1,28 @@
 // Type frames: what stands behind the kind is read, and the type's entry written.
 ghost use mathlib.Core.Path.{_≡_};
-ghost use Prim.Native.Nat.{_*_, _^_, _<_, _≤_};
-ghost use lib.ListN.{length};
+ghost use Prim.Native.Nat.{_+_, _*_, _^_, _%_, _<_, _≤_};
+ghost use lib.ListN.{length, getD};
+ghost use Rattle.language.specs.Limits.{byteRange};
 ghost use Rattle.language.specs.Parser.{many};
 ghost use Rattle.language.specs.ReadExpr.{field as fieldRead};
 ghost use Rattle.language.specs.Format.{spellAll};
 ghost use Rattle.text.specs.Bytes.{bytesOf, bytesFrom};
-ghost use Rattle.index.specs.Tables.{typeWords, constructorEntry, typeEntry};
+ghost use Rattle.index.specs.Tables.{constructorWords, typeWords, constructorEntry, typeEntry};
+ghost use Rattle.index.specs.Sections.{indexWords, typesFrom, typeTableWords, typesOf};
+ghost use Rattle.index.specs.SectionLaws.{Outside};
+ghost use Rattle.index.specs.Indexed.{fieldAt};
 ghost use Rattle.index.specs.Enters.{Enters, fieldWords, isOwn, howMany, typeBehind, constructorBehind, SelfFree};
 use super::CONSTRUCTOR_WORDS;
+use super::FUNCTIONS_FROM;
+use super::INDEX_WORDS;
+use super::TYPES_FROM;
+use super::TYPE_TABLE;
 use super::TYPE_WORDS;
-use super::constructors;
 use super::one_if;
-use super::own_fields;
 use super::put;
+use super::section_word;
 use super::word_at;
+use language::limits::BYTE_RANGE;
 use language::limits::CONSTRUCTORS_MOST;
 use language::limits::FIELDS_MOST;
 use text::Cursor;
@@ -110,8 +118,8 @@ fn constructors_into(line: &[u8], types: &mut [u32], c: Cursor, t: u32, to: usiz
     Step::Next(next)
 }
 
-// Reads a type before which t types stand, and writes its entry.
-pub fn type_def(line: &[u8], types: &mut [u32], c: Cursor, t: u32) -> Step
+// Reads a type before which t types stand, and writes its entry into the section of types.
+fn type_into(line: &[u8], types: &mut [u32], c: Cursor, t: u32) -> Step
     ensures { λ r. ⌜ Enters typeEntry (now (line .entry)) (c .at) (typeWords * t) (now (types .entry)) r (now (types .exit)) (typeBehind t (bytesFrom (now (line .entry)) (c .at))) ⌝ }
 {
     let x = c.count(line, 1, CONSTRUCTORS_MOST as u32);
@@ -125,14 +133,58 @@ pub fn type_def(line: &[u8], types: &mut [u32], c: Cursor, t: u32) -> Step
     constructors_into(line, types, next, t, to + 1, n)
 }
 
-// Whether a type has a constructor without a field of the type itself.
-pub fn self_free(types: &[u32], t: u32) -> bool
-    ensures { λ r. ⌜ SelfFree (now (types .entry)) t r ⌝ }
+// The same for the whole index.
+pub fn type_def(line: &[u8], index: &mut [u32], c: Cursor, t: u32) -> Step
+    requires { ⌜ length (now index) ≡ indexWords ⌝ }
+    ensures { λ r. ⌜ Enters typeEntry (now (line .entry)) (c .at) (typeWords * t) (typesOf (now (index .entry))) r (typesOf (now (index .exit))) (typeBehind t (bytesFrom (now (line .entry)) (c .at))) × Outside typesFrom typeTableWords (now (index .entry)) (now (index .exit)) ⌝ }
 {
-    let n = constructors(types, t);
+    type_into(line, &mut index[TYPES_FROM..FUNCTIONS_FROM], c, t)
+}
+
+// A word of the section of types.
+fn type_word(index: &[u32; INDEX_WORDS], i: usize) -> u32
+    ensures { λ r. ⌜ r ≡ getD (typesOf (now (index .entry))) i 0 ⌝ }
+{
+    section_word(index, TYPES_FROM, TYPE_TABLE, i)
+}
+
+// How many constructors a type has.
+pub fn constructors(index: &[u32; INDEX_WORDS], t: u32) -> u32
+    ensures { λ r. ⌜ (r ≡ getD (typesOf (now (index .entry))) (typeWords * t) 0 % byteRange) × (r < byteRange) ⌝ }
+{
+    type_word(index, TYPE_WORDS * (t as usize)) % BYTE_RANGE
+}
+
+// How many fields a constructor has, how many of them are of the type itself, and the word of one.
+pub fn fields(index: &[u32; INDEX_WORDS], t: u32, c: u32) -> u32
+    ensures { λ r. ⌜ (r ≡ getD (typesOf (now (index .entry))) (typeWords * t + 1 + constructorWords * c) 0 % byteRange) × (r < byteRange) ⌝ }
+{
+    let entry = TYPE_WORDS * (t as usize) + 1 + CONSTRUCTOR_WORDS * (c as usize);
+    type_word(index, entry) % BYTE_RANGE
+}
+
+pub fn own_fields(index: &[u32; INDEX_WORDS], t: u32, c: u32) -> u32
+    ensures { λ r. ⌜ (r ≡ getD (typesOf (now (index .entry))) (typeWords * t + 2 + constructorWords * c) 0 % byteRange) × (r < byteRange) ⌝ }
+{
+    let entry = TYPE_WORDS * (t as usize) + 2 + CONSTRUCTOR_WORDS * (c as usize);
+    type_word(index, entry) % BYTE_RANGE
+}
+
+pub fn field_word(index: &[u32; INDEX_WORDS], t: u32, c: u32, i: u32) -> u32
+    ensures { λ r. ⌜ r ≡ fieldAt (typesOf (now (index .entry))) t c i ⌝ }
+{
+    let first = TYPE_WORDS * (t as usize) + 3 + CONSTRUCTOR_WORDS * (c as usize);
+    type_word(index, first + (i as usize))
+}
+
+// Whether a type has a constructor without a field of the type itself.
+pub fn self_free(index: &[u32; INDEX_WORDS], t: u32) -> bool
+    ensures { λ r. ⌜ SelfFree (typesOf (now (index .entry))) t r ⌝ }
+{
+    let n = constructors(index, t);
     let mut c: u32 = 0;
     while c < n {
-        if own_fields(types, t, c) == 0 {
+        if own_fields(index, t, c) == 0 {
             return true;
         }
         c += 1;

@@ -7,19 +7,19 @@ use Rattle.index.proofs.clear.Statement.{statement}
 use Rattle.index.proofs.clear.Tie as tie
 
 abbrev Inv-loop : tie.InvT-loop
-Inv-loop table₀ i₀ table i = Zeroed table₀ i table
+Inv-loop row₀ i₀ row i = Zeroed row₀ i row
 
 abbrev μ-loop : tie.MeasureT-loop
-μ-loop table₀ i₀ table i = length table₀ - i
+μ-loop row₀ i₀ row i = length row₀ - i
 
 loop-holds : tie.Need-loop-holds Inv-loop μ-loop
 loop-holds c = zeroed-start _
 
-mul-table : tie.Need-mul-table Inv-loop μ-loop
-mul-table c = omega (arith, (c .before .loop .inv .long), (c .before .before .good .0 .1))
+mul-row : tie.Need-mul-row Inv-loop μ-loop
+mul-row c = omega (arith, (c .before .loop .inv .long), (c .before .before .good .0 .1))
 
-slice-write-table : tie.Need-slice-write-table Inv-loop μ-loop
-slice-write-table c = (c .loop-test .taken)
+slice-write-row : tie.Need-slice-write-row Inv-loop μ-loop
+slice-write-row c = (c .loop-test .taken)
 
 add-i : tie.Need-add-i Inv-loop μ-loop
 add-i c = omega (arith, (c .before .loop .inv .long), (c .before .before .good .0 .0))
@@ -43,8 +43,8 @@ clear-spec =
     Inv-loop
     μ-loop
     loop-holds
-    mul-table
-    slice-write-table
+    mul-row
+    slice-write-row
     add-i
     loop-less
     loop-again

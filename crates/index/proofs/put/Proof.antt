@@ -5,11 +5,11 @@ use borrow.Author.Needs.{needs}
 use Rattle.index.proofs.put.Statement.{statement}
 use Rattle.index.proofs.put.Tie as tie
 
-mul-table : tie.Need-mul-table
-mul-table c = search needs
+mul-row : tie.Need-mul-row
+mul-row c = search needs
 
-slice-write-table : tie.Need-slice-write-table
-slice-write-table c = search needs
+slice-write-row : tie.Need-slice-write-row
+slice-write-row c = search needs
 
 same-length : tie.Need-same-length
 same-length c = search needs
@@ -21,4 +21,4 @@ returns-2 : tie.Need-returns-2
 returns-2 c = sym (set-out _ _ _ (c .if1 .left))
 
 pub put-spec : {M : Type 1} → statement M
-put-spec = tie.close (tie.spec mul-table slice-write-table same-length returns returns-2)
+put-spec = tie.close (tie.spec mul-row slice-write-row same-length returns returns-2)

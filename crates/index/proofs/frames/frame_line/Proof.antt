@@ -8,17 +8,17 @@ use Rattle.index.proofs.frames.frame_line.Tie as tie
 mul-entry : tie.Need-mul-entry
 mul-entry c = omega arith
 
-word-at-requires : tie.Need-word-at-requires
-word-at-requires c κs = tt
+section-word-requires : tie.Need-section-word-requires
+section-word-requires c κs = omega arith
 
 cast-place : tie.Need-cast-place
 cast-place c = search needs
 
-add-word-at : tie.Need-add-word-at
-add-word-at c = omega arith
+add-section-word : tie.Need-add-section-word
+add-section-word c = omega arith
 
-word-at-requires-2 : tie.Need-word-at-requires-2
-word-at-requires-2 c κs = tt
+section-word-requires-2 : tie.Need-section-word-requires-2
+section-word-requires-2 c κs = omega arith
 
 cast-size : tie.Need-cast-size
 cast-size c = search needs
@@ -33,7 +33,7 @@ part-result-end : tie.Need-part-result-end
 part-result-end c = omega arith
 
 returns : tie.Need-returns
-returns c = part-beyond _ _ _ (c .before .before .before .word-at .ensures) (c .before .before .word-at2 .ensures) (c .before .if1 .taken)
+returns c = part-beyond _ _ _ (c .before .before .before .section-word .ensures) (c .before .before .section-word2 .ensures) (c .before .if1 .taken)
 
 sub-if2 : tie.Need-sub-if2
 sub-if2 c = omega arith
@@ -48,7 +48,7 @@ part-result-end-2 : tie.Need-part-result-end-2
 part-result-end-2 c = omega arith
 
 returns-2 : tie.Need-returns-2
-returns-2 c = part-to-end _ _ _ (c .before .before .before .before .word-at .ensures) (c .before .before .before .word-at2 .ensures) (c .before .if2 .taken)
+returns-2 c = part-to-end _ _ _ (c .before .before .before .before .section-word .ensures) (c .before .before .before .section-word2 .ensures) (c .before .if2 .taken)
 
 add-result : tie.Need-add-result
 add-result c = omega arith
@@ -63,17 +63,17 @@ part-result-end-3 : tie.Need-part-result-end-3
 part-result-end-3 c = omega arith
 
 returns-3 : tie.Need-returns-3
-returns-3 c = part-whole _ _ _ (c .before .before .before .before .word-at .ensures) (c .before .before .before .word-at2 .ensures)
+returns-3 c = part-whole _ _ _ (c .before .before .before .before .section-word .ensures) (c .before .before .before .section-word2 .ensures)
 
 pub frame-line-spec : {M : Type 1} → statement M
 frame-line-spec =
     tie.close
     (tie.spec
     mul-entry
-    word-at-requires
+    section-word-requires
     cast-place
-    add-word-at
-    word-at-requires-2
+    add-section-word
+    section-word-requires-2
     cast-size
     sub-result
     part-result-start

@@ -1,22 +1,18 @@
 -- Words of parameters of named types, counted one by one.
-use Prim.Native.Nat.{_-_}
+use Prim.Native.Nat.{_+_, _*_, _-_}
 use native.Mathlib.Omega.{arith}
+use Rattle.index.specs.Tables.{functionWords}
+use Rattle.index.specs.Sections.{functionsOf}
 use Rattle.index.specs.Enters.{isNamed}
 use Rattle.index.specs.CountLaws.{Counted, counted-start, counted-on, named-in-all}
 use Rattle.index.proofs.functions.named.Statement.{statement}
 use Rattle.index.proofs.functions.named.Tie as tie
 
 abbrev Inv-loop : tie.InvT-loop
-Inv-loop functions f from n sum₀ i₀ sum i = Counted isNamed functions from n i sum
+Inv-loop index f n sum₀ i₀ sum i = Counted isNamed (functionsOf index) (functionWords * f + 1) n i sum
 
 abbrev μ-loop : tie.MeasureT-loop
-μ-loop functions f from n sum₀ i₀ sum i = n - i
-
-mul-from : tie.Need-mul-from Inv-loop μ-loop
-mul-from c = omega arith
-
-add-from : tie.Need-add-from Inv-loop μ-loop
-add-from c = omega arith
+μ-loop index f n sum₀ i₀ sum i = n - i
 
 arity-requires : tie.Need-arity-requires Inv-loop μ-loop
 arity-requires c κs = tt
@@ -24,14 +20,8 @@ arity-requires c κs = tt
 loop-holds : tie.Need-loop-holds Inv-loop μ-loop
 loop-holds c = counted-start isNamed _ _ _
 
-cast-word-at : tie.Need-cast-word-at Inv-loop μ-loop
-cast-word-at c = omega arith
-
-add-word-at : tie.Need-add-word-at Inv-loop μ-loop
-add-word-at c = omega arith
-
-word-at-requires : tie.Need-word-at-requires Inv-loop μ-loop
-word-at-requires c κs = tt
+parameter-word-requires : tie.Need-parameter-word-requires Inv-loop μ-loop
+parameter-word-requires c κs = tt
 
 one-if-requires : tie.Need-one-if-requires Inv-loop μ-loop
 one-if-requires c κs = tt
@@ -46,7 +36,7 @@ loop-less : tie.Need-loop-less Inv-loop μ-loop
 loop-less c = omega arith
 
 loop-again : tie.Need-loop-again Inv-loop μ-loop
-loop-again c = counted-on (c .before .before .before .loop .inv) (c .before .before .loop-test .taken) (c .before .word-at .ensures) (c .one-if .ensures)
+loop-again c = counted-on (c .before .before .before .loop .inv) (c .before .before .loop-test .taken) (c .before .parameter-word .ensures) (c .one-if .ensures)
 
 returns : tie.Need-returns Inv-loop μ-loop
 returns c = named-in-all (c .before .before .arity .ensures) (c .loop-test .left) (c .before .loop .inv)
@@ -57,13 +47,9 @@ named-spec =
     (tie.spec
     Inv-loop
     μ-loop
-    mul-from
-    add-from
     arity-requires
     loop-holds
-    cast-word-at
-    add-word-at
-    word-at-requires
+    parameter-word-requires
     one-if-requires
     add-sum
     add-i

@@ -1,64 +1,46 @@
--- The first words of a function's entry: how many parameters, and the word of each.
+-- The section of functions is lent, and the parameters of one entered there.
 use native.Mathlib.Omega.{arith}
-use mathlib.Core.Path.{_∙_}
-use Rattle.language.specs.Limits.{parametersMost}
-use Rattle.language.specs.ReadExpr.{plain}
-use Rattle.text.specs.StepLaws.{ends-within, number-moved}
-use Rattle.index.specs.Enters.{parametersEntry}
-use Rattle.index.specs.EnterLaws.{count-refused}
-use Rattle.index.specs.FunctionEntry.{parameters-entered}
+use Rattle.index.specs.Sections.{functionsFrom, functionTableWords}
+use Rattle.index.specs.EnterLaws.{enters-lent}
+use borrow.Author.Needs.{needs}
 use Rattle.index.proofs.functions.parameters.Statement.{statement}
 use Rattle.index.proofs.functions.parameters.Tie as tie
+use Rattle.index.proofs.functions.parameters.Reads as reads
+use Rattle.index.proofs.functions.parameters.Lts as lts
+use Rattle.index.proofs.functions.head_into.Reads as head-into-reads
 
-cast-count : tie.Need-cast-count
-cast-count c = omega arith
+-- src/functions.rt:100:9
+sub-head-into : tie.Need-sub-head-into
+sub-head-into c = search needs
 
-count-requires : tie.Need-count-requires
-count-requires c κs = tt
+-- src/functions.rt:100:9
+part-head-into-start : tie.Need-part-head-into-start
+part-head-into-start c = search needs
 
-enum-known-x : tie.Need-enum-known-x
-enum-known-x c = (c .match .keys1)
+-- src/functions.rt:100:9
+part-head-into-end : tie.Need-part-head-into-end
+part-head-into-end c = search needs
 
-enum-told : tie.Need-enum-told
-enum-told c = (c .match .keys2)
+-- src/functions.rt:98:5
+head-into-requires : tie.Need-head-into-requires
+head-into-requires c κs = search needs
 
-step-of-requires : tie.Need-step-of-requires
-step-of-requires c κs = tt
-
-returns : tie.Need-returns
-returns c = count-refused 0 parametersMost (plain _) (c .before .before .before .count .ensures) parametersEntry (c .before .enum-told .given .1) (c .step-of .ensures)
-
-mul-to : tie.Need-mul-to
-mul-to c = omega arith
-
-put-requires : tie.Need-put-requires
-put-requires c κs = tt
-
-add-parameters-into : tie.Need-add-parameters-into
-add-parameters-into c = omega arith
-
-parameters-into-requires : tie.Need-parameters-into-requires
-parameters-into-requires c κs = (omega arith, ends-within (number-moved (c .before .before .before .before .before .before .before .before .before .count .ensures .0) (c .before .before .before .before .before .before .before .x .given .1)))
-
+-- src/functions.rt:94:1
 same-length : tie.Need-same-length
-same-length c = (c .before .before .parameters-into .kept .1 .0) ∙ (c .before .before .before .before .before .before .put .kept .0)
+same-length c = search needs
 
-returns-2 : tie.Need-returns-2
-returns-2 c = parameters-entered _ (c .before .before .before .before .before .before .before .before .before .before .before .before .count .ensures) (c .before .before .before .before .before .before .before .before .before .before .x .given .1) (c .before .before .before .before .before .before .put .ensures) (c .before .before .parameters-into .ensures)
+-- src/functions.rt:94:1
+returns : tie.Need-returns
+returns c =
+    enters-lent functionsFrom functionTableWords _ _ (omega (arith, c .before .before .before .before .before .before .pre)) (c .before .before .head-into .kept .1 .0) (c .before .before .head-into .ensures)
 
 pub parameters-spec : {M : Type 1} → statement M
 parameters-spec =
     tie.close
     (tie.spec
-    cast-count
-    count-requires
-    enum-known-x
-    enum-told
-    step-of-requires
-    returns
-    mul-to
-    put-requires
-    add-parameters-into
-    parameters-into-requires
+    sub-head-into
+    part-head-into-start
+    part-head-into-end
+    head-into-requires
     same-length
-    returns-2)
+    returns)

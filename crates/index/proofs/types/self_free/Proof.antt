@@ -1,15 +1,16 @@
 -- A constructor without a field of the type itself, looked for one by one.
 use Prim.Native.Nat.{_-_}
 use native.Mathlib.Omega.{arith}
+use Rattle.index.specs.Sections.{typesOf}
 use Rattle.index.specs.FreeLaws.{FreeFrom, free-start, free-found, free-on, free-none}
 use Rattle.index.proofs.types.self_free.Statement.{statement}
 use Rattle.index.proofs.types.self_free.Tie as tie
 
 abbrev Inv-loop : tie.InvT-loop
-Inv-loop types t n c₀ c = FreeFrom types t c
+Inv-loop index t n c₀ c = FreeFrom (typesOf index) t c
 
 abbrev μ-loop : tie.MeasureT-loop
-μ-loop types t n c₀ c = n - c
+μ-loop index t n c₀ c = n - c
 
 constructors-requires : tie.Need-constructors-requires Inv-loop μ-loop
 constructors-requires c κs = tt

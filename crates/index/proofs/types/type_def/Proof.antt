@@ -1,64 +1,46 @@
--- A type's entry: how many constructors, and the entry of each.
+-- The section of types is lent, and a type entered there.
 use native.Mathlib.Omega.{arith}
-use mathlib.Core.Path.{_∙_}
-use Rattle.language.specs.Limits.{constructorsMost}
-use Rattle.text.specs.StepLaws.{ends-within, number-moved}
-use Rattle.index.specs.Tables.{typeEntry}
-use Rattle.index.specs.Enters.{constructorBehind}
-use Rattle.index.specs.EnterLaws.{count-refused}
-use Rattle.index.specs.TypeEntry.{type-entered}
+use Rattle.index.specs.Sections.{typesFrom, typeTableWords}
+use Rattle.index.specs.EnterLaws.{enters-lent}
+use borrow.Author.Needs.{needs}
 use Rattle.index.proofs.types.type_def.Statement.{statement}
 use Rattle.index.proofs.types.type_def.Tie as tie
+use Rattle.index.proofs.types.type_def.Reads as reads
+use Rattle.index.proofs.types.type_def.Lts as lts
+use Rattle.index.proofs.types.type_into.Reads as type-into-reads
 
-cast-count : tie.Need-cast-count
-cast-count c = omega arith
+-- src/types.rt:141:21
+sub-type-into : tie.Need-sub-type-into
+sub-type-into c = search needs
 
-count-requires : tie.Need-count-requires
-count-requires c κs = tt
+-- src/types.rt:141:21
+part-type-into-start : tie.Need-part-type-into-start
+part-type-into-start c = search needs
 
-enum-known-x : tie.Need-enum-known-x
-enum-known-x c = (c .match .keys1)
+-- src/types.rt:141:21
+part-type-into-end : tie.Need-part-type-into-end
+part-type-into-end c = search needs
 
-enum-told : tie.Need-enum-told
-enum-told c = (c .match .keys2)
+-- src/types.rt:141:5
+type-into-requires : tie.Need-type-into-requires
+type-into-requires c κs = search needs
 
-step-of-requires : tie.Need-step-of-requires
-step-of-requires c κs = tt
-
-returns : tie.Need-returns
-returns c = count-refused 1 constructorsMost (constructorBehind _) (c .before .before .before .count .ensures) typeEntry (c .before .enum-told .given .1) (c .step-of .ensures)
-
-mul-to : tie.Need-mul-to
-mul-to c = omega arith
-
-put-requires : tie.Need-put-requires
-put-requires c κs = tt
-
-add-constructors-into : tie.Need-add-constructors-into
-add-constructors-into c = omega arith
-
-constructors-into-requires : tie.Need-constructors-into-requires
-constructors-into-requires c κs = (omega arith, ends-within (number-moved (c .before .before .before .before .before .before .before .before .before .count .ensures .0) (c .before .before .before .before .before .before .before .x .given .1)))
-
+-- src/types.rt:137:1
 same-length : tie.Need-same-length
-same-length c = (c .before .before .constructors-into .kept .1 .0) ∙ (c .before .before .before .before .before .before .put .kept .0)
+same-length c = search needs
 
-returns-2 : tie.Need-returns-2
-returns-2 c = type-entered _ (c .before .before .before .before .before .before .before .before .before .before .before .before .count .ensures) (c .before .before .before .before .before .before .before .before .before .before .x .given .1) (c .before .before .before .before .before .before .put .ensures) (c .before .before .constructors-into .ensures)
+-- src/types.rt:137:1
+returns : tie.Need-returns
+returns c =
+    enters-lent typesFrom typeTableWords _ _ (omega (arith, c .before .before .before .before .before .before .pre)) (c .before .before .type-into .kept .1 .0) (c .before .before .type-into .ensures)
 
 pub type-def-spec : {M : Type 1} → statement M
 type-def-spec =
     tie.close
     (tie.spec
-    cast-count
-    count-requires
-    enum-known-x
-    enum-told
-    step-of-requires
-    returns
-    mul-to
-    put-requires
-    add-constructors-into
-    constructors-into-requires
+    sub-type-into
+    part-type-into-start
+    part-type-into-end
+    type-into-requires
     same-length
-    returns-2)
+    returns)
