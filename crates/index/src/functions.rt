@@ -15,9 +15,9 @@ ghost use Rattle.index.specs.SectionLaws.{Outside};
 ghost use Rattle.index.specs.Indexed.{resultAt, conditionsAt, measureAt, bodyAt};
 ghost use Rattle.index.specs.Enters.{Enters, plainWords, parametersEntry, Named};
 use super::CHANNELS_FROM;
-use super::FUNCTIONS_FROM;
 use super::FUNCTION_TABLE;
 use super::FUNCTION_WORDS;
+use super::FUNCTIONS_FROM;
 use super::HEAD_WORDS;
 use super::INDEX_WORDS;
 use super::one_if;
@@ -95,13 +95,7 @@ pub fn parameters(line: &[u8], index: &mut [u32], c: Cursor, types: u32, f: u32)
     requires { ⌜ length (now index) ≡ indexWords ⌝ }
     ensures { λ r. ⌜ Enters parametersEntry (now (line .entry)) (c .at) (functionWords * f) (functionsOf (now (index .entry))) r (functionsOf (now (index .exit))) (counted 0 parametersMost (plain types) (bytesFrom (now (line .entry)) (c .at))) × Outside functionsFrom functionTableWords (now (index .entry)) (now (index .exit)) ⌝ }
 {
-    head_into(
-        line,
-        &mut index[FUNCTIONS_FROM..CHANNELS_FROM],
-        c,
-        types,
-        f,
-    )
+    head_into(line, &mut index[FUNCTIONS_FROM..CHANNELS_FROM], c, types, f)
 }
 
 // Writes four places into the section of functions.

@@ -15,9 +15,9 @@ ghost use Rattle.index.specs.Enters.{Enters, fieldWords, isOwn, howMany,
 use super::CONSTRUCTOR_WORDS;
 use super::FUNCTIONS_FROM;
 use super::INDEX_WORDS;
-use super::TYPES_FROM;
 use super::TYPE_TABLE;
 use super::TYPE_WORDS;
+use super::TYPES_FROM;
 use super::one_if;
 use super::put;
 use super::section_word;

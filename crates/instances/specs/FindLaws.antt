@@ -117,7 +117,7 @@ module _ {words : List ℕ} {used f : ℕ} {sizes : List ℕ} where
   module _ {i : ℕ} (p : Passed words used f sizes i) where
     pub passed-found : {r : Bool} {x : Held} → i < used → Matches words i f sizes r → r ≡ true → Numbers words i x → Finds words used f sizes (Found x)
     passed-found less m e n = record {
-      says = λ L ks v u s a.
+      says = λ L ks v u once s a.
           let h : i < length L = omega (arith, u) in
           let is = p .says L ks v u s a ∙ ap (λ M. find M f ks) (drop-cons L i noInstance h) ∙ find-here f ks (at L i) (drop (suc i) L) (sym (m .says L ks v h s (all-got a i h)) ∙ e) in
           rw is (found (n .says L v h));
@@ -133,5 +133,5 @@ module _ {words : List ℕ} {used f : ℕ} {sizes : List ℕ} where
     pub passed-end : used ≤ i → Finds words used f sizes Absent
     unfolding find
     passed-end le = record {
-      says = λ L ks v u s a. rw (p .says L ks v u s a, drop-of-length-le L {i = i} (omega (arith, u))) absent;
+      says = λ L ks v u once s a. rw (p .says L ks v u s a, drop-of-length-le L {i = i} (omega (arith, u))) absent;
     }

@@ -11,6 +11,8 @@ use Rattle.language.specs.Layout.{padded}
 use Rattle.language.specs.Estimate.{Estimate as Exact, nothing, stop}
 use Rattle.language.specs.Checker.{Instance, find}
 use Rattle.language.specs.Within.{All}
+use Rattle.theory.specs.Different.{Distinct}
+use Rattle.theory.specs.Instances.{keysOf}
 use Rattle.estimate.specs.declared.Estimate.{Estimate as Held}
 use Rattle.estimate.specs.Stands.{Stands}
 use Rattle.instances.specs.declared.Search.{Search}
@@ -55,8 +57,9 @@ pub data Agrees : Search → Option Exact → Type 0 where
   found : {a : Held} {x : Exact} → Stands a x → Agrees (Found a) (some x)
   absent : Agrees Absent none
 
+-- in a list where no instance stands twice, so that it does not matter which record is looked at first
 pub record Finds (words : List ℕ) (used f : ℕ) (sizes : List ℕ) (r : Search) : Type 0 where
-  pub says : (L : List Instance) (ks : List ℕ) → Listed words L → used ≡ length L → SizesAre sizes ks → All (SameArity f ks) L → Agrees r (find L f ks)
+  pub says : (L : List Instance) (ks : List ℕ) → Listed words L → used ≡ length L → Distinct (keysOf L) → SizesAre sizes ks → All (SameArity f ks) L → Agrees r (find L f ks)
 
 -- ---- writing: ws from a place on, if they fit; all other words are kept
 pub record Writes (words : List ℕ) (from : ℕ) (ws words′ : List ℕ) : Type 0 where

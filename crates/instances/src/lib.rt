@@ -12,6 +12,7 @@ use estimate::nothing;
 use index::clear as clear_words;
 use index::put;
 use index::word_at;
+use language::limits::INSTANCES_MOST;
 use language::limits::PARAMETERS_MOST;
 
 // The words of a record: the function, its sizes, environment, heap and stack.
@@ -19,6 +20,10 @@ pub const INSTANCE_WORDS: usize = 1 + PARAMETERS_MOST + 3;
 
 // Where its numbers start.
 const NUMBERS_FROM: usize = 1 + PARAMETERS_MOST;
+
+// How many hints there are: for instances with the same remainder of a sum over function and sizes, the number and one of the record
+// that was added last. A hint never changes an answer: the record that it names is compared.
+pub const HINT_WORDS: usize = INSTANCES_MOST;
 
 pub enum Search {
     Found(Estimate),
@@ -79,8 +84,8 @@ fn numbers(list: &[u32], i: u32) -> Estimate
     }
 }
 
-// The first of the records in use that is the instance of f at these sizes.
-pub fn find(list: &[u32], used: u32, f: u32, sizes: &[u8]) -> Search
+// The record in use that is the instance of f at these sizes: the hint is tried before the walk through all of them.
+pub fn find(list: &[u32], hints: &[u32; HINT_WORDS], used: u32, f: u32, sizes: &[u8]) -> Search
     ensures { λ r. ⌜ Finds (now (list .entry)) used f (now (sizes .entry)) r ⌝ }
 {
     let mut i: u32 = 0;
@@ -116,8 +121,9 @@ fn put_numbers(list: &mut [u32], from: usize, x: Estimate)
     put(list, from + 2, x.stack);
 }
 
-// Writes the record behind those in use: f at these sizes, its numbers 0. Where it does not fit nothing is written.
-pub fn add(list: &mut [u32], used: u32, f: u32, sizes: &[u8])
+// Writes the record behind those in use, f at these sizes, its numbers 0, and the hint to it. Where it does not fit no record is
+// written.
+pub fn add(list: &mut [u32], hints: &mut [u32; HINT_WORDS], used: u32, f: u32, sizes: &[u8])
     ensures { λ _. ⌜ Adds (now (list .entry)) used f (now (sizes .entry)) (now (list .exit)) ⌝ }
 {
     let at = INSTANCE_WORDS * (used as usize);

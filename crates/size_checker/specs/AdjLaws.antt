@@ -24,6 +24,7 @@ use Rattle.sizes.specs.declared.SizeAt.the-variants.{Is as SizeIs, Outside as S
 use Rattle.sizes.specs.declared.SizedType.the-variants.{Named}
 use Rattle.sizes.specs.Promises.{AgreesSize, size-is, size-outside, SizeBound, size-bound, no-size, SizeGiven}
 use Rattle.sizes.specs.Prefixes.{size-in-scope}
+use Rattle.index.specs.Sections.{framesOf}
 use Rattle.size_checker.specs.declared.Place.{Place}
 use Rattle.size_checker.specs.declared.Checked.{Checked}
 use Rattle.size_checker.specs.declared.Sizing.{Sizing}
@@ -49,7 +50,7 @@ pub size-most : {k : ℕ} {next : Cursor} {r : SizeAt} → SizeBound r → r ≡
 size-most {k} (size-bound {k = j} bound) d = let size : j ≡ k = cc in subst Bound size bound
 size-most no-size d = absurd (let z : _≡_ {A = ℕ} 0 1 = cc in omega arith)
 
-module _ {t : Lent} {b : Buffers} {p : Place} {line : List ℕ} {s : SizeAt} (g : SizeGiven line (p .at) (b .sizes) s) (cut : line ≡ framePart (t .text) (t .frames) (p .line)) where
+module _ {t : Lent} {b : Buffers} {p : Place} {line : List ℕ} {s : SizeAt} (g : SizeGiven line (p .at) (b .sizes) s) (cut : line ≡ framePart (t .text) (framesOf (t .index)) (p .line)) where
   -- the size that is spelled at the place, of the sizes in scope
   pub size-here : {P : File} {S : Scope} {q : Stand} {Γ : List Ty} {Δ : List ℕ} {L : List Instance} {left : ℕ} → Here t b p P S q Γ Δ L left → {k : Size} → WithinSize (S .sizes) nestingMost k → Spells sizeBytes (lineAt (t .text) (p .line)) (p .at .at) k →
       AgreesSize (typeSize Δ k) (p .at .at + length (sizeBytes k)) s

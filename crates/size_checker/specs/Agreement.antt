@@ -14,6 +14,8 @@ use Rattle.language.specs.Scope.{namedCount}
 use Rattle.language.specs.Within.{All}
 use Rattle.language.specs.Checker.{Instance, Sized, Sizeds, Counted as CountedDef, named}
 use Rattle.text.specs.Bytes.{declaredWord}
+use Rattle.theory.specs.Different.{Distinct}
+use Rattle.theory.specs.Instances.{keysOf}
 use Rattle.estimate.specs.Stands.{Stands}
 use Rattle.instances.specs.Listed.{instanceWordsCount, Listed}
 use Rattle.sizes.specs.Promises.{meaning}
@@ -34,6 +36,7 @@ pub record Holds (P : File) (words : List ℕ) (used : ℕ) (L : List Instance) 
   pub listed : Listed words L
   pub count : used ≡ length L
   pub rows : All (Row P) L
+  pub once : Distinct (keysOf L)
   pub lent : instanceWordsCount * instancesMost ≤ length words
   pub rest : drop (instanceWordsCount * used) words ≡ replicate (length words - instanceWordsCount * used) 0
 

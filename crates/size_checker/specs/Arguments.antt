@@ -26,6 +26,7 @@ use Rattle.encoding.specs.FrameSpells.{lineAt}
 use Rattle.instances.specs.Listed.{SizesAre}
 use Rattle.instances.specs.ListLaws.{sizes-taken}
 use Rattle.sizes.specs.Rows.{NamedSizes}
+use Rattle.index.specs.Sections.{functionsOf}
 use Rattle.size_checker.specs.declared.Place.{Place}
 use Rattle.size_checker.specs.declared.Counted.{Counted}
 use Rattle.size_checker.specs.Sites.{Bounded, bounded-small}
@@ -49,7 +50,7 @@ pub record Called (t : Lent) (p : Place) (P : File) (S : Scope) (f n end : ℕ) 
 abbrev pub ArityOf : List ℕ → ℕ → ℕ → Type 0
 ArityOf functions f n = (n ≡ getD functions (functionWords * f) 0 % byteRange) × (n < byteRange)
 
-pub called : {t : Lent} {b : Buffers} {p : Place} {P : File} {S : Scope} {q : Stand} {Γ : List Ty} {Δ : List ℕ} {L : List Instance} {left f n end : ℕ} {e : Expr} → ArityOf (t .functions) f n →
+pub called : {t : Lent} {b : Buffers} {p : Place} {P : File} {S : Scope} {q : Stand} {Γ : List Ty} {Δ : List ℕ} {L : List Instance} {left f n end : ℕ} {e : Expr} → ArityOf (functionsOf (t .index)) f n →
     Here t b p P S q Γ Δ L left → CallPart f (lineAt (t .text) (p .line)) p S end e → Called t p P S f n end e
 called {t} {p} {S} {f} {n} {end} arity h part =
     let i = part .head in

@@ -29,6 +29,7 @@ use Rattle.estimate.specs.Stands.{Makes}
 use Rattle.splits.specs.Moves.{Starts}
 use Rattle.splits.specs.SplitSizes.{splits-are}
 use Rattle.splits.specs.Walks.{starts-keep, walk-starts}
+use Rattle.index.specs.Sections.{framesOf, typesOf, functionsOf}
 use Rattle.size_checker.specs.declared.Place.{Place}
 use Rattle.size_checker.specs.declared.Sizing.{Sizing}
 use Rattle.size_checker.specs.declared.Subject.{Subject}
@@ -41,9 +42,9 @@ use Rattle.size_checker.specs.TurnLaws.{grown-is}
 
 -- ---- how many fields of a constructor are of the type itself
 abbrev pub ownWord : Lent → ℕ → ℕ → ℕ
-ownWord t u c = getD (t .types) (typeWords * u + 2 + constructorWords * c) 0
+ownWord t u c = getD (typesOf (t .index)) (typeWords * u + 2 + constructorWords * c) 0
 
-pub owns-told : {t : Lent} {table : List ℕ} {P : File} {u n : ℕ} (c : ℕ) {fs : Constructor} → IndexedFile t table P → u < length (P .types) → look (constructorsOf P u) c ≡ some fs → (n ≡ ownWord t u c % byteRange) × (n < byteRange) → n ≡ owns fs
+pub owns-told : {t : Lent} {P : File} {u n : ℕ} (c : ℕ) {fs : Constructor} → IndexedFile t P → u < length (P .types) → look (constructorsOf P u) c ≡ some fs → (n ≡ ownWord t u c % byteRange) × (n < byteRange) → n ≡ owns fs
 owns-told {t} {P} {u} {n} c {fs} i less there told =
     let tells = i .eachType u less .tells in
     let at = look-less (constructorsOf P u) c there in
@@ -64,8 +65,8 @@ split-most (suc r) n le most = all-map (λ ks s. all-map (λ (k : ℕ) less. ome
 
 module _ {s : Subject} {k own : ℕ} {t : Lent} {b : Buffers} {p : Place} (told : (own ≡ ownWord t (s .of) k % byteRange) × (own < byteRange)) where
   -- ---- the subject is too small for the constructor
-  pub branch-skipped : {line : List ℕ} {next : Cursor} {o : Place} {numbers : Estimate} {r : Sizing} → s .size ≤ own → line ≡ framePart (t .text) (t .frames) (p .line) →
-      Skips line (t .types) (t .functions) (p .at) (p .levels) next → o ≡ movedTo p next (p .used) → Makes nothing numbers → r ≡ leafOf (s .kind) numbers o → SizesBranch s k t b p r b
+  pub branch-skipped : {line : List ℕ} {next : Cursor} {o : Place} {numbers : Estimate} {r : Sizing} → s .size ≤ own → line ≡ framePart (t .text) (framesOf (t .index)) (p .line) →
+      Skips line (typesOf (t .index)) (functionsOf (t .index)) (p .at) (p .levels) next → o ≡ movedTo p next (p .used) → Makes nothing numbers → r ≡ leafOf (s .kind) numbers o → SizesBranch s k t b p r b
   unfolding choose
   branch-skipped {next} {numbers} small cut skips moved made is = record {
     says = λ P S q Γ Δ L left h fs w there end e part.
@@ -85,7 +86,7 @@ module _ {s : Subject} {k own : ℕ} {t : Lent} {b : Buffers} {p : Place} (told 
         let same : own ≡ owns fs = owns-told k (h .indexed) (w .of) there told in
         let fits = fits-of (part .within) in
         let chain = walk-starts {n = s .size - 1} (omega (arith, room, fits .sizes, h .site .sizesIn, h .site .sizeCount, same)) (omega (arith, large)) (omega (arith, w .size)) starts in
-        rw (lt-leb (s .size) (owns fs) (omega (arith, large, same))) (v .says P S q Γ Δ L left (record { table = h .table; indexed = h .indexed; site = site-kept (h .site) split-kept; holds = h .holds; deep = h .deep })
+        rw (lt-leb (s .size) (owns fs) (omega (arith, large, same))) (v .says P S q Γ Δ L left (record { indexed = h .indexed; site = site-kept (h .site) split-kept; holds = h .holds; deep = h .deep })
         fs w there end e part (splits (owns fs) (s .size - 1)) (rw same at chain) (split-most (owns fs) (s .size - 1) (omega (arith, large, same)) (omega (arith, w .size))));
     grows = v .grows;
     kept = kept-then split-kept (v .kept);

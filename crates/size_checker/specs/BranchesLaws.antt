@@ -24,6 +24,7 @@ use Rattle.encoding.specs.ExprLists.{branches-counted, more-spelled}
 use Rattle.estimate.specs.declared.Estimate.{Estimate}
 use Rattle.estimate.specs.Stands.{Makes, Combines}
 use Rattle.sizes.specs.Promises.{meaning}
+use Rattle.index.specs.Sections.{typesOf}
 use Rattle.size_checker.specs.declared.Place.{Place}
 use Rattle.size_checker.specs.declared.Checked.{Checked}
 use Rattle.size_checker.specs.declared.Sizing.{Sizing}
@@ -38,7 +39,7 @@ use Rattle.size_checker.specs.TurnLaws.{grown-is}
 use Rattle.size_checker.specs.Eithers.{branches-then}
 
 -- ---- how many constructors a type has
-constructors-told : {t : Lent} {table : List ℕ} {P : File} {u n : ℕ} → IndexedFile t table P → u < length (P .types) → (n ≡ getD (t .types) (typeWords * u) 0 % byteRange) × (n < byteRange) → n ≡ length (constructorsOf P u)
+constructors-told : {t : Lent} {P : File} {u n : ℕ} → IndexedFile t P → u < length (P .types) → (n ≡ getD (typesOf (t .index)) (typeWords * u) 0 % byteRange) × (n < byteRange) → n ≡ length (constructorsOf P u)
 constructors-told {u} i less told = let tells = i .eachType u less .tells in omega (arith, told .0, told .1, tells .few, tells .constructors)
 
 no-branches : {n : ℕ} {S : Scope} {cs : List Constructor} {bs : Exprs} → WithinBranches n S cs bs → cs ≡ [] → bs ≡ enil
@@ -83,7 +84,7 @@ apart {line} {p} {S} {end} cs {bs} k less part =
     }
 
 -- ---- no constructor is left
-pub branches-none : {s : Subject} {k n : ℕ} {t : Lent} {b : Buffers} {p : Place} {numbers : Estimate} {r : Sizing} → (n ≡ getD (t .types) (typeWords * s .of) 0 % byteRange) × (n < byteRange) → n ≤ k → Makes nothing numbers →
+pub branches-none : {s : Subject} {k n : ℕ} {t : Lent} {b : Buffers} {p : Place} {numbers : Estimate} {r : Sizing} → (n ≡ getD (typesOf (t .index)) (typeWords * s .of) 0 % byteRange) × (n < byteRange) → n ≤ k → Makes nothing numbers →
     r ≡ leafOf (s .kind) numbers p → SizesBranches s k t b p r b
 unfolding sizedBranches exprsBytes
 branches-none {s} {k} {t} {b} {p} {numbers} told few made is = record {
@@ -101,7 +102,7 @@ branches-none {s} {k} {t} {b} {p} {numbers} told few made is = record {
   kept = kept-all;
 }
 
-module _ {s : Subject} {k n : ℕ} {t : Lent} {b b₁ : Buffers} {p : Place} {x : Sizing} (told : (n ≡ getD (t .types) (typeWords * s .of) 0 % byteRange) × (n < byteRange)) (more : k < n) (v : SizesBranch s k t b p x b₁) where
+module _ {s : Subject} {k n : ℕ} {t : Lent} {b b₁ : Buffers} {p : Place} {x : Sizing} (told : (n ≡ getD (typesOf (t .index)) (typeWords * s .of) 0 % byteRange) × (n < byteRange)) (more : k < n) (v : SizesBranch s k t b p x b₁) where
   apart-at : {P : File} {S : Scope} {q : Stand} {Γ : List Ty} {Δ : List ℕ} {L : List Instance} {left end : ℕ} {bs : Exprs} → Here t b p P S q Γ Δ L left → Wanted P s →
       BranchesPart (lineAt (t .text) (p .line)) p S (drop k (constructorsOf P (s .of))) end bs → Apart (lineAt (t .text) (p .line)) p S end (constructorsOf P (s .of)) bs k
   apart-at {P} h w part = apart (constructorsOf P (s .of)) k (omega (arith, more, constructors-told (h .indexed) (w .of) told)) part

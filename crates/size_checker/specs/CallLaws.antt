@@ -17,6 +17,7 @@ use Rattle.estimate.specs.declared.Estimate.{Estimate}
 use Rattle.estimate.specs.Stands.{Stands, Changes, Combines}
 use Rattle.sizes.specs.Rows.{NamedSizes}
 use Rattle.sizes.specs.Promises.{meaning}
+use Rattle.index.specs.Sections.{functionsOf}
 use Rattle.size_checker.specs.declared.Place.{Place}
 use Rattle.size_checker.specs.declared.Checked.{Checked}
 use Rattle.size_checker.specs.declared.Sizing.{Sizing}
@@ -67,7 +68,7 @@ ready-of (no-fall d c g) d′ = absurd (let both = sym d ∙ d′ in let z : _�
 ready-of (no-size d c g r) d′ = absurd (let both = sym d ∙ d′ in let z : _≡_ {A = ℕ} 0 1 = cc in omega arith)
 
 -- ---- a call: its arguments, and what is behind them
-module _ {t : Lent} {b b₁ : Buffers} {p : Place} {f n : ℕ} {row row₁ : List ℕ} {x : Counting} (arity : ArityOf (t .functions) f n) (room : variablesMost ≤ length row) (v : SizesAll t b p 0 n row x b₁ row₁) where
+module _ {t : Lent} {b b₁ : Buffers} {p : Place} {f n : ℕ} {row row₁ : List ℕ} {x : Counting} (arity : ArityOf (functionsOf (t .index)) f n) (room : variablesMost ≤ length row) (v : SizesAll t b p 0 n row x b₁ row₁) where
   pub call-arguments : {k frame : ℕ} {r : Sizing} → x ≡ RefusedAll k frame → r ≡ refusedOf x → Sizes (CallPart f) t b p r b₁
   unfolding sized
   call-arguments d answer = record {
@@ -83,7 +84,6 @@ module _ {t : Lent} {b b₁ : Buffers} {p : Place} {f n : ℕ} {row row₁ : Lis
     says = λ P S o Γ Δ L left h end e part. let i = called arity h part in
         rw (i .form) (all-are _ (v .says P S o Γ Δ L left h (omega arith) (omega (arith, room, i .few)) end (i .list) (i .part)) d (λ z c.
         from-some 6 _ _ (i .is) (need-before _ _ before-9 (λ s. u .says P o (i .function) z left end (record {
-          table = h .table;
           indexed = h .indexed;
           typeCount = h .site .typeCount;
           frame = h .site .frame;
@@ -102,9 +102,9 @@ module _ {t : Lent} {b b₁ : Buffers} {p : Place} {f n : ℕ} {row row₁ : Lis
 
 -- ---- behind the arguments: their sizes, and what prepares the entry
 module _ (p : Place) (a : Counted) {t : Lent} {list row named named′ : List ℕ} {q : Place} {f n m : ℕ} {y : Entering} (zeros : named ≡ replicate sizeVariablesMost 0) (u : NamedSizes row n named m named′)
-    (moved : q ≡ movedTo p (a .next) (a .used)) (w : Prepares (t .text) (t .frames) (t .functions) named′ q f n m y) where
+    (moved : q ≡ movedTo p (a .next) (a .used)) (w : Prepares (t .text) (t .index) named′ q f n m y) where
   prepared : {P : File} {o : Stand} {F : Function} {z : Sizeds} {left next : ℕ} → Argues t p f n a list row P o F z left next → Prepared P o (movedTo p (a .next) (a .used)) f n m F (sizesOf (z .types)) y
-  prepared {P} {o} g = subst (λ r. Prepares (t .text) (t .frames) (t .functions) named′ r f n m y) moved w .says P (t .types) (g .table) o _ _ (g .indexed) (g .typeCount) (g .around) (g .function)
+  prepared {P} {o} g = subst (λ r. Prepares (t .text) (t .index) named′ r f n m y) moved w .says P o _ _ (g .indexed) (g .typeCount) (g .around) (g .function)
       (sizes-for (argued (g .count) (g .few) zeros (g .counted) (g .agree) u))
 
   pub apply-not-entered : {k frame : ℕ} {r : Sizing} → y ≡ NotEntered k frame → r ≡ notEntered y → Applies f n a t list row p r list
@@ -147,7 +147,7 @@ module _ (p : Place) (a : Counted) {t : Lent} {list row named named′ : List �
 
       entered-as : Agrees P (ofType (meaning (e .kind))) (a .next .at) (b .list) x (entering P left (frameAt P o) f F (sizesOf (z .types)) (meaning (e .kind)) (z .list))
       entered-as = subst₂ (λ frame h. Agrees P (ofType (meaning (e .kind))) (a .next .at) (b .list) x (entering P left frame h F (sizesOf (z .types)) (meaning (e .kind)) (z .list))) (sym (g .frame)) (is-ready .function)
-          (entry .says P F (sizesOf (z .types)) (z .list) left (g .table) (g .indexed) (g .typeCount) (g .counted .holds) (g .deep) given)
+          (entry .says P F (sizesOf (z .types)) (z .list) left (g .indexed) (g .typeCount) (g .counted .holds) (g .deep) given)
 
     pub apply-body : {k frame : ℕ} → x ≡ Refused k frame → Applies f n a t list row p x (b .list)
     apply-body d′ = record {

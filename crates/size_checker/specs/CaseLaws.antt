@@ -27,6 +27,7 @@ use Rattle.sizes.specs.declared.TypeAt.the-variants.{Is as TypeIs, Outside as T
 use Rattle.sizes.specs.Promises.{meaning, AgreesType, TypeGiven}
 use Rattle.sizes.specs.TypeLaws.{type-given, type-not-given, type-within}
 use Rattle.sizes.specs.Prefixes.{type-in-scope}
+use Rattle.index.specs.Sections.{framesOf}
 use Rattle.size_checker.specs.declared.Place.{Place}
 use Rattle.size_checker.specs.declared.Checked.{Checked}
 use Rattle.size_checker.specs.declared.Sizing.{Sizing}
@@ -68,7 +69,7 @@ module _ {t : Lent} {b b₁ : Buffers} {p : Place} {x : Sizing} (v : Sizes ExprP
     }
 
     -- the type that is wanted of the branches
-    module _ {w m : ℕ} {line : List ℕ} {y : TypeAt} (is : a .kind ≡ Named w m) (cut : line ≡ framePart (t .text) (t .frames) (p .line)) (g : TypeGiven line (a .next) (b₁ .sizes) y) where
+    module _ {w m : ℕ} {line : List ℕ} {y : TypeAt} (is : a .kind ≡ Named w m) (cut : line ≡ framePart (t .text) (framesOf (t .index)) (p .line)) (g : TypeGiven line (a .next) (b₁ .sizes) y) where
       -- what was read, where the definition reads it
       result-read : {P : File} {S : Scope} {q : Stand} {Γ : List Ty} {Δ : List ℕ} {L : List Instance} {left types at : ℕ} {z : Sized} {r : ResultType} → Here t b p P S q Γ Δ L left → CheckedAs P at (b₁ .list) a z →
           Spells resultBytes (lineAt (t .text) (p .line)) at r → WithinResult types (S .sizes) r → AgreesType (typeAt Δ r) (at + length (resultBytes r)) y

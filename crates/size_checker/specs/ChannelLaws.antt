@@ -25,6 +25,7 @@ use Rattle.index.specs.Indexed.{channelLine, Counted as CountsAre}
 use Rattle.encoding.specs.Known.{outer-known}
 use Rattle.sizes.specs.declared.SizedType.{SizedType}
 use Rattle.sizes.specs.Promises.{meaning}
+use Rattle.index.specs.Sections.{channelsOf}
 use Rattle.size_checker.specs.declared.Place.{Place}
 use Rattle.size_checker.specs.declared.Checked.{Checked}
 use Rattle.size_checker.specs.declared.Sizing.{Sizing}
@@ -72,21 +73,16 @@ room-outer f less is scope sizes = rw is (record {
   levels = omega arith;
   under = omega arith;
   types = f .types;
-  first = omega (arith, f .types, f .functions);
   line = omega (arith, f .types, f .functions, less);
   variables = omega arith;
   sizes = omega arith;
 })
 
--- the line of the channel can be counted
-pub line-counted : {n : Counts} {c at used : ℕ} {p : Place} → Few n → c < channelsMost → p ≡ outerPlace n c at used → p .first + c < 2 ^ 32
-line-counted f less is = omega (arith, f .types, f .functions, less, ap (λ z. z .first) is)
-
 -- ---- an expression of channel c
-module _ {t : Lent} {channels : List ℕ} {list scope sizes : List ℕ} {n : Counts} {c word at used : ℕ} {p : Place} {x : Sizing} {b : Buffers}
-    (here : at ≡ getD channels (channelWords * c + word) 0) (place : p ≡ outerPlace n c at used) (u : Sizes ExprPart t (buffers list scope sizes) p x b) where
+module _ {t : Lent} {list scope sizes : List ℕ} {n : Counts} {c word at used : ℕ} {p : Place} {x : Sizing} {b : Buffers}
+    (here : at ≡ getD (channelsOf (t .index)) (channelWords * c + word) 0) (place : p ≡ outerPlace n c at used) (u : Sizes ExprPart t (buffers list scope sizes) p x b) where
   -- the expression as the definition has it
-  module _ (P : File) (i : IndexedFile t channels P) (k : CountsAre n P) (C : List Ty) (named : Named P C) (e : Expr) (τ : Ty) (s : Standing t channels P word c e τ) (L : List Instance) (h : Holds P list used L) where
+  module _ (P : File) (i : IndexedFile t P) (k : CountsAre n P) (C : List Ty) (named : Named P C) (e : Expr) (τ : Ty) (s : Standing t P word c e τ) (L : List Instance) (h : Holds P list used L) where
     line-is : channelLine P c ≡ n .types + n .functions + c
     line-is = omega (arith, k .typeCount, k .functionCount)
 
@@ -102,11 +98,10 @@ module _ {t : Lent} {channels : List ℕ} {list scope sizes : List ℕ} {n : Cou
     channel-here : Here t (buffers list scope sizes) (outerPlace n c at used) P (outerScope (P .types) (P .functions) (s .now) (s .last)) (outside (channelFrame P c) C) [] [] L instancesMost
     unfolding channelsAt frameAt outerScope
     channel-here = record {
-      table = channels;
       indexed = i;
       site = record {
         known = outer-known P (s .now) (s .last);
-        channels = λ d σ is. record { declared = named d σ is; line = omega (arith, k .typeCount, k .functionCount) };
+        channels = named;
         typeCount = sym (k .typeCount);
         frame = omega (arith, line-is);
         line = omega (arith, line-is, below);
@@ -123,22 +118,20 @@ module _ {t : Lent} {channels : List ℕ} {list scope sizes : List ℕ} {n : Cou
       deep = omega arith;
     }
 
-    channel-agrees : Agrees P itself (getD channels (channelWords * c + word) 0 + length (exprBytes e)) (b .list) x (sized P (entering P instancesMost) e (outside (channelFrame P c) C) [] [] L)
+    channel-agrees : Agrees P itself (getD (channelsOf (t .index)) (channelWords * c + word) 0 + length (exprBytes e)) (b .list) x (sized P (entering P instancesMost) e (outside (channelFrame P c) C) [] [] L)
     channel-agrees = sizes-at place u .says P _ (outside (channelFrame P c) C) [] [] L instancesMost channel-here _ e
-        (part-at (outerPlace n c at used) (subst (λ m. Spells exprBytes (lineAt (t .text) m) (getD channels (channelWords * c + word) 0) e) line-is (s .spelled)) (s .within) here refl)
+        (part-at (outerPlace n c at used) (subst (λ m. Spells exprBytes (lineAt (t .text) m) (getD (channelsOf (t .index)) (channelWords * c + word) 0) e) line-is (s .spelled)) (s .within) here refl)
 
     -- the type that was found, against the declared one
-    test-is : {σ : Ty} {kind : SizedType} {r : Bool} (found : SizedType) → ChannelTyped (t .text) (t .frames) p c kind → r ≡ sameType (meaning found) (meaning kind) → meaning found ≡ σ → sameType σ τ ≡ r
-    test-is {kind} found typed same type =
-        let there : ChannelTyped (t .text) (t .frames) (outerPlace n c at used) c kind = subst (λ z. ChannelTyped (t .text) (t .frames) z c kind) place typed in
-        ap₂ sameType (sym type) (sym (channel-typed {t = t} i {p = outerPlace n c at used} (sym (k .typeCount)) (record { declared = s .declared; line = sym line-is }) there)) ∙ sym same
+    test-is : {σ : Ty} {kind : SizedType} {r : Bool} (found : SizedType) → ChannelTyped (t .index) c kind → r ≡ sameType (meaning found) (meaning kind) → meaning found ≡ σ → sameType σ τ ≡ r
+    test-is found typed same type = ap₂ sameType (sym type) (sym (channel-typed {t = t} i c (s .declared) typed)) ∙ sym same
 
-  pub channel-refused : {m frame : ℕ} → x ≡ Refused m frame → SizesChannel t channels list n c word used x (b .list)
+  pub channel-refused : {m frame : ℕ} → x ≡ Refused m frame → SizesChannel t list n c word used x (b .list)
   unfolding sizedChannel
   channel-refused d = record { says = λ P i k C named e τ s L h. bind-no _ (channel-agrees P i k C named e τ s L h) d d }
 
-  module _ {a : Checked} {kind : SizedType} {r : Bool} (d : x ≡ Is a) (typed : ChannelTyped (t .text) (t .frames) p c kind) (same : r ≡ sameType (meaning (a .kind)) (meaning kind)) where
-    pub channel-differs : r ≡ false → SizesChannel t channels list n c word used (Refused 11 (p .line + 1)) (b .list)
+  module _ {a : Checked} {kind : SizedType} {r : Bool} (d : x ≡ Is a) (typed : ChannelTyped (t .index) c kind) (same : r ≡ sameType (meaning (a .kind)) (meaning kind)) where
+    pub channel-differs : r ≡ false → SizesChannel t list n c word used (Refused 11 (p .line + 1)) (b .list)
     unfolding sizedChannel
     channel-differs no-match = record {
       says = λ P i k C named e τ s L h. bind-is _ (channel-agrees P i k C named e τ s L h) d (λ y g.
@@ -146,7 +139,7 @@ module _ {t : Lent} {channels : List ℕ} {list scope sizes : List ℕ} {n : Cou
           (ap (λ z. Refused 11 (z .line + 1)) place ∙ ap (λ m. Refused 11 (m + 1)) (sym (line-is P i k C named e τ s L h))));
     }
 
-    pub channel-done : {z : Sizing} → r ≡ true → z ≡ Is a → SizesChannel t channels list n c word used z (b .list)
+    pub channel-done : {z : Sizing} → r ≡ true → z ≡ Is a → SizesChannel t list n c word used z (b .list)
     unfolding sizedChannel
     channel-done match answer = record {
       says = λ P i k C named e τ s L h. bind-is _ (channel-agrees P i k C named e τ s L h) d (λ y g.

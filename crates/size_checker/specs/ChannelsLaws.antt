@@ -23,21 +23,21 @@ use Rattle.size_checker.specs.Leaves.{refusedAll}
 use Rattle.size_checker.specs.FileParts.{Named, SizesChannel, summed, Lasting, no-more, one-more, AgreesSum, sum-agrees, sum-refused, sum-beyond, channelCount, SizesChannels, NoneYet, Joins}
 
 -- ---- before channel c: what was summed so far, and the expressions that are left decide the whole
-data Reached (t : Lent) (channels : List ℕ) (P : File) (C : List Ty) (word last c : ℕ) (list : List ℕ) (all : Counted) (whole : Result CountedDef) : Type 0 where
-  reached : {x : Exact} {es : List Expr} {τs : List Ty} {L : List Instance} → Lasting t channels P word last c es τs → Stands (all .numbers) x → Holds P list (all .used) L → whole ≡ summed P C x c es τs L → Reached t channels P C word last c list all whole
-  lost : {n frame : ℕ} → Before n → whole ≡ no n frame → Reached t channels P C word last c list all whole
+data Reached (t : Lent) (P : File) (C : List Ty) (word last c : ℕ) (list : List ℕ) (all : Counted) (whole : Result CountedDef) : Type 0 where
+  reached : {x : Exact} {es : List Expr} {τs : List Ty} {L : List Instance} → Lasting t P word last c es τs → Stands (all .numbers) x → Holds P list (all .used) L → whole ≡ summed P C x c es τs L → Reached t P C word last c list all whole
+  lost : {n frame : ℕ} → Before n → whole ≡ no n frame → Reached t P C word last c list all whole
 
-pub record Along (t : Lent) (channels : List ℕ) (list₀ : List ℕ) (n : Counts) (from word used c : ℕ) (list : List ℕ) (all : Counted) : Type 0 where
-  says : (P : File) → IndexedFile t channels P → CountsAre n P → (C : List Ty) → Named P C → (es : List Expr) (τs : List Ty) → Lasting t channels P word (channelCount n) from es τs → (L : List Instance) → Holds P list₀ used L →
-      Reached t channels P C word (channelCount n) c list all (summed P C nothing from es τs L)
+pub record Along (t : Lent) (list₀ : List ℕ) (n : Counts) (from word used c : ℕ) (list : List ℕ) (all : Counted) : Type 0 where
+  says : (P : File) → IndexedFile t P → CountsAre n P → (C : List Ty) → Named P C → (es : List Expr) (τs : List Ty) → Lasting t P word (channelCount n) from es τs → (L : List Instance) → Holds P list₀ used L →
+      Reached t P C word (channelCount n) c list all (summed P C nothing from es τs L)
 
-pub along-start : {t : Lent} {channels : List ℕ} {list : List ℕ} {n : Counts} {from word used : ℕ} {all : Counted} → NoneYet used all → Along t channels list n from word used from list all
+pub along-start : {t : Lent} {list : List ℕ} {n : Counts} {from word used : ℕ} {all : Counted} → NoneYet used all → Along t list n from word used from list all
 along-start {list} none = record { says = λ P i k C named es τs ls L h. reached ls (none .numbers .says) (subst (λ m. Holds P list m L) (sym (none .same)) h) refl }
 
 -- ---- one turn
-module _ {t : Lent} {channels : List ℕ} {P : File} {C : List Ty} {word last c end : ℕ} {list : List ℕ} {all : Counted} {whole : Result CountedDef} {x : Sizing} {y : Exact} {τ : Ty} {es : List Expr} {τs : List Ty} where
-  turn-is : {a : Result CountedDef} {k : Checked} {all′ : Counted} → Agrees P (ofType τ) end list x a → x ≡ Is k → Joins all k all′ → Lasting t channels P word last (suc c) es τs → Stands (all .numbers) y →
-      whole ≡ bind a (λ (q : CountedDef). summed P C (after y (q .numbers)) (suc c) es τs (q .list)) → Reached t channels P C word last (suc c) list all′ whole
+module _ {t : Lent} {P : File} {C : List Ty} {word last c end : ℕ} {list : List ℕ} {all : Counted} {whole : Result CountedDef} {x : Sizing} {y : Exact} {τ : Ty} {es : List Expr} {τs : List Ty} where
+  turn-is : {a : Result CountedDef} {k : Checked} {all′ : Counted} → Agrees P (ofType τ) end list x a → x ≡ Is k → Joins all k all′ → Lasting t P word last (suc c) es τs → Stands (all .numbers) y →
+      whole ≡ bind a (λ (q : CountedDef). summed P C (after y (q .numbers)) (suc c) es τs (q .list)) → Reached t P C word last (suc c) list all′ whole
   unfolding bind
   turn-is {k} (agrees {k = j} {x = q} e g) d joins ls st is =
       let same : j ≡ k = (let both : Is j ≡ Is k = sym e ∙ d in cc) in
@@ -53,30 +53,30 @@ turn-no {n} {frame} κ (refused {n = m} {frame = k} e) d is =
     rw is (sum-refused same)
 turn-no κ (beyond b) d is = rw is (sum-beyond b)
 
-module _ {t : Lent} {channels : List ℕ} {list₀ list list₁ : List ℕ} {n : Counts} {from word used c : ℕ} {all : Counted} {x : Sizing} (v : Along t channels list₀ n from word used c list all) (less : c < channelCount n) (u : SizesChannel t channels list n c word (all .used) x list₁) where
-  on-reached : {a : Checked} {all′ : Counted} → x ≡ Is a → Joins all a all′ → (P : File) → IndexedFile t channels P → CountsAre n P → (C : List Ty) → Named P C → {whole : Result CountedDef} → Reached t channels P C word (channelCount n) c list all whole → Reached t channels P C word (channelCount n) (suc c) list₁ all′ whole
+module _ {t : Lent} {list₀ list list₁ : List ℕ} {n : Counts} {from word used c : ℕ} {all : Counted} {x : Sizing} (v : Along t list₀ n from word used c list all) (less : c < channelCount n) (u : SizesChannel t list n c word (all .used) x list₁) where
+  on-reached : {a : Checked} {all′ : Counted} → x ≡ Is a → Joins all a all′ → (P : File) → IndexedFile t P → CountsAre n P → (C : List Ty) → Named P C → {whole : Result CountedDef} → Reached t P C word (channelCount n) c list all whole → Reached t P C word (channelCount n) (suc c) list₁ all′ whole
   unfolding summed
   on-reached d joins P i k C named (reached (no-more past) st h is) = absurd (omega (arith, past, less))
   on-reached d joins P i k C named (reached {L = L} (one-more {e = e} {τ = τ} also s ls) st h is) = turn-is (u .says P i k C named e τ s L h) d joins ls st is
   on-reached d joins P i k C named (lost b is) = lost b is
 
-  pub along-on : {a : Checked} {all′ : Counted} → x ≡ Is a → Joins all a all′ → Along t channels list₀ n from word used (c + 1) list₁ all′
+  pub along-on : {a : Checked} {all′ : Counted} → x ≡ Is a → Joins all a all′ → Along t list₀ n from word used (c + 1) list₁ all′
   along-on d joins = rw (add-one c) (record { says = λ P i k C named es τs ls L h. on-reached d joins P i k C named (v .says P i k C named es τs ls L h) })
 
-  no-reached : {m frame : ℕ} → x ≡ RefusedOne m frame → (P : File) → IndexedFile t channels P → CountsAre n P → (C : List Ty) → Named P C → {whole : Result CountedDef} → Reached t channels P C word (channelCount n) c list all whole → AgreesSum P list₁ (Refused m frame) whole
+  no-reached : {m frame : ℕ} → x ≡ RefusedOne m frame → (P : File) → IndexedFile t P → CountsAre n P → (C : List Ty) → Named P C → {whole : Result CountedDef} → Reached t P C word (channelCount n) c list all whole → AgreesSum P list₁ (Refused m frame) whole
   unfolding summed
   no-reached d P i k C named (reached (no-more past) st h is) = absurd (omega (arith, past, less))
   no-reached d P i k C named (reached {L = L} (one-more {e = e} {τ = τ} also s ls) st h is) = turn-no _ (u .says P i k C named e τ s L h) d is
   no-reached d P i k C named (lost b is) = rw is (sum-beyond b)
 
-  pub along-no : {m frame : ℕ} {r : Counting} → x ≡ RefusedOne m frame → r ≡ refusedAll x → SizesChannels t channels list₀ n from word used r list₁
+  pub along-no : {m frame : ℕ} {r : Counting} → x ≡ RefusedOne m frame → r ≡ refusedAll x → SizesChannels t list₀ n from word used r list₁
   along-no {m} {frame} {r} d answer = let whole : r ≡ Refused m frame = answer ∙ ap refusedAll d in rw whole (record { says = λ P i k C named es τs ls L h. no-reached d P i k C named (v .says P i k C named es τs ls L h) })
 
-end-reached : {t : Lent} {channels : List ℕ} {P : File} {C : List Ty} {word last c : ℕ} {list : List ℕ} {all : Counted} {whole : Result CountedDef} → last ≤ c → Reached t channels P C word last c list all whole → AgreesSum P list (Are all) whole
+end-reached : {t : Lent} {P : File} {C : List Ty} {word last c : ℕ} {list : List ℕ} {all : Counted} {whole : Result CountedDef} → last ≤ c → Reached t P C word last c list all whole → AgreesSum P list (Are all) whole
 unfolding summed
 end-reached past (reached (no-more also) st h is) = rw is (sum-agrees refl st h)
 end-reached past (reached (one-more less s ls) st h is) = absurd (omega (arith, past, less))
 end-reached past (lost b is) = rw is (sum-beyond b)
 
-pub along-end : {t : Lent} {channels : List ℕ} {list₀ list : List ℕ} {n : Counts} {from word used c : ℕ} {all : Counted} → Along t channels list₀ n from word used c list all → channelCount n ≤ c → SizesChannels t channels list₀ n from word used (Are all) list
+pub along-end : {t : Lent} {list₀ list : List ℕ} {n : Counts} {from word used c : ℕ} {all : Counted} → Along t list₀ n from word used c list all → channelCount n ≤ c → SizesChannels t list₀ n from word used (Are all) list
 along-end v past = record { says = λ P i k C named es τs ls L h. end-reached past (v .says P i k C named es τs ls L h) }

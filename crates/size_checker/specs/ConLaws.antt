@@ -17,6 +17,7 @@ use Rattle.theory.specs.Places.{look-at}
 use Rattle.index.specs.Tables.{typeWords, constructorWords}
 use Rattle.encoding.specs.ExprLists.{exprCount, exprs-counted}
 use Rattle.encoding.specs.FrameSpells.{lineAt}
+use Rattle.index.specs.Sections.{typesOf}
 use Rattle.size_checker.specs.declared.Place.{Place}
 use Rattle.size_checker.specs.declared.Sizing.{Sizing}
 use Rattle.size_checker.specs.declared.Counted.{Counted}
@@ -56,7 +57,7 @@ pub record Constructed (t : Lent) (p : Place) (P : File) (S : Scope) (of c n end
 abbrev pub FieldsOf : List ℕ → ℕ → ℕ → ℕ → Type 0
 FieldsOf types of c n = (n ≡ getD types (typeWords * of + 1 + constructorWords * c) 0 % byteRange) × (n < byteRange)
 
-pub constructed : {t : Lent} {b : Buffers} {p : Place} {P : File} {S : Scope} {q : Stand} {Γ : List Ty} {Δ : List ℕ} {L : List Instance} {left of c n end : ℕ} {e : Expr} → FieldsOf (t .types) of c n →
+pub constructed : {t : Lent} {b : Buffers} {p : Place} {P : File} {S : Scope} {q : Stand} {Γ : List Ty} {Δ : List ℕ} {L : List Instance} {left of c n end : ℕ} {e : Expr} → FieldsOf (typesOf (t .index)) of c n →
     Here t b p P S q Γ Δ L left → ConPart of c (lineAt (t .text) (p .line)) p S end e → Constructed t p P S of c n end e
 constructed {t} {p} {P} {S} {of} {c} {n} told h part =
     let i = part .head in
@@ -82,7 +83,7 @@ constructed {t} {p} {P} {S} {of} {c} {n} told h part =
     }
 
 -- ---- the returns
-module _ {t : Lent} {b b₁ : Buffers} {p : Place} {of c n : ℕ} {row row₁ : List ℕ} {x : Counting} (told : FieldsOf (t .types) of c n) (room : fieldsMost ≤ length row) (v : SizesAll t b p 0 n row x b₁ row₁) where
+module _ {t : Lent} {b b₁ : Buffers} {p : Place} {of c n : ℕ} {row row₁ : List ℕ} {x : Counting} (told : FieldsOf (typesOf (t .index)) of c n) (room : fieldsMost ≤ length row) (v : SizesAll t b p 0 n row x b₁ row₁) where
   pub con-fields : {k frame : ℕ} {r : Sizing} → x ≡ RefusedAll k frame → r ≡ refusedOf x → Sizes (ConPart of c) t b p r b₁
   unfolding sized
   con-fields d answer = record {
@@ -92,12 +93,12 @@ module _ {t : Lent} {b b₁ : Buffers} {p : Place} {of c n : ℕ} {row row₁ : 
     kept = v .kept;
   }
 
-  pub con-made : {a : Counted} {r : Sizing} → x ≡ Are a → Makes (t .types) row₁ p a of c r → Sizes (ConPart of c) t b p r b₁
+  pub con-made : {a : Counted} {r : Sizing} → x ≡ Are a → Makes (t .index) row₁ p a of c r → Sizes (ConPart of c) t b p r b₁
   unfolding sized
   con-made d m = record {
     says = λ P S q Γ Δ L left h end e part. let i = constructed told h part in
         rw (i .form) (all-know _ (v .says P S q Γ Δ L left h (omega arith) (omega (arith, room, i .few)) end (i .list) (i .part)) (sizeds-counted P (entering P left) (i .list) q Γ Δ L) d (λ y count k.
-        from-some 6 _ _ (i .is) (m .says (t .text) (t .frames) (t .functions) (h .table) P q (i .fields) end (b₁ .list) row y (h .indexed) (h .site .frame) (i .type) (i .is)
+        from-some 6 _ _ (i .is) (m .says (t .text) P q (i .fields) end (b₁ .list) row y (h .indexed) (h .site .frame) (i .type) (i .is)
         (omega (arith, count, exprs-counted (i .part .within), i .count)) k)));
     grows = grows-same (grows-all-to (v .grows) d) (m .grows);
     kept = v .kept;

@@ -33,6 +33,7 @@ use Rattle.instances.specs.declared.Search.{Search}
 use Rattle.instances.specs.declared.Search.the-variants.{Found, Absent}
 use Rattle.instances.specs.Listed.{SameArity, Agrees as Searched, found, absent, Finds, Adds, Finishes}
 use Rattle.sizes.specs.Promises.{meaning}
+use Rattle.index.specs.Sections.{functionsOf}
 use Rattle.size_checker.specs.declared.Place.{Place}
 use Rattle.size_checker.specs.declared.Checked.{Checked}
 use Rattle.size_checker.specs.declared.Sizing.{Sizing}
@@ -88,8 +89,8 @@ not-found absent e = refl
 module _ {e : Entry} {t : Lent} {b : Buffers} {p : Place} {x : Search} (f : Finds (b .list) (p .used) (e .function) (b .sizes) x) where
   pub enter-found : {numbers : Estimate} {r : Sizing} → x ≡ Found numbers → r ≡ leafOf (e .kind) numbers p → Enters e t b p r b
   enter-found d answer = record {
-    says = λ P F ks L left table i types h deep v.
-        let y = was-found (f .says L ks (h .listed) (h .count) (v .padded) (same-arity h v)) d in
+    says = λ P F ks L left i types h deep v.
+        let y = was-found (f .says L ks (h .listed) (h .count) (h .once) (v .padded) (same-arity h v)) d in
         rw (entered-before P (suc (p .line)) (e .function) F ks (meaning (e .kind)) L left (y .is))
         (agrees answer (record { type = refl; small = v .result; numbers = y .stands; ends = refl; holds = h }));
     grows = grown-as answer (omega arith);
@@ -97,7 +98,7 @@ module _ {e : Entry} {t : Lent} {b : Buffers} {p : Place} {x : Search} (f : Find
 
   pub enter-absent : {r : Sizing} {b₁ : Buffers} → x ≡ Absent → EntersNew e t b p r b₁ → Enters e t b p r b₁
   enter-absent d u = record {
-    says = λ P F ks L left table i types h deep v. u .says P F ks L left table i types h deep v (not-found (f .says L ks (h .listed) (h .count) (v .padded) (same-arity h v)) d);
+    says = λ P F ks L left i types h deep v. u .says P F ks L left i types h deep v (not-found (f .says L ks (h .listed) (h .count) (h .once) (v .padded) (same-arity h v)) d);
     grows = u .grows;
   }
 
@@ -112,10 +113,10 @@ parameters-long (pnamed t ∷ ps) (k ∷ ks) = ap suc (parameters-long ps ks)
 
 -- ---- what is known where a body starts
 module _ {P : File} {e : Entry} {F : Function} {ks scope sizes : List ℕ} (v : Given P e F ks scope sizes) where
-  pub body-site : (p : Place) (functions : List ℕ) → p .types ≡ length (P .types) → (k : BodyKnown P F) →
-      Site P (k .scope) (inside (e .function) (weight (F .measure) ks)) (parameterTypes (F .parameters) ks) ks scope sizes (bodyOf functions p e)
+  pub body-site : (p : Place) (index : List ℕ) → p .types ≡ length (P .types) → (k : BodyKnown P F) →
+      Site P (k .scope) (inside (e .function) (weight (F .measure) ks)) (parameterTypes (F .parameters) ks) ks scope sizes (bodyOf index p e)
   unfolding channelsAt frameAt
-  body-site p functions types k = record {
+  body-site p index types k = record {
     known = k .known;
     channels = λ c τ is. none-is-not-some is;
     typeCount = types;
@@ -138,61 +139,59 @@ module _ {P : File} {e : Entry} {F : Function} {ks scope sizes : List ℕ} (v : 
 module _ (e : Entry) {t : Lent} {b : Buffers} (p : Place) where
   pub body-full : instancesMost ≤ p .used → EntersNew e t b p (Refused 14 (p .line + 1)) b
   body-full full = record {
-    says = λ P F ks L left table i types h deep v new. rw (no-room P (suc (p .line)) (e .function) F ks (meaning (e .kind)) L left new (omega (arith, full, h .count))) (refused (ap (Refused 14) (add-one (p .line))));
+    says = λ P F ks L left i types h deep v new. rw (no-room P (suc (p .line)) (e .function) F ks (meaning (e .kind)) L left new (omega (arith, full, h .count))) (refused (ap (Refused 14) (add-one (p .line))));
     grows = not-grown;
   }
 
   -- the record added, and the body checked
-  module _ {list : List ℕ} {q : Place} {x : Sizing} {b₁ : Buffers} (room : p .used < instancesMost) (a : Adds (b .list) (p .used) (e .function) (b .sizes) list) (at : q ≡ bodyOf (t .functions) p e)
+  module _ {list : List ℕ} {q : Place} {x : Sizing} {b₁ : Buffers} (room : p .used < instancesMost) (a : Adds (b .list) (p .used) (e .function) (b .sizes) list) (at : q ≡ bodyOf (t .index) p e)
       (u : Sizes ExprPart t (buffers list (b .scope) (b .sizes)) q x b₁) where
-    inner : Sizes ExprPart t (buffers list (b .scope) (b .sizes)) (bodyOf (t .functions) p e) x b₁
+    inner : Sizes ExprPart t (buffers list (b .scope) (b .sizes)) (bodyOf (t .index) p e) x b₁
     inner = subst (λ z. Sizes ExprPart t (buffers list (b .scope) (b .sizes)) z x b₁) at u
 
     body-grows : Grows (p .used) x
     body-grows = grows-same (omega arith) (inner .grows)
 
     -- the body as the definition has it
-    module _ (P : File) (F : Function) (ks : List ℕ) (L : List Instance) (left : ℕ) (table : List ℕ) (i : IndexedFile t table P) (types : p .types ≡ length (P .types)) (h : Holds P (b .list) (p .used) L) (deep : instancesMost ≤ left + length L)
-        (v : Given P e F ks (b .scope) (b .sizes)) where
+    module _ (P : File) (F : Function) (ks : List ℕ) (L : List Instance) (left : ℕ) (i : IndexedFile t P) (types : p .types ≡ length (P .types)) (h : Holds P (b .list) (p .used) L) (deep : instancesMost ≤ left + length L)
+        (v : Given P e F ks (b .scope) (b .sizes)) (new : find L (e .function) ks ≡ none) where
       known : BodyKnown P F
       known = body-known (i .within) (e .function) (v .function)
 
-      here : Here t (buffers list (b .scope) (b .sizes)) (bodyOf (t .functions) p e) P (known .scope) (inside (e .function) (weight (F .measure) ks)) (parameterTypes (F .parameters) ks) ks (L ++ (entered (e .function) ks nothing ∷ [])) (left - 1)
+      here : Here t (buffers list (b .scope) (b .sizes)) (bodyOf (t .index) p e) P (known .scope) (inside (e .function) (weight (F .measure) ks)) (parameterTypes (F .parameters) ks) ks (L ++ (entered (e .function) ks nothing ∷ [])) (left - 1)
       here = record {
-        table = table;
         indexed = i;
-        site = body-site v p (t .functions) types known;
-        holds = holds-added h a room (v .padded) (body-row v nothing);
+        site = body-site v p (t .index) types known;
+        holds = holds-added h a room (v .padded) new (body-row v nothing);
         deep = omega (arith, deep, length-append L (entered (e .function) ks nothing ∷ []), room, h .count);
       }
 
-      part : ExprPart (lineAt (t .text) (p .types + e .function)) (bodyOf (t .functions) p e) (known .scope) (bodyAt (t .functions) (e .function) + length (exprBytes (F .body))) (F .body)
+      part : ExprPart (lineAt (t .text) (p .types + e .function)) (bodyOf (t .index) p e) (known .scope) (bodyAt (functionsOf (t .index)) (e .function) + length (exprBytes (F .body))) (F .body)
       part = record {
-        spelled = subst (λ n. Spells exprBytes (lineAt (t .text) (n + e .function)) (bodyAt (t .functions) (e .function)) (F .body)) (sym types) (i .eachFunction (e .function) (v .function) .body);
+        spelled = subst (λ n. Spells exprBytes (lineAt (t .text) (n + e .function)) (bodyAt (functionsOf (t .index)) (e .function)) (F .body)) (sym types) (i .eachFunction (e .function) (v .function) .body);
         within = known .within;
         ends = refl;
       }
 
-      body-agrees : Agrees P itself (bodyAt (t .functions) (e .function) + length (exprBytes (F .body))) (b₁ .list) x (bodyRun P (entering P (left - 1)) (e .function) F ks L)
+      body-agrees : Agrees P itself (bodyAt (functionsOf (t .index)) (e .function) + length (exprBytes (F .body))) (b₁ .list) x (bodyRun P (entering P (left - 1)) (e .function) F ks L)
       body-agrees = inner .says P (known .scope) (inside (e .function) (weight (F .measure) ks)) (parameterTypes (F .parameters) ks) ks (L ++ (entered (e .function) ks nothing ∷ [])) (left - 1) here _ (F .body) part
 
       body-keeps : Sat (λ (y : Sized). Extends (L ++ (entered (e .function) ks nothing ∷ [])) (y .list)) (bodyRun P (entering P (left - 1)) (e .function) F ks L)
       body-keeps = sized-keeps P (entering P (left - 1)) (enters-keep P instancesMost (left - 1)) (F .body) _ _ _ _
 
-      entered-here : find L (e .function) ks ≡ none →
-          entering P left (suc (p .line)) (e .function) F ks (meaning (e .kind)) L ≡ bind (bodyRun P (entering P (left - 1)) (e .function) F ks L) (leaving P (suc (p .line)) (e .function) F ks (meaning (e .kind)) L)
-      entered-here new = entered-now P (suc (p .line)) (e .function) F ks (meaning (e .kind)) L left (left - 1) (omega (arith, deep, room, h .count)) new (omega (arith, room, h .count))
+      entered-here : entering P left (suc (p .line)) (e .function) F ks (meaning (e .kind)) L ≡ bind (bodyRun P (entering P (left - 1)) (e .function) F ks L) (leaving P (suc (p .line)) (e .function) F ks (meaning (e .kind)) L)
+      entered-here = entered-now P (suc (p .line)) (e .function) F ks (meaning (e .kind)) L left (left - 1) (omega (arith, deep, room, h .count)) new (omega (arith, room, h .count))
 
     pub body-refused : {n frame : ℕ} → x ≡ Refused n frame → EntersNew e t b p x b₁
     body-refused d = record {
-      says = λ P F ks L left table i types h deep v new. rw (entered-here P F ks L left table i types h deep v new) (bind-no _ (body-agrees P F ks L left table i types h deep v) d d);
+      says = λ P F ks L left i types h deep v new. rw (entered-here P F ks L left i types h deep v new) (bind-no _ (body-agrees P F ks L left i types h deep v new) d d);
       grows = body-grows;
     }
 
     module _ {k : Checked} {r : Bool} (d : x ≡ Is k) (same : r ≡ sameType (meaning (k .kind)) (meaning (e .kind))) where
       pub body-differs : r ≡ false → EntersNew e t b p (Refused 11 (q .line + 1)) b₁
       body-differs no-match = record {
-        says = λ P F ks L left table i types h deep v new. rw (entered-here P F ks L left table i types h deep v new) (bind-is _ (body-agrees P F ks L left table i types h deep v) d (λ y c.
+        says = λ P F ks L left i types h deep v new. rw (entered-here P F ks L left i types h deep v new) (bind-is _ (body-agrees P F ks L left i types h deep v new) d (λ y c.
             need-fails _ (ap (λ τ. sameType τ (meaning (e .kind))) (sym (c .type)) ∙ sym same ∙ no-match) (ap (λ z. Refused 11 (z .line + 1)) at ∙ ap (λ n. Refused 11 (n + e .function + 1)) types)));
         grows = not-grown;
       }
@@ -200,7 +199,7 @@ module _ (e : Entry) {t : Lent} {b : Buffers} (p : Place) where
       pub body-done : {list′ : List ℕ} {m : Place} {z : Sizing} → r ≡ true → Finishes (b₁ .list) (p .used) (k .numbers) list′ → m ≡ movedTo p (p .at) (k .used) → z ≡ leafOf (e .kind) (k .numbers) m →
           EntersNew e t b p z (buffers list′ (b₁ .scope) (b₁ .sizes))
       body-done {list′} match fin moved answer = let whole = answer ∙ ap (leafOf (e .kind) (k .numbers)) moved in record {
-        says = λ P F ks L left table i types h deep v new. rw (entered-here P F ks L left table i types h deep v new) (bind-knows _ (body-agrees P F ks L left table i types h deep v) (body-keeps P F ks L left table i types h deep v) d (λ y g c.
+        says = λ P F ks L left i types h deep v new. rw (entered-here P F ks L left i types h deep v new) (bind-knows _ (body-agrees P F ks L left i types h deep v new) (body-keeps P F ks L left i types h deep v new) d (λ y g c.
             need-holds 11 (functionFrame P (e .function)) (ap (λ τ. sameType τ (meaning (e .kind))) (sym (c .type)) ∙ sym same ∙ match)
             (agrees whole (record {
               type = refl;

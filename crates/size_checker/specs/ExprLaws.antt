@@ -24,6 +24,7 @@ use Rattle.heads.specs.Heads.{Heads, shown}
 use Rattle.heads.specs.HeadForms.{LetHead, IfHead, OpHead, CallHead, ConHead, CaseHead, AdjHead, FitHead, no-missing, bool-head, int-head, var-head, now-head, last-head, let-head, if-head, op-head, call-head, con-head, case-head, adj-head, fit-head}
 use Rattle.sizes.specs.declared.SizedType.{SizedType}
 use Rattle.sizes.specs.declared.SizedType.the-variants.{Bool as BoolIs, Int as IntIs}
+use Rattle.index.specs.Sections.{framesOf}
 use Rattle.size_checker.specs.declared.Place.{Place}
 use Rattle.size_checker.specs.declared.Sizing.{Sizing}
 use Rattle.size_checker.specs.declared.Sizing.the-variants.{Refused}
@@ -108,7 +109,7 @@ form-part {p} {next} {l} {S} {e} Of part of = record {
 }
 
 -- ---- the head that was read of the line of the place; r the place behind it
-module _ {t : Lent} {b : Buffers} {p : Place} {line : List ℕ} {h : Head} (cut : line ≡ framePart (t .text) (t .frames) (p .line)) (read : Heads line (p .at .at) h) {r : Place} (down : r ≡ downTo p (h .next)) where
+module _ {t : Lent} {b : Buffers} {p : Place} {line : List ℕ} {h : Head} (cut : line ≡ framePart (t .text) (framesOf (t .index)) (p .line)) (read : Heads line (p .at .at) h) {r : Place} (down : r ≡ downTo p (h .next)) where
   read-here : {P : File} {S : Scope} {q : Stand} {Γ : List Ty} {Δ : List ℕ} {L : List Instance} {left : ℕ} → Here t b p P S q Γ Δ L left → Heads (lineAt (t .text) (p .line)) (p .at .at) h
   read-here k = subst (λ l. Heads l (p .at .at) h) (part-is-line (k .indexed) (p .line) (k .site .line) cut) read
 
@@ -141,22 +142,22 @@ module _ {t : Lent} {b : Buffers} {p : Place} {line : List ℕ} {h : Head} (cut 
     kept = kept-all;
   }
 
-  pub expr-now : {x : Sizing} {kind : SizedType} {numbers : Estimate} {c : ℕ} → h .form ≡ Now c → ChannelTyped (t .text) (t .frames) p c kind → x ≡ leafOf kind numbers r → Makes nothing numbers → Sizes ExprPart t b p x b
+  pub expr-now : {x : Sizing} {kind : SizedType} {numbers : Estimate} {c : ℕ} → h .form ≡ Now c → ChannelTyped (t .index) c kind → x ≡ leafOf kind numbers r → Makes nothing numbers → Sizes ExprPart t b p x b
   unfolding sized
   expr-now {c} form type is none = record {
     says = λ P S q Γ Δ L left k end e part. let i = now-head (read-here k) (part .spelled) (part .within) form in
         rw (i .is) (from-before _ _ _ before-6 (λ τ at. let named = k .site .channels c τ at in
-        agrees (leaf-is p (h .next) down is) (record { type = channel-typed {t = t} (k .indexed) {p = p} (k .site .typeCount) named type; small = channel-bounded {t = t} (k .indexed) c (named .declared); numbers = none .says; ends = i .ends ∙ sym (part .ends); holds = k .holds })));
+        agrees (leaf-is p (h .next) down is) (record { type = channel-typed {t = t} (k .indexed) c named type; small = channel-bounded {t = t} (k .indexed) c named; numbers = none .says; ends = i .ends ∙ sym (part .ends); holds = k .holds })));
     grows = leaf-grows p (h .next) down is;
     kept = kept-all;
   }
 
-  pub expr-last : {x : Sizing} {kind : SizedType} {numbers : Estimate} {c : ℕ} → h .form ≡ Last c → ChannelTyped (t .text) (t .frames) p c kind → x ≡ leafOf kind numbers r → Makes nothing numbers → Sizes ExprPart t b p x b
+  pub expr-last : {x : Sizing} {kind : SizedType} {numbers : Estimate} {c : ℕ} → h .form ≡ Last c → ChannelTyped (t .index) c kind → x ≡ leafOf kind numbers r → Makes nothing numbers → Sizes ExprPart t b p x b
   unfolding sized
   expr-last {c} form type is none = record {
     says = λ P S q Γ Δ L left k end e part. let i = last-head (read-here k) (part .spelled) (part .within) form in
         rw (i .is) (from-before _ _ _ before-6 (λ τ at. let named = k .site .channels c τ at in
-        agrees (leaf-is p (h .next) down is) (record { type = channel-typed {t = t} (k .indexed) {p = p} (k .site .typeCount) named type; small = channel-bounded {t = t} (k .indexed) c (named .declared); numbers = none .says; ends = i .ends ∙ sym (part .ends); holds = k .holds })));
+        agrees (leaf-is p (h .next) down is) (record { type = channel-typed {t = t} (k .indexed) c named type; small = channel-bounded {t = t} (k .indexed) c named; numbers = none .says; ends = i .ends ∙ sym (part .ends); holds = k .holds })));
     grows = leaf-grows p (h .next) down is;
     kept = kept-all;
   }

@@ -18,6 +18,7 @@ use Rattle.text.specs.Bytes.{declaredWord}
 use Rattle.encoding.specs.Known.{wider-known}
 use Rattle.sizes.specs.Rows.{ToldFields, FieldsBound}
 use Rattle.sizes.specs.ToldLaws.{told-fields}
+use Rattle.index.specs.Sections.{typesOf}
 use Rattle.size_checker.specs.declared.Place.{Place}
 use Rattle.size_checker.specs.Sites.{Bounded, bounded-bool, bounded-int, bounded-named, widened, Site}
 use Rattle.size_checker.specs.Promises.{Lent, Buffers, buffers, Here, UpToMost}
@@ -44,12 +45,11 @@ fields-bounded {t} less (all-cons (w-other {t = u} {k} earlier bound) ws) sizes 
 -- ---- under the fields of a constructor at the split that stands behind the sizes in scope
 pub here-fields : {t : Lent} {b : Buffers} {p : Place} {P : File} {S : Scope} {q : Stand} {Γ : List Ty} {Δ : List ℕ} {L : List Instance} {left u : ℕ} (c : ℕ) {fs : Constructor} {scope : List ℕ} → Here t b p P S q Γ Δ L left →
     u < length (P .types) → look (constructorsOf P u) c ≡ some fs → variablesMost ≤ length (b .scope) → sizeVariablesMost ≤ length (b .sizes) → Fits (wider (length fs) (owns fs) S) →
-    All UpToMost (take (owns fs) (drop (p .sizes) (b .sizes))) → FieldsBound (t .types) (b .scope) (b .sizes) u c (p .variables) (p .sizes) scope →
+    All UpToMost (take (owns fs) (drop (p .sizes) (b .sizes))) → FieldsBound (typesOf (t .index)) (b .scope) (b .sizes) u c (p .variables) (p .sizes) scope →
     Here t (buffers (b .list) scope (b .sizes)) (widened p (length fs) (owns fs)) P (wider (length fs) (owns fs) S) q
     (Γ ++ fieldTypes u fs (take (owns fs) (drop (p .sizes) (b .sizes)))) (Δ ++ take (owns fs) (drop (p .sizes) (b .sizes))) L left
 unfolding wider
 here-fields {t} {b} {p} {P} {S} {q} {Γ} {Δ} {L} {left} {u} c {fs} {scope} h less there room sizeRoom fits most bound = record {
-  table = h .table;
   indexed = h .indexed;
   site = record {
     known = wider-known (length fs) (owns fs) (s .known);
@@ -76,7 +76,7 @@ here-fields {t} {b} {p} {P} {S} {q} {Γ} {Δ} {L} {left} {u} c {fs} {scope} h le
     ks : List ℕ
     ks = take (owns fs) (drop (p .sizes) (b .sizes))
 
-    told : ToldFields (t .types) u c fs
+    told : ToldFields (typesOf (t .index)) u c fs
     told = told-fields (h .indexed) u c less there
 
     long : length ks ≡ owns fs

@@ -10,15 +10,18 @@ use Rattle.language.specs.Syntax.{Node, File, declaredTypes, initialValues}
 use Rattle.language.specs.Within.{all-nil}
 use Rattle.language.specs.Estimate.{nothing}
 use Rattle.language.specs.Checker.{Instance, Counted as CountedDef, SizedFile, sizedUpdates, sizedFile}
+use Rattle.theory.specs.Different.{distinct-nil}
 use Rattle.theory.specs.Lists.{none-is-not-some}
 use Rattle.index.specs.declared.Counts.{Counts}
+use Rattle.index.specs.Sections.{countsIn}
+use Rattle.index.specs.Indexed.{Counted as CountsAre}
 use Rattle.instances.specs.Listed.{instanceWordsCount}
 use Rattle.instances.specs.ListLaws.{listed-none}
 use Rattle.size_checker.specs.declared.Counted.{Counted}
 use Rattle.size_checker.specs.declared.Counting.{Counting}
 use Rattle.size_checker.specs.declared.Counting.the-variants.{Are, Refused}
 use Rattle.size_checker.specs.Agreement.{Holds}
-use Rattle.size_checker.specs.Promises.{Lent}
+use Rattle.size_checker.specs.Promises.{Lent, IndexedFile}
 use Rattle.size_checker.specs.FilePromises.{AgreesFile, file-agrees, file-refused, file-beyond, SizesFile}
 use Rattle.size_checker.specs.FileParts.{Few, initialWord, updateWord, summed, AgreesSum, sum-agrees, sum-refused, sum-beyond, SizesChannels, SizesInitials}
 use Rattle.size_checker.specs.SummedLaws.{initials-are, totalled, updates-are}
@@ -29,13 +32,13 @@ holds-none : {P : File} (m : ℕ) → instanceWordsCount * instancesMost ≤ m �
 holds-none m long =
     let words : List ℕ = replicate m 0 in
     let same : m ≡ length words - instanceWordsCount * 0 = omega (arith, length-replicate {A = ℕ} m 0) in
-    record { listed = listed-none words; count = refl; rows = all-nil; lent = omega (arith, long, length-replicate {A = ℕ} m 0); rest = ap (λ k. replicate k 0) same }
+    record { listed = listed-none words; count = refl; rows = all-nil; once = distinct-nil; lent = omega (arith, long, length-replicate {A = ℕ} m 0); rest = ap (λ k. replicate k 0) same }
 
 -- ---- initial values
-pub initials-many : {t : Lent} {channels : List ℕ} {list list′ : List ℕ} {n : Counts} {m frame : ℕ} → (Few n → ⊥) → SizesInitials t channels list n (Refused m frame) list′
+pub initials-many : {t : Lent} {list list′ : List ℕ} {n : Counts} {m frame : ℕ} → (Few n → ⊥) → SizesInitials t list n (Refused m frame) list′
 initials-many more = record { says = λ P i k long. absurd (more (counts-few i k)); few = λ e. absurd (let z : _≡_ {A = ℕ} 0 1 = cc in omega arith) }
 
-pub initials-done : {t : Lent} {channels : List ℕ} (list : List ℕ) {list₁ list₂ : List ℕ} {n : Counts} {x : Counting} → Few n → list₁ ≡ replicate (length list) 0 → SizesChannels t channels list₁ n 0 initialWord 0 x list₂ → SizesInitials t channels list n x list₂
+pub initials-done : {t : Lent} (list : List ℕ) {list₁ list₂ : List ℕ} {n : Counts} {x : Counting} → Few n → list₁ ≡ replicate (length list) 0 → SizesChannels t list₁ n 0 initialWord 0 x list₂ → SizesInitials t list n x list₂
 initials-done list f cleared v = record {
   says = λ P i k long. v .says P i k [] (λ c τ is. none-is-not-some is) _ _ (initials-last i k) [] (rw cleared (holds-none (length list) long));
   few = λ e. f;
@@ -61,15 +64,19 @@ then-updates (ok s) (sum-agrees e st h) = file-agrees {x = s} e (record { env = 
 then-updates (no n frame) (sum-refused e) = file-refused e
 then-updates (no n frame) (sum-beyond b) = file-beyond b
 
-module _ {t : Lent} {channels : List ℕ} {list list₁ : List ℕ} {n : Counts} {x : Counting} (v : SizesInitials t channels list n x list₁) where
-  pub file-first : {m frame : ℕ} → x ≡ Refused m frame → SizesFile t channels list n x list₁
-  unfolding sizedFile
-  file-first d = record { says = λ P i k long. rw (initials-are P nothing 0 (initialValues P) (declaredTypes P) []) (first-refused _ (v .says P i k long) d) }
+-- ---- the whole file: n its counts, as the index has them
+module _ {t : Lent} {list list₁ : List ℕ} {n : Counts} {x : Counting} (counts : n ≡ countsIn (t .index)) (v : SizesInitials t list n x list₁) where
+  counts-are : {P : File} → IndexedFile t P → CountsAre n P
+  counts-are {P} i = subst (λ m. CountsAre m P) (sym counts) (i .counted)
 
-  pub file-done : {a : Counted} {y : Counting} {list₂ : List ℕ} → x ≡ Are a → SizesChannels t channels list₁ n (n .inputs) updateWord (a .used) y list₂ → SizesFile t channels list n y list₂
+  pub file-first : {m frame : ℕ} → x ≡ Refused m frame → SizesFile t list x list₁
+  unfolding sizedFile
+  file-first d = record { says = λ P i long. rw (initials-are P nothing 0 (initialValues P) (declaredTypes P) []) (first-refused _ (v .says P i (counts-are i) long) d) }
+
+  pub file-done : {a : Counted} {y : Counting} {list₂ : List ℕ} → x ≡ Are a → SizesChannels t list₁ n (n .inputs) updateWord (a .used) y list₂ → SizesFile t list y list₂
   unfolding sizedFile
   file-done {y} {list₂} d u = record {
-    says = λ P i k long. rw (initials-are P nothing 0 (initialValues P) (declaredTypes P) []) (first-are _ (v .says P i k long) d (λ L h.
+    says = λ P i long. let k = counts-are i in rw (initials-are P nothing 0 (initialValues P) (declaredTypes P) []) (first-are _ (v .says P i k long) d (λ L h.
         then-updates (sizedUpdates P (length (P .inputs)) (P .nodes) L) (subst (AgreesSum P list₂ y) (ap (λ c. summed P (declaredTypes P) nothing c (map (λ (m : Node). m .update) (P .nodes)) (map (λ (m : Node). m .declared) (P .nodes)) L) (sym (k .inputCount)) ∙ updates-are P nothing (length (P .inputs)) (P .nodes) L)
         (u .says P i k (declaredTypes P) (λ c τ is. is) _ _ (updates-last i k) L h))));
   }

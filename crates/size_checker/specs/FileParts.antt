@@ -21,6 +21,7 @@ use Rattle.index.specs.declared.Counts.{Counts}
 use Rattle.estimate.specs.Stands.{Stands, Makes, Combines}
 use Rattle.index.specs.Indexed.{channelLine, Counted as CountsAre}
 use Rattle.instances.specs.Listed.{instanceWordsCount}
+use Rattle.index.specs.Sections.{channelsOf}
 use Rattle.size_checker.specs.declared.Place.{Place}
 use Rattle.size_checker.specs.declared.Checked.{Checked}
 use Rattle.size_checker.specs.declared.Sizing.{Sizing}
@@ -43,13 +44,13 @@ pub data Limited (n : Counts) : Bool → Type 0 where
 
 -- ---- where an expression of channel c stands
 abbrev pub outerPlace : Counts → ℕ → ℕ → ℕ → Place
-outerPlace n c at used = record { at = record { at = at }; levels = nestingMost; types = n .types; first = n .types + n .functions; line = n .types + n .functions + c; around = 0; weight = 0; variables = 0; sizes = 0; used = used }
+outerPlace n c at used = record { at = record { at = at }; levels = nestingMost; types = n .types; line = n .types + n .functions + c; around = 0; weight = 0; variables = 0; sizes = 0; used = used }
 
 -- ---- one expression of channel c, at the place that a word of the channel's entry tells; its declared type is τ
-pub record Standing (t : Lent) (channels : List ℕ) (P : File) (word c : ℕ) (e : Expr) (τ : Ty) : Type 0 where
+pub record Standing (t : Lent) (P : File) (word c : ℕ) (e : Expr) (τ : Ty) : Type 0 where
   pub now : ℕ
   pub last : ℕ
-  pub spelled : Spells exprBytes (lineAt (t .text) (channelLine P c)) (getD channels (channelWords * c + word) 0) e
+  pub spelled : Spells exprBytes (lineAt (t .text) (channelLine P c)) (getD (channelsOf (t .index)) (channelWords * c + word) 0) e
   pub within : WithinExpr nestingMost (outerScope (P .types) (P .functions) now last) e
   pub declared : look (declaredTypes P) c ≡ some τ
 
@@ -60,13 +61,16 @@ initialWord = 1
 abbrev pub updateWord : ℕ
 updateWord = 2
 
+abbrev pub InitialOrUpdate : ℕ → Type 0
+InitialOrUpdate word = (word ≡ updateWord → ⊥) → word ≡ initialWord
+
 -- the channels that it may name are the file's
 abbrev pub Named : File → List Ty → Type 0
 Named P C = (c : ℕ) (τ : Ty) → look C c ≡ some τ → look (declaredTypes P) c ≡ some τ
 
-pub record SizesChannel (t : Lent) (channels : List ℕ) (list : List ℕ) (n : Counts) (c word used : ℕ) (r : Sizing) (list′ : List ℕ) : Type 0 where
-  pub says : (P : File) → IndexedFile t channels P → CountsAre n P → (C : List Ty) → Named P C → (e : Expr) (τ : Ty) → Standing t channels P word c e τ → (L : List Instance) → Holds P list used L →
-      Agrees P (ofType τ) (getD channels (channelWords * c + word) 0 + length (exprBytes e)) list′ r (sizedChannel P c C e τ L)
+pub record SizesChannel (t : Lent) (list : List ℕ) (n : Counts) (c word used : ℕ) (r : Sizing) (list′ : List ℕ) : Type 0 where
+  pub says : (P : File) → IndexedFile t P → CountsAre n P → (C : List Ty) → Named P C → (e : Expr) (τ : Ty) → Standing t P word c e τ → (L : List Instance) → Holds P list used L →
+      Agrees P (ofType τ) (getD (channelsOf (t .index)) (channelWords * c + word) 0 + length (exprBytes e)) list′ r (sizedChannel P c C e τ L)
 
 -- ---- the expressions of channels c, c + 1, .. up to the last, the numbers so far being x
 unfoldable pub summed : File → List Ty → Exact → ℕ → List Expr → List Ty → List Instance → Result CountedDef
@@ -74,9 +78,9 @@ summed P C x c [] τs L = ok (record { numbers = x; list = L })
 summed P C x c (e ∷ es) [] L = ok (record { numbers = x; list = L })
 summed P C x c (e ∷ es) (τ ∷ τs) L = bind (sizedChannel P c C e τ L) (λ q. summed P C (after x (q .numbers)) (suc c) es τs (q .list))
 
-pub data Lasting (t : Lent) (channels : List ℕ) (P : File) (word last : ℕ) : ℕ → List Expr → List Ty → Type 0 where
-  no-more : {c : ℕ} → last ≤ c → Lasting t channels P word last c [] []
-  one-more : {c : ℕ} {e : Expr} {τ : Ty} {es : List Expr} {τs : List Ty} → c < last → Standing t channels P word c e τ → Lasting t channels P word last (suc c) es τs → Lasting t channels P word last c (e ∷ es) (τ ∷ τs)
+pub data Lasting (t : Lent) (P : File) (word last : ℕ) : ℕ → List Expr → List Ty → Type 0 where
+  no-more : {c : ℕ} → last ≤ c → Lasting t P word last c [] []
+  one-more : {c : ℕ} {e : Expr} {τ : Ty} {es : List Expr} {τs : List Ty} → c < last → Standing t P word c e τ → Lasting t P word last (suc c) es τs → Lasting t P word last c (e ∷ es) (τ ∷ τs)
 
 pub data AgreesSum (P : File) (words : List ℕ) (r : Counting) : Result CountedDef → Type 0 where
   sum-agrees : {k : Counted} {x : CountedDef} → r ≡ Are k → Stands (k .numbers) (x .numbers) → Holds P words (k .used) (x .list) → AgreesSum P words r (ok x)
@@ -86,13 +90,13 @@ pub data AgreesSum (P : File) (words : List ℕ) (r : Counting) : Result Counted
 abbrev pub channelCount : Counts → ℕ
 channelCount n = n .inputs + n .nodes
 
-pub record SizesChannels (t : Lent) (channels : List ℕ) (list : List ℕ) (n : Counts) (from word used : ℕ) (r : Counting) (list′ : List ℕ) : Type 0 where
-  pub says : (P : File) → IndexedFile t channels P → CountsAre n P → (C : List Ty) → Named P C → (es : List Expr) (τs : List Ty) → Lasting t channels P word (channelCount n) from es τs → (L : List Instance) → Holds P list used L →
+pub record SizesChannels (t : Lent) (list : List ℕ) (n : Counts) (from word used : ℕ) (r : Counting) (list′ : List ℕ) : Type 0 where
+  pub says : (P : File) → IndexedFile t P → CountsAre n P → (C : List Ty) → Named P C → (es : List Expr) (τs : List Ty) → Lasting t P word (channelCount n) from es τs → (L : List Instance) → Holds P list used L →
       AgreesSum P list′ r (summed P C nothing from es τs L)
 
 -- all initial values, from a cleared list on
-pub record SizesInitials (t : Lent) (channels : List ℕ) (list : List ℕ) (n : Counts) (r : Counting) (list′ : List ℕ) : Type 0 where
-  pub says : (P : File) → IndexedFile t channels P → CountsAre n P → instanceWordsCount * instancesMost ≤ length list → AgreesSum P list′ r (summed P [] nothing 0 (initialValues P) (declaredTypes P) [])
+pub record SizesInitials (t : Lent) (list : List ℕ) (n : Counts) (r : Counting) (list′ : List ℕ) : Type 0 where
+  pub says : (P : File) → IndexedFile t P → CountsAre n P → instanceWordsCount * instancesMost ≤ length list → AgreesSum P list′ r (summed P [] nothing 0 (initialValues P) (declaredTypes P) [])
   pub few : {k : Counted} → r ≡ Are k → Few n
 
 -- ---- nothing summed; what was summed, and one more

@@ -8,9 +8,7 @@ use Rattle.language.specs.Result.{Result, ok, no}
 use Rattle.language.specs.Syntax.{File}
 use Rattle.language.specs.Checker.{SizedFile, sizedFile}
 use Rattle.language.specs.Cells.{updatesNumbers}
-use Rattle.index.specs.declared.Counts.{Counts}
 use Rattle.estimate.specs.Stands.{Stands}
-use Rattle.index.specs.Indexed.{Counted as CountsAre}
 use Rattle.instances.specs.Listed.{instanceWordsCount}
 use Rattle.size_checker.specs.declared.Counted.{Counted}
 use Rattle.size_checker.specs.declared.Counting.{Counting}
@@ -24,5 +22,5 @@ pub data AgreesFile (P : File) (words : List ℕ) (r : Counting) : Result SizedF
   file-refused : {n frame : ℕ} → r ≡ Refused n frame → AgreesFile P words r (no n frame)
   file-beyond : {n frame : ℕ} → Before n → AgreesFile P words r (no n frame)
 
-pub record SizesFile (t : Lent) (channels : List ℕ) (list : List ℕ) (n : Counts) (r : Counting) (list′ : List ℕ) : Type 0 where
-  pub says : (P : File) → IndexedFile t channels P → CountsAre n P → instanceWordsCount * instancesMost ≤ length list → AgreesFile P list′ r (sizedFile P)
+pub record SizesFile (t : Lent) (list : List ℕ) (r : Counting) (list′ : List ℕ) : Type 0 where
+  pub says : (P : File) → IndexedFile t P → instanceWordsCount * instancesMost ≤ length list → AgreesFile P list′ r (sizedFile P)

@@ -64,13 +64,12 @@ ends-at part is long = part .ends ∙ ap (λ z. part .from + length (exprBytes z
 
 -- ---- one level down
 pub here-down : {t : Lent} {b : Buffers} {p : Place} {P : File} {S : Scope} {q : Stand} {Γ : List Ty} {Δ : List ℕ} {L : List Instance} {left : ℕ} → Here t b p P S q Γ Δ L left → (at : Cursor) → Here t b (downTo p at) P S q Γ Δ L left
-here-down h at = record { table = h .table; indexed = h .indexed; site = site-down (h .site) at; holds = h .holds; deep = h .deep }
+here-down h at = record { indexed = h .indexed; site = site-down (h .site) at; holds = h .holds; deep = h .deep }
 
 -- ---- behind a part that was checked
 pub here-moved : {t : Lent} {b b′ : Buffers} {p : Place} {P : File} {S : Scope} {q : Stand} {Γ : List Ty} {Δ : List ℕ} {L M : List Instance} {left used : ℕ} → Here t b p P S q Γ Δ L left → (at : Cursor) →
     Kept p (b .scope) (b .sizes) (b′ .scope) (b′ .sizes) → Holds P (b′ .list) used M → p .used ≤ used → Here t b′ (movedTo p at used) P S q Γ Δ M left
 here-moved {used} h at k m le = record {
-  table = h .table;
   indexed = h .indexed;
   site = site-moved (site-kept (h .site) k) at used;
   holds = m;
@@ -83,7 +82,6 @@ pub here-bound : {t : Lent} {b : Buffers} {p : Place} {P : File} {S : Scope} {q 
     Here t (buffers (b .list) (set (b .scope) (p .variables) word) (b .sizes)) (widened p 1 0) P (wider 1 0 S) q (Γ ++ (τ ∷ [])) Δ L left
 unfolding wider
 here-bound {b} {p} {Γ} {Δ} {τ} {word} h room fits small is = let s = h .site in record {
-  table = h .table;
   indexed = h .indexed;
   site = record {
     known = wider-known 1 0 (s .known);

@@ -1,19 +1,22 @@
 -- The list of instances in words: a record added on entry, and its numbers filled in; the rest of the words stays 0.
 use Prim.Native.Nat.{ℕ, zero, suc, _+_, _*_, _-_, _≤_, _<_}
 use mathlib.Core.List.{List, [], _∷_, _++_, append-assoc}
-use mathlib.Core.Option.{some}
+use mathlib.Core.Option.{none, some}
 use mathlib.Core.Path.{_≡_, sym, ap, _∙_, subst}
 use native.Mathlib.Omega.{arith}
 use lib.ListN.{length, drop, set, replicate, length-append, length-set, getElem? as look}
 use lib.Seq.{drop-drop}
+use mathlib.Core.List.{map-append}
 use Rattle.language.specs.Limits.{instancesMost}
 use Rattle.language.specs.Syntax.{File}
 use Rattle.language.specs.Within.{All, all-cons}
 use Rattle.language.specs.Estimate.{Estimate as Exact}
-use Rattle.language.specs.Checker.{Instance}
+use Rattle.language.specs.Checker.{Instance, find}
 use Rattle.theory.specs.Alls.{all-append, all-snoc, all-left, all-right, all-rest, all-first}
 use Rattle.theory.specs.Lists.{look-append, look-new}
-use Rattle.theory.specs.Instances.{entered}
+use Rattle.theory.specs.Different.{Distinct, distinct-append}
+use Rattle.theory.specs.Instances.{entered, keyOf, keysOf}
+use Rattle.theory.specs.InstanceList.{not-found-is-new}
 use Rattle.estimate.specs.declared.Estimate.{Estimate}
 use Rattle.estimate.specs.Stands.{Stands}
 use Rattle.instances.specs.Listed.{instanceWordsCount, numbersFrom, keyWords, SizesAre, Writes, Adds, Finishes}
@@ -42,12 +45,13 @@ added-wide : (f : ℕ) (sizes : List ℕ) → length (keyWords f sizes ++ (0 ∷
 added-wide f sizes = length-append (keyWords f sizes) (0 ∷ 0 ∷ 0 ∷ []) ∙ omega (arith, key-wide f sizes)
 
 module _ {P : File} {words words′ : List ℕ} {used : ℕ} {L : List Instance} (h : Holds P words used L) where
-  pub holds-added : {f : ℕ} {sizes ks : List ℕ} → Adds words used f sizes words′ → used < instancesMost → SizesAre sizes ks → Row P (entered f ks (record { env = 0; heap = 0; stack = 0 })) →
+  pub holds-added : {f : ℕ} {sizes ks : List ℕ} → Adds words used f sizes words′ → used < instancesMost → SizesAre sizes ks → find L f ks ≡ none → Row P (entered f ks (record { env = 0; heap = 0; stack = 0 })) →
       Holds P words′ (used + 1) (L ++ (entered f ks (record { env = 0; heap = 0; stack = 0 }) ∷ []))
-  holds-added {f} {sizes} {ks} a few are row = record {
+  holds-added {f} {sizes} {ks} a few are new row = record {
     listed = a .says L ks (h .listed) (h .count) are (omega (arith, few, h .lent));
     count = omega (arith, h .count, length-append L (entered f ks (record { env = 0; heap = 0; stack = 0 }) ∷ []));
     rows = all-snoc (h .rows) row;
+    once = rw (map-append keyOf L (entered f ks (record { env = 0; heap = 0; stack = 0 }) ∷ [])) (distinct-append (h .once) (not-found-is-new f ks L new));
     lent = omega (arith, h .lent, a .writes .long);
     rest = zeros-behind (instanceWordsCount * used) (instanceWordsCount * used) (instanceWordsCount * (used + 1)) (a .writes) (omega (arith, added-wide f sizes)) (omega arith) (h .rest);
   }
@@ -58,6 +62,7 @@ module _ {P : File} {words words′ : List ℕ} {used : ℕ} {L : List Instance}
     listed = w .says L r n (h .listed) there s;
     count = h .count ∙ sym (length-set L (length M) filled);
     rows = subst (All (Row P)) (sym (filled-in M r filled g)) (all-append (all-left M (r ∷ g .more) split) (all-cons (all-first (all-right M (r ∷ g .more) split)) (all-rest (all-right M (r ∷ g .more) split))));
+    once = subst Distinct (sym (ap keysOf (filled-in M r filled g) ∙ map-append keyOf M (filled ∷ g .more) ∙ sym (map-append keyOf M (r ∷ g .more)) ∙ ap keysOf (sym joined))) (h .once);
     lent = omega (arith, h .lent, w .writes .long);
     rest = zeros-behind (instanceWordsCount * length M + numbersFrom) (instanceWordsCount * used) (instanceWordsCount * used) (w .writes) (omega (arith, within)) (omega arith) (h .rest);
   }

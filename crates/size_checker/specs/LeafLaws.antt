@@ -45,6 +45,7 @@ use Rattle.sizes.specs.Prefixes.{type-in-scope, conditions-in-scope, weight-in-
 use Rattle.sizes.specs.TypeLaws.{type-given, type-not-given, type-within}
 use Rattle.sizes.specs.Rows.{ToldRow, OwnSum, FieldsAgree}
 use Rattle.sizes.specs.ToldLaws.{told-fields}
+use Rattle.index.specs.Sections.{framesOf, typesOf, functionsOf}
 use Rattle.size_checker.specs.declared.Place.{Place}
 use Rattle.size_checker.specs.declared.Sizing.the-variants.{Is, Refused}
 use Rattle.size_checker.specs.declared.Checked.{Checked}
@@ -117,78 +118,78 @@ module _ {p : Place} {f w : ℕ} where
       go (inside g v) (around-one e i) = rw (eq-eqb g f (omega (arith, e, self)), i) refl
 
 -- ---- prepare: what is read of the function that is called
-module _ (text frames functions sizes : List ℕ) {line : List ℕ} (p : Place) (f : ℕ) (at : line ≡ framePart text frames (p .types + f)) where
-  module _ {types channels : List ℕ} {P : File} {F : Function} {ks : List ℕ} (i : Indexed text frames types functions channels P) (count : p .types ≡ length (P .types)) (is : look (P .functions) f ≡ some F) (s : SizesFor F ks sizes) where
+module _ (text index sizes : List ℕ) {line : List ℕ} (p : Place) (f : ℕ) (at : line ≡ framePart text (framesOf index) (p .types + f)) where
+  module _ {P : File} {F : Function} {ks : List ℕ} (i : Indexed text index P) (count : p .types ≡ length (P .types)) (is : look (P .functions) f ≡ some F) (s : SizesFor F ks sizes) where
     line-is : line ≡ lineAt text (functionLine P f)
-    line-is = at ∙ ap (λ k. framePart text frames (k + f)) count ∙ i .eachFrame (functionLine P f) (omega (arith, look-less (P .functions) f is)) .line
+    line-is = at ∙ ap (λ k. framePart text (framesOf index) (k + f)) count ∙ i .eachFrame (functionLine P f) (omega (arith, look-less (P .functions) f is)) .line
 
     sizes-are : take (namedCount (F .parameters)) sizes ≡ ks
     sizes-are = ap (λ k. take k sizes) (sym (s .named)) ∙ s .front
 
-    conditions-are : {c : Cursor} {r : Bool} → c .at ≡ conditionsAt functions f → Hold line c sizes r → r ≡ conditionsHold ks (F .conditions)
+    conditions-are : {c : Cursor} {r : Bool} → c .at ≡ conditionsAt (functionsOf index) f → Hold line c sizes r → r ≡ conditionsHold ks (F .conditions)
     conditions-are {c} {r} here h =
         let g = i .eachFunction f is in
         let w = function-within (i .within) f is in
         subst (λ l. Hold l c sizes r) line-is h .says (namedCount (F .parameters)) (F .conditions) (rw here (g .conditionCount)) (w .conditions) (rw here (g .conditions))
         ∙ sym (conditions-in-scope sizes (w .conditions)) ∙ ap (λ l. conditionsHold l (F .conditions)) sizes-are
 
-    weight-is : {c : Cursor} {r : ℕ} → c .at ≡ measureAt functions f → Weighs line c sizes r → r ≡ weight (F .measure) ks
+    weight-is : {c : Cursor} {r : ℕ} → c .at ≡ measureAt (functionsOf index) f → Weighs line c sizes r → r ≡ weight (F .measure) ks
     weight-is {c} {r} here h =
         let g = i .eachFunction f is in
         let w = function-within (i .within) f is in
         subst (λ l. Weighs l c sizes r) line-is h .says (F .measure) (rw here (g .measureCount)) (rw here (g .measure))
         ∙ sym (weight-in-scope sizes (w .measure)) ∙ ap (weight (F .measure)) sizes-are
 
-    type-is-at : {c : Cursor} {r : TypeAt} → c .at ≡ resultAt functions f → TypeGiven line c sizes r → AgreesType (typeAt ks (F .result)) (c .at + length (resultBytes (F .result))) r
+    type-is-at : {c : Cursor} {r : TypeAt} → c .at ≡ resultAt (functionsOf index) f → TypeGiven line c sizes r → AgreesType (typeAt ks (F .result)) (c .at + length (resultBytes (F .result))) r
     type-is-at {c} {r} here h =
         let g = i .eachFunction f is in
         let w = function-within (i .within) f is in
         subst (λ o. AgreesType o (c .at + length (resultBytes (F .result))) r) (sym (type-in-scope sizes (w .result)) ∙ ap (λ l. typeAt l (F .result)) sizes-are)
         (subst (λ l. TypeGiven l c sizes r) line-is h .says (length (P .types)) (namedCount (F .parameters)) (F .result) (w .result) (rw here (g .result)))
 
-  module _ {c : Cursor} {holds : Bool} (here : c .at ≡ conditionsAt functions f) (h : Hold line c sizes holds) where
-    pub prepare-no-condition : {n m : ℕ} → holds ≡ false → Prepares text frames functions sizes p f n m (NotEntered 12 (p .line + 1))
+  module _ {c : Cursor} {holds : Bool} (here : c .at ≡ conditionsAt (functionsOf index) f) (h : Hold line c sizes holds) where
+    pub prepare-no-condition : {n m : ℕ} → holds ≡ false → Prepares text index sizes p f n m (NotEntered 12 (p .line + 1))
     prepare-no-condition fails = record {
-      says = λ P types channels q F ks i count around is s. no-condition (ap (NotEntered 12) (add-one (p .line))) (sym (conditions-are i count is s here h) ∙ fails);
+      says = λ P q F ks i count around is s. no-condition (ap (NotEntered 12) (add-one (p .line))) (sym (conditions-are i count is s here h) ∙ fails);
       of = no-entry;
     }
 
-    module _ {c₂ : Cursor} {w : ℕ} {down : Bool} (true-holds : holds ≡ true) (here₂ : c₂ .at ≡ measureAt functions f) (g : Weighs line c₂ sizes w) (d : Falls p f w down) where
-      module _ {types channels : List ℕ} {P : File} {F : Function} {ks : List ℕ} (i : Indexed text frames types functions channels P) (count : p .types ≡ length (P .types)) (is : look (P .functions) f ≡ some F) (s : SizesFor F ks sizes) where
+    module _ {c₂ : Cursor} {w : ℕ} {down : Bool} (true-holds : holds ≡ true) (here₂ : c₂ .at ≡ measureAt (functionsOf index) f) (g : Weighs line c₂ sizes w) (d : Falls p f w down) where
+      module _ {P : File} {F : Function} {ks : List ℕ} (i : Indexed text index P) (count : p .types ≡ length (P .types)) (is : look (P .functions) f ≡ some F) (s : SizesFor F ks sizes) where
         holds-there : conditionsHold ks (F .conditions) ≡ true
         holds-there = sym (conditions-are i count is s here h) ∙ true-holds
 
         falls-there : {q : Stand} {b : Bool} → Around (p .around) (p .weight) q → down ≡ b → falls q f (weight (F .measure) ks) ≡ b
         falls-there {q} around e = ap (falls q f) (sym (weight-is i count is s here₂ g)) ∙ sym (d .says q around) ∙ e
 
-      pub prepare-no-fall : {n m : ℕ} → down ≡ false → Prepares text frames functions sizes p f n m (NotEntered 13 (p .line + 1))
+      pub prepare-no-fall : {n m : ℕ} → down ≡ false → Prepares text index sizes p f n m (NotEntered 13 (p .line + 1))
       prepare-no-fall fails = record {
-        says = λ P types channels q F ks i count around is s. no-fall (ap (NotEntered 13) (add-one (p .line))) (holds-there i count is s) (falls-there i count is s around fails);
+        says = λ P q F ks i count around is s. no-fall (ap (NotEntered 13) (add-one (p .line))) (holds-there i count is s) (falls-there i count is s around fails);
         of = no-entry;
       }
 
-      module _ {c₃ : Cursor} {x : TypeAt} (goes : down ≡ true) (here₃ : c₃ .at ≡ resultAt functions f) (t : TypeGiven line c₃ sizes x) where
-        pub prepare-no-size : {n m : ℕ} → x ≡ TypeOutside → Prepares text frames functions sizes p f n m (NotEntered 10 (p .types + f + 1))
+      module _ {c₃ : Cursor} {x : TypeAt} (goes : down ≡ true) (here₃ : c₃ .at ≡ resultAt (functionsOf index) f) (t : TypeGiven line c₃ sizes x) where
+        pub prepare-no-size : {n m : ℕ} → x ≡ TypeOutside → Prepares text index sizes p f n m (NotEntered 10 (p .types + f + 1))
         prepare-no-size e = record {
-          says = λ P types channels q F ks i count around is s. no-size (ap (NotEntered 10) (add-one (p .types + f))) (holds-there i count is s) (falls-there i count is s around goes) (type-not-given e (type-is-at i count is s here₃ t));
+          says = λ P q F ks i count around is s. no-size (ap (NotEntered 10) (add-one (p .types + f))) (holds-there i count is s) (falls-there i count is s around goes) (type-not-given e (type-is-at i count is s here₃ t));
           of = no-entry;
         }
 
-        pub prepare-ready : {n m : ℕ} {kind : SizedType} {next : Cursor} → x ≡ TypeIs kind next → Prepares text frames functions sizes p f n m (Ready (record { function = f; weight = w; kind = kind; variables = n; sizes = m }))
+        pub prepare-ready : {n m : ℕ} {kind : SizedType} {next : Cursor} → x ≡ TypeIs kind next → Prepares text index sizes p f n m (Ready (record { function = f; weight = w; kind = kind; variables = n; sizes = m }))
         prepare-ready e = record {
-          says = λ P types channels q F ks i count around is s.
+          says = λ P q F ks i count around is s.
               ready refl (holds-there i count is s) (falls-there i count is s around goes) (type-given e (type-is-at i count is s here₃ t) .0) refl (weight-is i count is s here₂ g) refl refl;
           of = entry-of refl refl refl (one-byte-bounded (type-within e (t .bound)));
         }
 
 -- ---- body_place
-abbrev placeOf : Cursor → ℕ → ℕ → ℕ → ℕ → ℕ → ℕ → ℕ → ℕ → ℕ → Place
-placeOf at levels types first line around weight variables sizes used =
-    record { at = at; levels = levels; types = types; first = first; line = line; around = around; weight = weight; variables = variables; sizes = sizes; used = used }
+abbrev placeOf : Cursor → ℕ → ℕ → ℕ → ℕ → ℕ → ℕ → ℕ → ℕ → Place
+placeOf at levels types line around weight variables sizes used =
+    record { at = at; levels = levels; types = types; line = line; around = around; weight = weight; variables = variables; sizes = sizes; used = used }
 
-pub place-at : {at : Cursor} {n levels types first line around weight variables sizes used : ℕ} → at .at ≡ n →
-    placeOf at levels types first line around weight variables sizes used ≡ placeOf (record { at = n }) levels types first line around weight variables sizes used
-place-at {levels} {types} {first} {line} {around} {weight} {variables} {sizes} {used} is = ap (λ n. placeOf (record { at = n }) levels types first line around weight variables sizes used) is
+pub place-at : {at : Cursor} {n levels types line around weight variables sizes used : ℕ} → at .at ≡ n →
+    placeOf at levels types line around weight variables sizes used ≡ placeOf (record { at = n }) levels types line around weight variables sizes used
+place-at {levels} {types} {line} {around} {weight} {variables} {sizes} {used} is = ap (λ n. placeOf (record { at = n }) levels types line around weight variables sizes used) is
 
 -- ---- made
 told-row : {row words row₀ : List ℕ} {a : Counted} {P : File} {next : ℕ} {x : Sizeds} (fs : Constructor) → length (x .types) ≡ length fs → CountedAs P next words 0 row₀ row a x → ToldRow row (length fs) (x .types)
@@ -198,32 +199,32 @@ told-row {row} {x} fs long k = record {
   small = all-map (λ τ. bounded-small) (k .small);
 }
 
-sum-is : {types row : List ℕ} {a : Counted} {t c size : ℕ} → OwnSum types row t c size → {text frames functions channels words row₀ : List ℕ} {P : File} {next : ℕ} {x : Sizeds} (fs : Constructor) →
-    Indexed text frames types functions channels P → t < length (P .types) → look (constructorsOf P t) c ≡ some fs → length (x .types) ≡ length fs → CountedAs P next words 0 row₀ row a x → size ≡ sum (ownSizes fs (x .types))
-sum-is {t} {c} o {x = x} fs i less is long k = o .says fs (x .types) (told-fields i t c less is) (told-row fs long k)
+sum-is : (index : List ℕ) {row : List ℕ} {a : Counted} {t c size : ℕ} → OwnSum (typesOf index) row t c size → {text words row₀ : List ℕ} {P : File} {next : ℕ} {x : Sizeds} (fs : Constructor) →
+    Indexed text index P → t < length (P .types) → look (constructorsOf P t) c ≡ some fs → length (x .types) ≡ length fs → CountedAs P next words 0 row₀ row a x → size ≡ sum (ownSizes fs (x .types))
+sum-is index {t = t} {c = c} o {x = x} fs i less is long k = o .says fs (x .types) (told-fields i t c less is) (told-row fs long k)
 
-module _ {types row : List ℕ} {p : Place} {a : Counted} {t c size : ℕ} (o : OwnSum types row t c size) where
-  pub made-too-large : sizeMost ≤ size → Makes types row p a t c (Refused 10 (p .line + 1))
+module _ (index : List ℕ) {row : List ℕ} {p : Place} {a : Counted} {t c size : ℕ} (o : OwnSum (typesOf index) row t c size) where
+  pub made-too-large : sizeMost ≤ size → Makes index row p a t c (Refused 10 (p .line + 1))
   made-too-large large = record {
-    says = λ text frames functions channels P q fs next words row₀ x i at less is long k.
-        need-fails _ (le-ltb _ sizeMost (subst (λ n. sizeMost ≤ n) (sum-is o fs i less is long k) large)) (ap (Refused 10) (add-one (p .line) ∙ sym at));
+    says = λ text P q fs next words row₀ x i at less is long k.
+        need-fails _ (le-ltb _ sizeMost (subst (λ n. sizeMost ≤ n) (sum-is index o fs i less is long k) large)) (ap (Refused 10) (add-one (p .line) ∙ sym at));
     grows = not-grown;
   }
 
-  module _ {r : Bool} (fits : size < sizeMost) (g : FieldsAgree types row t c r) where
-    pub made-differs : r ≡ false → Makes types row p a t c (Refused 11 (p .line + 1))
+  module _ {r : Bool} (fits : size < sizeMost) (g : FieldsAgree (typesOf index) row t c r) where
+    pub made-differs : r ≡ false → Makes index row p a t c (Refused 11 (p .line + 1))
     made-differs e = record {
-      says = λ text frames functions channels P q fs next words row₀ x i at less is long k.
-          need-holds 10 (frameAt P q) (lt-ltb _ sizeMost (subst (λ n. n < sizeMost) (sum-is o fs i less is long k) fits))
+      says = λ text P q fs next words row₀ x i at less is long k.
+          need-holds 10 (frameAt P q) (lt-ltb _ sizeMost (subst (λ n. n < sizeMost) (sum-is index o fs i less is long k) fits))
           (need-fails _ (sym (g .says fs (x .types) (told-fields i t c less is) (told-row fs long k)) ∙ e) (ap (Refused 11) (add-one (p .line) ∙ sym at)));
       grows = not-grown;
     }
 
     pub made-done : {one numbers : Estimate} → r ≡ true → t < byteRange → Made oneCell one → Combines after (a .numbers) one numbers →
-        Makes types row p a t c (Is (record { kind = Named t (size + 1); numbers = numbers; next = a .next; used = a .used }))
+        Makes index row p a t c (Is (record { kind = Named t (size + 1); numbers = numbers; next = a .next; used = a .used }))
     made-done {numbers} e small one all = record {
-      says = λ text frames functions channels P q fs next words row₀ x i at less is long k.
-          let whole = sum-is o fs i less is long k in
+      says = λ text P q fs next words row₀ x i at less is long k.
+          let whole = sum-is index o fs i less is long k in
           need-holds 10 (frameAt P q) (lt-ltb _ sizeMost (subst (λ n. n < sizeMost) whole fits))
           (need-holds 11 (frameAt P q) (sym (g .says fs (x .types) (told-fields i t c less is) (told-row fs long k)) ∙ e)
           (agrees refl (record {
@@ -235,19 +236,6 @@ module _ {types row : List ℕ} {p : Place} {a : Counted} {t c size : ℕ} (o : 
           })));
       grows = grown {k = record { kind = Named t (size + 1); numbers = numbers; next = a .next; used = a .used }} (omega arith);
     }
-
--- ---- the declared type of a channel: line the channel's, x what is read behind its first byte
-module _ (text frames : List ℕ) (p : Place) (c : ℕ) {line : List ℕ} {x : Number} (cut : line ≡ framePart text frames (p .first + c)) (v : ReadsNumber line 1 x (mapRead declaredWord (declaredRead (p .types) (bytesFrom line 1)))) where
-  declared-is : {τ : Ty} → Spells declaredBytes (framePart text frames (p .first + c)) 1 τ → WithinDeclared (p .types) τ → x ≡ NumberIs (record { value = declaredWord τ; next = record { at = 1 + length (declaredBytes τ) } })
-  declared-is {τ} s w = word-is (declared-exact (p .types)) (subst (λ l. Spells declaredBytes l 1 τ) (sym cut) s) w declaredWord x v
-
-  pub channel-none : {n : ℕ} {r : SizedType} → x ≡ NoNumber n → ChannelTyped text frames p c r
-  channel-none d = record { says = λ τ small s w. absurd (let same = sym d ∙ declared-is s w in let z : _≡_ {A = ℕ} 0 1 = cc in omega arith) }
-
-  pub channel-read : {f : Found} {r : SizedType} → x ≡ NumberIs f → FromWord (f .value) r → ChannelTyped text frames p c r
-  channel-read {f} d from = record {
-    says = λ τ small s w. from .says τ small (let same : NumberIs f ≡ NumberIs (record { value = declaredWord τ; next = record { at = 1 + length (declaredBytes τ) } }) = sym d ∙ declared-is s w in let value : declaredWord τ ≡ f .value = cc in value);
-  }
 
 -- ---- one part, and those behind it or their refusal
 pub more-some : {a : Checked} {b : Counted} {y r : Counting} → y ≡ Are b → OneMore a b r → OneMoreOf a y r

@@ -9,17 +9,16 @@ use lib.Dec.{ltb}
 use Rattle.language.specs.Limits.{byteRange, sizeMost, nestingMost}
 use Rattle.language.specs.Result.{ok, need}
 use Rattle.language.specs.Syntax.{Constructor, Ty, tnamed, Op, Function, File, constructorsOf}
-use Rattle.language.specs.Format.{declaredBytes, opCode}
+use Rattle.language.specs.Format.{opCode}
 use Rattle.language.specs.Scope.{namedCount}
-use Rattle.language.specs.Within.{WithinDeclared}
 use Rattle.language.specs.PlainTypes.{opType}
 use Rattle.language.specs.Sizes.{typeAt, conditionsHold, sum, weight, fieldTypes, ownSizes, sameTypes}
 use Rattle.language.specs.Estimate.{after, oneCell}
 use Rattle.language.specs.Typing.{Place as Stand, frameAt, falls, baseType}
 use Rattle.language.specs.Checker.{Sizeds}
 use Rattle.estimate.specs.declared.Estimate.{Estimate}
-use Rattle.encoding.specs.Spells.{Spells}
-use Rattle.index.specs.Indexed.{framePart, bodyAt, Indexed}
+use Rattle.index.specs.Sections.{functionsOf, channelsOf}
+use Rattle.index.specs.Indexed.{bodyAt, declaredAt, Indexed}
 use Rattle.heads.specs.declared.Form.{Form}
 use Rattle.heads.specs.declared.Form.the-variants.{Bool as BoolForm, Int, Variable, Now, Last, Let, If, Operator, Call, Construct, Case, Adjust, Fit, Missing}
 use Rattle.sizes.specs.declared.SizedType.{SizedType}
@@ -54,13 +53,13 @@ abbrev pub notEntered : Entering → Sizing
 notEntered (Ready e) = RefusedWhole 0 0
 notEntered (Refused n frame) = RefusedWhole n frame
 
--- the type of a word of a table
+-- the type of a word of a row
 abbrev pub Typed : List ℕ → ℕ → SizedType → Type 0
-Typed table i r = FromWord (getD table i 0) r
+Typed row i r = FromWord (getD row i 0) r
 
--- the declared type of channel c, where its line spells one behind the first byte
-pub record ChannelTyped (text frames : List ℕ) (p : Place) (c : ℕ) (r : SizedType) : Type 0 where
-  pub says : (τ : Ty) → Small τ → Spells declaredBytes (framePart text frames (p .first + c)) 1 τ → WithinDeclared (p .types) τ → meaning r ≡ τ
+-- the declared type of channel c
+abbrev pub ChannelTyped : List ℕ → ℕ → SizedType → Type 0
+ChannelTyped index c r = FromWord (declaredAt (channelsOf index) c) r
 
 pub record OperatorType (o : ℕ) (r : SizedType) : Type 0 where
   pub says : (op : Op) → opCode op ≡ o → meaning r ≡ baseType (opType op)
@@ -74,11 +73,10 @@ subjectOf t m kind = record { of = t; size = m; kind = kind }
 
 -- where the body of an entry stands
 abbrev pub bodyOf : List ℕ → Place → Entry → Place
-bodyOf functions p e = record {
-  at = record { at = bodyAt functions (e .function) };
+bodyOf index p e = record {
+  at = record { at = bodyAt (functionsOf index) (e .function) };
   levels = nestingMost;
   types = p .types;
-  first = p .first;
   line = p .types + e .function;
   around = e .function + 1;
   weight = e .weight;
@@ -105,14 +103,14 @@ pub record SizesFor (F : Function) (ks sizes : List ℕ) : Type 0 where
   pub named : length ks ≡ namedCount (F .parameters)
   pub front : take (length ks) sizes ≡ ks
 
-pub record Prepares (text frames functions sizes : List ℕ) (p : Place) (f n m : ℕ) (r : Entering) : Type 0 where
-  pub says : (P : File) (types channels : List ℕ) (q : Stand) (F : Function) (ks : List ℕ) → Indexed text frames types functions channels P → p .types ≡ length (P .types) → Around (p .around) (p .weight) q →
+pub record Prepares (text index sizes : List ℕ) (p : Place) (f n m : ℕ) (r : Entering) : Type 0 where
+  pub says : (P : File) (q : Stand) (F : Function) (ks : List ℕ) → Indexed text index P → p .types ≡ length (P .types) → Around (p .around) (p .weight) q →
       look (P .functions) f ≡ some F → SizesFor F ks sizes → Prepared P q p f n m F ks r
   pub of : EntryOf f n m r
 
 -- ---- a constructor whose fields were checked
-pub record Makes (types row : List ℕ) (p : Place) (a : Counted) (t c : ℕ) (r : Sizing) : Type 0 where
-  pub says : (text frames functions channels : List ℕ) (P : File) (q : Stand) (fs : Constructor) (next : ℕ) (words row₀ : List ℕ) (x : Sizeds) → Indexed text frames types functions channels P → frameAt P q ≡ suc (p .line) →
+pub record Makes (index row : List ℕ) (p : Place) (a : Counted) (t c : ℕ) (r : Sizing) : Type 0 where
+  pub says : (text : List ℕ) (P : File) (q : Stand) (fs : Constructor) (next : ℕ) (words row₀ : List ℕ) (x : Sizeds) → Indexed text index P → frameAt P q ≡ suc (p .line) →
       t < length (P .types) → look (constructorsOf P t) c ≡ some fs → length (x .types) ≡ length fs → CountedAs P next words 0 row₀ row a x →
       Agrees P itself next words r (need (ltb (sum (ownSizes fs (x .types))) sizeMost) 10 (frameAt P q) (need (sameTypes (fieldTypes t fs (ownSizes fs (x .types))) (x .types)) 11 (frameAt P q)
       (ok (record { type = tnamed t (1 + sum (ownSizes fs (x .types))); numbers = after (x .numbers) oneCell; list = x .list }))))

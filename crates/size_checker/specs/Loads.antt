@@ -47,9 +47,9 @@ module _ (p : Place) (rank : ℕ) {t : ℕ} (is : load p rank ≡ t) where
   load-down q lower e some less = omega (arith, is, less, some, ap (λ z. z .used) e, ap (λ z. z .levels) e)
 
   -- into a body
-  pub load-body : (functions : List ℕ) (e : Entry) (q : Place) → q ≡ bodyOf functions p e → p .used < instancesMost → load q 0 < t
+  pub load-body : (index : List ℕ) (e : Entry) (q : Place) → q ≡ bodyOf index p e → p .used < instancesMost → load q 0 < t
   unfolding load
-  load-body functions e q is′ less = omega (arith, is, less, ap (λ z. z .used) is′, ap (λ z. z .levels) is′)
+  load-body index e q is′ less = omega (arith, is, less, ap (λ z. z .used) is′, ap (λ z. z .levels) is′)
 
 -- ---- room
 module _ {deep ns nz : ℕ} {p : Place} (r : Room deep ns nz p) where
@@ -60,7 +60,6 @@ module _ {deep ns nz : ℕ} {p : Place} (r : Room deep ns nz p) where
     levels = omega (arith, r .levels, le);
     under = omega (arith, under, ap (λ z. z .levels) e);
     types = omega (arith, r .types, ap (λ z. z .types) e);
-    first = omega (arith, r .first, ap (λ z. z .first) e);
     line = omega (arith, r .line, ap (λ z. z .line) e);
     variables = omega (arith, r .variables, le, ap (λ z. z .variables) e);
     sizes = omega (arith, r .sizes, le, ap (λ z. z .sizes) e);
@@ -74,7 +73,6 @@ module _ {deep ns nz : ℕ} {p : Place} (r : Room deep ns nz p) where
     levels = omega (arith, r .levels, under);
     under = omega arith;
     types = r .types;
-    first = r .first;
     line = r .line;
     variables = omega (arith, r .variables, under);
     sizes = omega (arith, r .sizes, under);
@@ -93,7 +91,7 @@ module _ {deep ns nz : ℕ} {p : Place} (r : Room deep ns nz p) where
 
   -- other buffers of the same lengths
   pub room-kept : {ns′ nz′ : ℕ} → ns′ ≡ ns → nz′ ≡ nz → Room deep ns′ nz′ p
-  room-kept e k = record { scope = scope-long e; sizeScope = sizes-long k; levels = r .levels; under = r .under; types = r .types; first = r .first; line = r .line; variables = r .variables; sizes = r .sizes }
+  room-kept e k = record { scope = scope-long e; sizeScope = sizes-long k; levels = r .levels; under = r .under; types = r .types; line = r .line; variables = r .variables; sizes = r .sizes }
 
   -- one level down: inside a form
   pub room-down : {q : Place} {at : Cursor} → q ≡ downTo p at → 0 < p .levels → p .levels ≡ deep → Room (suc (q .levels)) ns nz q
@@ -103,7 +101,6 @@ module _ {deep ns nz : ℕ} {p : Place} (r : Room deep ns nz p) where
     levels = omega (arith, r .levels, some, same, ap (λ z. z .levels) e);
     under = omega arith;
     types = omega (arith, r .types, ap (λ z. z .types) e);
-    first = omega (arith, r .first, ap (λ z. z .first) e);
     line = omega (arith, r .line, ap (λ z. z .line) e);
     variables = omega (arith, r .variables, some, same, ap (λ z. z .levels) e, ap (λ z. z .variables) e);
     sizes = omega (arith, r .sizes, some, same, ap (λ z. z .levels) e, ap (λ z. z .sizes) e);
@@ -117,7 +114,6 @@ room-wide {p} {m} {q} r e w n k few fewer = record {
   levels = omega (arith, r .levels, ap (λ z. z .levels) e, ap (λ z. z .levels) w);
   under = omega arith;
   types = omega (arith, r .types, ap (λ z. z .types) e, ap (λ z. z .types) w);
-  first = omega (arith, r .first, ap (λ z. z .first) e, ap (λ z. z .first) w);
   line = omega (arith, r .line, ap (λ z. z .line) e, ap (λ z. z .line) w);
   variables = omega (arith, r .variables, few, ap (λ z. z .levels) e, ap (λ z. z .levels) w, ap (λ z. z .variables) e, ap (λ z. z .variables) w);
   sizes = omega (arith, r .sizes, fewer, ap (λ z. z .levels) e, ap (λ z. z .levels) w, ap (λ z. z .sizes) e, ap (λ z. z .sizes) w);
@@ -139,14 +135,13 @@ pub grows-wide : (p : Place) {m q : Place} {at : Cursor} {used : ℕ} (v s : ℕ
 grows-wide p {m} {q} v s le e w g d = omega (arith, le, ap (λ z. z .used) e, ap (λ z. z .used) w, grows-to g d)
 
 -- ---- into a body, whose scope starts anew
-pub room-body : {deep ns nz : ℕ} {p q : Place} (functions : List ℕ) {e : Entry} → Room deep ns nz p → Entered e → q ≡ bodyOf functions p e → Room (q .levels) ns nz q
-room-body {p} {q} functions {e} r n is = record {
+pub room-body : {deep ns nz : ℕ} {p q : Place} (index : List ℕ) {e : Entry} → Room deep ns nz p → Entered e → q ≡ bodyOf index p e → Room (q .levels) ns nz q
+room-body {p} {q} index {e} r n is = record {
   scope = r .scope;
   sizeScope = r .sizeScope;
   levels = omega (arith, ap (λ z. z .levels) is);
   under = omega arith;
   types = omega (arith, r .types, ap (λ z. z .types) is);
-  first = omega (arith, r .first, ap (λ z. z .first) is);
   line = omega (arith, r .types, n .function, ap (λ z. z .line) is);
   variables = omega (arith, n .variables, ap (λ z. z .variables) is, ap (λ z. z .levels) is);
   sizes = omega (arith, n .sizes, ap (λ z. z .sizes) is, ap (λ z. z .levels) is);
@@ -160,7 +155,6 @@ room-inner {q} r e long wide = record {
   levels = omega (arith, r .levels, ap (λ z. z .levels) e);
   under = omega arith;
   types = omega (arith, r .types, ap (λ z. z .types) e);
-  first = omega (arith, r .first, ap (λ z. z .first) e);
   line = omega (arith, r .line, ap (λ z. z .line) e);
   variables = omega (arith, r .variables, ap (λ z. z .levels) e, ap (λ z. z .variables) e);
   sizes = omega (arith, r .sizes, ap (λ z. z .levels) e, ap (λ z. z .sizes) e);
@@ -168,7 +162,7 @@ room-inner {q} r e long wide = record {
 
 -- the arguments' types are that scope
 pub room-row : {deep ns nz ns′ : ℕ} {p : Place} → Room deep ns nz p → variablesMost ≤ ns′ → Room deep ns′ sizeVariablesMost p
-room-row r long = record { scope = long; sizeScope = omega arith; levels = r .levels; under = r .under; types = r .types; first = r .first; line = r .line; variables = r .variables; sizes = r .sizes }
+room-row r long = record { scope = long; sizeScope = omega arith; levels = r .levels; under = r .under; types = r .types; line = r .line; variables = r .variables; sizes = r .sizes }
 
 -- ---- before a call is entered
 pub prepares : {deep ns nz : ℕ} {p q : Place} {at : Cursor} {used f : ℕ} → Room deep ns nz p → q ≡ movedTo p at used → f < byteRange → (q .types ≤ typesMost) × ((q .line < 2 ^ 16) × (f < byteRange))

@@ -1,4 +1,4 @@
--- What the functions on expressions promise, one record for all forms: for every file that the tables tell and every expression
+-- What the functions on expressions promise, one record for all forms: for every file that the index tells and every expression
 -- spelled at the place, the answer is the definition's; and on any bytes the scope is kept and no instance is lost.
 use Prim.Native.Nat.{ℕ, suc, _+_, _-_, _≤_, _<_}
 use mathlib.Core.List.{List, _++_, map}
@@ -34,32 +34,28 @@ use Rattle.size_checker.specs.declared.Subject.{Subject}
 use Rattle.size_checker.specs.Sites.{Bounded, Around, Site, Kept}
 use Rattle.size_checker.specs.Agreement.{Holds, CountedAs, Agrees, itself, ofType, AgreesAll, Grows, GrowsAll}
 
--- ---- what is lent: the text and its tables, and what is written
+-- ---- what is lent: the text and its index, and what is written
 pub record Lent : Type 0 where
   pub text : List ℕ
-  pub frames : List ℕ
-  pub types : List ℕ
-  pub functions : List ℕ
+  pub index : List ℕ
 
 pub record Buffers : Type 0 where
   pub list : List ℕ
   pub scope : List ℕ
   pub sizes : List ℕ
 
-abbrev pub lent : List ℕ → List ℕ → List ℕ → List ℕ → Lent
-lent text frames types functions = record { text = text; frames = frames; types = types; functions = functions }
+abbrev pub lent : List ℕ → List ℕ → Lent
+lent text index = record { text = text; index = index }
 
 abbrev pub buffers : List ℕ → List ℕ → List ℕ → Buffers
 buffers list scope sizes = record { list = list; scope = scope; sizes = sizes }
 
--- beside the table of channels, which no expression reads
-abbrev pub IndexedFile : Lent → List ℕ → File → Type 0
-IndexedFile t channels P = Indexed (t .text) (t .frames) (t .types) (t .functions) channels P
+abbrev pub IndexedFile : Lent → File → Type 0
+IndexedFile t P = Indexed (t .text) (t .index) P
 
 -- ---- what is known where an expression stands; left: how deep bodies may still be entered
 pub record Here (t : Lent) (b : Buffers) (p : Place) (P : File) (S : Scope) (q : Stand) (Γ : List Ty) (Δ : List ℕ) (L : List Instance) (left : ℕ) : Type 0 where
-  pub table : List ℕ
-  pub indexed : IndexedFile t table P
+  pub indexed : IndexedFile t P
   pub site : Site P S q Γ Δ (b .scope) (b .sizes) p
   pub holds : Holds P (b .list) (p .used) L
   pub deep : instancesMost ≤ left + length L
@@ -171,13 +167,13 @@ pub record Given (P : File) (e : Entry) (F : Function) (ks : List ℕ) (scope si
   pub result : Bounded (meaning (e .kind))
 
 pub record Enters (e : Entry) (t : Lent) (b : Buffers) (p : Place) (r : Sizing) (b′ : Buffers) : Type 0 where
-  pub says : (P : File) (F : Function) (ks : List ℕ) (L : List Instance) (left : ℕ) (table : List ℕ) → IndexedFile t table P → p .types ≡ length (P .types) → Holds P (b .list) (p .used) L → instancesMost ≤ left + length L →
+  pub says : (P : File) (F : Function) (ks : List ℕ) (L : List Instance) (left : ℕ) → IndexedFile t P → p .types ≡ length (P .types) → Holds P (b .list) (p .used) L → instancesMost ≤ left + length L →
       Given P e F ks (b .scope) (b .sizes) → Agrees P (ofType (meaning (e .kind))) (p .at .at) (b′ .list) r (entering P left (suc (p .line)) (e .function) F ks (meaning (e .kind)) L)
   pub grows : Grows (p .used) r
 
 -- a body that was not entered before
 pub record EntersNew (e : Entry) (t : Lent) (b : Buffers) (p : Place) (r : Sizing) (b′ : Buffers) : Type 0 where
-  pub says : (P : File) (F : Function) (ks : List ℕ) (L : List Instance) (left : ℕ) (table : List ℕ) → IndexedFile t table P → p .types ≡ length (P .types) → Holds P (b .list) (p .used) L → instancesMost ≤ left + length L →
+  pub says : (P : File) (F : Function) (ks : List ℕ) (L : List Instance) (left : ℕ) → IndexedFile t P → p .types ≡ length (P .types) → Holds P (b .list) (p .used) L → instancesMost ≤ left + length L →
       Given P e F ks (b .scope) (b .sizes) → find L (e .function) ks ≡ none →
       Agrees P (ofType (meaning (e .kind))) (p .at .at) (b′ .list) r (entering P left (suc (p .line)) (e .function) F ks (meaning (e .kind)) L)
   pub grows : Grows (p .used) r
@@ -190,8 +186,7 @@ applied P enter o g F z = need (conditionsHold (sizesOf (z .types)) (F .conditio
 
 -- z: the arguments for the definition, which agree with the parameters; a, row: what the code holds of them
 pub record Argues (t : Lent) (p : Place) (f n : ℕ) (a : Counted) (list row : List ℕ) (P : File) (o : Stand) (F : Function) (z : Sizeds) (left next : ℕ) : Type 0 where
-  pub table : List ℕ
-  pub indexed : IndexedFile t table P
+  pub indexed : IndexedFile t P
   pub typeCount : p .types ≡ length (P .types)
   pub frame : frameAt P o ≡ suc (p .line)
   pub around : Around (p .around) (p .weight) o

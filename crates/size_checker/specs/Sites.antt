@@ -15,7 +15,7 @@ use Rattle.language.specs.Typing.{Place as Stand, outside, inside, channelsAt, 
 use Rattle.theory.specs.Lists.{take-fewer}
 use Rattle.text.specs.declared.Cursor.{Cursor}
 use Rattle.text.specs.Bytes.{declaredWord}
-use Rattle.index.specs.Indexed.{channelLine, lineCount}
+use Rattle.index.specs.Indexed.{lineCount}
 use Rattle.encoding.specs.Known.{Known}
 use Rattle.sizes.specs.declared.SizedType.{SizedType}
 use Rattle.sizes.specs.Promises.{meaning, OneByteEach, bool-small, int-small, named-small, Small, small-bool, small-int, small-named}
@@ -41,15 +41,15 @@ one-byte-bounded (named-small p q) = bounded-named p (q .1)
 -- ---- the same place elsewhere in the line, one level down, with more in scope
 abbrev pub movedTo : Place → Cursor → ℕ → Place
 movedTo p at used =
-    record { at = at; levels = p .levels; types = p .types; first = p .first; line = p .line; around = p .around; weight = p .weight; variables = p .variables; sizes = p .sizes; used = used }
+    record { at = at; levels = p .levels; types = p .types; line = p .line; around = p .around; weight = p .weight; variables = p .variables; sizes = p .sizes; used = used }
 
 abbrev pub downTo : Place → Cursor → Place
 downTo p at =
-    record { at = at; levels = p .levels - 1; types = p .types; first = p .first; line = p .line; around = p .around; weight = p .weight; variables = p .variables; sizes = p .sizes; used = p .used }
+    record { at = at; levels = p .levels - 1; types = p .types; line = p .line; around = p .around; weight = p .weight; variables = p .variables; sizes = p .sizes; used = p .used }
 
 abbrev pub widened : Place → ℕ → ℕ → Place
 widened p v s =
-    record { at = p .at; levels = p .levels; types = p .types; first = p .first; line = p .line; around = p .around; weight = p .weight; variables = p .variables + v; sizes = p .sizes + s; used = p .used }
+    record { at = p .at; levels = p .levels; types = p .types; line = p .line; around = p .around; weight = p .weight; variables = p .variables + v; sizes = p .sizes + s; used = p .used }
 
 -- ---- what keeps the numbers of a place small on any bytes: each level adds fewer variables than a byte counts. deep: the levels
 -- that are still to be counted, one more inside a form whose head was read
@@ -59,7 +59,6 @@ pub record Room (deep scopeLength sizesLength : ℕ) (p : Place) : Type 0 where
   pub levels : deep ≤ nestingMost
   pub under : p .levels ≤ deep
   pub types : p .types ≤ typesMost
-  pub first : p .first < 2 ^ 16
   pub line : p .line < 2 ^ 16
   pub variables : p .variables + byteRange * deep < 2 ^ 16
   pub sizes : p .sizes + byteRange * deep < 2 ^ 16
@@ -69,18 +68,14 @@ pub data Around (around weight : ℕ) : Stand → Type 0 where
   around-none : {frame : ℕ} {C : List Ty} → around ≡ 0 → Around around weight (outside frame C)
   around-one : {f w : ℕ} → around ≡ suc f → weight ≡ w → Around around weight (inside f w)
 
--- the channels that may be named there are the file's, and their lines are counted from the first one's
-pub record ChannelIs (P : File) (first c : ℕ) (τ : Ty) : Type 0 where
-  pub declared : look (declaredTypes P) c ≡ some τ
-  pub line : first + c ≡ channelLine P c
-
-abbrev pub ChannelsOf : File → Stand → ℕ → Type 0
-ChannelsOf P q first = (c : ℕ) (τ : Ty) → look (channelsAt q) c ≡ some τ → ChannelIs P first c τ
+-- the channels that may be named there are the file's
+abbrev pub ChannelsOf : File → Stand → Type 0
+ChannelsOf P q = (c : ℕ) (τ : Ty) → look (channelsAt q) c ≡ some τ → look (declaredTypes P) c ≡ some τ
 
 -- q: where it stands for the definition; Γ, Δ: the types and sizes in scope; p, scope, sizes: what the code holds
 pub record Site (P : File) (S : Scope) (q : Stand) (Γ : List Ty) (Δ : List ℕ) (scope sizes : List ℕ) (p : Place) : Type 0 where
   pub known : Known P S
-  pub channels : ChannelsOf P q (p .first)
+  pub channels : ChannelsOf P q
   pub typeCount : p .types ≡ length (P .types)
   pub frame : frameAt P q ≡ suc (p .line)
   pub line : p .line < lineCount P

@@ -29,6 +29,7 @@ use Rattle.splits.specs.Moves.{Moves}
 use Rattle.splits.specs.Walks.{moves-keep, walk-moves, walk-ends}
 use Rattle.sizes.specs.Rows.{FieldsBound}
 use Rattle.sizes.specs.ToldLaws.{told-fields, fields-counted}
+use Rattle.index.specs.Sections.{typesOf}
 use Rattle.size_checker.specs.declared.Place.{Place}
 use Rattle.size_checker.specs.declared.Checked.{Checked}
 use Rattle.size_checker.specs.declared.Sizing.{Sizing}
@@ -46,7 +47,7 @@ use Rattle.size_checker.specs.SplitRanks.{same-split}
 use Rattle.size_checker.specs.Walks.{Progress, going, ended, past, Walks}
 
 abbrev pub fieldsWord : Lent → ℕ → ℕ → ℕ
-fieldsWord t u c = getD (t .types) (typeWords * u + 1 + constructorWords * c) 0
+fieldsWord t u c = getD (typesOf (t .index)) (typeWords * u + 1 + constructorWords * c) 0
 
 -- ---- the split in the list is the first of those to come
 record First (ks : List ℕ) (l : List (List ℕ)) : Type 0 where
@@ -158,7 +159,7 @@ agreed frame (unanswered before) same small = unanswered before
 -- ---- the loop's body: the fields bound, and the branch's expression under them
 module _ {s : Subject} {k n own : ℕ} {t : Lent} {b₀ b b₁ : Buffers} {p m o : Place} {all : Checked} {scope : List ℕ} {x : Sizing} (w : Walks s k t b₀ p true b all)
     (count : (n ≡ fieldsWord t (s .of) k % byteRange) × (n < byteRange)) (told : (own ≡ ownWord t (s .of) k % byteRange) × (own < byteRange)) (room : variablesMost ≤ length (b .scope)) (sizeRoom : sizeVariablesMost ≤ length (b .sizes))
-    (bound : FieldsBound (t .types) (b .scope) (b .sizes) (s .of) k (p .variables) (p .sizes) scope) (moved : m ≡ movedTo p (p .at) (all .used)) (wide : o ≡ widened m n own)
+    (bound : FieldsBound (typesOf (t .index)) (b .scope) (b .sizes) (s .of) k (p .variables) (p .sizes) scope) (moved : m ≡ movedTo p (p .at) (all .used)) (wide : o ≡ widened m n own)
     (v : Sizes ExprPart t (buffers (b .list) scope (b .sizes)) o x b₁) where
   under : Sizes ExprPart t (buffers (b .list) scope (b .sizes)) (widened (movedTo p (p .at) (all .used)) n own) x b₁
   under = subst (λ z. Sizes ExprPart t (buffers (b .list) scope (b .sizes)) z x b₁) (wide ∙ ap (λ z. widened z n own) moved) v

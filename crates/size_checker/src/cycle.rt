@@ -48,12 +48,14 @@ use estimate::one_cell;
 use heads::Form;
 use heads::head_at;
 use heads::skip::skip;
-use index::arity;
-use index::constructors;
-use index::fields;
+use index::INDEX_WORDS;
 use index::frames::frame_line;
-use index::own_fields;
+use index::functions::arity;
 use index::put;
+use index::types::constructors;
+use index::types::fields;
+use index::types::own_fields;
+use instances::HINT_WORDS;
 use instances::Search;
 use instances::add;
 use instances::find;
@@ -76,22 +78,21 @@ use splits::next_split;
 // An expression.
 pub fn expr(
     text: &[u8],
-    frames: &[u32],
-    types: &[u32],
-    functions: &[u32],
+    index: &[u32; INDEX_WORDS],
     list: &mut [u32],
+    hints: &mut [u32; HINT_WORDS],
     scope: &mut [u32],
     sizes: &mut [u8],
     p: Place,
 ) -> Sizing
     requires { ⌜ Room (p .levels) (length (now scope)) (length (now sizes)) p ⌝ }
-    ensures { λ r. ⌜ Sizes ExprPart (lent (now (text .entry)) (now (frames .entry)) (now (types .entry)) (now (functions .entry))) (buffers (now (list .entry)) (now (scope .entry)) (now (sizes .entry))) p r (buffers (now (list .exit)) (now (scope .exit)) (now (sizes .exit))) ⌝ }
+    ensures { λ r. ⌜ Sizes ExprPart (lent (now (text .entry)) (now (index .entry))) (buffers (now (list .entry)) (now (scope .entry)) (now (sizes .entry))) p r (buffers (now (list .exit)) (now (scope .exit)) (now (sizes .exit))) ⌝ }
 {
     if p.levels == 0 {
         return Sizing::Refused(7, p.line + 1);
     }
     let at = p.at;
-    let line = frame_line(text, frames, p.line);
+    let line = frame_line(text, index, p.line);
     let h = head_at(line, at);
     let form = h.form;
     let next = h.next;
@@ -100,19 +101,18 @@ pub fn expr(
         Form::Bool(_) => leaf(SizedType::Bool, one_cell(), q),
         Form::Int(_) => leaf(SizedType::Int, one_cell(), q),
         Form::Variable(v) => leaf(type_in(scope, v as usize), nothing(), q),
-        Form::Now(c) => leaf(channel_type(text, frames, p, c), nothing(), q),
-        Form::Last(c) => leaf(channel_type(text, frames, p, c), nothing(), q),
-        _ => compound(text, frames, types, functions, list, scope, sizes, q, form),
+        Form::Now(c) => leaf(channel_type(index, c), nothing(), q),
+        Form::Last(c) => leaf(channel_type(index, c), nothing(), q),
+        _ => compound(text, index, list, hints, scope, sizes, q, form),
     }
 }
 
 // `15` to `1C`; p stands behind the head.
 fn compound(
     text: &[u8],
-    frames: &[u32],
-    types: &[u32],
-    functions: &[u32],
+    index: &[u32; INDEX_WORDS],
     list: &mut [u32],
+    hints: &mut [u32; HINT_WORDS],
     scope: &mut [u32],
     sizes: &mut [u8],
     p: Place,
@@ -120,19 +120,17 @@ fn compound(
 ) -> Sizing
     requires { ⌜ Room (suc (p .levels)) (length (now scope)) (length (now sizes)) p ⌝ }
     requires { ⌜ Operands form ⌝ }
-    ensures { λ r. ⌜ Sizes (CompoundPart form) (lent (now (text .entry)) (now (frames .entry)) (now (types .entry)) (now (functions .entry))) (buffers (now (list .entry)) (now (scope .entry)) (now (sizes .entry))) p r (buffers (now (list .exit)) (now (scope .exit)) (now (sizes .exit))) ⌝ }
+    ensures { λ r. ⌜ Sizes (CompoundPart form) (lent (now (text .entry)) (now (index .entry))) (buffers (now (list .entry)) (now (scope .entry)) (now (sizes .entry))) p r (buffers (now (list .exit)) (now (scope .exit)) (now (sizes .exit))) ⌝ }
 {
     match form {
-        Form::Let => binding(text, frames, types, functions, list, scope, sizes, p),
-        Form::If => choice(text, frames, types, functions, list, scope, sizes, p),
-        Form::Operator(o) => { operation(text, frames, types, functions, list, scope, sizes, p, o) }
-        Form::Call(f) => call(text, frames, types, functions, list, scope, sizes, p, f),
-        Form::Construct(t, c) => {
-            construct(text, frames, types, functions, list, scope, sizes, p, t, c)
-        }
-        Form::Case(t) => case_of(text, frames, types, functions, list, scope, sizes, p, t),
-        Form::Adjust => adjust(text, frames, types, functions, list, scope, sizes, p),
-        Form::Fit(k) => fit(text, frames, types, functions, list, scope, sizes, p, k),
+        Form::Let => binding(text, index, list, hints, scope, sizes, p),
+        Form::If => choice(text, index, list, hints, scope, sizes, p),
+        Form::Operator(o) => { operation(text, index, list, hints, scope, sizes, p, o) }
+        Form::Call(f) => call(text, index, list, hints, scope, sizes, p, f),
+        Form::Construct(t, c) => { construct(text, index, list, hints, scope, sizes, p, t, c) }
+        Form::Case(t) => case_of(text, index, list, hints, scope, sizes, p, t),
+        Form::Adjust => adjust(text, index, list, hints, scope, sizes, p),
+        Form::Fit(k) => fit(text, index, list, hints, scope, sizes, p, k),
         _ => Sizing::Refused(5, p.line + 1),
     }
 }
@@ -140,24 +138,23 @@ fn compound(
 // `15`: a let.
 fn binding(
     text: &[u8],
-    frames: &[u32],
-    types: &[u32],
-    functions: &[u32],
+    index: &[u32; INDEX_WORDS],
     list: &mut [u32],
+    hints: &mut [u32; HINT_WORDS],
     scope: &mut [u32],
     sizes: &mut [u8],
     p: Place,
 ) -> Sizing
     requires { ⌜ Room (suc (p .levels)) (length (now scope)) (length (now sizes)) p ⌝ }
-    ensures { λ r. ⌜ Sizes LetPart (lent (now (text .entry)) (now (frames .entry)) (now (types .entry)) (now (functions .entry))) (buffers (now (list .entry)) (now (scope .entry)) (now (sizes .entry))) p r (buffers (now (list .exit)) (now (scope .exit)) (now (sizes .exit))) ⌝ }
+    ensures { λ r. ⌜ Sizes LetPart (lent (now (text .entry)) (now (index .entry))) (buffers (now (list .entry)) (now (scope .entry)) (now (sizes .entry))) p r (buffers (now (list .exit)) (now (scope .exit)) (now (sizes .exit))) ⌝ }
 {
-    let x = expr(text, frames, types, functions, list, scope, sizes, p);
+    let x = expr(text, index, list, hints, scope, sizes, p);
     let Sizing::Is(a) = x else {
         return x;
     };
     put(scope, p.variables as usize, kind_word(a));
     let q = widen(behind(p, a), 1, 0);
-    let y = expr(text, frames, types, functions, list, scope, sizes, q);
+    let y = expr(text, index, list, hints, scope, sizes, q);
     let Sizing::Is(b) = y else {
         return y;
     };
@@ -167,28 +164,27 @@ fn binding(
 // `16`: an if, whose arms agree.
 fn choice(
     text: &[u8],
-    frames: &[u32],
-    types: &[u32],
-    functions: &[u32],
+    index: &[u32; INDEX_WORDS],
     list: &mut [u32],
+    hints: &mut [u32; HINT_WORDS],
     scope: &mut [u32],
     sizes: &mut [u8],
     p: Place,
 ) -> Sizing
     requires { ⌜ Room (suc (p .levels)) (length (now scope)) (length (now sizes)) p ⌝ }
-    ensures { λ r. ⌜ Sizes IfPart (lent (now (text .entry)) (now (frames .entry)) (now (types .entry)) (now (functions .entry))) (buffers (now (list .entry)) (now (scope .entry)) (now (sizes .entry))) p r (buffers (now (list .exit)) (now (scope .exit)) (now (sizes .exit))) ⌝ }
+    ensures { λ r. ⌜ Sizes IfPart (lent (now (text .entry)) (now (index .entry))) (buffers (now (list .entry)) (now (scope .entry)) (now (sizes .entry))) p r (buffers (now (list .exit)) (now (scope .exit)) (now (sizes .exit))) ⌝ }
 {
-    let x = expr(text, frames, types, functions, list, scope, sizes, p);
+    let x = expr(text, index, list, hints, scope, sizes, p);
     let Sizing::Is(a) = x else {
         return x;
     };
     let q = behind(p, a);
-    let y = expr(text, frames, types, functions, list, scope, sizes, q);
+    let y = expr(text, index, list, hints, scope, sizes, q);
     let Sizing::Is(b) = y else {
         return y;
     };
     let r = behind(p, b);
-    let z = expr(text, frames, types, functions, list, scope, sizes, r);
+    let z = expr(text, index, list, hints, scope, sizes, r);
     let Sizing::Is(d) = z else {
         return z;
     };
@@ -201,24 +197,23 @@ fn choice(
 // `17`: an operator and its operands.
 fn operation(
     text: &[u8],
-    frames: &[u32],
-    types: &[u32],
-    functions: &[u32],
+    index: &[u32; INDEX_WORDS],
     list: &mut [u32],
+    hints: &mut [u32; HINT_WORDS],
     scope: &mut [u32],
     sizes: &mut [u8],
     p: Place,
     o: u32,
 ) -> Sizing
     requires { ⌜ Room (suc (p .levels)) (length (now scope)) (length (now sizes)) p ⌝ }
-    ensures { λ r. ⌜ Sizes (OpPart o) (lent (now (text .entry)) (now (frames .entry)) (now (types .entry)) (now (functions .entry))) (buffers (now (list .entry)) (now (scope .entry)) (now (sizes .entry))) p r (buffers (now (list .exit)) (now (scope .exit)) (now (sizes .exit))) ⌝ }
+    ensures { λ r. ⌜ Sizes (OpPart o) (lent (now (text .entry)) (now (index .entry))) (buffers (now (list .entry)) (now (scope .entry)) (now (sizes .entry))) p r (buffers (now (list .exit)) (now (scope .exit)) (now (sizes .exit))) ⌝ }
 {
-    let x = expr(text, frames, types, functions, list, scope, sizes, p);
+    let x = expr(text, index, list, hints, scope, sizes, p);
     let Sizing::Is(a) = x else {
         return x;
     };
     let q = behind(p, a);
-    let y = expr(text, frames, types, functions, list, scope, sizes, q);
+    let y = expr(text, index, list, hints, scope, sizes, q);
     let Sizing::Is(b) = y else {
         return y;
     };
@@ -228,10 +223,9 @@ fn operation(
 // Arguments or fields from number i of n on; the words of their types go into a row.
 fn several(
     text: &[u8],
-    frames: &[u32],
-    types: &[u32],
-    functions: &[u32],
+    index: &[u32; INDEX_WORDS],
     list: &mut [u32],
+    hints: &mut [u32; HINT_WORDS],
     scope: &mut [u32],
     sizes: &mut [u8],
     p: Place,
@@ -240,22 +234,21 @@ fn several(
     n: u32,
 ) -> Counting
     requires { ⌜ Room (suc (p .levels)) (length (now scope)) (length (now sizes)) p × (n < byteRange) ⌝ }
-    ensures { λ r. ⌜ SizesAll (lent (now (text .entry)) (now (frames .entry)) (now (types .entry)) (now (functions .entry))) (buffers (now (list .entry)) (now (scope .entry)) (now (sizes .entry))) p i n (now (row .entry)) r (buffers (now (list .exit)) (now (scope .exit)) (now (sizes .exit))) (now (row .exit)) ⌝ }
+    ensures { λ r. ⌜ SizesAll (lent (now (text .entry)) (now (index .entry))) (buffers (now (list .entry)) (now (scope .entry)) (now (sizes .entry))) p i n (now (row .entry)) r (buffers (now (list .exit)) (now (scope .exit)) (now (sizes .exit))) (now (row .exit)) ⌝ }
 {
     if n <= i {
         return none(p);
     }
-    let x = expr(text, frames, types, functions, list, scope, sizes, p);
+    let x = expr(text, index, list, hints, scope, sizes, p);
     let Sizing::Is(a) = x else {
         return refused_all(x);
     };
     put(row, i as usize, kind_word(a));
     let y = several(
         text,
-        frames,
-        types,
-        functions,
+        index,
         list,
+        hints,
         scope,
         sizes,
         behind(p, a),
@@ -269,10 +262,9 @@ fn several(
 // `18`: a call and its arguments, which are the scope of its body.
 fn call(
     text: &[u8],
-    frames: &[u32],
-    types: &[u32],
-    functions: &[u32],
+    index: &[u32; INDEX_WORDS],
     list: &mut [u32],
+    hints: &mut [u32; HINT_WORDS],
     scope: &mut [u32],
     sizes: &mut [u8],
     p: Place,
@@ -280,36 +272,23 @@ fn call(
 ) -> Sizing
     requires { ⌜ Room (suc (p .levels)) (length (now scope)) (length (now sizes)) p ⌝ }
     requires { ⌜ f < byteRange ⌝ }
-    ensures { λ r. ⌜ Sizes (CallPart f) (lent (now (text .entry)) (now (frames .entry)) (now (types .entry)) (now (functions .entry))) (buffers (now (list .entry)) (now (scope .entry)) (now (sizes .entry))) p r (buffers (now (list .exit)) (now (scope .exit)) (now (sizes .exit))) ⌝ }
+    ensures { λ r. ⌜ Sizes (CallPart f) (lent (now (text .entry)) (now (index .entry))) (buffers (now (list .entry)) (now (scope .entry)) (now (sizes .entry))) p r (buffers (now (list .exit)) (now (scope .exit)) (now (sizes .exit))) ⌝ }
 {
-    let n = arity(functions, f);
+    let n = arity(index, f);
     let mut row = [0u32; VARIABLES_MOST as usize];
-    let x = several(
-        text,
-        frames,
-        types,
-        functions,
-        list,
-        scope,
-        sizes,
-        p,
-        &mut row,
-        0,
-        n,
-    );
+    let x = several(text, index, list, hints, scope, sizes, p, &mut row, 0, n);
     let Counting::Are(a) = x else {
         return refused(x);
     };
-    apply(text, frames, types, functions, list, &mut row, p, a, f, n)
+    apply(text, index, list, hints, &mut row, p, a, f, n)
 }
 
 // A call whose n arguments were checked: their types, which scope holds, and the sizes of the named ones are the scope of its body.
 fn apply(
     text: &[u8],
-    frames: &[u32],
-    types: &[u32],
-    functions: &[u32],
+    index: &[u32; INDEX_WORDS],
     list: &mut [u32],
+    hints: &mut [u32; HINT_WORDS],
     scope: &mut [u32],
     p: Place,
     a: Counted,
@@ -318,17 +297,17 @@ fn apply(
 ) -> Sizing
     requires { ⌜ Room (suc (p .levels)) (length (now scope)) sizeVariablesMost p ⌝ }
     requires { ⌜ (p .used ≤ a .used) × ((f < byteRange) × (n < byteRange)) ⌝ }
-    ensures { λ r. ⌜ Applies f n a (lent (now (text .entry)) (now (frames .entry)) (now (types .entry)) (now (functions .entry))) (now (list .entry)) (now (scope .entry)) p r (now (list .exit)) ⌝ }
+    ensures { λ r. ⌜ Applies f n a (lent (now (text .entry)) (now (index .entry))) (now (list .entry)) (now (scope .entry)) p r (now (list .exit)) ⌝ }
 {
     let mut held = [0u8; SIZE_VARIABLES_MOST as usize];
     let m = named_sizes(scope, n, &mut held);
     let next = a.next;
     let q = moved(p, next, a.used);
-    let y = prepare(text, frames, functions, &held, q, f, n, m);
+    let y = prepare(text, index, &held, q, f, n, m);
     let Entering::Ready(e) = y else {
         return not_entered(y);
     };
-    let z = enter(text, frames, types, functions, list, scope, &mut held, q, e);
+    let z = enter(text, index, list, hints, scope, &mut held, q, e);
     let Sizing::Is(b) = z else {
         return z;
     };
@@ -338,10 +317,9 @@ fn apply(
 // The numbers of an instance: those found in the list, or of its body.
 fn enter(
     text: &[u8],
-    frames: &[u32],
-    types: &[u32],
-    functions: &[u32],
+    index: &[u32; INDEX_WORDS],
     list: &mut [u32],
+    hints: &mut [u32; HINT_WORDS],
     scope: &mut [u32],
     sizes: &mut [u8],
     p: Place,
@@ -349,23 +327,22 @@ fn enter(
 ) -> Sizing
     requires { ⌜ Room (suc (p .levels)) (length (now scope)) (length (now sizes)) p ⌝ }
     requires { ⌜ Entered e ⌝ }
-    ensures { λ r. ⌜ Enters e (lent (now (text .entry)) (now (frames .entry)) (now (types .entry)) (now (functions .entry))) (buffers (now (list .entry)) (now (scope .entry)) (now (sizes .entry))) p r (buffers (now (list .exit)) (now (scope .exit)) (now (sizes .exit))) ⌝ }
+    ensures { λ r. ⌜ Enters e (lent (now (text .entry)) (now (index .entry))) (buffers (now (list .entry)) (now (scope .entry)) (now (sizes .entry))) p r (buffers (now (list .exit)) (now (scope .exit)) (now (sizes .exit))) ⌝ }
 {
-    let x = find(list, p.used, e.function, sizes);
+    let x = find(list, hints, p.used, e.function, sizes);
     let kind = e.kind;
     match x {
         Search::Found(numbers) => leaf(kind, numbers, p),
-        Search::Absent => body(text, frames, types, functions, list, scope, sizes, p, e),
+        Search::Absent => body(text, index, list, hints, scope, sizes, p, e),
     }
 }
 
 // A body entered for the first time at its sizes: its record is added on entry, and filled in when it has been checked.
 fn body(
     text: &[u8],
-    frames: &[u32],
-    types: &[u32],
-    functions: &[u32],
+    index: &[u32; INDEX_WORDS],
     list: &mut [u32],
+    hints: &mut [u32; HINT_WORDS],
     scope: &mut [u32],
     sizes: &mut [u8],
     p: Place,
@@ -373,14 +350,14 @@ fn body(
 ) -> Sizing
     requires { ⌜ Room (suc (p .levels)) (length (now scope)) (length (now sizes)) p ⌝ }
     requires { ⌜ Entered e ⌝ }
-    ensures { λ r. ⌜ EntersNew e (lent (now (text .entry)) (now (frames .entry)) (now (types .entry)) (now (functions .entry))) (buffers (now (list .entry)) (now (scope .entry)) (now (sizes .entry))) p r (buffers (now (list .exit)) (now (scope .exit)) (now (sizes .exit))) ⌝ }
+    ensures { λ r. ⌜ EntersNew e (lent (now (text .entry)) (now (index .entry))) (buffers (now (list .entry)) (now (scope .entry)) (now (sizes .entry))) p r (buffers (now (list .exit)) (now (scope .exit)) (now (sizes .exit))) ⌝ }
 {
     if INSTANCES_MOST <= p.used as usize {
         return Sizing::Refused(14, p.line + 1);
     }
-    add(list, p.used, e.function, sizes);
-    let q = body_place(functions, p, e);
-    let x = expr(text, frames, types, functions, list, scope, sizes, q);
+    add(list, hints, p.used, e.function, sizes);
+    let q = body_place(index, p, e);
+    let x = expr(text, index, list, hints, scope, sizes, q);
     let Sizing::Is(a) = x else {
         return x;
     };
@@ -397,10 +374,9 @@ fn body(
 // `19`: a constructor and its fields.
 fn construct(
     text: &[u8],
-    frames: &[u32],
-    types: &[u32],
-    functions: &[u32],
+    index: &[u32; INDEX_WORDS],
     list: &mut [u32],
+    hints: &mut [u32; HINT_WORDS],
     scope: &mut [u32],
     sizes: &mut [u8],
     p: Place,
@@ -409,36 +385,23 @@ fn construct(
 ) -> Sizing
     requires { ⌜ Room (suc (p .levels)) (length (now scope)) (length (now sizes)) p ⌝ }
     requires { ⌜ (t < byteRange) × (c < byteRange) ⌝ }
-    ensures { λ r. ⌜ Sizes (ConPart t c) (lent (now (text .entry)) (now (frames .entry)) (now (types .entry)) (now (functions .entry))) (buffers (now (list .entry)) (now (scope .entry)) (now (sizes .entry))) p r (buffers (now (list .exit)) (now (scope .exit)) (now (sizes .exit))) ⌝ }
+    ensures { λ r. ⌜ Sizes (ConPart t c) (lent (now (text .entry)) (now (index .entry))) (buffers (now (list .entry)) (now (scope .entry)) (now (sizes .entry))) p r (buffers (now (list .exit)) (now (scope .exit)) (now (sizes .exit))) ⌝ }
 {
-    let n = fields(types, t, c);
+    let n = fields(index, t, c);
     let mut row = [0u32; FIELDS_MOST];
-    let x = several(
-        text,
-        frames,
-        types,
-        functions,
-        list,
-        scope,
-        sizes,
-        p,
-        &mut row,
-        0,
-        n,
-    );
+    let x = several(text, index, list, hints, scope, sizes, p, &mut row, 0, n);
     let Counting::Are(a) = x else {
         return refused(x);
     };
-    made(types, &row, p, a, t, c)
+    made(index, &row, p, a, t, c)
 }
 
 // `1A`: a case over type t: its subject, its return type, its branches.
 fn case_of(
     text: &[u8],
-    frames: &[u32],
-    types: &[u32],
-    functions: &[u32],
+    index: &[u32; INDEX_WORDS],
     list: &mut [u32],
+    hints: &mut [u32; HINT_WORDS],
     scope: &mut [u32],
     sizes: &mut [u8],
     p: Place,
@@ -446,9 +409,9 @@ fn case_of(
 ) -> Sizing
     requires { ⌜ Room (suc (p .levels)) (length (now scope)) (length (now sizes)) p ⌝ }
     requires { ⌜ t < byteRange ⌝ }
-    ensures { λ r. ⌜ Sizes (CasePart t) (lent (now (text .entry)) (now (frames .entry)) (now (types .entry)) (now (functions .entry))) (buffers (now (list .entry)) (now (scope .entry)) (now (sizes .entry))) p r (buffers (now (list .exit)) (now (scope .exit)) (now (sizes .exit))) ⌝ }
+    ensures { λ r. ⌜ Sizes (CasePart t) (lent (now (text .entry)) (now (index .entry))) (buffers (now (list .entry)) (now (scope .entry)) (now (sizes .entry))) p r (buffers (now (list .exit)) (now (scope .exit)) (now (sizes .exit))) ⌝ }
 {
-    let x = expr(text, frames, types, functions, list, scope, sizes, p);
+    let x = expr(text, index, list, hints, scope, sizes, p);
     let Sizing::Is(a) = x else {
         return x;
     };
@@ -457,14 +420,14 @@ fn case_of(
         return Sizing::Refused(9, p.line + 1);
     };
     let written = a.next;
-    let line = frame_line(text, frames, p.line);
+    let line = frame_line(text, index, p.line);
     let y = type_at(line, written, sizes);
     let TypeAt::Is(wanted, next) = y else {
         return Sizing::Refused(10, p.line + 1);
     };
     let s = subject(t, m, wanted);
     let q = moved(p, next, a.used);
-    let z = branches(text, frames, types, functions, list, scope, sizes, q, s, 0);
+    let z = branches(text, index, list, hints, scope, sizes, q, s, 0);
     let Sizing::Is(b) = z else {
         return z;
     };
@@ -474,10 +437,9 @@ fn case_of(
 // The branches of a case from constructor k on.
 fn branches(
     text: &[u8],
-    frames: &[u32],
-    types: &[u32],
-    functions: &[u32],
+    index: &[u32; INDEX_WORDS],
     list: &mut [u32],
+    hints: &mut [u32; HINT_WORDS],
     scope: &mut [u32],
     sizes: &mut [u8],
     p: Place,
@@ -486,19 +448,19 @@ fn branches(
 ) -> Sizing
     requires { ⌜ Room (suc (p .levels)) (length (now scope)) (length (now sizes)) p ⌝ }
     requires { ⌜ (s .of < byteRange) × (k ≤ byteRange) ⌝ }
-    ensures { λ r. ⌜ SizesBranches s k (lent (now (text .entry)) (now (frames .entry)) (now (types .entry)) (now (functions .entry))) (buffers (now (list .entry)) (now (scope .entry)) (now (sizes .entry))) p r (buffers (now (list .exit)) (now (scope .exit)) (now (sizes .exit))) ⌝ }
+    ensures { λ r. ⌜ SizesBranches s k (lent (now (text .entry)) (now (index .entry))) (buffers (now (list .entry)) (now (scope .entry)) (now (sizes .entry))) p r (buffers (now (list .exit)) (now (scope .exit)) (now (sizes .exit))) ⌝ }
 {
-    if constructors(types, s.of) <= k {
+    if constructors(index, s.of) <= k {
         let kind = s.kind;
         return leaf(kind, nothing(), p);
     }
-    let x = branch(text, frames, types, functions, list, scope, sizes, p, s, k);
+    let x = branch(text, index, list, hints, scope, sizes, p, s, k);
     let Sizing::Is(a) = x else {
         return x;
     };
     let q = behind(p, a);
     let j = k + 1;
-    let y = branches(text, frames, types, functions, list, scope, sizes, q, s, j);
+    let y = branches(text, index, list, hints, scope, sizes, q, s, j);
     let Sizing::Is(b) = y else {
         return y;
     };
@@ -508,10 +470,9 @@ fn branches(
 // One branch: it is skipped where the subject is too small for its constructor, else checked for every split.
 fn branch(
     text: &[u8],
-    frames: &[u32],
-    types: &[u32],
-    functions: &[u32],
+    index: &[u32; INDEX_WORDS],
     list: &mut [u32],
+    hints: &mut [u32; HINT_WORDS],
     scope: &mut [u32],
     sizes: &mut [u8],
     p: Place,
@@ -520,28 +481,27 @@ fn branch(
 ) -> Sizing
     requires { ⌜ Room (suc (p .levels)) (length (now scope)) (length (now sizes)) p ⌝ }
     requires { ⌜ (s .of < byteRange) × (k < byteRange) ⌝ }
-    ensures { λ r. ⌜ SizesBranch s k (lent (now (text .entry)) (now (frames .entry)) (now (types .entry)) (now (functions .entry))) (buffers (now (list .entry)) (now (scope .entry)) (now (sizes .entry))) p r (buffers (now (list .exit)) (now (scope .exit)) (now (sizes .exit))) ⌝ }
+    ensures { λ r. ⌜ SizesBranch s k (lent (now (text .entry)) (now (index .entry))) (buffers (now (list .entry)) (now (scope .entry)) (now (sizes .entry))) p r (buffers (now (list .exit)) (now (scope .exit)) (now (sizes .exit))) ⌝ }
 {
-    let own = own_fields(types, s.of, k);
+    let own = own_fields(index, s.of, k);
     let m = s.size;
     if (m as u32) <= own {
         let at = p.at;
         let kind = s.kind;
-        let line = frame_line(text, frames, p.line);
-        let next = skip(line, types, functions, at, p.levels);
+        let line = frame_line(text, index, p.line);
+        let next = skip(line, index, at, p.levels);
         return leaf(kind, nothing(), moved(p, next, p.used));
     }
     first_split(sizes, p.sizes as usize, own, m - 1);
-    at_splits(text, frames, types, functions, list, scope, sizes, p, s, k)
+    at_splits(text, index, list, hints, scope, sizes, p, s, k)
 }
 
 // A branch for every split from the one on that stands among the sizes.
 fn at_splits(
     text: &[u8],
-    frames: &[u32],
-    types: &[u32],
-    functions: &[u32],
+    index: &[u32; INDEX_WORDS],
     list: &mut [u32],
+    hints: &mut [u32; HINT_WORDS],
     scope: &mut [u32],
     sizes: &mut [u8],
     p: Place,
@@ -550,18 +510,18 @@ fn at_splits(
 ) -> Sizing
     requires { ⌜ Room (suc (p .levels)) (length (now scope)) (length (now sizes)) p ⌝ }
     requires { ⌜ (s .of < byteRange) × (k < byteRange) ⌝ }
-    ensures { λ r. ⌜ SizesSplits s k (lent (now (text .entry)) (now (frames .entry)) (now (types .entry)) (now (functions .entry))) (buffers (now (list .entry)) (now (scope .entry)) (now (sizes .entry))) p r (buffers (now (list .exit)) (now (scope .exit)) (now (sizes .exit))) ⌝ }
+    ensures { λ r. ⌜ SizesSplits s k (lent (now (text .entry)) (now (index .entry))) (buffers (now (list .entry)) (now (scope .entry)) (now (sizes .entry))) p r (buffers (now (list .exit)) (now (scope .exit)) (now (sizes .exit))) ⌝ }
 {
-    let n = fields(types, s.of, k);
-    let own = own_fields(types, s.of, k);
+    let n = fields(index, s.of, k);
+    let own = own_fields(index, s.of, k);
     let at = p.at;
     let kind = s.kind;
     let mut all = nothing_yet(kind, p);
     let mut more = true;
     while more {
-        bind_fields(types, scope, sizes, s.of, k, p.variables, p.sizes);
+        bind_fields(index, scope, sizes, s.of, k, p.variables, p.sizes);
         let q = widen(moved(p, at, all.used), n, own);
-        let x = expr(text, frames, types, functions, list, scope, sizes, q);
+        let x = expr(text, index, list, hints, scope, sizes, q);
         let Sizing::Is(a) = x else {
             return x;
         };
@@ -577,25 +537,24 @@ fn at_splits(
 // `1B`: a written size, and the expression that it adjusts, which never lowers.
 fn adjust(
     text: &[u8],
-    frames: &[u32],
-    types: &[u32],
-    functions: &[u32],
+    index: &[u32; INDEX_WORDS],
     list: &mut [u32],
+    hints: &mut [u32; HINT_WORDS],
     scope: &mut [u32],
     sizes: &mut [u8],
     p: Place,
 ) -> Sizing
     requires { ⌜ Room (suc (p .levels)) (length (now scope)) (length (now sizes)) p ⌝ }
-    ensures { λ r. ⌜ Sizes AdjPart (lent (now (text .entry)) (now (frames .entry)) (now (types .entry)) (now (functions .entry))) (buffers (now (list .entry)) (now (scope .entry)) (now (sizes .entry))) p r (buffers (now (list .exit)) (now (scope .exit)) (now (sizes .exit))) ⌝ }
+    ensures { λ r. ⌜ Sizes AdjPart (lent (now (text .entry)) (now (index .entry))) (buffers (now (list .entry)) (now (scope .entry)) (now (sizes .entry))) p r (buffers (now (list .exit)) (now (scope .exit)) (now (sizes .exit))) ⌝ }
 {
     let at = p.at;
-    let line = frame_line(text, frames, p.line);
+    let line = frame_line(text, index, p.line);
     let s = size_at(line, at, sizes);
     let SizeAt::Is(k, next) = s else {
         return Sizing::Refused(10, p.line + 1);
     };
     let q = moved(p, next, p.used);
-    let x = expr(text, frames, types, functions, list, scope, sizes, q);
+    let x = expr(text, index, list, hints, scope, sizes, q);
     let Sizing::Is(a) = x else {
         return x;
     };
@@ -612,19 +571,18 @@ fn adjust(
 // `1C`: a fit: the subject, the arm where it fits with a variable of size k, the other arm.
 fn fit(
     text: &[u8],
-    frames: &[u32],
-    types: &[u32],
-    functions: &[u32],
+    index: &[u32; INDEX_WORDS],
     list: &mut [u32],
+    hints: &mut [u32; HINT_WORDS],
     scope: &mut [u32],
     sizes: &mut [u8],
     p: Place,
     k: u32,
 ) -> Sizing
     requires { ⌜ Room (suc (p .levels)) (length (now scope)) (length (now sizes)) p × (k < byteRange) ⌝ }
-    ensures { λ r. ⌜ Sizes (FitPart k) (lent (now (text .entry)) (now (frames .entry)) (now (types .entry)) (now (functions .entry))) (buffers (now (list .entry)) (now (scope .entry)) (now (sizes .entry))) p r (buffers (now (list .exit)) (now (scope .exit)) (now (sizes .exit))) ⌝ }
+    ensures { λ r. ⌜ Sizes (FitPart k) (lent (now (text .entry)) (now (index .entry))) (buffers (now (list .entry)) (now (scope .entry)) (now (sizes .entry))) p r (buffers (now (list .exit)) (now (scope .exit)) (now (sizes .exit))) ⌝ }
 {
-    let x = expr(text, frames, types, functions, list, scope, sizes, p);
+    let x = expr(text, index, list, hints, scope, sizes, p);
     let Sizing::Is(a) = x else {
         return x;
     };
@@ -635,12 +593,12 @@ fn fit(
     let word = word_of(SizedType::Named(t, k as u8));
     put(scope, p.variables as usize, word);
     let q = widen(behind(p, a), 1, 0);
-    let y = expr(text, frames, types, functions, list, scope, sizes, q);
+    let y = expr(text, index, list, hints, scope, sizes, q);
     let Sizing::Is(b) = y else {
         return y;
     };
     let r = behind(p, b);
-    let z = expr(text, frames, types, functions, list, scope, sizes, r);
+    let z = expr(text, index, list, hints, scope, sizes, r);
     let Sizing::Is(d) = z else {
         return z;
     };

@@ -1,10 +1,12 @@
 // A whole file: initial values first in channel order, then updates in node order, each against its channel's declared type.
 ghost use mathlib.Core.Path.{_≡_};
-ghost use Prim.Native.Nat.{_<_};
+ghost use Prim.Native.Nat.{_+_, _*_, _<_};
+ghost use lib.ListN.{getD};
 ghost use Rattle.language.specs.Limits.{channelsMost};
 ghost use Rattle.index.specs.Tables.{channelWords};
+ghost use Rattle.index.specs.Sections.{channelsOf};
 ghost use Rattle.size_checker.specs.Promises.{lent};
-ghost use Rattle.size_checker.specs.FileParts.{Few, Limited, outerPlace, NoneYet, Joins, SizesChannel, SizesChannels, SizesInitials};
+ghost use Rattle.size_checker.specs.FileParts.{Few, Limited, InitialOrUpdate, outerPlace, NoneYet, Joins, SizesChannel, SizesChannels, SizesInitials};
 ghost use Rattle.size_checker.specs.FilePromises.{SizesFile};
 use super::Checked;
 use super::Counted;
@@ -17,9 +19,12 @@ use super::numbers::is_kind;
 use super::numbers::refused_all;
 use estimate::after;
 use estimate::nothing;
-use index::CHANNEL_WORDS;
 use index::Counts;
-use index::word_at;
+use index::INDEX_WORDS;
+use index::channels::initial_start;
+use index::channels::update_start;
+use index::frame_counts;
+use instances::HINT_WORDS;
 use instances::clear;
 use language::limits::FUNCTIONS_MOST;
 use language::limits::INPUTS_MOST;
@@ -60,7 +65,6 @@ fn outer_place(n: Counts, c: u32, at: usize, used: u32) -> Place
         at: Cursor { at: at },
         levels: NESTING_MOST,
         types: n.types,
-        first: n.types + n.functions,
         line: n.types + n.functions + c,
         around: 0,
         weight: 0,
@@ -70,40 +74,41 @@ fn outer_place(n: Counts, c: u32, at: usize, used: u32) -> Place
     }
 }
 
-// The expression of channel c where a word of its entry tells, which must be of the declared type.
+// Where an expression of channel c starts: its initial value or its update.
+fn expression_start(index: &[u32; INDEX_WORDS], c: u32, word: usize) -> Cursor
+    requires { ⌜ InitialOrUpdate word ⌝ }
+    ensures { λ r. ⌜ r .at ≡ getD (channelsOf (now (index .entry))) (channelWords * c + word) 0 ⌝ }
+{
+    if word == UPDATE_WORD {
+        return update_start(index, c);
+    }
+    initial_start(index, c)
+}
+
+// The initial value or the update of channel c, which must be of the declared type.
 fn channel(
     text: &[u8],
-    frames: &[u32],
-    types: &[u32],
-    functions: &[u32],
-    channels: &[u32],
+    index: &[u32; INDEX_WORDS],
     list: &mut [u32],
+    hints: &mut [u32; HINT_WORDS],
     n: Counts,
     c: u32,
     word: usize,
     used: u32,
 ) -> Sizing
-    requires { ⌜ Few n × ((c < channelsMost) × (word < channelWords)) ⌝ }
-    ensures { λ r. ⌜ SizesChannel (lent (now (text .entry)) (now (frames .entry)) (now (types .entry)) (now (functions .entry))) (now (channels .entry)) (now (list .entry)) n c word used r (now (list .exit)) ⌝ }
+    requires { ⌜ Few n × ((c < channelsMost) × InitialOrUpdate word) ⌝ }
+    ensures { λ r. ⌜ SizesChannel (lent (now (text .entry)) (now (index .entry))) (now (list .entry)) n c word used r (now (list .exit)) ⌝ }
 {
     let mut scope = [0u32; VARIABLES_MOST as usize];
     let mut sizes = [0u8; SIZE_VARIABLES_MOST as usize];
-    let at = word_at(channels, CHANNEL_WORDS * (c as usize) + word) as usize;
+    let start = expression_start(index, c, word);
+    let at = start.at;
     let p = outer_place(n, c, at, used);
-    let x = expr(
-        text,
-        frames,
-        types,
-        functions,
-        list,
-        &mut scope,
-        &mut sizes,
-        p,
-    );
+    let x = expr(text, index, list, hints, &mut scope, &mut sizes, p);
     let Sizing::Is(a) = x else {
         return x;
     };
-    if !is_kind(a, channel_type(text, frames, p, c)) {
+    if !is_kind(a, channel_type(index, c)) {
         return Sizing::Refused(11, p.line + 1);
     }
     x
@@ -138,35 +143,22 @@ fn joined(all: Counted, a: Checked) -> Counted
 // The expressions of all channels from one on, each where that word of its entry tells: their numbers together.
 fn channels_from(
     text: &[u8],
-    frames: &[u32],
-    types: &[u32],
-    functions: &[u32],
-    channels: &[u32],
+    index: &[u32; INDEX_WORDS],
     list: &mut [u32],
+    hints: &mut [u32; HINT_WORDS],
     n: Counts,
     from: u32,
     word: usize,
     used: u32,
 ) -> Counting
-    requires { ⌜ Few n × (word < channelWords) ⌝ }
-    ensures { λ r. ⌜ SizesChannels (lent (now (text .entry)) (now (frames .entry)) (now (types .entry)) (now (functions .entry))) (now (channels .entry)) (now (list .entry)) n from word used r (now (list .exit)) ⌝ }
+    requires { ⌜ Few n × InitialOrUpdate word ⌝ }
+    ensures { λ r. ⌜ SizesChannels (lent (now (text .entry)) (now (index .entry))) (now (list .entry)) n from word used r (now (list .exit)) ⌝ }
 {
     let last = n.inputs + n.nodes;
     let mut all = none_yet(used);
     let mut c = from;
     while c < last {
-        let x = channel(
-            text,
-            frames,
-            types,
-            functions,
-            channels,
-            list,
-            n,
-            c,
-            word,
-            all.used,
-        );
+        let x = channel(text, index, list, hints, n, c, word, all.used);
         let Sizing::Is(a) = x else {
             return refused_all(x);
         };
@@ -179,56 +171,35 @@ fn channels_from(
 // The initial values of all channels, from a cleared list of instances on; refused where no file has such counts.
 fn initials(
     text: &[u8],
-    frames: &[u32],
-    types: &[u32],
-    functions: &[u32],
-    channels: &[u32],
+    index: &[u32; INDEX_WORDS],
     list: &mut [u32],
+    hints: &mut [u32; HINT_WORDS],
     counts: Counts,
 ) -> Counting
-    ensures { λ r. ⌜ SizesInitials (lent (now (text .entry)) (now (frames .entry)) (now (types .entry)) (now (functions .entry))) (now (channels .entry)) (now (list .entry)) counts r (now (list .exit)) ⌝ }
+    ensures { λ r. ⌜ SizesInitials (lent (now (text .entry)) (now (index .entry))) (now (list .entry)) counts r (now (list .exit)) ⌝ }
 {
     clear(list);
     if !limited(counts) {
         return Counting::Refused(0, 0);
     }
-    channels_from(
-        text,
-        frames,
-        types,
-        functions,
-        channels,
-        list,
-        counts,
-        0,
-        INITIAL_WORD,
-        0,
-    )
+    channels_from(text, index, list, hints, counts, 0, INITIAL_WORD, 0)
 }
 
 // The numbers of all updates together, and the list of instances; or the first refusal of 10 to 14 with its frame.
-pub fn sized_file(
-    text: &[u8],
-    frames: &[u32],
-    types: &[u32],
-    functions: &[u32],
-    channels: &[u32],
-    list: &mut [u32],
-    counts: Counts,
-) -> Counting
-    ensures { λ r. ⌜ SizesFile (lent (now (text .entry)) (now (frames .entry)) (now (types .entry)) (now (functions .entry))) (now (channels .entry)) (now (list .entry)) counts r (now (list .exit)) ⌝ }
+pub fn sized_file(text: &[u8], index: &[u32; INDEX_WORDS], list: &mut [u32]) -> Counting
+    ensures { λ r. ⌜ SizesFile (lent (now (text .entry)) (now (index .entry))) (now (list .entry)) r (now (list .exit)) ⌝ }
 {
-    let x = initials(text, frames, types, functions, channels, list, counts);
+    let counts = frame_counts(index);
+    let mut hints = [0u32; HINT_WORDS];
+    let x = initials(text, index, list, &mut hints, counts);
     let Counting::Are(a) = x else {
         return x;
     };
     channels_from(
         text,
-        frames,
-        types,
-        functions,
-        channels,
+        index,
         list,
+        &mut hints,
         counts,
         counts.inputs,
         UPDATE_WORD,

@@ -1,9 +1,7 @@
-// What a form asks of the tables and of the lines: types, conditions, measures, fields.
+// What a form asks of the index and of the lines: types, conditions, measures, fields.
 ghost use Prim.Native.Nat.{_<_, _≤_, _+_, _^_};
-ghost use lib.ListN.{getD};
 ghost use Rattle.language.specs.Limits.{byteRange, typesMost};
 ghost use Rattle.size_checker.specs.Leaves.{Typed, ChannelTyped, Falls, Prepares, Makes};
-ghost use mathlib.Core.Path.{_≡_};
 use super::Checked;
 use super::Counted;
 use super::Entering;
@@ -12,10 +10,12 @@ use super::Place;
 use super::Sizing;
 use estimate::after;
 use estimate::one_cell;
-use index::FUNCTION_WORDS;
-use index::HEAD_WORDS;
-use index::fields;
+use index::INDEX_WORDS;
+use index::channels::declared_word;
 use index::frames::frame_line;
+use index::functions::conditions_start;
+use index::functions::measure_start;
+use index::functions::result_start;
 use index::word_at;
 use language::limits::SIZE_MOST;
 use sizes::SizedType;
@@ -26,28 +26,19 @@ use sizes::rows::own_sum;
 use sizes::type_at;
 use sizes::type_of;
 use sizes::weight;
-use text::Cursor;
-use text::Number;
 
-// The type whose word stands in a table, 0 beyond it.
-pub fn type_in(table: &[u32], i: usize) -> SizedType
-    ensures { λ r. ⌜ Typed (now (table .entry)) i r ⌝ }
+// The type whose word stands in a row, 0 beyond it.
+pub fn type_in(row: &[u32], i: usize) -> SizedType
+    ensures { λ r. ⌜ Typed (now (row .entry)) i r ⌝ }
 {
-    type_of(word_at(table, i))
+    type_of(word_at(row, i))
 }
 
-// The declared type of channel c, read behind the first byte of its line; where none is spelled there, some type.
-pub fn channel_type(text: &[u8], frames: &[u32], p: Place, c: u32) -> SizedType
-    requires { ⌜ p .first + c < 2 ^ 32 ⌝ }
-    ensures { λ r. ⌜ ChannelTyped (now (text .entry)) (now (frames .entry)) p c r ⌝ }
+// The declared type of channel c.
+pub fn channel_type(index: &[u32; INDEX_WORDS], c: u32) -> SizedType
+    ensures { λ r. ⌜ ChannelTyped (now (index .entry)) c r ⌝ }
 {
-    let line = frame_line(text, frames, p.first + c);
-    let start = Cursor { at: 1 };
-    let x = start.declared(line, p.types);
-    let Number::Is(f) = x else {
-        return SizedType::Bool;
-    };
-    type_of(f.value)
+    type_of(declared_word(index, c))
 }
 
 // For a self-call whether the summed measure falls; any other call may be made.
@@ -63,20 +54,10 @@ pub fn falls(p: Place, f: u32, w: u32) -> bool
     w < p.weight
 }
 
-// The cursor that a word of a table tells.
-pub fn cursor_in(table: &[u32], i: usize) -> Cursor
-    ensures { λ r. ⌜ r .at ≡ getD (now (table .entry)) i 0 ⌝ }
-{
-    Cursor {
-        at: word_at(table, i) as usize,
-    }
-}
-
 // A call whose arguments were checked: its conditions, for a self-call that the measure falls, and the size of its result.
 pub fn prepare(
     text: &[u8],
-    frames: &[u32],
-    functions: &[u32],
+    index: &[u32; INDEX_WORDS],
     sizes: &[u8],
     p: Place,
     f: u32,
@@ -84,18 +65,17 @@ pub fn prepare(
     m: u32,
 ) -> Entering
     requires { ⌜ (p .types ≤ typesMost) × ((p .line < 2 ^ 16) × (f < byteRange)) ⌝ }
-    ensures { λ r. ⌜ Prepares (now (text .entry)) (now (frames .entry)) (now (functions .entry)) (now (sizes .entry)) p f n m r ⌝ }
+    ensures { λ r. ⌜ Prepares (now (text .entry)) (now (index .entry)) (now (sizes .entry)) p f n m r ⌝ }
 {
-    let line = frame_line(text, frames, p.types + f);
-    let head = FUNCTION_WORDS * (f as usize) + HEAD_WORDS;
-    if !conditions_hold(line, cursor_in(functions, head + 1), sizes) {
+    let line = frame_line(text, index, p.types + f);
+    if !conditions_hold(line, conditions_start(index, f), sizes) {
         return Entering::Refused(12, p.line + 1);
     }
-    let w = weight(line, cursor_in(functions, head + 2), sizes);
+    let w = weight(line, measure_start(index, f), sizes);
     if !falls(p, f, w) {
         return Entering::Refused(13, p.line + 1);
     }
-    let x = type_at(line, cursor_in(functions, head), sizes);
+    let x = type_at(line, result_start(index, f), sizes);
     let TypeAt::Is(kind, _) = x else {
         return Entering::Refused(10, p.types + f + 1);
     };
@@ -109,15 +89,15 @@ pub fn prepare(
 }
 
 // A constructor whose fields were checked: its size, then that each field is exactly what it must be.
-pub fn made(types: &[u32], row: &[u32], p: Place, a: Counted, t: u32, c: u32) -> Sizing
+pub fn made(index: &[u32; INDEX_WORDS], row: &[u32], p: Place, a: Counted, t: u32, c: u32) -> Sizing
     requires { ⌜ (p .line < 2 ^ 16) × (t < byteRange) ⌝ }
-    ensures { λ r. ⌜ Makes (now (types .entry)) (now (row .entry)) p a t c r ⌝ }
+    ensures { λ r. ⌜ Makes (now (index .entry)) (now (row .entry)) p a t c r ⌝ }
 {
-    let size = own_sum(types, row, t, c);
+    let size = own_sum(index, row, t, c);
     if SIZE_MOST <= size {
         return Sizing::Refused(10, p.line + 1);
     }
-    if !fields_agree(types, row, t, c) {
+    if !fields_agree(index, row, t, c) {
         return Sizing::Refused(11, p.line + 1);
     }
     let fields = a.numbers;

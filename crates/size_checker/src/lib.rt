@@ -16,7 +16,6 @@ pub struct Place {
     pub at: Cursor,
     pub levels: u32,
     pub types: u32,
-    pub first: u32,
     pub line: u32,
     pub around: u32,
     pub weight: u32,

@@ -18,7 +18,6 @@ use estimate::in_call;
 use estimate::nothing;
 use estimate::one_cell;
 use estimate::with_slots;
-use index::fields;
 use sizes::SizedType;
 use sizes::same;
 use sizes::word_of;

@@ -7,9 +7,8 @@ ghost use mathlib.Core.Path.{_≡_};
 use super::Checked;
 use super::Entry;
 use super::Place;
-use super::leaves::cursor_in;
-use index::FUNCTION_WORDS;
-use index::HEAD_WORDS;
+use index::INDEX_WORDS;
+use index::functions::body_start;
 use language::limits::NESTING_MOST;
 use sizes::same;
 use sizes::weight;
@@ -23,7 +22,6 @@ pub fn moved(p: Place, at: Cursor, used: u32) -> Place
         at: at,
         levels: p.levels,
         types: p.types,
-        first: p.first,
         line: p.line,
         around: p.around,
         weight: p.weight,
@@ -42,7 +40,6 @@ pub fn down(p: Place, at: Cursor) -> Place
         at: at,
         levels: p.levels - 1,
         types: p.types,
-        first: p.first,
         line: p.line,
         around: p.around,
         weight: p.weight,
@@ -62,7 +59,6 @@ pub fn widen(p: Place, variables: u32, sizes: u32) -> Place
         at: at,
         levels: p.levels,
         types: p.types,
-        first: p.first,
         line: p.line,
         around: p.around,
         weight: p.weight,
@@ -81,19 +77,15 @@ pub fn behind(p: Place, a: Checked) -> Place
 }
 
 // Where the body of an entry stands.
-pub fn body_place(functions: &[u32], p: Place, e: Entry) -> Place
+pub fn body_place(index: &[u32; INDEX_WORDS], p: Place, e: Entry) -> Place
     requires { ⌜ (p .types ≤ typesMost) × ((p .used < instancesMost) × (e .function < byteRange)) ⌝ }
-    ensures { λ r. ⌜ r ≡ bodyOf (now (functions .entry)) p e ⌝ }
+    ensures { λ r. ⌜ r ≡ bodyOf (now (index .entry)) p e ⌝ }
 {
-    let at = cursor_in(
-        functions,
-        FUNCTION_WORDS * (e.function as usize) + HEAD_WORDS + 3,
-    );
+    let at = body_start(index, e.function);
     Place {
         at: at,
         levels: NESTING_MOST,
         types: p.types,
-        first: p.first,
         line: p.types + e.function,
         around: e.function + 1,
         weight: e.weight,

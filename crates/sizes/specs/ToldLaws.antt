@@ -14,6 +14,7 @@ use Rattle.theory.specs.Lists.{look-getD, look-less}
 use Rattle.theory.specs.Alls.{all-getD, all-at}
 use Rattle.index.specs.Tables.{constructorWords, typeWords}
 use Rattle.encoding.specs.FrameSpells.{lineAt}
+use Rattle.index.specs.Sections.{typesOf}
 use Rattle.index.specs.Indexed.{fieldAt, TypeIndexed, Indexed}
 use Rattle.sizes.specs.Promises.{Small}
 use Rattle.sizes.specs.Rows.{ToldFields, ToldRow}
@@ -45,11 +46,11 @@ type-at wt-nil j t less e = absurd (omega arith)
 type-at (wt-cons {d} w ws) zero t less e = subst (λ n. WithinType n d) (omega arith) w
 type-at (wt-cons w ws) (suc j) t less e = type-at ws j t (omega arith) (omega arith)
 
-pub told-fields : {text frames types functions channels : List ℕ} {P : File} → Indexed text frames types functions channels P → (t c : ℕ) {fs : Constructor} → t < length (P .types) → look (constructorsOf P t) c ≡ some fs → ToldFields types t c fs
-told-fields {text} {types} {P} indexed t c {fs} less e = record {
+pub told-fields : {text index : List ℕ} {P : File} → Indexed text index P → (t c : ℕ) {fs : Constructor} → t < length (P .types) → look (constructorsOf P t) c ≡ some fs → ToldFields (typesOf index) t c fs
+told-fields {text} {index} {P} indexed t c {fs} less e = record {
   count = told .tells .fields c there ∙ ap length is;
   few = omega (arith, told .tells .fewFields c there, ap length is);
-  each = subst (λ gs. (i : ℕ) → i < length gs → fieldAt types t c i ≡ getD (map fieldWord gs) i 0) is (told .fields c there);
+  each = subst (λ gs. (i : ℕ) → i < length gs → fieldAt (typesOf index) t c i ≡ getD (map fieldWord gs) i 0) is (told .fields c there);
   within = all-at (type-at (indexed .within .types) t t less (omega arith) .constructors) c e .fields;
   small = omega (arith, indexed .within .fewTypes);
 }
@@ -60,5 +61,5 @@ told-fields {text} {types} {P} indexed t c {fs} less e = record {
     is : getD (constructorsOf P t) c [] ≡ fs
     is = look-getD (constructorsOf P t) c [] e
 
-    told : TypeIndexed (lineAt text t) types t (constructorsOf P t)
+    told : TypeIndexed (lineAt text t) (typesOf index) t (constructorsOf P t)
     told = indexed .eachType t less

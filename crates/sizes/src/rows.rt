@@ -3,24 +3,16 @@ ghost use mathlib.Core.Path.{_≡_};
 ghost use Prim.Native.Nat.{_<_};
 ghost use lib.ListN.{getD, set};
 ghost use Rattle.language.specs.Limits.{byteRange};
-ghost use Rattle.index.specs.Indexed.{fieldAt};
+ghost use Rattle.index.specs.Sections.{typesOf};
 ghost use Rattle.sizes.specs.Rows.{sizeIn, fieldAgrees, boundWord, NamedSizes, OwnSum, FieldsAgree, FieldsBound};
-use index::CONSTRUCTOR_WORDS;
-use index::TYPE_WORDS;
-use index::fields;
+use index::INDEX_WORDS;
 use index::one_if;
 use index::put;
 use index::types::OWN_FIELD;
+use index::types::field_word;
+use index::types::fields;
 use index::word_at;
 use text::TYPE_STEP;
-
-// The word of a field of a constructor; 0 beyond the table.
-pub fn field_word(types: &[u32], t: u32, c: u32, i: u32) -> u32
-    ensures { λ r. ⌜ r ≡ fieldAt (now (types .entry)) t c i ⌝ }
-{
-    let first = TYPE_WORDS * (t as usize) + 3 + CONSTRUCTOR_WORDS * (c as usize);
-    word_at(types, first + (i as usize))
-}
 
 // Writes a size; beyond the sizes nothing.
 fn put_size(sizes: &mut [u8], i: usize, size: u8)
@@ -89,14 +81,14 @@ pub fn named_sizes(row: &[u32], n: u32, sizes: &mut [u8]) -> u32
 }
 
 // The sum of the sizes of the values at a constructor's fields of its own type; the row has the words of all its values' types.
-pub fn own_sum(types: &[u32], row: &[u32], t: u32, c: u32) -> u32
-    ensures { λ r. ⌜ OwnSum (now (types .entry)) (now (row .entry)) t c r ⌝ }
+pub fn own_sum(index: &[u32; INDEX_WORDS], row: &[u32], t: u32, c: u32) -> u32
+    ensures { λ r. ⌜ OwnSum (typesOf (now (index .entry))) (now (row .entry)) t c r ⌝ }
 {
-    let n = fields(types, t, c);
+    let n = fields(index, t, c);
     let mut sum: u32 = 0;
     let mut i: u32 = 0;
     while i < n {
-        if field_word(types, t, c, i) == OWN_FIELD {
+        if field_word(index, t, c, i) == OWN_FIELD {
             sum += size_in(word_at(row, i as usize));
         }
         i += 1;
@@ -105,13 +97,13 @@ pub fn own_sum(types: &[u32], row: &[u32], t: u32, c: u32) -> u32
 }
 
 // Whether the type of each value is exactly that of its field.
-pub fn fields_agree(types: &[u32], row: &[u32], t: u32, c: u32) -> bool
-    ensures { λ r. ⌜ FieldsAgree (now (types .entry)) (now (row .entry)) t c r ⌝ }
+pub fn fields_agree(index: &[u32; INDEX_WORDS], row: &[u32], t: u32, c: u32) -> bool
+    ensures { λ r. ⌜ FieldsAgree (typesOf (now (index .entry))) (now (row .entry)) t c r ⌝ }
 {
-    let n = fields(types, t, c);
+    let n = fields(index, t, c);
     let mut i: u32 = 0;
     while i < n {
-        let field = field_word(types, t, c, i);
+        let field = field_word(index, t, c, i);
         let word = word_at(row, i as usize);
         if !field_agrees(field, word, t) {
             return false;
@@ -123,7 +115,7 @@ pub fn fields_agree(types: &[u32], row: &[u32], t: u32, c: u32) -> bool
 
 // Writes the types of a constructor's fields into the scope from place `to` on, those of its own type at the sizes from `from` on.
 pub fn bind_fields(
-    types: &[u32],
+    index: &[u32; INDEX_WORDS],
     scope: &mut [u32],
     sizes: &[u8],
     t: u32,
@@ -131,13 +123,13 @@ pub fn bind_fields(
     to: u32,
     from: u32,
 )
-    ensures { λ _. ⌜ FieldsBound (now (types .entry)) (now (scope .entry)) (now (sizes .entry)) t c to from (now (scope .exit)) ⌝ }
+    ensures { λ _. ⌜ FieldsBound (typesOf (now (index .entry))) (now (scope .entry)) (now (sizes .entry)) t c to from (now (scope .exit)) ⌝ }
 {
-    let n = fields(types, t, c);
+    let n = fields(index, t, c);
     let mut next: u32 = 0;
     let mut i: u32 = 0;
     while i < n {
-        let field = field_word(types, t, c, i);
+        let field = field_word(index, t, c, i);
         let size = nth_size(sizes, (from as usize) + (next as usize));
         let word = bound_word(field, t, size);
         put(scope, (to as usize) + (i as usize), word);

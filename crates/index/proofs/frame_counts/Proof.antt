@@ -26,9 +26,10 @@ section-word-requires-4 c κs = search needs
 
 -- src/lib.rt:119:1
 returns : tie.Need-returns
-returns c =
-    (rw ((c .before .before .before .section-word .ensures), (c .before .before .section-word2 .ensures), (c .before .section-word3 .ensures), (c .section-word4 .ensures)) refl,
-    record { types = omega arith; functions = omega arith; inputs = omega arith; nodes = omega arith })
+returns c = (
+  rw ((c .before .before .before .section-word .ensures), (c .before .before .section-word2 .ensures), (c .before .section-word3 .ensures), (c .section-word4 .ensures)) refl,
+  record { types = omega arith; functions = omega arith; inputs = omega arith; nodes = omega arith },
+)
 
 pub frame-counts-spec : {M : Type 1} → statement M
 frame-counts-spec =

@@ -6,10 +6,10 @@ use Rattle.instances.proofs.find.Statement.{statement}
 use Rattle.instances.proofs.find.Tie as tie
 
 abbrev Inv-loop : tie.InvT-loop
-Inv-loop list used f sizes i₀ i = Passed list used f sizes i
+Inv-loop list hints used f sizes i₀ i = Passed list used f sizes i
 
 abbrev μ-loop : tie.MeasureT-loop
-μ-loop list used f sizes i₀ i = used - i
+μ-loop list hints used f sizes i₀ i = used - i
 
 loop-holds : tie.Need-loop-holds Inv-loop μ-loop
 loop-holds c = passed-start

@@ -93,10 +93,10 @@ use Rattle.size_checker.proofs.cycle.+adjust+apply+at_splits+binding+bo
 use Rattle.estimate.proofs.nothing.Reads as nothing-reads
 use Rattle.estimate.proofs.one_cell.Reads as one-cell-reads
 use Rattle.heads.proofs.head_at.Reads as head-at-reads
-use Rattle.index.proofs.arity.Reads as arity-reads
-use Rattle.index.proofs.constructors.Reads as constructors-reads
-use Rattle.index.proofs.fields.Reads as fields-reads
-use Rattle.index.proofs.own_fields.Reads as own-fields-reads
+use Rattle.index.proofs.functions.arity.Reads as arity-reads
+use Rattle.index.proofs.types.constructors.Reads as constructors-reads
+use Rattle.index.proofs.types.fields.Reads as fields-reads
+use Rattle.index.proofs.types.own_fields.Reads as own-fields-reads
 use Rattle.index.proofs.put.Reads as put-reads
 use Rattle.index.proofs.frames.frame_line.Reads as frame-line-reads
 use Rattle.instances.proofs.add.Reads as add-reads
@@ -196,163 +196,163 @@ no-parts Adjust s = absurd (⊎-elim (λ z. omega (arith, z)) (λ z. omega (arit
 no-parts (Fit k) s = absurd (⊎-elim (λ z. omega (arith, z)) (λ z. omega (arith, z)) s)
 no-parts Missing s = refl
 
-abbrev μ-adjust : Measures 7 adjust-kinds.ps ℕ
-μ-adjust κs a = load (a .1 .1 .1 .1 .1 .1 .1 .0) 900
+abbrev μ-adjust : Measures 6 adjust-kinds.ps ℕ
+μ-adjust κs a = load (a .1 .1 .1 .1 .1 .1 .0) 900
 
-abbrev μ-apply : Measures 6 apply-kinds.ps ℕ
-μ-apply κs a = load (a .1 .1 .1 .1 .1 .1 .0) 800
+abbrev μ-apply : Measures 5 apply-kinds.ps ℕ
+μ-apply κs a = load (a .1 .1 .1 .1 .1 .0) 800
 
-abbrev μ-at-splits : Measures 7 at-splits-kinds.ps ℕ
-μ-at-splits κs a = load (a .1 .1 .1 .1 .1 .1 .1 .0) 100
+abbrev μ-at-splits : Measures 6 at-splits-kinds.ps ℕ
+μ-at-splits κs a = load (a .1 .1 .1 .1 .1 .1 .0) 100
 
-abbrev μ-binding : Measures 7 binding-kinds.ps ℕ
-μ-binding κs a = load (a .1 .1 .1 .1 .1 .1 .1 .0) 900
+abbrev μ-binding : Measures 6 binding-kinds.ps ℕ
+μ-binding κs a = load (a .1 .1 .1 .1 .1 .1 .0) 900
 
-abbrev μ-body : Measures 7 body-kinds.ps ℕ
-μ-body κs a = load (a .1 .1 .1 .1 .1 .1 .1 .0) 80
+abbrev μ-body : Measures 6 body-kinds.ps ℕ
+μ-body κs a = load (a .1 .1 .1 .1 .1 .1 .0) 80
 
-abbrev μ-branch : Measures 7 branch-kinds.ps ℕ
-μ-branch κs a = load (a .1 .1 .1 .1 .1 .1 .1 .0) 200
+abbrev μ-branch : Measures 6 branch-kinds.ps ℕ
+μ-branch κs a = load (a .1 .1 .1 .1 .1 .1 .0) 200
 
-abbrev μ-branches : Measures 7 branches-kinds.ps ℕ
-μ-branches κs a = load (a .1 .1 .1 .1 .1 .1 .1 .0) (300 + (byteRange - a .1 .1 .1 .1 .1 .1 .1 .1 .1 .0))
+abbrev μ-branches : Measures 6 branches-kinds.ps ℕ
+μ-branches κs a = load (a .1 .1 .1 .1 .1 .1 .0) (300 + (byteRange - a .1 .1 .1 .1 .1 .1 .1 .1 .0))
 
-abbrev μ-call : Measures 7 call-kinds.ps ℕ
-μ-call κs a = load (a .1 .1 .1 .1 .1 .1 .1 .0) 900
+abbrev μ-call : Measures 6 call-kinds.ps ℕ
+μ-call κs a = load (a .1 .1 .1 .1 .1 .1 .0) 900
 
-abbrev μ-case-of : Measures 7 case-of-kinds.ps ℕ
-μ-case-of κs a = load (a .1 .1 .1 .1 .1 .1 .1 .0) 900
+abbrev μ-case-of : Measures 6 case-of-kinds.ps ℕ
+μ-case-of κs a = load (a .1 .1 .1 .1 .1 .1 .0) 900
 
-abbrev μ-choice : Measures 7 choice-kinds.ps ℕ
-μ-choice κs a = load (a .1 .1 .1 .1 .1 .1 .1 .0) 900
+abbrev μ-choice : Measures 6 choice-kinds.ps ℕ
+μ-choice κs a = load (a .1 .1 .1 .1 .1 .1 .0) 900
 
-abbrev μ-compound : Measures 7 compound-kinds.ps ℕ
-μ-compound κs a = load (a .1 .1 .1 .1 .1 .1 .1 .0) 1000
+abbrev μ-compound : Measures 6 compound-kinds.ps ℕ
+μ-compound κs a = load (a .1 .1 .1 .1 .1 .1 .0) 1000
 
-abbrev μ-construct : Measures 7 construct-kinds.ps ℕ
-μ-construct κs a = load (a .1 .1 .1 .1 .1 .1 .1 .0) 900
+abbrev μ-construct : Measures 6 construct-kinds.ps ℕ
+μ-construct κs a = load (a .1 .1 .1 .1 .1 .1 .0) 900
 
-abbrev μ-enter : Measures 7 enter-kinds.ps ℕ
-μ-enter κs a = load (a .1 .1 .1 .1 .1 .1 .1 .0) 90
+abbrev μ-enter : Measures 6 enter-kinds.ps ℕ
+μ-enter κs a = load (a .1 .1 .1 .1 .1 .1 .0) 90
 
-abbrev μ-expr : Measures 7 expr-kinds.ps ℕ
-μ-expr κs a = load (a .1 .1 .1 .1 .1 .1 .1 .0) 0
+abbrev μ-expr : Measures 6 expr-kinds.ps ℕ
+μ-expr κs a = load (a .1 .1 .1 .1 .1 .1 .0) 0
 
-abbrev μ-fit : Measures 7 fit-kinds.ps ℕ
-μ-fit κs a = load (a .1 .1 .1 .1 .1 .1 .1 .0) 900
+abbrev μ-fit : Measures 6 fit-kinds.ps ℕ
+μ-fit κs a = load (a .1 .1 .1 .1 .1 .1 .0) 900
 
-abbrev μ-operation : Measures 7 operation-kinds.ps ℕ
-μ-operation κs a = load (a .1 .1 .1 .1 .1 .1 .1 .0) 900
+abbrev μ-operation : Measures 6 operation-kinds.ps ℕ
+μ-operation κs a = load (a .1 .1 .1 .1 .1 .1 .0) 900
 
-abbrev μ-several : Measures 8 several-kinds.ps ℕ
-μ-several κs a = load (a .1 .1 .1 .1 .1 .1 .1 .0) (300 + (a .1 .1 .1 .1 .1 .1 .1 .1 .1 .1 .0 - a .1 .1 .1 .1 .1 .1 .1 .1 .1 .0))
+abbrev μ-several : Measures 7 several-kinds.ps ℕ
+μ-several κs a = load (a .1 .1 .1 .1 .1 .1 .0) (300 + (a .1 .1 .1 .1 .1 .1 .1 .1 .1 .0 - a .1 .1 .1 .1 .1 .1 .1 .1 .0))
 
-abbrev adjust-at : ℕ → In 7 adjust-kinds.ps
-adjust-at t = and 7 adjust-kinds.ps (is 7 adjust-kinds.ps μ-adjust t) adjust.Pre
+abbrev adjust-at : ℕ → In 6 adjust-kinds.ps
+adjust-at t = and 6 adjust-kinds.ps (is 6 adjust-kinds.ps μ-adjust t) adjust.Pre
 
-abbrev adjust-below : ℕ → In 7 adjust-kinds.ps
-adjust-below t = and 7 adjust-kinds.ps (falls 7 adjust-kinds.ps _<_ μ-adjust t) adjust.Pre
+abbrev adjust-below : ℕ → In 6 adjust-kinds.ps
+adjust-below t = and 6 adjust-kinds.ps (falls 6 adjust-kinds.ps _<_ μ-adjust t) adjust.Pre
 
-abbrev apply-at : ℕ → In 6 apply-kinds.ps
-apply-at t = and 6 apply-kinds.ps (is 6 apply-kinds.ps μ-apply t) apply.Pre
+abbrev apply-at : ℕ → In 5 apply-kinds.ps
+apply-at t = and 5 apply-kinds.ps (is 5 apply-kinds.ps μ-apply t) apply.Pre
 
-abbrev apply-below : ℕ → In 6 apply-kinds.ps
-apply-below t = and 6 apply-kinds.ps (falls 6 apply-kinds.ps _<_ μ-apply t) apply.Pre
+abbrev apply-below : ℕ → In 5 apply-kinds.ps
+apply-below t = and 5 apply-kinds.ps (falls 5 apply-kinds.ps _<_ μ-apply t) apply.Pre
 
-abbrev at-splits-at : ℕ → In 7 at-splits-kinds.ps
-at-splits-at t = and 7 at-splits-kinds.ps (is 7 at-splits-kinds.ps μ-at-splits t) at-splits.Pre
+abbrev at-splits-at : ℕ → In 6 at-splits-kinds.ps
+at-splits-at t = and 6 at-splits-kinds.ps (is 6 at-splits-kinds.ps μ-at-splits t) at-splits.Pre
 
-abbrev at-splits-below : ℕ → In 7 at-splits-kinds.ps
+abbrev at-splits-below : ℕ → In 6 at-splits-kinds.ps
 at-splits-below t =
-    and 7 at-splits-kinds.ps (falls 7 at-splits-kinds.ps _<_ μ-at-splits t) at-splits.Pre
+    and 6 at-splits-kinds.ps (falls 6 at-splits-kinds.ps _<_ μ-at-splits t) at-splits.Pre
 
-abbrev binding-at : ℕ → In 7 binding-kinds.ps
-binding-at t = and 7 binding-kinds.ps (is 7 binding-kinds.ps μ-binding t) binding.Pre
+abbrev binding-at : ℕ → In 6 binding-kinds.ps
+binding-at t = and 6 binding-kinds.ps (is 6 binding-kinds.ps μ-binding t) binding.Pre
 
-abbrev binding-below : ℕ → In 7 binding-kinds.ps
-binding-below t = and 7 binding-kinds.ps (falls 7 binding-kinds.ps _<_ μ-binding t) binding.Pre
+abbrev binding-below : ℕ → In 6 binding-kinds.ps
+binding-below t = and 6 binding-kinds.ps (falls 6 binding-kinds.ps _<_ μ-binding t) binding.Pre
 
-abbrev body-at : ℕ → In 7 body-kinds.ps
-body-at t = and 7 body-kinds.ps (is 7 body-kinds.ps μ-body t) body.Pre
+abbrev body-at : ℕ → In 6 body-kinds.ps
+body-at t = and 6 body-kinds.ps (is 6 body-kinds.ps μ-body t) body.Pre
 
-abbrev body-below : ℕ → In 7 body-kinds.ps
-body-below t = and 7 body-kinds.ps (falls 7 body-kinds.ps _<_ μ-body t) body.Pre
+abbrev body-below : ℕ → In 6 body-kinds.ps
+body-below t = and 6 body-kinds.ps (falls 6 body-kinds.ps _<_ μ-body t) body.Pre
 
-abbrev branch-at : ℕ → In 7 branch-kinds.ps
-branch-at t = and 7 branch-kinds.ps (is 7 branch-kinds.ps μ-branch t) branch.Pre
+abbrev branch-at : ℕ → In 6 branch-kinds.ps
+branch-at t = and 6 branch-kinds.ps (is 6 branch-kinds.ps μ-branch t) branch.Pre
 
-abbrev branch-below : ℕ → In 7 branch-kinds.ps
-branch-below t = and 7 branch-kinds.ps (falls 7 branch-kinds.ps _<_ μ-branch t) branch.Pre
+abbrev branch-below : ℕ → In 6 branch-kinds.ps
+branch-below t = and 6 branch-kinds.ps (falls 6 branch-kinds.ps _<_ μ-branch t) branch.Pre
 
-abbrev branches-at : ℕ → In 7 branches-kinds.ps
-branches-at t = and 7 branches-kinds.ps (is 7 branches-kinds.ps μ-branches t) branches.Pre
+abbrev branches-at : ℕ → In 6 branches-kinds.ps
+branches-at t = and 6 branches-kinds.ps (is 6 branches-kinds.ps μ-branches t) branches.Pre
 
-abbrev branches-below : ℕ → In 7 branches-kinds.ps
+abbrev branches-below : ℕ → In 6 branches-kinds.ps
 branches-below t =
-    and 7 branches-kinds.ps (falls 7 branches-kinds.ps _<_ μ-branches t) branches.Pre
+    and 6 branches-kinds.ps (falls 6 branches-kinds.ps _<_ μ-branches t) branches.Pre
 
-abbrev call-at : ℕ → In 7 call-kinds.ps
-call-at t = and 7 call-kinds.ps (is 7 call-kinds.ps μ-call t) call.Pre
+abbrev call-at : ℕ → In 6 call-kinds.ps
+call-at t = and 6 call-kinds.ps (is 6 call-kinds.ps μ-call t) call.Pre
 
-abbrev call-below : ℕ → In 7 call-kinds.ps
-call-below t = and 7 call-kinds.ps (falls 7 call-kinds.ps _<_ μ-call t) call.Pre
+abbrev call-below : ℕ → In 6 call-kinds.ps
+call-below t = and 6 call-kinds.ps (falls 6 call-kinds.ps _<_ μ-call t) call.Pre
 
-abbrev case-of-at : ℕ → In 7 case-of-kinds.ps
-case-of-at t = and 7 case-of-kinds.ps (is 7 case-of-kinds.ps μ-case-of t) case-of.Pre
+abbrev case-of-at : ℕ → In 6 case-of-kinds.ps
+case-of-at t = and 6 case-of-kinds.ps (is 6 case-of-kinds.ps μ-case-of t) case-of.Pre
 
-abbrev case-of-below : ℕ → In 7 case-of-kinds.ps
-case-of-below t = and 7 case-of-kinds.ps (falls 7 case-of-kinds.ps _<_ μ-case-of t) case-of.Pre
+abbrev case-of-below : ℕ → In 6 case-of-kinds.ps
+case-of-below t = and 6 case-of-kinds.ps (falls 6 case-of-kinds.ps _<_ μ-case-of t) case-of.Pre
 
-abbrev choice-at : ℕ → In 7 choice-kinds.ps
-choice-at t = and 7 choice-kinds.ps (is 7 choice-kinds.ps μ-choice t) choice.Pre
+abbrev choice-at : ℕ → In 6 choice-kinds.ps
+choice-at t = and 6 choice-kinds.ps (is 6 choice-kinds.ps μ-choice t) choice.Pre
 
-abbrev choice-below : ℕ → In 7 choice-kinds.ps
-choice-below t = and 7 choice-kinds.ps (falls 7 choice-kinds.ps _<_ μ-choice t) choice.Pre
+abbrev choice-below : ℕ → In 6 choice-kinds.ps
+choice-below t = and 6 choice-kinds.ps (falls 6 choice-kinds.ps _<_ μ-choice t) choice.Pre
 
-abbrev compound-at : ℕ → In 7 compound-kinds.ps
-compound-at t = and 7 compound-kinds.ps (is 7 compound-kinds.ps μ-compound t) compound.Pre
+abbrev compound-at : ℕ → In 6 compound-kinds.ps
+compound-at t = and 6 compound-kinds.ps (is 6 compound-kinds.ps μ-compound t) compound.Pre
 
-abbrev compound-below : ℕ → In 7 compound-kinds.ps
+abbrev compound-below : ℕ → In 6 compound-kinds.ps
 compound-below t =
-    and 7 compound-kinds.ps (falls 7 compound-kinds.ps _<_ μ-compound t) compound.Pre
+    and 6 compound-kinds.ps (falls 6 compound-kinds.ps _<_ μ-compound t) compound.Pre
 
-abbrev construct-at : ℕ → In 7 construct-kinds.ps
-construct-at t = and 7 construct-kinds.ps (is 7 construct-kinds.ps μ-construct t) construct.Pre
+abbrev construct-at : ℕ → In 6 construct-kinds.ps
+construct-at t = and 6 construct-kinds.ps (is 6 construct-kinds.ps μ-construct t) construct.Pre
 
-abbrev construct-below : ℕ → In 7 construct-kinds.ps
+abbrev construct-below : ℕ → In 6 construct-kinds.ps
 construct-below t =
-    and 7 construct-kinds.ps (falls 7 construct-kinds.ps _<_ μ-construct t) construct.Pre
+    and 6 construct-kinds.ps (falls 6 construct-kinds.ps _<_ μ-construct t) construct.Pre
 
-abbrev enter-at : ℕ → In 7 enter-kinds.ps
-enter-at t = and 7 enter-kinds.ps (is 7 enter-kinds.ps μ-enter t) enter.Pre
+abbrev enter-at : ℕ → In 6 enter-kinds.ps
+enter-at t = and 6 enter-kinds.ps (is 6 enter-kinds.ps μ-enter t) enter.Pre
 
-abbrev enter-below : ℕ → In 7 enter-kinds.ps
-enter-below t = and 7 enter-kinds.ps (falls 7 enter-kinds.ps _<_ μ-enter t) enter.Pre
+abbrev enter-below : ℕ → In 6 enter-kinds.ps
+enter-below t = and 6 enter-kinds.ps (falls 6 enter-kinds.ps _<_ μ-enter t) enter.Pre
 
-abbrev expr-at : ℕ → In 7 expr-kinds.ps
-expr-at t = and 7 expr-kinds.ps (is 7 expr-kinds.ps μ-expr t) expr.Pre
+abbrev expr-at : ℕ → In 6 expr-kinds.ps
+expr-at t = and 6 expr-kinds.ps (is 6 expr-kinds.ps μ-expr t) expr.Pre
 
-abbrev expr-below : ℕ → In 7 expr-kinds.ps
-expr-below t = and 7 expr-kinds.ps (falls 7 expr-kinds.ps _<_ μ-expr t) expr.Pre
+abbrev expr-below : ℕ → In 6 expr-kinds.ps
+expr-below t = and 6 expr-kinds.ps (falls 6 expr-kinds.ps _<_ μ-expr t) expr.Pre
 
-abbrev fit-at : ℕ → In 7 fit-kinds.ps
-fit-at t = and 7 fit-kinds.ps (is 7 fit-kinds.ps μ-fit t) fit.Pre
+abbrev fit-at : ℕ → In 6 fit-kinds.ps
+fit-at t = and 6 fit-kinds.ps (is 6 fit-kinds.ps μ-fit t) fit.Pre
 
-abbrev fit-below : ℕ → In 7 fit-kinds.ps
-fit-below t = and 7 fit-kinds.ps (falls 7 fit-kinds.ps _<_ μ-fit t) fit.Pre
+abbrev fit-below : ℕ → In 6 fit-kinds.ps
+fit-below t = and 6 fit-kinds.ps (falls 6 fit-kinds.ps _<_ μ-fit t) fit.Pre
 
-abbrev operation-at : ℕ → In 7 operation-kinds.ps
-operation-at t = and 7 operation-kinds.ps (is 7 operation-kinds.ps μ-operation t) operation.Pre
+abbrev operation-at : ℕ → In 6 operation-kinds.ps
+operation-at t = and 6 operation-kinds.ps (is 6 operation-kinds.ps μ-operation t) operation.Pre
 
-abbrev operation-below : ℕ → In 7 operation-kinds.ps
+abbrev operation-below : ℕ → In 6 operation-kinds.ps
 operation-below t =
-    and 7 operation-kinds.ps (falls 7 operation-kinds.ps _<_ μ-operation t) operation.Pre
+    and 6 operation-kinds.ps (falls 6 operation-kinds.ps _<_ μ-operation t) operation.Pre
 
-abbrev several-at : ℕ → In 8 several-kinds.ps
-several-at t = and 8 several-kinds.ps (is 8 several-kinds.ps μ-several t) several.Pre
+abbrev several-at : ℕ → In 7 several-kinds.ps
+several-at t = and 7 several-kinds.ps (is 7 several-kinds.ps μ-several t) several.Pre
 
-abbrev several-below : ℕ → In 8 several-kinds.ps
-several-below t = and 8 several-kinds.ps (falls 8 several-kinds.ps _<_ μ-several t) several.Pre
+abbrev several-below : ℕ → In 7 several-kinds.ps
+several-below t = and 7 several-kinds.ps (falls 7 several-kinds.ps _<_ μ-several t) several.Pre
 
 adjust-frame-line-requires : (t : ℕ) → adjust-lts.Need-frame-line-requires (
   frame-line-reads.Asked,
@@ -410,7 +410,7 @@ adjust-enum-told : (t : ℕ) → adjust-lts.Need-enum-told (
 ) (adjust-at t) adjust.Post
 adjust-enum-told t c = (c .match .keys2)
 
-adjust-add-t22 : (t : ℕ) → adjust-lts.Need-add-t22 (
+adjust-add-t21 : (t : ℕ) → adjust-lts.Need-add-t21 (
   frame-line-reads.Asked,
   frame-line-reads.Learnt,
   size-at-reads.Asked,
@@ -422,7 +422,7 @@ adjust-add-t22 : (t : ℕ) → adjust-lts.Need-add-t22 (
   adjusted-reads.Asked,
   adjusted-reads.Learnt,
 ) (adjust-at t) adjust.Post
-adjust-add-t22 t c = omega (arith, (c .before .before .before .before .before .before .before .before .before .before .before .before .before .before .pre .1 .line))
+adjust-add-t21 t c = omega (arith, (c .before .before .before .before .before .before .before .before .before .before .before .pre .1 .line))
 
 adjust-same-length : (t : ℕ) → adjust-lts.Need-same-length (
   frame-line-reads.Asked,
@@ -478,7 +478,7 @@ adjust-expr-requires : (t : ℕ) → adjust-lts.Need-expr-requires (
   adjusted-reads.Asked,
   adjusted-reads.Learnt,
 ) (adjust-at t) adjust.Post
-adjust-expr-requires t c κs = (load-moved _ 900 (c .before .before .before .before .before .before .before .before .before .before .before .before .before .before .before .before .before .before .pre .0) _ 0 (c .before .before .before .moved .ensures) (omega arith) (omega arith), room-behind (c .before .before .before .before .before .before .before .before .before .before .before .before .before .before .before .before .before .before .pre .1) (c .before .before .before .moved .ensures) (refl) (refl))
+adjust-expr-requires t c κs = (load-moved _ 900 (c .before .before .before .before .before .before .before .before .before .before .before .before .before .before .before .before .pre .0) _ 0 (c .before .before .before .before .moved .ensures) (omega arith) (omega arith), room-behind (c .before .before .before .before .before .before .before .before .before .before .before .before .before .before .before .before .pre .1) (c .before .before .before .before .moved .ensures) (refl) (refl))
 
 adjust-enum-known-x : (t : ℕ) → adjust-lts.Need-enum-known-x (
   frame-line-reads.Asked,
@@ -520,7 +520,7 @@ adjust-same-length-2 : (t : ℕ) → adjust-lts.Need-same-length-2 (
   adjusted-reads.Asked,
   adjusted-reads.Learnt,
 ) (adjust-at t) adjust.Post
-adjust-same-length-2 t c = (c .before .before .before .before .before .before .before .before .expr .kept .1 .1 .1 .1 .0)
+adjust-same-length-2 t c = (c .before .before .before .before .before .before .before .before .expr .kept .1 .1 .0)
 
 adjust-same-length-3 : (t : ℕ) → adjust-lts.Need-same-length-3 (
   frame-line-reads.Asked,
@@ -534,7 +534,7 @@ adjust-same-length-3 : (t : ℕ) → adjust-lts.Need-same-length-3 (
   adjusted-reads.Asked,
   adjusted-reads.Learnt,
 ) (adjust-at t) adjust.Post
-adjust-same-length-3 t c = (c .before .before .before .before .before .before .before .before .expr .kept .1 .1 .1 .1 .1 .0)
+adjust-same-length-3 t c = (c .before .before .before .before .before .before .before .before .expr .kept .1 .1 .1 .1 .0)
 
 adjust-same-length-4 : (t : ℕ) → adjust-lts.Need-same-length-4 (
   frame-line-reads.Asked,
@@ -548,7 +548,7 @@ adjust-same-length-4 : (t : ℕ) → adjust-lts.Need-same-length-4 (
   adjusted-reads.Asked,
   adjusted-reads.Learnt,
 ) (adjust-at t) adjust.Post
-adjust-same-length-4 t c = (c .before .before .before .before .before .before .before .before .expr .kept .1 .1 .1 .1 .1 .1 .0)
+adjust-same-length-4 t c = (c .before .before .before .before .before .before .before .before .expr .kept .1 .1 .1 .1 .1 .0)
 
 adjust-returns-2 : (t : ℕ) → adjust-lts.Need-returns-2 (
   frame-line-reads.Asked,
@@ -562,7 +562,7 @@ adjust-returns-2 : (t : ℕ) → adjust-lts.Need-returns-2 (
   adjusted-reads.Asked,
   adjusted-reads.Learnt,
 ) (adjust-at t) adjust.Post
-adjust-returns-2 t c = adj-refused (c .before .before .before .before .before .before .before .before .before .before .before .before .before .before .before .before .size-at .ensures) (c .before .before .before .before .before .before .before .before .before .before .before .before .before .before .before .before .before .before .frame-line .ensures) (c .before .before .before .before .before .before .before .before .before .before .before .before .before .before .s .given .1) (c .before .before .before .before .before .before .before .before .before .before .before .before .moved .ensures) (c .before .before .before .before .before .before .before .before .expr .ensures) (c .enum-told2 .given .1)
+adjust-returns-2 t c = adj-refused (c .before .before .before .before .before .before .before .before .before .before .before .before .before .before .before .before .before .size-at .ensures) (c .before .before .before .before .before .before .before .before .before .before .before .before .before .before .before .before .before .before .before .frame-line .ensures) (c .before .before .before .before .before .before .before .before .before .before .before .before .before .before .before .s .given .1) (c .before .before .before .before .before .before .before .before .before .before .before .before .before .moved .ensures) (c .before .before .before .before .before .before .before .before .expr .ensures) (c .enum-told2 .given .1)
 
 adjust-enum-known-kind : (t : ℕ) → adjust-lts.Need-enum-known-kind (
   frame-line-reads.Asked,
@@ -590,7 +590,7 @@ adjust-add-t29 : (t : ℕ) → adjust-lts.Need-add-t29 (
   adjusted-reads.Asked,
   adjusted-reads.Learnt,
 ) (adjust-at t) adjust.Post
-adjust-add-t29 t c = omega (arith, (c .before .before .before .before .before .before .before .before .before .before .before .before .before .before .before .before .before .before .before .before .before .before .before .before .before .before .before .before .before .before .pre .1 .line))
+adjust-add-t29 t c = omega (arith, (c .before .before .before .before .before .before .before .before .before .before .before .before .before .before .before .before .before .before .before .before .before .before .before .before .before .before .before .before .pre .1 .line))
 
 adjust-same-length-5 : (t : ℕ) → adjust-lts.Need-same-length-5 (
   frame-line-reads.Asked,
@@ -604,7 +604,7 @@ adjust-same-length-5 : (t : ℕ) → adjust-lts.Need-same-length-5 (
   adjusted-reads.Asked,
   adjusted-reads.Learnt,
 ) (adjust-at t) adjust.Post
-adjust-same-length-5 t c = (c .before .before .before .before .before .before .before .before .before .before .before .expr .kept .1 .1 .1 .1 .0)
+adjust-same-length-5 t c = (c .before .before .before .before .before .before .before .before .before .before .before .expr .kept .1 .1 .0)
 
 adjust-same-length-6 : (t : ℕ) → adjust-lts.Need-same-length-6 (
   frame-line-reads.Asked,
@@ -618,7 +618,7 @@ adjust-same-length-6 : (t : ℕ) → adjust-lts.Need-same-length-6 (
   adjusted-reads.Asked,
   adjusted-reads.Learnt,
 ) (adjust-at t) adjust.Post
-adjust-same-length-6 t c = (c .before .before .before .before .before .before .before .before .before .before .before .expr .kept .1 .1 .1 .1 .1 .0)
+adjust-same-length-6 t c = (c .before .before .before .before .before .before .before .before .before .before .before .expr .kept .1 .1 .1 .1 .0)
 
 adjust-same-length-7 : (t : ℕ) → adjust-lts.Need-same-length-7 (
   frame-line-reads.Asked,
@@ -632,7 +632,7 @@ adjust-same-length-7 : (t : ℕ) → adjust-lts.Need-same-length-7 (
   adjusted-reads.Asked,
   adjusted-reads.Learnt,
 ) (adjust-at t) adjust.Post
-adjust-same-length-7 t c = (c .before .before .before .before .before .before .before .before .before .before .before .expr .kept .1 .1 .1 .1 .1 .1 .0)
+adjust-same-length-7 t c = (c .before .before .before .before .before .before .before .before .before .before .before .expr .kept .1 .1 .1 .1 .1 .0)
 
 adjust-returns-3 : (t : ℕ) → adjust-lts.Need-returns-3 (
   frame-line-reads.Asked,
@@ -646,7 +646,7 @@ adjust-returns-3 : (t : ℕ) → adjust-lts.Need-returns-3 (
   adjusted-reads.Asked,
   adjusted-reads.Learnt,
 ) (adjust-at t) adjust.Post
-adjust-returns-3 t c = adj-plain (c .before .before .before .before .before .before .before .before .before .before .before .before .before .before .before .before .before .before .before .size-at .ensures) (c .before .before .before .before .before .before .before .before .before .before .before .before .before .before .before .before .before .before .before .before .before .frame-line .ensures) (c .before .before .before .before .before .before .before .before .before .before .before .before .before .before .before .before .before .s .given .1) (c .before .before .before .before .before .before .before .before .before .before .before .before .before .before .before .moved .ensures) (c .before .before .before .before .before .before .before .before .before .before .before .expr .ensures) (c .before .before .before .x .given .1) (not-named _ (c .before .match3 .keys2))
+adjust-returns-3 t c = adj-plain (c .before .before .before .before .before .before .before .before .before .before .before .before .before .before .before .before .before .before .before .before .size-at .ensures) (c .before .before .before .before .before .before .before .before .before .before .before .before .before .before .before .before .before .before .before .before .before .before .frame-line .ensures) (c .before .before .before .before .before .before .before .before .before .before .before .before .before .before .before .before .before .before .s .given .1) (c .before .before .before .before .before .before .before .before .before .before .before .before .before .before .before .before .moved .ensures) (c .before .before .before .before .before .before .before .before .before .before .before .expr .ensures) (c .before .before .before .x .given .1) (not-named _ (c .before .match3 .keys2))
 
 adjust-add-t31 : (t : ℕ) → adjust-lts.Need-add-t31 (
   frame-line-reads.Asked,
@@ -660,7 +660,7 @@ adjust-add-t31 : (t : ℕ) → adjust-lts.Need-add-t31 (
   adjusted-reads.Asked,
   adjusted-reads.Learnt,
 ) (adjust-at t) adjust.Post
-adjust-add-t31 t c = omega (arith, (c .before .before .before .before .before .before .before .before .before .before .before .before .before .before .before .before .before .before .before .before .before .before .before .before .before .before .before .before .before .before .before .before .before .pre .1 .line))
+adjust-add-t31 t c = omega (arith, (c .before .before .before .before .before .before .before .before .before .before .before .before .before .before .before .before .before .before .before .before .before .before .before .before .before .before .before .before .before .before .before .pre .1 .line))
 
 adjust-same-length-8 : (t : ℕ) → adjust-lts.Need-same-length-8 (
   frame-line-reads.Asked,
@@ -674,7 +674,7 @@ adjust-same-length-8 : (t : ℕ) → adjust-lts.Need-same-length-8 (
   adjusted-reads.Asked,
   adjusted-reads.Learnt,
 ) (adjust-at t) adjust.Post
-adjust-same-length-8 t c = (c .before .before .before .before .before .before .before .before .before .before .before .before .before .before .expr .kept .1 .1 .1 .1 .0)
+adjust-same-length-8 t c = (c .before .before .before .before .before .before .before .before .before .before .before .before .before .before .expr .kept .1 .1 .0)
 
 adjust-same-length-9 : (t : ℕ) → adjust-lts.Need-same-length-9 (
   frame-line-reads.Asked,
@@ -688,7 +688,7 @@ adjust-same-length-9 : (t : ℕ) → adjust-lts.Need-same-length-9 (
   adjusted-reads.Asked,
   adjusted-reads.Learnt,
 ) (adjust-at t) adjust.Post
-adjust-same-length-9 t c = (c .before .before .before .before .before .before .before .before .before .before .before .before .before .before .expr .kept .1 .1 .1 .1 .1 .0)
+adjust-same-length-9 t c = (c .before .before .before .before .before .before .before .before .before .before .before .before .before .before .expr .kept .1 .1 .1 .1 .0)
 
 adjust-same-length-10 : (t : ℕ) → adjust-lts.Need-same-length-10 (
   frame-line-reads.Asked,
@@ -702,7 +702,7 @@ adjust-same-length-10 : (t : ℕ) → adjust-lts.Need-same-length-10 (
   adjusted-reads.Asked,
   adjusted-reads.Learnt,
 ) (adjust-at t) adjust.Post
-adjust-same-length-10 t c = (c .before .before .before .before .before .before .before .before .before .before .before .before .before .before .expr .kept .1 .1 .1 .1 .1 .1 .0)
+adjust-same-length-10 t c = (c .before .before .before .before .before .before .before .before .before .before .before .before .before .before .expr .kept .1 .1 .1 .1 .1 .0)
 
 adjust-returns-4 : (t : ℕ) → adjust-lts.Need-returns-4 (
   frame-line-reads.Asked,
@@ -716,7 +716,7 @@ adjust-returns-4 : (t : ℕ) → adjust-lts.Need-returns-4 (
   adjusted-reads.Asked,
   adjusted-reads.Learnt,
 ) (adjust-at t) adjust.Post
-adjust-returns-4 t c = adj-lowered (c .before .before .before .before .before .before .before .before .before .before .before .before .before .before .before .before .before .before .before .before .before .before .size-at .ensures) (c .before .before .before .before .before .before .before .before .before .before .before .before .before .before .before .before .before .before .before .before .before .before .before .before .frame-line .ensures) (c .before .before .before .before .before .before .before .before .before .before .before .before .before .before .before .before .before .before .before .before .s .given .1) (c .before .before .before .before .before .before .before .before .before .before .before .before .before .before .before .before .before .before .moved .ensures) (c .before .before .before .before .before .before .before .before .before .before .before .before .before .before .expr .ensures) (c .before .before .before .before .before .before .x .given .1) (c .before .before .before .kind .given .1) (c .before .if1 .taken)
+adjust-returns-4 t c = adj-lowered (c .before .before .before .before .before .before .before .before .before .before .before .before .before .before .before .before .before .before .before .before .before .before .before .size-at .ensures) (c .before .before .before .before .before .before .before .before .before .before .before .before .before .before .before .before .before .before .before .before .before .before .before .before .before .frame-line .ensures) (c .before .before .before .before .before .before .before .before .before .before .before .before .before .before .before .before .before .before .before .before .before .s .given .1) (c .before .before .before .before .before .before .before .before .before .before .before .before .before .before .before .before .before .before .before .moved .ensures) (c .before .before .before .before .before .before .before .before .before .before .before .before .before .before .expr .ensures) (c .before .before .before .before .before .before .x .given .1) (c .before .before .before .kind .given .1) (c .before .if1 .taken)
 
 adjust-adjusted-requires : (t : ℕ) → adjust-lts.Need-adjusted-requires (
   frame-line-reads.Asked,
@@ -744,7 +744,7 @@ adjust-same-length-11 : (t : ℕ) → adjust-lts.Need-same-length-11 (
   adjusted-reads.Asked,
   adjusted-reads.Learnt,
 ) (adjust-at t) adjust.Post
-adjust-same-length-11 t c = (c .before .before .before .before .before .before .before .before .before .before .before .before .before .before .expr .kept .1 .1 .1 .1 .0)
+adjust-same-length-11 t c = (c .before .before .before .before .before .before .before .before .before .before .before .before .before .before .expr .kept .1 .1 .0)
 
 adjust-same-length-12 : (t : ℕ) → adjust-lts.Need-same-length-12 (
   frame-line-reads.Asked,
@@ -758,7 +758,7 @@ adjust-same-length-12 : (t : ℕ) → adjust-lts.Need-same-length-12 (
   adjusted-reads.Asked,
   adjusted-reads.Learnt,
 ) (adjust-at t) adjust.Post
-adjust-same-length-12 t c = (c .before .before .before .before .before .before .before .before .before .before .before .before .before .before .expr .kept .1 .1 .1 .1 .1 .0)
+adjust-same-length-12 t c = (c .before .before .before .before .before .before .before .before .before .before .before .before .before .before .expr .kept .1 .1 .1 .1 .0)
 
 adjust-same-length-13 : (t : ℕ) → adjust-lts.Need-same-length-13 (
   frame-line-reads.Asked,
@@ -772,7 +772,7 @@ adjust-same-length-13 : (t : ℕ) → adjust-lts.Need-same-length-13 (
   adjusted-reads.Asked,
   adjusted-reads.Learnt,
 ) (adjust-at t) adjust.Post
-adjust-same-length-13 t c = (c .before .before .before .before .before .before .before .before .before .before .before .before .before .before .expr .kept .1 .1 .1 .1 .1 .1 .0)
+adjust-same-length-13 t c = (c .before .before .before .before .before .before .before .before .before .before .before .before .before .before .expr .kept .1 .1 .1 .1 .1 .0)
 
 adjust-returns-5 : (t : ℕ) → adjust-lts.Need-returns-5 (
   frame-line-reads.Asked,
@@ -786,7 +786,7 @@ adjust-returns-5 : (t : ℕ) → adjust-lts.Need-returns-5 (
   adjusted-reads.Asked,
   adjusted-reads.Learnt,
 ) (adjust-at t) adjust.Post
-adjust-returns-5 t c = adj-done (c .before .before .before .before .before .before .before .before .before .before .before .before .before .before .before .before .before .before .before .before .before .before .size-at .ensures) (c .before .before .before .before .before .before .before .before .before .before .before .before .before .before .before .before .before .before .before .before .before .before .before .before .frame-line .ensures) (c .before .before .before .before .before .before .before .before .before .before .before .before .before .before .before .before .before .before .before .before .s .given .1) (c .before .before .before .before .before .before .before .before .before .before .before .before .before .before .before .before .before .before .moved .ensures) (c .before .before .before .before .before .before .before .before .before .before .before .before .before .before .expr .ensures) (c .before .before .before .before .before .before .x .given .1) (c .before .before .before .kind .given .1) (c .before .if1 .left) (c .adjusted .ensures)
+adjust-returns-5 t c = adj-done (c .before .before .before .before .before .before .before .before .before .before .before .before .before .before .before .before .before .before .before .before .before .before .before .size-at .ensures) (c .before .before .before .before .before .before .before .before .before .before .before .before .before .before .before .before .before .before .before .before .before .before .before .before .before .frame-line .ensures) (c .before .before .before .before .before .before .before .before .before .before .before .before .before .before .before .before .before .before .before .before .before .s .given .1) (c .before .before .before .before .before .before .before .before .before .before .before .before .before .before .before .before .before .before .before .moved .ensures) (c .before .before .before .before .before .before .before .before .before .before .before .before .before .before .expr .ensures) (c .before .before .before .before .before .before .x .given .1) (c .before .before .before .kind .given .1) (c .before .if1 .left) (c .adjusted .ensures)
 
 apply-slice-aggregate-named-sizes : (t : ℕ) → apply-lts.Need-slice-aggregate-named-sizes (
   named-sizes-reads.Asked,
@@ -866,7 +866,7 @@ apply-prepare-requires : (t : ℕ) → apply-lts.Need-prepare-requires (
   called-reads.Asked,
   called-reads.Learnt,
 ) (apply-at t) apply.Post
-apply-prepare-requires t c κs = prepares (c .before .before .before .before .before .before .before .before .before .before .before .before .before .pre .1 .0) (c .before .moved .ensures) (c .before .before .before .before .before .before .before .before .before .before .before .before .before .pre .1 .1 .1 .0)
+apply-prepare-requires t c κs = prepares (c .before .before .before .before .before .before .before .before .before .before .pre .1 .0) (c .before .moved .ensures) (c .before .before .before .before .before .before .before .before .before .before .pre .1 .1 .1 .0)
 
 apply-enum-known-y : (t : ℕ) → apply-lts.Need-enum-known-y (
   named-sizes-reads.Asked,
@@ -946,7 +946,7 @@ apply-returns : (t : ℕ) → apply-lts.Need-returns (
   called-reads.Asked,
   called-reads.Learnt,
 ) (apply-at t) apply.Post
-apply-returns t c = apply-not-entered (c .before .before .before .before .before .before .before .before .before .before .before .before .before .before .before .before .before .args .p) (c .before .before .before .before .before .before .before .before .before .before .before .before .before .before .before .before .before .args .a) refl (c .before .before .before .before .before .before .before .before .named-sizes .ensures) (c .before .before .before .before .before .moved .ensures) (c .before .before .before .prepare .ensures) (c .before .enum-told .given .1) (c .not-entered .ensures)
+apply-returns t c = apply-not-entered (c .before .before .before .before .before .before .before .before .before .before .before .before .before .before .args .p) (c .before .before .before .before .before .before .before .before .before .before .before .before .before .before .args .a) refl (c .before .before .before .before .before .before .before .before .named-sizes .ensures) (c .before .before .before .before .before .moved .ensures) (c .before .before .before .prepare .ensures) (c .before .enum-told .given .1) (c .not-entered .ensures)
 
 apply-slice-aggregate-enter : (t : ℕ) → apply-lts.Need-slice-aggregate-enter (
   named-sizes-reads.Asked,
@@ -978,7 +978,7 @@ apply-enter-requires : (t : ℕ) → apply-lts.Need-enter-requires (
   called-reads.Asked,
   called-reads.Learnt,
 ) (apply-at t) apply.Post
-apply-enter-requires t c κs = (load-moved _ 800 (c .before .before .before .before .before .before .before .before .before .before .before .before .before .before .before .before .before .before .before .before .pre .0) _ 90 (c .before .before .before .before .before .before .before .before .moved .ensures) (c .before .before .before .before .before .before .before .before .before .before .before .before .before .before .before .before .before .before .before .before .pre .1 .1 .0) (omega arith), (room-inner (c .before .before .before .before .before .before .before .before .before .before .before .before .before .before .before .before .before .before .before .before .pre .1 .0) (c .before .before .before .before .before .before .before .before .moved .ensures) (c .before .before .before .before .before .before .before .before .before .before .before .before .before .before .before .before .before .before .before .before .pre .1 .0 .scope) (omega (arith, (c .before .before .before .before .before .before .before .before .before .before .before .named-sizes .kept .1 .1 .0))), entry-numbers (c .before .before .before .before .before .before .prepare .ensures .of) (c .before .before .before .before .y .given .1) (c .before .before .before .before .before .before .before .before .before .before .before .before .before .before .before .before .before .before .before .before .pre .1 .1 .1 .0) (c .before .before .before .before .before .before .before .before .before .before .before .before .before .before .before .before .before .before .before .before .pre .1 .1 .1 .1) (c .before .before .before .before .before .before .before .before .before .before .before .named-sizes .ensures .few)))
+apply-enter-requires t c κs = (load-moved _ 800 (c .before .before .before .before .before .before .before .before .before .before .before .before .before .before .before .before .before .before .pre .0) _ 90 (c .before .before .before .before .before .before .before .before .before .moved .ensures) (c .before .before .before .before .before .before .before .before .before .before .before .before .before .before .before .before .before .before .pre .1 .1 .0) (omega arith), (room-inner (c .before .before .before .before .before .before .before .before .before .before .before .before .before .before .before .before .before .before .pre .1 .0) (c .before .before .before .before .before .before .before .before .before .moved .ensures) (c .before .before .before .before .before .before .before .before .before .before .before .before .before .before .before .before .before .before .pre .1 .0 .scope) (omega (arith, (c .before .before .before .before .before .before .before .before .before .before .before .before .named-sizes .kept .1 .1 .0))), entry-numbers (c .before .before .before .before .before .before .before .prepare .ensures .of) (c .before .before .before .before .before .y .given .1) (c .before .before .before .before .before .before .before .before .before .before .before .before .before .before .before .before .before .before .pre .1 .1 .1 .0) (c .before .before .before .before .before .before .before .before .before .before .before .before .before .before .before .before .before .before .pre .1 .1 .1 .1) (c .before .before .before .before .before .before .before .before .before .before .before .before .named-sizes .ensures .few)))
 
 apply-enum-known-z : (t : ℕ) → apply-lts.Need-enum-known-z (
   named-sizes-reads.Asked,
@@ -1026,7 +1026,7 @@ apply-same-length-2 : (t : ℕ) → apply-lts.Need-same-length-2 (
   called-reads.Asked,
   called-reads.Learnt,
 ) (apply-at t) apply.Post
-apply-same-length-2 t c = (c .before .before .before .before .before .before .before .enter .kept .1 .1 .1 .1 .0)
+apply-same-length-2 t c = (c .before .before .before .before .before .before .before .enter .kept .1 .1 .0)
 
 apply-same-length-3 : (t : ℕ) → apply-lts.Need-same-length-3 (
   named-sizes-reads.Asked,
@@ -1042,7 +1042,7 @@ apply-same-length-3 : (t : ℕ) → apply-lts.Need-same-length-3 (
   called-reads.Asked,
   called-reads.Learnt,
 ) (apply-at t) apply.Post
-apply-same-length-3 t c = (c .before .before .before .before .before .before .before .enter .kept .1 .1 .1 .1 .1 .0)
+apply-same-length-3 t c = (c .before .before .before .before .before .before .before .enter .kept .1 .1 .1 .1 .0)
 
 apply-returns-2 : (t : ℕ) → apply-lts.Need-returns-2 (
   named-sizes-reads.Asked,
@@ -1058,7 +1058,7 @@ apply-returns-2 : (t : ℕ) → apply-lts.Need-returns-2 (
   called-reads.Asked,
   called-reads.Learnt,
 ) (apply-at t) apply.Post
-apply-returns-2 t c = apply-body (c .before .before .before .before .before .before .before .before .before .before .before .before .before .before .before .before .before .before .before .before .before .before .before .before .before .before .before .before .args .p) (c .before .before .before .before .before .before .before .before .before .before .before .before .before .before .before .before .before .before .before .before .before .before .before .before .before .before .before .before .args .a) refl (c .before .before .before .before .before .before .before .before .before .before .before .before .before .before .before .before .before .before .before .named-sizes .ensures) (c .before .before .before .before .before .before .before .before .before .before .before .before .before .before .before .before .moved .ensures) (c .before .before .before .before .before .before .before .before .before .before .before .before .before .before .prepare .ensures) (c .before .before .before .before .before .before .before .before .before .before .before .before .y .given .1) (c .before .before .before .before .before .before .before .enter .ensures) (c .enum-told2 .given .1)
+apply-returns-2 t c = apply-body (c .before .before .before .before .before .before .before .before .before .before .before .before .before .before .before .before .before .before .before .before .before .before .before .before .before .before .args .p) (c .before .before .before .before .before .before .before .before .before .before .before .before .before .before .before .before .before .before .before .before .before .before .before .before .before .before .args .a) refl (c .before .before .before .before .before .before .before .before .before .before .before .before .before .before .before .before .before .before .before .before .named-sizes .ensures) (c .before .before .before .before .before .before .before .before .before .before .before .before .before .before .before .before .before .moved .ensures) (c .before .before .before .before .before .before .before .before .before .before .before .before .before .before .before .prepare .ensures) (c .before .before .before .before .before .before .before .before .before .before .before .before .before .y .given .1) (c .before .before .before .before .before .before .before .enter .ensures) (c .enum-told2 .given .1)
 
 apply-called-requires : (t : ℕ) → apply-lts.Need-called-requires (
   named-sizes-reads.Asked,
@@ -1090,7 +1090,7 @@ apply-same-length-4 : (t : ℕ) → apply-lts.Need-same-length-4 (
   called-reads.Asked,
   called-reads.Learnt,
 ) (apply-at t) apply.Post
-apply-same-length-4 t c = (c .before .before .before .before .before .before .before .before .before .enter .kept .1 .1 .1 .1 .0)
+apply-same-length-4 t c = (c .before .before .before .before .before .before .before .before .before .enter .kept .1 .1 .0)
 
 apply-same-length-5 : (t : ℕ) → apply-lts.Need-same-length-5 (
   named-sizes-reads.Asked,
@@ -1106,7 +1106,7 @@ apply-same-length-5 : (t : ℕ) → apply-lts.Need-same-length-5 (
   called-reads.Asked,
   called-reads.Learnt,
 ) (apply-at t) apply.Post
-apply-same-length-5 t c = (c .before .before .before .before .before .before .before .before .before .enter .kept .1 .1 .1 .1 .1 .0)
+apply-same-length-5 t c = (c .before .before .before .before .before .before .before .before .before .enter .kept .1 .1 .1 .1 .0)
 
 apply-returns-3 : (t : ℕ) → apply-lts.Need-returns-3 (
   named-sizes-reads.Asked,
@@ -1122,14 +1122,14 @@ apply-returns-3 : (t : ℕ) → apply-lts.Need-returns-3 (
   called-reads.Asked,
   called-reads.Learnt,
 ) (apply-at t) apply.Post
-apply-returns-3 t c = apply-done (c .before .before .before .before .before .before .before .before .before .before .before .before .before .before .before .before .before .before .before .before .before .before .before .before .before .before .before .before .before .before .args .p) (c .before .before .before .before .before .before .before .before .before .before .before .before .before .before .before .before .before .before .before .before .before .before .before .before .before .before .before .before .before .before .args .a) refl (c .before .before .before .before .before .before .before .before .before .before .before .before .before .before .before .before .before .before .before .before .before .named-sizes .ensures) (c .before .before .before .before .before .before .before .before .before .before .before .before .before .before .before .before .before .before .moved .ensures) (c .before .before .before .before .before .before .before .before .before .before .before .before .before .before .before .before .prepare .ensures) (c .before .before .before .before .before .before .before .before .before .before .before .before .before .before .y .given .1) (c .before .before .before .before .before .before .before .before .before .enter .ensures) (c .before .before .z .given .1) (c .called .ensures .body) (c .called .ensures .both) (c .called .ensures .all) (c .called .ensures .is)
+apply-returns-3 t c = apply-done (c .before .before .before .before .before .before .before .before .before .before .before .before .before .before .before .before .before .before .before .before .before .before .before .before .before .before .before .before .args .p) (c .before .before .before .before .before .before .before .before .before .before .before .before .before .before .before .before .before .before .before .before .before .before .before .before .before .before .before .before .args .a) refl (c .before .before .before .before .before .before .before .before .before .before .before .before .before .before .before .before .before .before .before .before .before .before .named-sizes .ensures) (c .before .before .before .before .before .before .before .before .before .before .before .before .before .before .before .before .before .before .before .moved .ensures) (c .before .before .before .before .before .before .before .before .before .before .before .before .before .before .before .before .before .prepare .ensures) (c .before .before .before .before .before .before .before .before .before .before .before .before .before .before .before .y .given .1) (c .before .before .before .before .before .before .before .before .before .enter .ensures) (c .before .before .z .given .1) (c .called .ensures .body) (c .called .ensures .both) (c .called .ensures .all) (c .called .ensures .is)
 
 abbrev at-splits-Inv-loop : at-splits-lts.InvT-loop
-at-splits-Inv-loop text frames types functions list₀ scope₀ sizes₀ p s k n own at kind all₀ more₀ list scope sizes all more =
-    Walks s k (lent text frames types functions) (buffers list₀ scope₀ sizes₀) p more (buffers list scope sizes) all × ((length list ≡ length list₀) × ((length scope ≡ length scope₀) × (length sizes ≡ length sizes₀)))
+at-splits-Inv-loop text index list₀ hints₀ scope₀ sizes₀ p s k n own at kind all₀ more₀ list hints scope sizes all more =
+    Walks s k (lent text index) (buffers list₀ scope₀ sizes₀) p more (buffers list scope sizes) all × ((length list ≡ length list₀) × ((length scope ≡ length scope₀) × (length sizes ≡ length sizes₀)))
 
 abbrev at-splits-μ-loop : at-splits-lts.MeasureT-loop
-at-splits-μ-loop text frames types functions list₀ scope₀ sizes₀ p s k n own at kind all₀ more₀ list scope sizes all more =
+at-splits-μ-loop text index list₀ hints₀ scope₀ sizes₀ p s k n own at kind all₀ more₀ list hints scope sizes all more =
     walkLeft more (take own (drop (p .sizes) sizes))
 
 at-splits-fields-requires : (t : ℕ) → at-splits-lts.Need-fields-requires (
@@ -1312,7 +1312,7 @@ at-splits-widen-requires : (t : ℕ) → at-splits-lts.Need-widen-requires (
   slotted-reads.Asked,
   slotted-reads.Learnt,
 ) (at-splits-at t) at-splits.Post at-splits-Inv-loop at-splits-μ-loop
-at-splits-widen-requires t c κs = room-widens (c .before .before .before .before .before .before .before .before .before .before .before .before .before .before .before .before .before .before .before .pre .1 .0) (c .moved .ensures) (omega (arith, (c .before .before .before .before .before .before .before .before .before .before .before .fields .ensures .1))) (omega (arith, (c .before .before .before .before .before .before .before .before .before .before .own-fields .ensures .1)))
+at-splits-widen-requires t c κs = room-widens (c .before .before .before .before .before .before .before .before .before .before .before .before .before .before .before .before .pre .1 .0) (c .moved .ensures) (omega (arith, (c .before .before .before .before .before .before .before .before .before .before .before .fields .ensures .1))) (omega (arith, (c .before .before .before .before .before .before .before .before .before .before .own-fields .ensures .1)))
 
 at-splits-expr-requires : (t : ℕ) → at-splits-lts.Need-expr-requires (
   fields-reads.Asked,
@@ -1338,7 +1338,7 @@ at-splits-expr-requires : (t : ℕ) → at-splits-lts.Need-expr-requires (
   slotted-reads.Asked,
   slotted-reads.Learnt,
 ) (at-splits-at t) at-splits.Post at-splits-Inv-loop at-splits-μ-loop
-at-splits-expr-requires t c κs = (load-wide _ 100 (c .before .before .before .before .before .before .before .before .before .before .before .before .before .before .before .before .before .before .before .before .before .before .before .pre .0) _ _ _ _ 0 (c .before .before .before .before .moved .ensures) (c .before .before .before .widen .ensures) (c .before .before .before .before .before .before .before .before .before .before .before .loop .inv .0 .grown) (omega arith), room-wide (c .before .before .before .before .before .before .before .before .before .before .before .before .before .before .before .before .before .before .before .before .before .before .before .pre .1 .0) (c .before .before .before .before .moved .ensures) (c .before .before .before .widen .ensures) ((c .before .before .before .before .before .before .before .bind-fields .kept .1 .0) ∙ (c .before .before .before .before .before .before .before .before .before .before .before .loop .inv .1 .1 .0)) (c .before .before .before .before .before .before .before .before .before .before .before .loop .inv .1 .1 .1) (omega (arith, (c .before .before .before .before .before .before .before .before .before .before .before .before .before .before .before .fields .ensures .1))) (omega (arith, (c .before .before .before .before .before .before .before .before .before .before .before .before .before .before .own-fields .ensures .1))))
+at-splits-expr-requires t c κs = (load-wide _ 100 (c .before .before .before .before .before .before .before .before .before .before .before .before .before .before .before .before .before .before .before .before .before .pre .0) _ _ _ _ 0 (c .before .before .before .before .before .moved .ensures) (c .before .before .before .before .widen .ensures) (c .before .before .before .before .before .before .before .before .before .before .before .before .loop .inv .0 .grown) (omega arith), room-wide (c .before .before .before .before .before .before .before .before .before .before .before .before .before .before .before .before .before .before .before .before .before .pre .1 .0) (c .before .before .before .before .before .moved .ensures) (c .before .before .before .before .widen .ensures) ((c .before .before .before .before .before .before .before .before .bind-fields .kept .1 .0) ∙ (c .before .before .before .before .before .before .before .before .before .before .before .before .loop .inv .1 .1 .0)) (c .before .before .before .before .before .before .before .before .before .before .before .before .loop .inv .1 .1 .1) (omega (arith, (c .before .before .before .before .before .before .before .before .before .before .before .before .before .before .before .before .fields .ensures .1))) (omega (arith, (c .before .before .before .before .before .before .before .before .before .before .before .before .before .before .before .own-fields .ensures .1))))
 
 at-splits-enum-known-x : (t : ℕ) → at-splits-lts.Need-enum-known-x (
   fields-reads.Asked,
@@ -1416,7 +1416,7 @@ at-splits-same-length : (t : ℕ) → at-splits-lts.Need-same-length (
   slotted-reads.Asked,
   slotted-reads.Learnt,
 ) (at-splits-at t) at-splits.Post at-splits-Inv-loop at-splits-μ-loop
-at-splits-same-length t c = ((c .before .before .before .before .before .before .before .before .expr .kept .1 .1 .1 .1 .0) ∙ (c .before .before .before .before .before .before .before .before .before .before .before .before .before .before .before .before .before .before .before .before .loop .inv .1 .0))
+at-splits-same-length t c = ((c .before .before .before .before .before .before .before .before .expr .kept .1 .1 .0) ∙ (c .before .before .before .before .before .before .before .before .before .before .before .before .before .before .before .before .before .before .before .before .before .loop .inv .1 .0))
 
 at-splits-same-length-2 : (t : ℕ) → at-splits-lts.Need-same-length-2 (
   fields-reads.Asked,
@@ -1442,7 +1442,7 @@ at-splits-same-length-2 : (t : ℕ) → at-splits-lts.Need-same-length-2 (
   slotted-reads.Asked,
   slotted-reads.Learnt,
 ) (at-splits-at t) at-splits.Post at-splits-Inv-loop at-splits-μ-loop
-at-splits-same-length-2 t c = ((c .before .before .before .before .before .before .before .before .expr .kept .1 .1 .1 .1 .1 .0) ∙ (c .before .before .before .before .before .before .before .before .before .before .before .before .before .before .before .before .bind-fields .kept .1 .0) ∙ (c .before .before .before .before .before .before .before .before .before .before .before .before .before .before .before .before .before .before .before .before .loop .inv .1 .1 .0))
+at-splits-same-length-2 t c = ((c .before .before .before .before .before .before .before .before .expr .kept .1 .1 .1 .1 .0) ∙ (c .before .before .before .before .before .before .before .before .before .before .before .before .before .before .before .before .before .bind-fields .kept .1 .0) ∙ (c .before .before .before .before .before .before .before .before .before .before .before .before .before .before .before .before .before .before .before .before .before .loop .inv .1 .1 .0))
 
 at-splits-same-length-3 : (t : ℕ) → at-splits-lts.Need-same-length-3 (
   fields-reads.Asked,
@@ -1468,7 +1468,7 @@ at-splits-same-length-3 : (t : ℕ) → at-splits-lts.Need-same-length-3 (
   slotted-reads.Asked,
   slotted-reads.Learnt,
 ) (at-splits-at t) at-splits.Post at-splits-Inv-loop at-splits-μ-loop
-at-splits-same-length-3 t c = ((c .before .before .before .before .before .before .before .before .expr .kept .1 .1 .1 .1 .1 .1 .0) ∙ (c .before .before .before .before .before .before .before .before .before .before .before .before .before .before .before .before .before .before .before .before .loop .inv .1 .1 .1))
+at-splits-same-length-3 t c = ((c .before .before .before .before .before .before .before .before .expr .kept .1 .1 .1 .1 .1 .0) ∙ (c .before .before .before .before .before .before .before .before .before .before .before .before .before .before .before .before .before .before .before .before .before .loop .inv .1 .1 .1))
 
 at-splits-returns : (t : ℕ) → at-splits-lts.Need-returns (
   fields-reads.Asked,
@@ -1494,7 +1494,7 @@ at-splits-returns : (t : ℕ) → at-splits-lts.Need-returns (
   slotted-reads.Asked,
   slotted-reads.Learnt,
 ) (at-splits-at t) at-splits.Post at-splits-Inv-loop at-splits-μ-loop
-at-splits-returns t c = splits-part (walks-are (c .before .before .before .before .before .before .before .before .before .before .before .before .before .before .before .before .before .before .before .loop-test .taken) (c .before .before .before .before .before .before .before .before .before .before .before .before .before .before .before .before .before .before .before .before .loop .inv .0)) (c .before .before .before .before .before .before .before .before .before .before .before .before .before .before .before .before .before .before .before .before .before .before .before .before .fields .ensures) (c .before .before .before .before .before .before .before .before .before .before .before .before .before .before .before .before .before .before .before .before .before .before .before .own-fields .ensures) (scope-long (c .before .before .before .before .before .before .before .before .before .before .before .before .before .before .before .before .before .before .before .before .before .before .before .before .before .before .before .before .before .before .before .before .pre .1 .0) ((c .before .before .before .before .before .before .before .before .before .before .before .before .before .before .before .before .before .before .before .before .loop .inv .1 .1 .0))) (sizes-long (c .before .before .before .before .before .before .before .before .before .before .before .before .before .before .before .before .before .before .before .before .before .before .before .before .before .before .before .before .before .before .before .before .pre .1 .0) ((c .before .before .before .before .before .before .before .before .before .before .before .before .before .before .before .before .before .before .before .before .loop .inv .1 .1 .1))) (c .before .before .before .before .before .before .before .before .before .before .before .before .before .before .before .before .bind-fields .ensures) (c .before .before .before .before .before .before .before .before .before .before .before .before .before .moved .ensures) (c .before .before .before .before .before .before .before .before .before .before .before .before .widen .ensures) (c .before .before .before .before .before .before .before .before .expr .ensures) (c .enum-told .given .1)
+at-splits-returns t c = splits-part (walks-are (c .before .before .before .before .before .before .before .before .before .before .before .before .before .before .before .before .before .before .before .before .loop-test .taken) (c .before .before .before .before .before .before .before .before .before .before .before .before .before .before .before .before .before .before .before .before .before .loop .inv .0)) (c .before .before .before .before .before .before .before .before .before .before .before .before .before .before .before .before .before .before .before .before .before .before .before .before .before .fields .ensures) (c .before .before .before .before .before .before .before .before .before .before .before .before .before .before .before .before .before .before .before .before .before .before .before .before .own-fields .ensures) (scope-long (c .before .before .before .before .before .before .before .before .before .before .before .before .before .before .before .before .before .before .before .before .before .before .before .before .before .before .before .before .before .before .pre .1 .0) ((c .before .before .before .before .before .before .before .before .before .before .before .before .before .before .before .before .before .before .before .before .before .loop .inv .1 .1 .0))) (sizes-long (c .before .before .before .before .before .before .before .before .before .before .before .before .before .before .before .before .before .before .before .before .before .before .before .before .before .before .before .before .before .before .pre .1 .0) ((c .before .before .before .before .before .before .before .before .before .before .before .before .before .before .before .before .before .before .before .before .before .loop .inv .1 .1 .1))) (c .before .before .before .before .before .before .before .before .before .before .before .before .before .before .before .before .before .bind-fields .ensures) (c .before .before .before .before .before .before .before .before .before .before .before .before .before .before .moved .ensures) (c .before .before .before .before .before .before .before .before .before .before .before .before .before .widen .ensures) (c .before .before .before .before .before .before .before .before .expr .ensures) (c .enum-told .given .1)
 
 at-splits-is-kind-requires : (t : ℕ) → at-splits-lts.Need-is-kind-requires (
   fields-reads.Asked,
@@ -1546,7 +1546,7 @@ at-splits-add-t34 : (t : ℕ) → at-splits-lts.Need-add-t34 (
   slotted-reads.Asked,
   slotted-reads.Learnt,
 ) (at-splits-at t) at-splits.Post at-splits-Inv-loop at-splits-μ-loop
-at-splits-add-t34 t c = omega (arith, (c .before .before .before .before .before .before .before .before .before .before .before .before .before .before .before .before .before .before .before .before .before .before .before .before .before .before .before .before .before .before .before .before .before .before .before .before .pre .1 .0 .line))
+at-splits-add-t34 t c = omega (arith, (c .before .before .before .before .before .before .before .before .before .before .before .before .before .before .before .before .before .before .before .before .before .before .before .before .before .before .before .before .before .before .before .before .before .before .pre .1 .0 .line))
 
 at-splits-same-length-4 : (t : ℕ) → at-splits-lts.Need-same-length-4 (
   fields-reads.Asked,
@@ -1572,7 +1572,7 @@ at-splits-same-length-4 : (t : ℕ) → at-splits-lts.Need-same-length-4 (
   slotted-reads.Asked,
   slotted-reads.Learnt,
 ) (at-splits-at t) at-splits.Post at-splits-Inv-loop at-splits-μ-loop
-at-splits-same-length-4 t c = ((c .before .before .before .before .before .before .before .before .before .before .before .before .expr .kept .1 .1 .1 .1 .0) ∙ (c .before .before .before .before .before .before .before .before .before .before .before .before .before .before .before .before .before .before .before .before .before .before .before .before .loop .inv .1 .0))
+at-splits-same-length-4 t c = ((c .before .before .before .before .before .before .before .before .before .before .before .before .expr .kept .1 .1 .0) ∙ (c .before .before .before .before .before .before .before .before .before .before .before .before .before .before .before .before .before .before .before .before .before .before .before .before .before .loop .inv .1 .0))
 
 at-splits-same-length-5 : (t : ℕ) → at-splits-lts.Need-same-length-5 (
   fields-reads.Asked,
@@ -1598,7 +1598,7 @@ at-splits-same-length-5 : (t : ℕ) → at-splits-lts.Need-same-length-5 (
   slotted-reads.Asked,
   slotted-reads.Learnt,
 ) (at-splits-at t) at-splits.Post at-splits-Inv-loop at-splits-μ-loop
-at-splits-same-length-5 t c = ((c .before .before .before .before .before .before .before .before .before .before .before .before .expr .kept .1 .1 .1 .1 .1 .0) ∙ (c .before .before .before .before .before .before .before .before .before .before .before .before .before .before .before .before .before .before .before .before .bind-fields .kept .1 .0) ∙ (c .before .before .before .before .before .before .before .before .before .before .before .before .before .before .before .before .before .before .before .before .before .before .before .before .loop .inv .1 .1 .0))
+at-splits-same-length-5 t c = ((c .before .before .before .before .before .before .before .before .before .before .before .before .expr .kept .1 .1 .1 .1 .0) ∙ (c .before .before .before .before .before .before .before .before .before .before .before .before .before .before .before .before .before .before .before .before .before .bind-fields .kept .1 .0) ∙ (c .before .before .before .before .before .before .before .before .before .before .before .before .before .before .before .before .before .before .before .before .before .before .before .before .before .loop .inv .1 .1 .0))
 
 at-splits-same-length-6 : (t : ℕ) → at-splits-lts.Need-same-length-6 (
   fields-reads.Asked,
@@ -1624,7 +1624,7 @@ at-splits-same-length-6 : (t : ℕ) → at-splits-lts.Need-same-length-6 (
   slotted-reads.Asked,
   slotted-reads.Learnt,
 ) (at-splits-at t) at-splits.Post at-splits-Inv-loop at-splits-μ-loop
-at-splits-same-length-6 t c = ((c .before .before .before .before .before .before .before .before .before .before .before .before .expr .kept .1 .1 .1 .1 .1 .1 .0) ∙ (c .before .before .before .before .before .before .before .before .before .before .before .before .before .before .before .before .before .before .before .before .before .before .before .before .loop .inv .1 .1 .1))
+at-splits-same-length-6 t c = ((c .before .before .before .before .before .before .before .before .before .before .before .before .expr .kept .1 .1 .1 .1 .1 .0) ∙ (c .before .before .before .before .before .before .before .before .before .before .before .before .before .before .before .before .before .before .before .before .before .before .before .before .before .loop .inv .1 .1 .1))
 
 at-splits-returns-2 : (t : ℕ) → at-splits-lts.Need-returns-2 (
   fields-reads.Asked,
@@ -1650,7 +1650,7 @@ at-splits-returns-2 : (t : ℕ) → at-splits-lts.Need-returns-2 (
   slotted-reads.Asked,
   slotted-reads.Learnt,
 ) (at-splits-at t) at-splits.Post at-splits-Inv-loop at-splits-μ-loop
-at-splits-returns-2 t c = splits-differ (walks-are (c .before .before .before .before .before .before .before .before .before .before .before .before .before .before .before .before .before .before .before .before .before .before .before .loop-test .taken) (c .before .before .before .before .before .before .before .before .before .before .before .before .before .before .before .before .before .before .before .before .before .before .before .before .loop .inv .0)) (c .before .before .before .before .before .before .before .before .before .before .before .before .before .before .before .before .before .before .before .before .before .before .before .before .before .before .before .before .fields .ensures) (c .before .before .before .before .before .before .before .before .before .before .before .before .before .before .before .before .before .before .before .before .before .before .before .before .before .before .before .own-fields .ensures) (scope-long (c .before .before .before .before .before .before .before .before .before .before .before .before .before .before .before .before .before .before .before .before .before .before .before .before .before .before .before .before .before .before .before .before .before .before .before .before .pre .1 .0) ((c .before .before .before .before .before .before .before .before .before .before .before .before .before .before .before .before .before .before .before .before .before .before .before .before .loop .inv .1 .1 .0))) (sizes-long (c .before .before .before .before .before .before .before .before .before .before .before .before .before .before .before .before .before .before .before .before .before .before .before .before .before .before .before .before .before .before .before .before .before .before .before .before .pre .1 .0) ((c .before .before .before .before .before .before .before .before .before .before .before .before .before .before .before .before .before .before .before .before .before .before .before .before .loop .inv .1 .1 .1))) (c .before .before .before .before .before .before .before .before .before .before .before .before .before .before .before .before .before .before .before .before .bind-fields .ensures) (c .before .before .before .before .before .before .before .before .before .before .before .before .before .before .before .before .before .moved .ensures) (c .before .before .before .before .before .before .before .before .before .before .before .before .before .before .before .before .widen .ensures) (c .before .before .before .before .before .before .before .before .before .before .before .before .expr .ensures) (c .before .before .before .before .x .given .1) (c .before .before .is-kind .ensures) (not-true _ (c .before .if1 .taken))
+at-splits-returns-2 t c = splits-differ (walks-are (c .before .before .before .before .before .before .before .before .before .before .before .before .before .before .before .before .before .before .before .before .before .before .before .before .loop-test .taken) (c .before .before .before .before .before .before .before .before .before .before .before .before .before .before .before .before .before .before .before .before .before .before .before .before .before .loop .inv .0)) (c .before .before .before .before .before .before .before .before .before .before .before .before .before .before .before .before .before .before .before .before .before .before .before .before .before .before .before .before .before .fields .ensures) (c .before .before .before .before .before .before .before .before .before .before .before .before .before .before .before .before .before .before .before .before .before .before .before .before .before .before .before .before .own-fields .ensures) (scope-long (c .before .before .before .before .before .before .before .before .before .before .before .before .before .before .before .before .before .before .before .before .before .before .before .before .before .before .before .before .before .before .before .before .before .before .pre .1 .0) ((c .before .before .before .before .before .before .before .before .before .before .before .before .before .before .before .before .before .before .before .before .before .before .before .before .before .loop .inv .1 .1 .0))) (sizes-long (c .before .before .before .before .before .before .before .before .before .before .before .before .before .before .before .before .before .before .before .before .before .before .before .before .before .before .before .before .before .before .before .before .before .before .pre .1 .0) ((c .before .before .before .before .before .before .before .before .before .before .before .before .before .before .before .before .before .before .before .before .before .before .before .before .before .loop .inv .1 .1 .1))) (c .before .before .before .before .before .before .before .before .before .before .before .before .before .before .before .before .before .before .before .before .before .bind-fields .ensures) (c .before .before .before .before .before .before .before .before .before .before .before .before .before .before .before .before .before .before .moved .ensures) (c .before .before .before .before .before .before .before .before .before .before .before .before .before .before .before .before .before .widen .ensures) (c .before .before .before .before .before .before .before .before .before .before .before .before .expr .ensures) (c .before .before .before .before .x .given .1) (c .before .before .is-kind .ensures) (not-true _ (c .before .if1 .taken))
 
 at-splits-larger-requires : (t : ℕ) → at-splits-lts.Need-larger-requires (
   fields-reads.Asked,
@@ -1754,7 +1754,7 @@ at-splits-loop-less : (t : ℕ) → at-splits-lts.Need-loop-less (
   slotted-reads.Asked,
   slotted-reads.Learnt,
 ) (at-splits-at t) at-splits.Post at-splits-Inv-loop at-splits-μ-loop
-at-splits-loop-less t c = less-as _ (c .before .before .before .before .before .before .before .before .before .before .before .before .before .before .before .before .before .before .before .before .before .before .before .before .before .before .before .before .loop-test .taken) (turn-falls (c .before .before .before .before .before .before .before .before .before .before .before .before .before .before .before .before .before .before .before .before .before .before .before .before .before .before .before .before .before .before .before .before .before .before .before .before .before .before .before .before .before .args .p) _ _ (c .before .before .before .before .before .before .before .before .before .before .before .before .before .before .before .before .before .before .before .before .before .before .moved .ensures) (c .before .before .before .before .before .before .before .before .before .before .before .before .before .before .before .before .before .before .before .before .before .widen .ensures) (c .before .before .before .before .before .before .before .before .before .before .before .before .before .before .before .before .before .expr .ensures .kept) (c .before .before .next-split .ensures))
+at-splits-loop-less t c = less-as _ (c .before .before .before .before .before .before .before .before .before .before .before .before .before .before .before .before .before .before .before .before .before .before .before .before .before .before .before .before .before .loop-test .taken) (turn-falls (c .before .before .before .before .before .before .before .before .before .before .before .before .before .before .before .before .before .before .before .before .before .before .before .before .before .before .before .before .before .before .before .before .before .before .before .before .before .before .before .args .p) _ _ (c .before .before .before .before .before .before .before .before .before .before .before .before .before .before .before .before .before .before .before .before .before .before .before .moved .ensures) (c .before .before .before .before .before .before .before .before .before .before .before .before .before .before .before .before .before .before .before .before .before .before .widen .ensures) (c .before .before .before .before .before .before .before .before .before .before .before .before .before .before .before .before .before .expr .ensures .kept) (c .before .before .next-split .ensures))
 
 at-splits-loop-again : (t : ℕ) → at-splits-lts.Need-loop-again (
   fields-reads.Asked,
@@ -1780,7 +1780,7 @@ at-splits-loop-again : (t : ℕ) → at-splits-lts.Need-loop-again (
   slotted-reads.Asked,
   slotted-reads.Learnt,
 ) (at-splits-at t) at-splits.Post at-splits-Inv-loop at-splits-μ-loop
-at-splits-loop-again t c = (splits-turn (walks-are (c .before .before .before .before .before .before .before .before .before .before .before .before .before .before .before .before .before .before .before .before .before .before .before .before .before .before .before .before .loop-test .taken) (c .before .before .before .before .before .before .before .before .before .before .before .before .before .before .before .before .before .before .before .before .before .before .before .before .before .before .before .before .before .loop .inv .0)) (c .before .before .before .before .before .before .before .before .before .before .before .before .before .before .before .before .before .before .before .before .before .before .before .before .before .before .before .before .before .before .before .before .before .fields .ensures) (c .before .before .before .before .before .before .before .before .before .before .before .before .before .before .before .before .before .before .before .before .before .before .before .before .before .before .before .before .before .before .before .before .own-fields .ensures) (scope-long (c .before .before .before .before .before .before .before .before .before .before .before .before .before .before .before .before .before .before .before .before .before .before .before .before .before .before .before .before .before .before .before .before .before .before .before .before .before .before .before .before .before .pre .1 .0) ((c .before .before .before .before .before .before .before .before .before .before .before .before .before .before .before .before .before .before .before .before .before .before .before .before .before .before .before .before .before .loop .inv .1 .1 .0))) (sizes-long (c .before .before .before .before .before .before .before .before .before .before .before .before .before .before .before .before .before .before .before .before .before .before .before .before .before .before .before .before .before .before .before .before .before .before .before .before .before .before .before .before .before .pre .1 .0) ((c .before .before .before .before .before .before .before .before .before .before .before .before .before .before .before .before .before .before .before .before .before .before .before .before .before .before .before .before .before .loop .inv .1 .1 .1))) (c .before .before .before .before .before .before .before .before .before .before .before .before .before .before .before .before .before .before .before .before .before .before .before .before .before .bind-fields .ensures) (c .before .before .before .before .before .before .before .before .before .before .before .before .before .before .before .before .before .before .before .before .before .before .moved .ensures) (c .before .before .before .before .before .before .before .before .before .before .before .before .before .before .before .before .before .before .before .before .before .widen .ensures) (c .before .before .before .before .before .before .before .before .before .before .before .before .before .before .before .before .before .expr .ensures) (c .before .before .before .before .before .before .before .before .before .x .given .1) (c .before .before .before .before .before .before .before .is-kind .ensures) (not-false _ (c .before .before .before .before .before .before .if1 .left)) (sizes-long (c .before .before .before .before .before .before .before .before .before .before .before .before .before .before .before .before .before .before .before .before .before .before .before .before .before .before .before .before .before .before .before .before .before .before .before .before .before .before .before .before .before .pre .1 .0) ((c .before .before .before .before .before .before .before .before .before .before .before .before .before .before .before .before .before .expr .kept .1 .1 .1 .1 .1 .1 .0) ∙ (c .before .before .before .before .before .before .before .before .before .before .before .before .before .before .before .before .before .before .before .before .before .before .before .before .before .before .before .before .before .loop .inv .1 .1 .1))) (c .before .before .before .before .before .larger .ensures .both) (c .before .before .before .before .before .larger .ensures .is) (c .before .before .next-split .ensures), (((c .before .before .before .before .before .before .before .before .before .before .before .before .before .before .before .before .before .expr .kept .1 .1 .1 .1 .0) ∙ (c .before .before .before .before .before .before .before .before .before .before .before .before .before .before .before .before .before .before .before .before .before .before .before .before .before .before .before .before .before .loop .inv .1 .0)), (((c .before .before .before .before .before .before .before .before .before .before .before .before .before .before .before .before .before .expr .kept .1 .1 .1 .1 .1 .0) ∙ (c .before .before .before .before .before .before .before .before .before .before .before .before .before .before .before .before .before .before .before .before .before .before .before .before .before .bind-fields .kept .1 .0) ∙ (c .before .before .before .before .before .before .before .before .before .before .before .before .before .before .before .before .before .before .before .before .before .before .before .before .before .before .before .before .before .loop .inv .1 .1 .0)), (c .before .before .next-split .kept .0) ∙ ((c .before .before .before .before .before .before .before .before .before .before .before .before .before .before .before .before .before .expr .kept .1 .1 .1 .1 .1 .1 .0) ∙ (c .before .before .before .before .before .before .before .before .before .before .before .before .before .before .before .before .before .before .before .before .before .before .before .before .before .before .before .before .before .loop .inv .1 .1 .1)))))
+at-splits-loop-again t c = (splits-turn (walks-are (c .before .before .before .before .before .before .before .before .before .before .before .before .before .before .before .before .before .before .before .before .before .before .before .before .before .before .before .before .before .loop-test .taken) (c .before .before .before .before .before .before .before .before .before .before .before .before .before .before .before .before .before .before .before .before .before .before .before .before .before .before .before .before .before .before .loop .inv .0)) (c .before .before .before .before .before .before .before .before .before .before .before .before .before .before .before .before .before .before .before .before .before .before .before .before .before .before .before .before .before .before .before .before .before .before .fields .ensures) (c .before .before .before .before .before .before .before .before .before .before .before .before .before .before .before .before .before .before .before .before .before .before .before .before .before .before .before .before .before .before .before .before .before .own-fields .ensures) (scope-long (c .before .before .before .before .before .before .before .before .before .before .before .before .before .before .before .before .before .before .before .before .before .before .before .before .before .before .before .before .before .before .before .before .before .before .before .before .before .before .before .pre .1 .0) ((c .before .before .before .before .before .before .before .before .before .before .before .before .before .before .before .before .before .before .before .before .before .before .before .before .before .before .before .before .before .before .loop .inv .1 .1 .0))) (sizes-long (c .before .before .before .before .before .before .before .before .before .before .before .before .before .before .before .before .before .before .before .before .before .before .before .before .before .before .before .before .before .before .before .before .before .before .before .before .before .before .before .pre .1 .0) ((c .before .before .before .before .before .before .before .before .before .before .before .before .before .before .before .before .before .before .before .before .before .before .before .before .before .before .before .before .before .before .loop .inv .1 .1 .1))) (c .before .before .before .before .before .before .before .before .before .before .before .before .before .before .before .before .before .before .before .before .before .before .before .before .before .before .bind-fields .ensures) (c .before .before .before .before .before .before .before .before .before .before .before .before .before .before .before .before .before .before .before .before .before .before .before .moved .ensures) (c .before .before .before .before .before .before .before .before .before .before .before .before .before .before .before .before .before .before .before .before .before .before .widen .ensures) (c .before .before .before .before .before .before .before .before .before .before .before .before .before .before .before .before .before .expr .ensures) (c .before .before .before .before .before .before .before .before .before .x .given .1) (c .before .before .before .before .before .before .before .is-kind .ensures) (not-false _ (c .before .before .before .before .before .before .if1 .left)) (sizes-long (c .before .before .before .before .before .before .before .before .before .before .before .before .before .before .before .before .before .before .before .before .before .before .before .before .before .before .before .before .before .before .before .before .before .before .before .before .before .before .before .pre .1 .0) ((c .before .before .before .before .before .before .before .before .before .before .before .before .before .before .before .before .before .expr .kept .1 .1 .1 .1 .1 .0) ∙ (c .before .before .before .before .before .before .before .before .before .before .before .before .before .before .before .before .before .before .before .before .before .before .before .before .before .before .before .before .before .before .loop .inv .1 .1 .1))) (c .before .before .before .before .before .larger .ensures .both) (c .before .before .before .before .before .larger .ensures .is) (c .before .before .next-split .ensures), (((c .before .before .before .before .before .before .before .before .before .before .before .before .before .before .before .before .before .expr .kept .1 .1 .0) ∙ (c .before .before .before .before .before .before .before .before .before .before .before .before .before .before .before .before .before .before .before .before .before .before .before .before .before .before .before .before .before .before .loop .inv .1 .0)), (((c .before .before .before .before .before .before .before .before .before .before .before .before .before .before .before .before .before .expr .kept .1 .1 .1 .1 .0) ∙ (c .before .before .before .before .before .before .before .before .before .before .before .before .before .before .before .before .before .before .before .before .before .before .before .before .before .before .bind-fields .kept .1 .0) ∙ (c .before .before .before .before .before .before .before .before .before .before .before .before .before .before .before .before .before .before .before .before .before .before .before .before .before .before .before .before .before .before .loop .inv .1 .1 .0)), (c .before .before .next-split .kept .0) ∙ ((c .before .before .before .before .before .before .before .before .before .before .before .before .before .before .before .before .before .expr .kept .1 .1 .1 .1 .1 .0) ∙ (c .before .before .before .before .before .before .before .before .before .before .before .before .before .before .before .before .before .before .before .before .before .before .before .before .before .before .before .before .before .before .loop .inv .1 .1 .1)))))
 
 at-splits-slotted-requires : (t : ℕ) → at-splits-lts.Need-slotted-requires (
   fields-reads.Asked,
@@ -1926,7 +1926,7 @@ binding-expr-requires : (t : ℕ) → binding-lts.Need-expr-requires (
   with-let-reads.Asked,
   with-let-reads.Learnt,
 ) (binding-at t) binding.Post
-binding-expr-requires t c κs = (load-same _ 900 (c .before .before .before .before .before .before .before .before .before .before .pre .0) 0 (omega arith), room-same (c .before .before .before .before .before .before .before .before .before .before .pre .1) (omega arith))
+binding-expr-requires t c κs = (load-same _ 900 (c .before .before .before .before .before .before .before .before .pre .0) 0 (omega arith), room-same (c .before .before .before .before .before .before .before .before .pre .1) (omega arith))
 
 binding-enum-known-x : (t : ℕ) → binding-lts.Need-enum-known-x (
   expr-below t,
@@ -1974,7 +1974,7 @@ binding-same-length : (t : ℕ) → binding-lts.Need-same-length (
   with-let-reads.Asked,
   with-let-reads.Learnt,
 ) (binding-at t) binding.Post
-binding-same-length t c = (c .before .before .before .before .before .before .before .before .expr .kept .1 .1 .1 .1 .0)
+binding-same-length t c = (c .before .before .before .before .before .before .before .before .expr .kept .1 .1 .0)
 
 binding-same-length-2 : (t : ℕ) → binding-lts.Need-same-length-2 (
   expr-below t,
@@ -1990,7 +1990,7 @@ binding-same-length-2 : (t : ℕ) → binding-lts.Need-same-length-2 (
   with-let-reads.Asked,
   with-let-reads.Learnt,
 ) (binding-at t) binding.Post
-binding-same-length-2 t c = (c .before .before .before .before .before .before .before .before .expr .kept .1 .1 .1 .1 .1 .0)
+binding-same-length-2 t c = (c .before .before .before .before .before .before .before .before .expr .kept .1 .1 .1 .1 .0)
 
 binding-same-length-3 : (t : ℕ) → binding-lts.Need-same-length-3 (
   expr-below t,
@@ -2006,7 +2006,7 @@ binding-same-length-3 : (t : ℕ) → binding-lts.Need-same-length-3 (
   with-let-reads.Asked,
   with-let-reads.Learnt,
 ) (binding-at t) binding.Post
-binding-same-length-3 t c = (c .before .before .before .before .before .before .before .before .expr .kept .1 .1 .1 .1 .1 .1 .0)
+binding-same-length-3 t c = (c .before .before .before .before .before .before .before .before .expr .kept .1 .1 .1 .1 .1 .0)
 
 binding-returns : (t : ℕ) → binding-lts.Need-returns (
   expr-below t,
@@ -2102,7 +2102,7 @@ binding-widen-requires : (t : ℕ) → binding-lts.Need-widen-requires (
   with-let-reads.Asked,
   with-let-reads.Learnt,
 ) (binding-at t) binding.Post
-binding-widen-requires t c κs = room-widens (c .before .before .before .before .before .before .before .before .before .before .before .before .before .before .before .before .before .before .before .before .before .before .before .before .before .before .before .pre .1) (c .behind .ensures) (omega arith) (omega arith)
+binding-widen-requires t c κs = room-widens (c .before .before .before .before .before .before .before .before .before .before .before .before .before .before .before .before .before .before .before .before .before .before .before .before .before .pre .1) (c .behind .ensures) (omega arith) (omega arith)
 
 binding-expr-requires-2 : (t : ℕ) → binding-lts.Need-expr-requires-2 (
   expr-below t,
@@ -2118,7 +2118,7 @@ binding-expr-requires-2 : (t : ℕ) → binding-lts.Need-expr-requires-2 (
   with-let-reads.Asked,
   with-let-reads.Learnt,
 ) (binding-at t) binding.Post
-binding-expr-requires-2 t c κs = (load-wide _ 900 (c .before .before .before .before .before .before .before .before .before .before .before .before .before .before .before .before .before .before .before .before .before .before .before .before .before .before .before .before .before .before .before .pre .0) _ _ 1 0 0 (c .before .before .before .before .behind .ensures) (c .before .before .before .widen .ensures) (grows-to (c .before .before .before .before .before .before .before .before .before .before .before .before .before .before .before .before .before .before .before .before .expr .ensures .grows) (c .before .before .before .before .before .before .before .before .before .before .before .before .x .given .1)) (omega arith), room-wide (c .before .before .before .before .before .before .before .before .before .before .before .before .before .before .before .before .before .before .before .before .before .before .before .before .before .before .before .before .before .before .before .pre .1) (c .before .before .before .before .behind .ensures) (c .before .before .before .widen .ensures) ((c .before .before .before .before .before .before .before .put .kept .0) ∙ (c .before .before .before .before .before .before .before .before .before .before .before .before .before .before .before .before .before .before .before .before .expr .kept .1 .1 .1 .1 .1 .0)) ((c .before .before .before .before .before .before .before .before .before .before .before .before .before .before .before .before .before .before .before .before .expr .kept .1 .1 .1 .1 .1 .1 .0)) (omega arith) (omega arith))
+binding-expr-requires-2 t c κs = (load-wide _ 900 (c .before .before .before .before .before .before .before .before .before .before .before .before .before .before .before .before .before .before .before .before .before .before .before .before .before .before .before .before .before .before .pre .0) _ _ 1 0 0 (c .before .before .before .before .before .behind .ensures) (c .before .before .before .before .widen .ensures) (grows-to (c .before .before .before .before .before .before .before .before .before .before .before .before .before .before .before .before .before .before .before .before .before .expr .ensures .grows) (c .before .before .before .before .before .before .before .before .before .before .before .before .before .x .given .1)) (omega arith), room-wide (c .before .before .before .before .before .before .before .before .before .before .before .before .before .before .before .before .before .before .before .before .before .before .before .before .before .before .before .before .before .before .pre .1) (c .before .before .before .before .before .behind .ensures) (c .before .before .before .before .widen .ensures) ((c .before .before .before .before .before .before .before .before .put .kept .0) ∙ (c .before .before .before .before .before .before .before .before .before .before .before .before .before .before .before .before .before .before .before .before .before .expr .kept .1 .1 .1 .1 .0)) ((c .before .before .before .before .before .before .before .before .before .before .before .before .before .before .before .before .before .before .before .before .before .expr .kept .1 .1 .1 .1 .1 .0)) (omega arith) (omega arith))
 
 binding-enum-known-y : (t : ℕ) → binding-lts.Need-enum-known-y (
   expr-below t,
@@ -2166,7 +2166,7 @@ binding-same-length-4 : (t : ℕ) → binding-lts.Need-same-length-4 (
   with-let-reads.Asked,
   with-let-reads.Learnt,
 ) (binding-at t) binding.Post
-binding-same-length-4 t c = (c .before .before .before .before .before .before .before .before .expr2 .kept .1 .1 .1 .1 .0) ∙ (c .before .before .before .before .before .before .before .before .before .before .before .before .before .before .before .before .before .before .before .before .before .before .before .before .before .before .before .before .before .expr .kept .1 .1 .1 .1 .0)
+binding-same-length-4 t c = (c .before .before .before .before .before .before .before .before .expr2 .kept .1 .1 .0) ∙ (c .before .before .before .before .before .before .before .before .before .before .before .before .before .before .before .before .before .before .before .before .before .before .before .before .before .before .before .before .before .before .expr .kept .1 .1 .0)
 
 binding-same-length-5 : (t : ℕ) → binding-lts.Need-same-length-5 (
   expr-below t,
@@ -2182,7 +2182,7 @@ binding-same-length-5 : (t : ℕ) → binding-lts.Need-same-length-5 (
   with-let-reads.Asked,
   with-let-reads.Learnt,
 ) (binding-at t) binding.Post
-binding-same-length-5 t c = (c .before .before .before .before .before .before .before .before .expr2 .kept .1 .1 .1 .1 .1 .0) ∙ (c .before .before .before .before .before .before .before .before .before .before .before .before .before .before .before .before .put .kept .0) ∙ (c .before .before .before .before .before .before .before .before .before .before .before .before .before .before .before .before .before .before .before .before .before .before .before .before .before .before .before .before .before .expr .kept .1 .1 .1 .1 .1 .0)
+binding-same-length-5 t c = (c .before .before .before .before .before .before .before .before .expr2 .kept .1 .1 .1 .1 .0) ∙ (c .before .before .before .before .before .before .before .before .before .before .before .before .before .before .before .before .before .put .kept .0) ∙ (c .before .before .before .before .before .before .before .before .before .before .before .before .before .before .before .before .before .before .before .before .before .before .before .before .before .before .before .before .before .before .expr .kept .1 .1 .1 .1 .0)
 
 binding-same-length-6 : (t : ℕ) → binding-lts.Need-same-length-6 (
   expr-below t,
@@ -2198,7 +2198,7 @@ binding-same-length-6 : (t : ℕ) → binding-lts.Need-same-length-6 (
   with-let-reads.Asked,
   with-let-reads.Learnt,
 ) (binding-at t) binding.Post
-binding-same-length-6 t c = (c .before .before .before .before .before .before .before .before .expr2 .kept .1 .1 .1 .1 .1 .1 .0) ∙ (c .before .before .before .before .before .before .before .before .before .before .before .before .before .before .before .before .before .before .before .before .before .before .before .before .before .before .before .before .before .expr .kept .1 .1 .1 .1 .1 .1 .0)
+binding-same-length-6 t c = (c .before .before .before .before .before .before .before .before .expr2 .kept .1 .1 .1 .1 .1 .0) ∙ (c .before .before .before .before .before .before .before .before .before .before .before .before .before .before .before .before .before .before .before .before .before .before .before .before .before .before .before .before .before .before .expr .kept .1 .1 .1 .1 .1 .0)
 
 binding-returns-2 : (t : ℕ) → binding-lts.Need-returns-2 (
   expr-below t,
@@ -2214,7 +2214,7 @@ binding-returns-2 : (t : ℕ) → binding-lts.Need-returns-2 (
   with-let-reads.Asked,
   with-let-reads.Learnt,
 ) (binding-at t) binding.Post
-binding-returns-2 t c = let-second (c .before .before .before .before .before .before .before .before .before .before .before .before .before .before .before .before .before .before .before .before .before .before .before .before .before .before .before .before .before .expr .ensures) (scope-long (c .before .before .before .before .before .before .before .before .before .before .before .before .before .before .before .before .before .before .before .before .before .before .before .before .before .before .before .before .before .before .before .before .before .before .before .before .before .before .before .before .pre .1) ((c .before .before .before .before .before .before .before .before .before .before .before .before .before .before .before .before .before .before .before .before .before .before .before .before .before .before .before .before .before .expr .kept .1 .1 .1 .1 .1 .0))) (c .before .before .before .before .before .before .before .before .before .before .before .before .before .before .before .before .before .before .before .before .before .x .given .1) (c .before .before .before .before .before .before .before .before .before .before .before .before .before .before .before .before .before .kind-word .ensures .is) (c .before .before .before .before .before .before .before .before .before .before .before .before .before .behind .ensures) (c .before .before .before .before .before .before .before .before .before .before .before .before .widen .ensures) (put-is (c .before .before .before .before .before .before .before .before .before .before .before .before .before .before .before .before .put .ensures) (c .before .before .before .before .before .before .before .before .expr2 .ensures)) (c .enum-told2 .given .1)
+binding-returns-2 t c = let-second (c .before .before .before .before .before .before .before .before .before .before .before .before .before .before .before .before .before .before .before .before .before .before .before .before .before .before .before .before .before .before .expr .ensures) (scope-long (c .before .before .before .before .before .before .before .before .before .before .before .before .before .before .before .before .before .before .before .before .before .before .before .before .before .before .before .before .before .before .before .before .before .before .before .before .before .before .before .pre .1) ((c .before .before .before .before .before .before .before .before .before .before .before .before .before .before .before .before .before .before .before .before .before .before .before .before .before .before .before .before .before .before .expr .kept .1 .1 .1 .1 .0))) (c .before .before .before .before .before .before .before .before .before .before .before .before .before .before .before .before .before .before .before .before .before .before .x .given .1) (c .before .before .before .before .before .before .before .before .before .before .before .before .before .before .before .before .before .before .kind-word .ensures .is) (c .before .before .before .before .before .before .before .before .before .before .before .before .before .before .behind .ensures) (c .before .before .before .before .before .before .before .before .before .before .before .before .before .widen .ensures) (put-is (c .before .before .before .before .before .before .before .before .before .before .before .before .before .before .before .before .before .put .ensures) (c .before .before .before .before .before .before .before .before .expr2 .ensures)) (c .enum-told2 .given .1)
 
 binding-with-let-requires : (t : ℕ) → binding-lts.Need-with-let-requires (
   expr-below t,
@@ -2246,7 +2246,7 @@ binding-same-length-7 : (t : ℕ) → binding-lts.Need-same-length-7 (
   with-let-reads.Asked,
   with-let-reads.Learnt,
 ) (binding-at t) binding.Post
-binding-same-length-7 t c = (c .before .before .before .before .before .before .before .before .before .before .expr2 .kept .1 .1 .1 .1 .0) ∙ (c .before .before .before .before .before .before .before .before .before .before .before .before .before .before .before .before .before .before .before .before .before .before .before .before .before .before .before .before .before .before .before .expr .kept .1 .1 .1 .1 .0)
+binding-same-length-7 t c = (c .before .before .before .before .before .before .before .before .before .before .expr2 .kept .1 .1 .0) ∙ (c .before .before .before .before .before .before .before .before .before .before .before .before .before .before .before .before .before .before .before .before .before .before .before .before .before .before .before .before .before .before .before .before .expr .kept .1 .1 .0)
 
 binding-same-length-8 : (t : ℕ) → binding-lts.Need-same-length-8 (
   expr-below t,
@@ -2262,7 +2262,7 @@ binding-same-length-8 : (t : ℕ) → binding-lts.Need-same-length-8 (
   with-let-reads.Asked,
   with-let-reads.Learnt,
 ) (binding-at t) binding.Post
-binding-same-length-8 t c = (c .before .before .before .before .before .before .before .before .before .before .expr2 .kept .1 .1 .1 .1 .1 .0) ∙ (c .before .before .before .before .before .before .before .before .before .before .before .before .before .before .before .before .before .before .put .kept .0) ∙ (c .before .before .before .before .before .before .before .before .before .before .before .before .before .before .before .before .before .before .before .before .before .before .before .before .before .before .before .before .before .before .before .expr .kept .1 .1 .1 .1 .1 .0)
+binding-same-length-8 t c = (c .before .before .before .before .before .before .before .before .before .before .expr2 .kept .1 .1 .1 .1 .0) ∙ (c .before .before .before .before .before .before .before .before .before .before .before .before .before .before .before .before .before .before .before .put .kept .0) ∙ (c .before .before .before .before .before .before .before .before .before .before .before .before .before .before .before .before .before .before .before .before .before .before .before .before .before .before .before .before .before .before .before .before .expr .kept .1 .1 .1 .1 .0)
 
 binding-same-length-9 : (t : ℕ) → binding-lts.Need-same-length-9 (
   expr-below t,
@@ -2278,7 +2278,7 @@ binding-same-length-9 : (t : ℕ) → binding-lts.Need-same-length-9 (
   with-let-reads.Asked,
   with-let-reads.Learnt,
 ) (binding-at t) binding.Post
-binding-same-length-9 t c = (c .before .before .before .before .before .before .before .before .before .before .expr2 .kept .1 .1 .1 .1 .1 .1 .0) ∙ (c .before .before .before .before .before .before .before .before .before .before .before .before .before .before .before .before .before .before .before .before .before .before .before .before .before .before .before .before .before .before .before .expr .kept .1 .1 .1 .1 .1 .1 .0)
+binding-same-length-9 t c = (c .before .before .before .before .before .before .before .before .before .before .expr2 .kept .1 .1 .1 .1 .1 .0) ∙ (c .before .before .before .before .before .before .before .before .before .before .before .before .before .before .before .before .before .before .before .before .before .before .before .before .before .before .before .before .before .before .before .before .expr .kept .1 .1 .1 .1 .1 .0)
 
 binding-returns-3 : (t : ℕ) → binding-lts.Need-returns-3 (
   expr-below t,
@@ -2294,7 +2294,7 @@ binding-returns-3 : (t : ℕ) → binding-lts.Need-returns-3 (
   with-let-reads.Asked,
   with-let-reads.Learnt,
 ) (binding-at t) binding.Post
-binding-returns-3 t c = let-done (c .before .before .before .before .before .before .before .before .before .before .before .before .before .before .before .before .before .before .before .before .before .before .before .before .before .before .before .before .before .before .before .expr .ensures) (scope-long (c .before .before .before .before .before .before .before .before .before .before .before .before .before .before .before .before .before .before .before .before .before .before .before .before .before .before .before .before .before .before .before .before .before .before .before .before .before .before .before .before .before .before .pre .1) ((c .before .before .before .before .before .before .before .before .before .before .before .before .before .before .before .before .before .before .before .before .before .before .before .before .before .before .before .before .before .before .before .expr .kept .1 .1 .1 .1 .1 .0))) (c .before .before .before .before .before .before .before .before .before .before .before .before .before .before .before .before .before .before .before .before .before .before .before .x .given .1) (c .before .before .before .before .before .before .before .before .before .before .before .before .before .before .before .before .before .before .before .kind-word .ensures .is) (c .before .before .before .before .before .before .before .before .before .before .before .before .before .before .before .behind .ensures) (c .before .before .before .before .before .before .before .before .before .before .before .before .before .before .widen .ensures) (put-is (c .before .before .before .before .before .before .before .before .before .before .before .before .before .before .before .before .before .before .put .ensures) (c .before .before .before .before .before .before .before .before .before .before .expr2 .ensures)) (c .before .before .y .given .1) (c .with-let .ensures .held) (c .with-let .ensures .all) (c .with-let .ensures .is)
+binding-returns-3 t c = let-done (c .before .before .before .before .before .before .before .before .before .before .before .before .before .before .before .before .before .before .before .before .before .before .before .before .before .before .before .before .before .before .before .before .expr .ensures) (scope-long (c .before .before .before .before .before .before .before .before .before .before .before .before .before .before .before .before .before .before .before .before .before .before .before .before .before .before .before .before .before .before .before .before .before .before .before .before .before .before .before .before .before .pre .1) ((c .before .before .before .before .before .before .before .before .before .before .before .before .before .before .before .before .before .before .before .before .before .before .before .before .before .before .before .before .before .before .before .before .expr .kept .1 .1 .1 .1 .0))) (c .before .before .before .before .before .before .before .before .before .before .before .before .before .before .before .before .before .before .before .before .before .before .before .before .x .given .1) (c .before .before .before .before .before .before .before .before .before .before .before .before .before .before .before .before .before .before .before .before .kind-word .ensures .is) (c .before .before .before .before .before .before .before .before .before .before .before .before .before .before .before .before .behind .ensures) (c .before .before .before .before .before .before .before .before .before .before .before .before .before .before .before .widen .ensures) (put-is (c .before .before .before .before .before .before .before .before .before .before .before .before .before .before .before .before .before .before .before .put .ensures) (c .before .before .before .before .before .before .before .before .before .before .expr2 .ensures)) (c .before .before .y .given .1) (c .with-let .ensures .held) (c .with-let .ensures .all) (c .with-let .ensures .is)
 
 body-cast-if1 : (t : ℕ) → body-lts.Need-cast-if1 (
   add-reads.Asked,
@@ -2314,7 +2314,7 @@ body-cast-if1 : (t : ℕ) → body-lts.Need-cast-if1 (
 ) (body-at t) body.Post
 body-cast-if1 t c = omega arith
 
-body-add-t18 : (t : ℕ) → body-lts.Need-add-t18 (
+body-add-t17 : (t : ℕ) → body-lts.Need-add-t17 (
   add-reads.Asked,
   add-reads.Learnt,
   body-place-reads.Asked,
@@ -2330,7 +2330,7 @@ body-add-t18 : (t : ℕ) → body-lts.Need-add-t18 (
   leaf-reads.Asked,
   leaf-reads.Learnt,
 ) (body-at t) body.Post
-body-add-t18 t c = omega (arith, (c .before .before .before .before .before .before .before .before .before .before .pre .1 .0 .line))
+body-add-t17 t c = omega (arith, (c .before .before .before .before .before .before .before .pre .1 .0 .line))
 
 body-returns : (t : ℕ) → body-lts.Need-returns (
   add-reads.Asked,
@@ -2384,7 +2384,7 @@ body-body-place-requires : (t : ℕ) → body-lts.Need-body-place-requires (
   leaf-reads.Asked,
   leaf-reads.Learnt,
 ) (body-at t) body.Post
-body-body-place-requires t c κs = ((c .before .before .before .before .before .before .before .before .before .before .before .before .before .before .pre .1 .0 .types), (omega (arith, (c .before .before .before .before .before .if1 .left)), (c .before .before .before .before .before .before .before .before .before .before .before .before .before .before .pre .1 .1 .function)))
+body-body-place-requires t c κs = ((c .before .before .before .before .before .before .before .before .before .before .before .before .pre .1 .0 .types), (omega (arith, (c .before .before .before .before .before .before .if1 .left)), (c .before .before .before .before .before .before .before .before .before .before .before .before .pre .1 .1 .function)))
 
 body-expr-requires : (t : ℕ) → body-lts.Need-expr-requires (
   add-reads.Asked,
@@ -2402,7 +2402,7 @@ body-expr-requires : (t : ℕ) → body-lts.Need-expr-requires (
   leaf-reads.Asked,
   leaf-reads.Learnt,
 ) (body-at t) body.Post
-body-expr-requires t c κs = (load-body _ 80 (c .before .before .before .before .before .before .before .before .before .before .before .before .before .before .before .before .before .before .pre .0) (now (c .before .before .before .before .before .before .before .before .before .before .before .before .before .before .before .before .before .before .args .functions)) (c .before .before .before .before .before .before .before .before .before .before .before .before .before .before .before .before .before .before .args .e) _ (c .before .before .before .body-place .ensures) (omega (arith, (c .before .before .before .before .before .before .before .before .before .if1 .left))), room-body (now (c .before .before .before .before .before .before .before .before .before .before .before .before .before .before .before .before .before .before .args .functions)) (c .before .before .before .before .before .before .before .before .before .before .before .before .before .before .before .before .before .before .pre .1 .0) (c .before .before .before .before .before .before .before .before .before .before .before .before .before .before .before .before .before .before .pre .1 .1) (c .before .before .before .body-place .ensures))
+body-expr-requires t c κs = (load-body _ 80 (c .before .before .before .before .before .before .before .before .before .before .before .before .before .before .before .before .before .pre .0) (now (c .before .before .before .before .before .before .before .before .before .before .before .before .before .before .before .before .before .args .index)) (c .before .before .before .before .before .before .before .before .before .before .before .before .before .before .before .before .before .args .e) _ (c .before .before .before .before .body-place .ensures) (omega (arith, (c .before .before .before .before .before .before .before .before .before .before .before .if1 .left))), room-body (now (c .before .before .before .before .before .before .before .before .before .before .before .before .before .before .before .before .before .args .index)) (c .before .before .before .before .before .before .before .before .before .before .before .before .before .before .before .before .before .pre .1 .0) (c .before .before .before .before .before .before .before .before .before .before .before .before .before .before .before .before .before .pre .1 .1) (c .before .before .before .before .body-place .ensures))
 
 body-enum-known-x : (t : ℕ) → body-lts.Need-enum-known-x (
   add-reads.Asked,
@@ -2456,7 +2456,7 @@ body-same-length : (t : ℕ) → body-lts.Need-same-length (
   leaf-reads.Asked,
   leaf-reads.Learnt,
 ) (body-at t) body.Post
-body-same-length t c = (c .before .before .before .before .before .before .before .before .expr .kept .1 .1 .1 .1 .0) ∙ (c .before .before .before .before .before .before .before .before .before .before .before .before .before .before .before .add .kept .0)
+body-same-length t c = (c .before .before .before .before .before .before .before .before .expr .kept .1 .1 .0) ∙ (c .before .before .before .before .before .before .before .before .before .before .before .before .before .before .before .before .add .kept .0)
 
 body-same-length-2 : (t : ℕ) → body-lts.Need-same-length-2 (
   add-reads.Asked,
@@ -2474,7 +2474,7 @@ body-same-length-2 : (t : ℕ) → body-lts.Need-same-length-2 (
   leaf-reads.Asked,
   leaf-reads.Learnt,
 ) (body-at t) body.Post
-body-same-length-2 t c = (c .before .before .before .before .before .before .before .before .expr .kept .1 .1 .1 .1 .1 .0)
+body-same-length-2 t c = (c .before .before .before .before .before .before .before .before .expr .kept .1 .1 .1 .1 .0)
 
 body-same-length-3 : (t : ℕ) → body-lts.Need-same-length-3 (
   add-reads.Asked,
@@ -2492,7 +2492,7 @@ body-same-length-3 : (t : ℕ) → body-lts.Need-same-length-3 (
   leaf-reads.Asked,
   leaf-reads.Learnt,
 ) (body-at t) body.Post
-body-same-length-3 t c = (c .before .before .before .before .before .before .before .before .expr .kept .1 .1 .1 .1 .1 .1 .0)
+body-same-length-3 t c = (c .before .before .before .before .before .before .before .before .expr .kept .1 .1 .1 .1 .1 .0)
 
 body-returns-2 : (t : ℕ) → body-lts.Need-returns-2 (
   add-reads.Asked,
@@ -2510,7 +2510,7 @@ body-returns-2 : (t : ℕ) → body-lts.Need-returns-2 (
   leaf-reads.Asked,
   leaf-reads.Learnt,
 ) (body-at t) body.Post
-body-returns-2 t c = body-refused _ _ (omega (arith, (c .before .before .before .before .before .before .before .before .before .before .before .before .before .before .before .before .before .before .if1 .left))) (c .before .before .before .before .before .before .before .before .before .before .before .before .before .before .before .add .ensures) (c .before .before .before .before .before .before .before .before .before .before .before .before .body-place .ensures) (c .before .before .before .before .before .before .before .before .expr .ensures) (c .enum-told .given .1)
+body-returns-2 t c = body-refused _ _ (omega (arith, (c .before .before .before .before .before .before .before .before .before .before .before .before .before .before .before .before .before .before .before .before .if1 .left))) (c .before .before .before .before .before .before .before .before .before .before .before .before .before .before .before .before .add .ensures) (c .before .before .before .before .before .before .before .before .before .before .before .before .before .body-place .ensures) (c .before .before .before .before .before .before .before .before .expr .ensures) (c .enum-told .given .1)
 
 body-is-kind-requires : (t : ℕ) → body-lts.Need-is-kind-requires (
   add-reads.Asked,
@@ -2530,7 +2530,7 @@ body-is-kind-requires : (t : ℕ) → body-lts.Need-is-kind-requires (
 ) (body-at t) body.Post
 body-is-kind-requires t c κs = tt
 
-body-add-t31 : (t : ℕ) → body-lts.Need-add-t31 (
+body-add-t32 : (t : ℕ) → body-lts.Need-add-t32 (
   add-reads.Asked,
   add-reads.Learnt,
   body-place-reads.Asked,
@@ -2546,7 +2546,7 @@ body-add-t31 : (t : ℕ) → body-lts.Need-add-t31 (
   leaf-reads.Asked,
   leaf-reads.Learnt,
 ) (body-at t) body.Post
-body-add-t31 t c = omega (arith, ap (λ z. z .line) (c .before .before .before .before .before .before .before .before .before .before .before .before .before .before .before .before .body-place .ensures), (c .before .before .before .before .before .before .before .before .before .before .before .before .before .before .before .before .before .before .before .before .before .before .before .before .before .before .before .before .before .before .before .pre .1 .0 .types), (c .before .before .before .before .before .before .before .before .before .before .before .before .before .before .before .before .before .before .before .before .before .before .before .before .before .before .before .before .before .before .before .pre .1 .1 .function))
+body-add-t32 t c = omega (arith, ap (λ z. z .line) (c .before .before .before .before .before .before .before .before .before .before .before .before .before .before .before .before .before .body-place .ensures), (c .before .before .before .before .before .before .before .before .before .before .before .before .before .before .before .before .before .before .before .before .before .before .before .before .before .before .before .before .before .before .pre .1 .0 .types), (c .before .before .before .before .before .before .before .before .before .before .before .before .before .before .before .before .before .before .before .before .before .before .before .before .before .before .before .before .before .before .pre .1 .1 .function))
 
 body-same-length-4 : (t : ℕ) → body-lts.Need-same-length-4 (
   add-reads.Asked,
@@ -2564,7 +2564,7 @@ body-same-length-4 : (t : ℕ) → body-lts.Need-same-length-4 (
   leaf-reads.Asked,
   leaf-reads.Learnt,
 ) (body-at t) body.Post
-body-same-length-4 t c = (c .before .before .before .before .before .before .before .before .before .before .before .before .expr .kept .1 .1 .1 .1 .0) ∙ (c .before .before .before .before .before .before .before .before .before .before .before .before .before .before .before .before .before .before .before .add .kept .0)
+body-same-length-4 t c = (c .before .before .before .before .before .before .before .before .before .before .before .before .expr .kept .1 .1 .0) ∙ (c .before .before .before .before .before .before .before .before .before .before .before .before .before .before .before .before .before .before .before .before .add .kept .0)
 
 body-same-length-5 : (t : ℕ) → body-lts.Need-same-length-5 (
   add-reads.Asked,
@@ -2582,7 +2582,7 @@ body-same-length-5 : (t : ℕ) → body-lts.Need-same-length-5 (
   leaf-reads.Asked,
   leaf-reads.Learnt,
 ) (body-at t) body.Post
-body-same-length-5 t c = (c .before .before .before .before .before .before .before .before .before .before .before .before .expr .kept .1 .1 .1 .1 .1 .0)
+body-same-length-5 t c = (c .before .before .before .before .before .before .before .before .before .before .before .before .expr .kept .1 .1 .1 .1 .0)
 
 body-same-length-6 : (t : ℕ) → body-lts.Need-same-length-6 (
   add-reads.Asked,
@@ -2600,7 +2600,7 @@ body-same-length-6 : (t : ℕ) → body-lts.Need-same-length-6 (
   leaf-reads.Asked,
   leaf-reads.Learnt,
 ) (body-at t) body.Post
-body-same-length-6 t c = (c .before .before .before .before .before .before .before .before .before .before .before .before .expr .kept .1 .1 .1 .1 .1 .1 .0)
+body-same-length-6 t c = (c .before .before .before .before .before .before .before .before .before .before .before .before .expr .kept .1 .1 .1 .1 .1 .0)
 
 body-returns-3 : (t : ℕ) → body-lts.Need-returns-3 (
   add-reads.Asked,
@@ -2618,7 +2618,7 @@ body-returns-3 : (t : ℕ) → body-lts.Need-returns-3 (
   leaf-reads.Asked,
   leaf-reads.Learnt,
 ) (body-at t) body.Post
-body-returns-3 t c = body-differs _ _ (omega (arith, (c .before .before .before .before .before .before .before .before .before .before .before .before .before .before .before .before .before .before .before .before .before .before .if1 .left))) (c .before .before .before .before .before .before .before .before .before .before .before .before .before .before .before .before .before .before .before .add .ensures) (c .before .before .before .before .before .before .before .before .before .before .before .before .before .before .before .before .body-place .ensures) (c .before .before .before .before .before .before .before .before .before .before .before .before .expr .ensures) (c .before .before .before .before .x .given .1) (c .before .before .is-kind .ensures) (not-true _ (c .before .if2 .taken))
+body-returns-3 t c = body-differs _ _ (omega (arith, (c .before .before .before .before .before .before .before .before .before .before .before .before .before .before .before .before .before .before .before .before .before .before .before .before .if1 .left))) (c .before .before .before .before .before .before .before .before .before .before .before .before .before .before .before .before .before .before .before .before .add .ensures) (c .before .before .before .before .before .before .before .before .before .before .before .before .before .before .before .before .before .body-place .ensures) (c .before .before .before .before .before .before .before .before .before .before .before .before .expr .ensures) (c .before .before .before .before .x .given .1) (c .before .before .is-kind .ensures) (not-true _ (c .before .if2 .taken))
 
 body-finish-requires : (t : ℕ) → body-lts.Need-finish-requires (
   add-reads.Asked,
@@ -2690,7 +2690,7 @@ body-same-length-7 : (t : ℕ) → body-lts.Need-same-length-7 (
   leaf-reads.Asked,
   leaf-reads.Learnt,
 ) (body-at t) body.Post
-body-same-length-7 t c = (c .before .before .before .before .before .finish .kept .0) ∙ (c .before .before .before .before .before .before .before .before .before .before .before .before .before .before .before .before .before .before .before .expr .kept .1 .1 .1 .1 .0) ∙ (c .before .before .before .before .before .before .before .before .before .before .before .before .before .before .before .before .before .before .before .before .before .before .before .before .before .before .add .kept .0)
+body-same-length-7 t c = (c .before .before .before .before .before .finish .kept .0) ∙ (c .before .before .before .before .before .before .before .before .before .before .before .before .before .before .before .before .before .before .before .expr .kept .1 .1 .0) ∙ (c .before .before .before .before .before .before .before .before .before .before .before .before .before .before .before .before .before .before .before .before .before .before .before .before .before .before .before .add .kept .0)
 
 body-same-length-8 : (t : ℕ) → body-lts.Need-same-length-8 (
   add-reads.Asked,
@@ -2708,7 +2708,7 @@ body-same-length-8 : (t : ℕ) → body-lts.Need-same-length-8 (
   leaf-reads.Asked,
   leaf-reads.Learnt,
 ) (body-at t) body.Post
-body-same-length-8 t c = (c .before .before .before .before .before .before .before .before .before .before .before .before .before .before .before .before .before .before .before .expr .kept .1 .1 .1 .1 .1 .0)
+body-same-length-8 t c = (c .before .before .before .before .before .before .before .before .before .before .before .before .before .before .before .before .before .before .before .expr .kept .1 .1 .1 .1 .0)
 
 body-same-length-9 : (t : ℕ) → body-lts.Need-same-length-9 (
   add-reads.Asked,
@@ -2726,7 +2726,7 @@ body-same-length-9 : (t : ℕ) → body-lts.Need-same-length-9 (
   leaf-reads.Asked,
   leaf-reads.Learnt,
 ) (body-at t) body.Post
-body-same-length-9 t c = (c .before .before .before .before .before .before .before .before .before .before .before .before .before .before .before .before .before .before .before .expr .kept .1 .1 .1 .1 .1 .1 .0)
+body-same-length-9 t c = (c .before .before .before .before .before .before .before .before .before .before .before .before .before .before .before .before .before .before .before .expr .kept .1 .1 .1 .1 .1 .0)
 
 body-returns-4 : (t : ℕ) → body-lts.Need-returns-4 (
   add-reads.Asked,
@@ -2744,7 +2744,7 @@ body-returns-4 : (t : ℕ) → body-lts.Need-returns-4 (
   leaf-reads.Asked,
   leaf-reads.Learnt,
 ) (body-at t) body.Post
-body-returns-4 t c = body-done _ _ (omega (arith, (c .before .before .before .before .before .before .before .before .before .before .before .before .before .before .before .before .before .before .before .before .before .before .before .before .before .before .before .before .before .if1 .left))) (c .before .before .before .before .before .before .before .before .before .before .before .before .before .before .before .before .before .before .before .before .before .before .before .before .before .before .add .ensures) (c .before .before .before .before .before .before .before .before .before .before .before .before .before .before .before .before .before .before .before .before .before .before .before .body-place .ensures) (c .before .before .before .before .before .before .before .before .before .before .before .before .before .before .before .before .before .before .before .expr .ensures) (c .before .before .before .before .before .before .before .before .before .before .before .x .given .1) (c .before .before .before .before .before .before .before .before .before .is-kind .ensures) (not-false _ (c .before .before .before .before .before .before .before .before .if2 .left)) (c .before .before .before .before .before .finish .ensures) (c .before .moved .ensures) (c .leaf .ensures)
+body-returns-4 t c = body-done _ _ (omega (arith, (c .before .before .before .before .before .before .before .before .before .before .before .before .before .before .before .before .before .before .before .before .before .before .before .before .before .before .before .before .before .before .before .if1 .left))) (c .before .before .before .before .before .before .before .before .before .before .before .before .before .before .before .before .before .before .before .before .before .before .before .before .before .before .before .add .ensures) (c .before .before .before .before .before .before .before .before .before .before .before .before .before .before .before .before .before .before .before .before .before .before .before .before .body-place .ensures) (c .before .before .before .before .before .before .before .before .before .before .before .before .before .before .before .before .before .before .before .expr .ensures) (c .before .before .before .before .before .before .before .before .before .before .before .x .given .1) (c .before .before .before .before .before .before .before .before .before .is-kind .ensures) (not-false _ (c .before .before .before .before .before .before .before .before .if2 .left)) (c .before .before .before .before .before .finish .ensures) (c .before .moved .ensures) (c .leaf .ensures)
 
 branch-own-fields-requires : (t : ℕ) → branch-lts.Need-own-fields-requires (
   own-fields-reads.Asked,
@@ -2984,7 +2984,7 @@ branch-at-splits-requires : (t : ℕ) → branch-lts.Need-at-splits-requires (
   at-splits-below t,
   at-splits.Post,
 ) (branch-at t) branch.Post
-branch-at-splits-requires t c κs = (load-same _ 200 (c .before .before .before .before .before .before .before .before .before .before .before .before .before .before .before .before .before .pre .0) 100 (omega arith), (room-kept (c .before .before .before .before .before .before .before .before .before .before .before .before .before .before .before .before .before .pre .1 .0) (refl) ((c .before .before .before .before .before .first-split .kept .0)), (c .before .before .before .before .before .before .before .before .before .before .before .before .before .before .before .before .before .pre .1 .1)))
+branch-at-splits-requires t c κs = (load-same _ 200 (c .before .before .before .before .before .before .before .before .before .before .before .before .before .before .before .pre .0) 100 (omega arith), (room-kept (c .before .before .before .before .before .before .before .before .before .before .before .before .before .before .before .pre .1 .0) (refl) ((c .before .before .before .before .before .before .first-split .kept .0)), (c .before .before .before .before .before .before .before .before .before .before .before .before .before .before .before .pre .1 .1)))
 
 branch-same-length : (t : ℕ) → branch-lts.Need-same-length (
   own-fields-reads.Asked,
@@ -3004,7 +3004,7 @@ branch-same-length : (t : ℕ) → branch-lts.Need-same-length (
   at-splits-below t,
   at-splits.Post,
 ) (branch-at t) branch.Post
-branch-same-length t c = (c .before .before .before .before .before .before .at-splits .kept .1 .1 .1 .1 .0)
+branch-same-length t c = (c .before .before .before .before .before .before .at-splits .kept .1 .1 .0)
 
 branch-same-length-2 : (t : ℕ) → branch-lts.Need-same-length-2 (
   own-fields-reads.Asked,
@@ -3024,7 +3024,7 @@ branch-same-length-2 : (t : ℕ) → branch-lts.Need-same-length-2 (
   at-splits-below t,
   at-splits.Post,
 ) (branch-at t) branch.Post
-branch-same-length-2 t c = (c .before .before .before .before .before .before .at-splits .kept .1 .1 .1 .1 .1 .0)
+branch-same-length-2 t c = (c .before .before .before .before .before .before .at-splits .kept .1 .1 .1 .1 .0)
 
 branch-same-length-3 : (t : ℕ) → branch-lts.Need-same-length-3 (
   own-fields-reads.Asked,
@@ -3044,7 +3044,7 @@ branch-same-length-3 : (t : ℕ) → branch-lts.Need-same-length-3 (
   at-splits-below t,
   at-splits.Post,
 ) (branch-at t) branch.Post
-branch-same-length-3 t c = (c .before .before .before .before .before .before .at-splits .kept .1 .1 .1 .1 .1 .1 .0) ∙ (c .before .before .before .before .before .before .before .before .before .before .before .before .first-split .kept .0)
+branch-same-length-3 t c = (c .before .before .before .before .before .before .at-splits .kept .1 .1 .1 .1 .1 .0) ∙ (c .before .before .before .before .before .before .before .before .before .before .before .before .before .first-split .kept .0)
 
 branch-returns-2 : (t : ℕ) → branch-lts.Need-returns-2 (
   own-fields-reads.Asked,
@@ -3064,7 +3064,7 @@ branch-returns-2 : (t : ℕ) → branch-lts.Need-returns-2 (
   at-splits-below t,
   at-splits.Post,
 ) (branch-at t) branch.Post
-branch-returns-2 t c = branch-split (c .before .before .before .before .before .before .before .before .before .before .before .before .before .before .before .before .own-fields .ensures) (c .before .before .before .before .before .before .before .before .before .before .before .before .before .before .before .if1 .left) (sizes-long (c .before .before .before .before .before .before .before .before .before .before .before .before .before .before .before .before .before .before .before .before .before .before .before .before .pre .1 .0) refl) (c .before .before .before .before .before .before .before .before .before .before .before .before .first-split .ensures) (c .before .before .before .before .before .before .at-splits .ensures)
+branch-returns-2 t c = branch-split (c .before .before .before .before .before .before .before .before .before .before .before .before .before .before .before .before .before .own-fields .ensures) (c .before .before .before .before .before .before .before .before .before .before .before .before .before .before .before .before .if1 .left) (sizes-long (c .before .before .before .before .before .before .before .before .before .before .before .before .before .before .before .before .before .before .before .before .before .before .pre .1 .0) refl) (c .before .before .before .before .before .before .before .before .before .before .before .before .before .first-split .ensures) (c .before .before .before .before .before .before .at-splits .ensures)
 
 branches-constructors-requires : (t : ℕ) → branches-lts.Need-constructors-requires (
   constructors-reads.Asked,
@@ -3154,7 +3154,7 @@ branches-branch-requires : (t : ℕ) → branches-lts.Need-branch-requires (
   branched-reads.Asked,
   branched-reads.Learnt,
 ) (branches-at t) branches.Post
-branches-branch-requires t c κs = (load-same _ _ (c .before .before .before .before .before .before .before .before .before .before .before .before .pre .0) 200 (omega arith), ((c .before .before .before .before .before .before .before .before .before .before .before .before .pre .1 .0), ((c .before .before .before .before .before .before .before .before .before .before .before .before .pre .1 .1 .0), omega (arith, (c .before .before .before .if1 .left), (c .before .before .before .before .constructors .ensures .1)))))
+branches-branch-requires t c κs = (load-same _ _ (c .before .before .before .before .before .before .before .before .before .before .pre .0) 200 (omega arith), ((c .before .before .before .before .before .before .before .before .before .before .pre .1 .0), ((c .before .before .before .before .before .before .before .before .before .before .pre .1 .1 .0), omega (arith, (c .before .before .before .before .if1 .left), (c .before .before .before .before .before .constructors .ensures .1)))))
 
 branches-enum-known-x : (t : ℕ) → branches-lts.Need-enum-known-x (
   constructors-reads.Asked,
@@ -3208,7 +3208,7 @@ branches-same-length : (t : ℕ) → branches-lts.Need-same-length (
   branched-reads.Asked,
   branched-reads.Learnt,
 ) (branches-at t) branches.Post
-branches-same-length t c = (c .before .before .before .before .before .before .before .before .branch .kept .1 .1 .1 .1 .0)
+branches-same-length t c = (c .before .before .before .before .before .before .before .before .branch .kept .1 .1 .0)
 
 branches-same-length-2 : (t : ℕ) → branches-lts.Need-same-length-2 (
   constructors-reads.Asked,
@@ -3226,7 +3226,7 @@ branches-same-length-2 : (t : ℕ) → branches-lts.Need-same-length-2 (
   branched-reads.Asked,
   branched-reads.Learnt,
 ) (branches-at t) branches.Post
-branches-same-length-2 t c = (c .before .before .before .before .before .before .before .before .branch .kept .1 .1 .1 .1 .1 .0)
+branches-same-length-2 t c = (c .before .before .before .before .before .before .before .before .branch .kept .1 .1 .1 .1 .0)
 
 branches-same-length-3 : (t : ℕ) → branches-lts.Need-same-length-3 (
   constructors-reads.Asked,
@@ -3244,7 +3244,7 @@ branches-same-length-3 : (t : ℕ) → branches-lts.Need-same-length-3 (
   branched-reads.Asked,
   branched-reads.Learnt,
 ) (branches-at t) branches.Post
-branches-same-length-3 t c = (c .before .before .before .before .before .before .before .before .branch .kept .1 .1 .1 .1 .1 .1 .0)
+branches-same-length-3 t c = (c .before .before .before .before .before .before .before .before .branch .kept .1 .1 .1 .1 .1 .0)
 
 branches-returns-2 : (t : ℕ) → branches-lts.Need-returns-2 (
   constructors-reads.Asked,
@@ -3262,7 +3262,7 @@ branches-returns-2 : (t : ℕ) → branches-lts.Need-returns-2 (
   branched-reads.Asked,
   branched-reads.Learnt,
 ) (branches-at t) branches.Post
-branches-returns-2 t c = branches-first (c .before .before .before .before .before .before .before .before .before .before .before .before .before .constructors .ensures) (c .before .before .before .before .before .before .before .before .before .before .before .before .if1 .left) (c .before .before .before .before .before .before .before .before .branch .ensures) (c .enum-told .given .1)
+branches-returns-2 t c = branches-first (c .before .before .before .before .before .before .before .before .before .before .before .before .before .before .constructors .ensures) (c .before .before .before .before .before .before .before .before .before .before .before .before .before .if1 .left) (c .before .before .before .before .before .before .before .before .branch .ensures) (c .enum-told .given .1)
 
 branches-behind-requires : (t : ℕ) → branches-lts.Need-behind-requires (
   constructors-reads.Asked,
@@ -3298,7 +3298,7 @@ branches-add-j : (t : ℕ) → branches-lts.Need-add-j (
   branched-reads.Asked,
   branched-reads.Learnt,
 ) (branches-at t) branches.Post
-branches-add-j t c = omega (arith, (c .before .before .before .before .before .before .before .before .before .before .before .before .before .before .if1 .left), (c .before .before .before .before .before .before .before .before .before .before .before .before .before .before .before .constructors .ensures .1))
+branches-add-j t c = omega (arith, (c .before .before .before .before .before .before .before .before .before .before .before .before .before .before .before .if1 .left), (c .before .before .before .before .before .before .before .before .before .before .before .before .before .before .before .before .constructors .ensures .1))
 
 branches-branches-requires : (t : ℕ) → branches-lts.Need-branches-requires (
   constructors-reads.Asked,
@@ -3316,7 +3316,7 @@ branches-branches-requires : (t : ℕ) → branches-lts.Need-branches-requires (
   branched-reads.Asked,
   branched-reads.Learnt,
 ) (branches-at t) branches.Post
-branches-branches-requires t c κs = (load-moved _ _ (c .before .before .before .before .before .before .before .before .before .before .before .before .before .before .before .before .before .before .before .before .before .before .before .before .before .before .pre .0) _ _ (c .before .before .before .behind .ensures) (grows-to (c .before .before .before .before .before .before .before .before .before .before .before .before .before .branch .ensures .grows) (c .before .before .before .before .before .x .given .1)) (omega (arith, (c .before .before .before .before .before .before .before .before .before .before .before .before .before .before .before .before .before .if1 .left), (c .before .before .before .before .before .before .before .before .before .before .before .before .before .before .before .before .before .before .constructors .ensures .1))), (room-rest (c .before .before .before .before .before .before .before .before .before .before .before .before .before .before .before .before .before .before .before .before .before .before .before .before .before .before .pre .1 .0) (c .before .before .before .behind .ensures) ((c .before .before .before .before .before .before .before .before .before .before .before .before .before .branch .kept .1 .1 .1 .1 .1 .0)) ((c .before .before .before .before .before .before .before .before .before .before .before .before .before .branch .kept .1 .1 .1 .1 .1 .1 .0)), ((c .before .before .before .before .before .before .before .before .before .before .before .before .before .before .before .before .before .before .before .before .before .before .before .before .before .before .pre .1 .1 .0), omega (arith, (c .before .before .before .before .before .before .before .before .before .before .before .before .before .before .before .before .before .if1 .left), (c .before .before .before .before .before .before .before .before .before .before .before .before .before .before .before .before .before .before .constructors .ensures .1)))))
+branches-branches-requires t c κs = (load-moved _ _ (c .before .before .before .before .before .before .before .before .before .before .before .before .before .before .before .before .before .before .before .before .before .before .before .before .before .pre .0) _ _ (c .before .before .before .before .behind .ensures) (grows-to (c .before .before .before .before .before .before .before .before .before .before .before .before .before .before .branch .ensures .grows) (c .before .before .before .before .before .before .x .given .1)) (omega (arith, (c .before .before .before .before .before .before .before .before .before .before .before .before .before .before .before .before .before .before .before .if1 .left), (c .before .before .before .before .before .before .before .before .before .before .before .before .before .before .before .before .before .before .before .before .constructors .ensures .1))), (room-rest (c .before .before .before .before .before .before .before .before .before .before .before .before .before .before .before .before .before .before .before .before .before .before .before .before .before .pre .1 .0) (c .before .before .before .before .behind .ensures) ((c .before .before .before .before .before .before .before .before .before .before .before .before .before .before .branch .kept .1 .1 .1 .1 .0)) ((c .before .before .before .before .before .before .before .before .before .before .before .before .before .before .branch .kept .1 .1 .1 .1 .1 .0)), ((c .before .before .before .before .before .before .before .before .before .before .before .before .before .before .before .before .before .before .before .before .before .before .before .before .before .pre .1 .1 .0), omega (arith, (c .before .before .before .before .before .before .before .before .before .before .before .before .before .before .before .before .before .before .before .if1 .left), (c .before .before .before .before .before .before .before .before .before .before .before .before .before .before .before .before .before .before .before .before .constructors .ensures .1)))))
 
 branches-enum-known-y : (t : ℕ) → branches-lts.Need-enum-known-y (
   constructors-reads.Asked,
@@ -3370,7 +3370,7 @@ branches-same-length-4 : (t : ℕ) → branches-lts.Need-same-length-4 (
   branched-reads.Asked,
   branched-reads.Learnt,
 ) (branches-at t) branches.Post
-branches-same-length-4 t c = (c .before .before .before .before .before .before .before .before .branches .kept .1 .1 .1 .1 .0) ∙ (c .before .before .before .before .before .before .before .before .before .before .before .before .before .before .before .before .before .before .before .before .before .before .branch .kept .1 .1 .1 .1 .0)
+branches-same-length-4 t c = (c .before .before .before .before .before .before .before .before .branches .kept .1 .1 .0) ∙ (c .before .before .before .before .before .before .before .before .before .before .before .before .before .before .before .before .before .before .before .before .before .before .before .branch .kept .1 .1 .0)
 
 branches-same-length-5 : (t : ℕ) → branches-lts.Need-same-length-5 (
   constructors-reads.Asked,
@@ -3388,7 +3388,7 @@ branches-same-length-5 : (t : ℕ) → branches-lts.Need-same-length-5 (
   branched-reads.Asked,
   branched-reads.Learnt,
 ) (branches-at t) branches.Post
-branches-same-length-5 t c = (c .before .before .before .before .before .before .before .before .branches .kept .1 .1 .1 .1 .1 .0) ∙ (c .before .before .before .before .before .before .before .before .before .before .before .before .before .before .before .before .before .before .before .before .before .before .branch .kept .1 .1 .1 .1 .1 .0)
+branches-same-length-5 t c = (c .before .before .before .before .before .before .before .before .branches .kept .1 .1 .1 .1 .0) ∙ (c .before .before .before .before .before .before .before .before .before .before .before .before .before .before .before .before .before .before .before .before .before .before .before .branch .kept .1 .1 .1 .1 .0)
 
 branches-same-length-6 : (t : ℕ) → branches-lts.Need-same-length-6 (
   constructors-reads.Asked,
@@ -3406,7 +3406,7 @@ branches-same-length-6 : (t : ℕ) → branches-lts.Need-same-length-6 (
   branched-reads.Asked,
   branched-reads.Learnt,
 ) (branches-at t) branches.Post
-branches-same-length-6 t c = (c .before .before .before .before .before .before .before .before .branches .kept .1 .1 .1 .1 .1 .1 .0) ∙ (c .before .before .before .before .before .before .before .before .before .before .before .before .before .before .before .before .before .before .before .before .before .before .branch .kept .1 .1 .1 .1 .1 .1 .0)
+branches-same-length-6 t c = (c .before .before .before .before .before .before .before .before .branches .kept .1 .1 .1 .1 .1 .0) ∙ (c .before .before .before .before .before .before .before .before .before .before .before .before .before .before .before .before .before .before .before .before .before .before .before .branch .kept .1 .1 .1 .1 .1 .0)
 
 branches-returns-3 : (t : ℕ) → branches-lts.Need-returns-3 (
   constructors-reads.Asked,
@@ -3424,7 +3424,7 @@ branches-returns-3 : (t : ℕ) → branches-lts.Need-returns-3 (
   branched-reads.Asked,
   branched-reads.Learnt,
 ) (branches-at t) branches.Post
-branches-returns-3 t c = branches-rest (c .before .before .before .before .before .before .before .before .before .before .before .before .before .before .before .before .before .before .before .before .before .before .before .before .before .before .before .constructors .ensures) (c .before .before .before .before .before .before .before .before .before .before .before .before .before .before .before .before .before .before .before .before .before .before .before .before .before .before .if1 .left) (c .before .before .before .before .before .before .before .before .before .before .before .before .before .before .before .before .before .before .before .before .before .before .branch .ensures) (c .before .before .before .before .before .before .before .before .before .before .before .before .before .before .x .given .1) (c .before .before .before .before .before .before .before .before .before .before .before .before .behind .ensures) (c .before .before .before .before .before .before .before .before .branches .ensures) (c .enum-told2 .given .1)
+branches-returns-3 t c = branches-rest (c .before .before .before .before .before .before .before .before .before .before .before .before .before .before .before .before .before .before .before .before .before .before .before .before .before .before .before .before .before .constructors .ensures) (c .before .before .before .before .before .before .before .before .before .before .before .before .before .before .before .before .before .before .before .before .before .before .before .before .before .before .before .before .if1 .left) (c .before .before .before .before .before .before .before .before .before .before .before .before .before .before .before .before .before .before .before .before .before .before .before .branch .ensures) (c .before .before .before .before .before .before .before .before .before .before .before .before .before .before .before .x .given .1) (c .before .before .before .before .before .before .before .before .before .before .before .before .before .behind .ensures) (c .before .before .before .before .before .before .before .before .branches .ensures) (c .enum-told2 .given .1)
 
 branches-branched-requires : (t : ℕ) → branches-lts.Need-branched-requires (
   constructors-reads.Asked,
@@ -3460,7 +3460,7 @@ branches-same-length-7 : (t : ℕ) → branches-lts.Need-same-length-7 (
   branched-reads.Asked,
   branched-reads.Learnt,
 ) (branches-at t) branches.Post
-branches-same-length-7 t c = (c .before .before .before .before .before .before .before .before .before .before .branches .kept .1 .1 .1 .1 .0) ∙ (c .before .before .before .before .before .before .before .before .before .before .before .before .before .before .before .before .before .before .before .before .before .before .before .before .branch .kept .1 .1 .1 .1 .0)
+branches-same-length-7 t c = (c .before .before .before .before .before .before .before .before .before .before .branches .kept .1 .1 .0) ∙ (c .before .before .before .before .before .before .before .before .before .before .before .before .before .before .before .before .before .before .before .before .before .before .before .before .before .branch .kept .1 .1 .0)
 
 branches-same-length-8 : (t : ℕ) → branches-lts.Need-same-length-8 (
   constructors-reads.Asked,
@@ -3478,7 +3478,7 @@ branches-same-length-8 : (t : ℕ) → branches-lts.Need-same-length-8 (
   branched-reads.Asked,
   branched-reads.Learnt,
 ) (branches-at t) branches.Post
-branches-same-length-8 t c = (c .before .before .before .before .before .before .before .before .before .before .branches .kept .1 .1 .1 .1 .1 .0) ∙ (c .before .before .before .before .before .before .before .before .before .before .before .before .before .before .before .before .before .before .before .before .before .before .before .before .branch .kept .1 .1 .1 .1 .1 .0)
+branches-same-length-8 t c = (c .before .before .before .before .before .before .before .before .before .before .branches .kept .1 .1 .1 .1 .0) ∙ (c .before .before .before .before .before .before .before .before .before .before .before .before .before .before .before .before .before .before .before .before .before .before .before .before .before .branch .kept .1 .1 .1 .1 .0)
 
 branches-same-length-9 : (t : ℕ) → branches-lts.Need-same-length-9 (
   constructors-reads.Asked,
@@ -3496,7 +3496,7 @@ branches-same-length-9 : (t : ℕ) → branches-lts.Need-same-length-9 (
   branched-reads.Asked,
   branched-reads.Learnt,
 ) (branches-at t) branches.Post
-branches-same-length-9 t c = (c .before .before .before .before .before .before .before .before .before .before .branches .kept .1 .1 .1 .1 .1 .1 .0) ∙ (c .before .before .before .before .before .before .before .before .before .before .before .before .before .before .before .before .before .before .before .before .before .before .before .before .branch .kept .1 .1 .1 .1 .1 .1 .0)
+branches-same-length-9 t c = (c .before .before .before .before .before .before .before .before .before .before .branches .kept .1 .1 .1 .1 .1 .0) ∙ (c .before .before .before .before .before .before .before .before .before .before .before .before .before .before .before .before .before .before .before .before .before .before .before .before .before .branch .kept .1 .1 .1 .1 .1 .0)
 
 branches-returns-4 : (t : ℕ) → branches-lts.Need-returns-4 (
   constructors-reads.Asked,
@@ -3514,7 +3514,7 @@ branches-returns-4 : (t : ℕ) → branches-lts.Need-returns-4 (
   branched-reads.Asked,
   branched-reads.Learnt,
 ) (branches-at t) branches.Post
-branches-returns-4 t c = branches-done (c .before .before .before .before .before .before .before .before .before .before .before .before .before .before .before .before .before .before .before .before .before .before .before .before .before .before .before .before .before .constructors .ensures) (c .before .before .before .before .before .before .before .before .before .before .before .before .before .before .before .before .before .before .before .before .before .before .before .before .before .before .before .before .if1 .left) (c .before .before .before .before .before .before .before .before .before .before .before .before .before .before .before .before .before .before .before .before .before .before .before .before .branch .ensures) (c .before .before .before .before .before .before .before .before .before .before .before .before .before .before .before .before .x .given .1) (c .before .before .before .before .before .before .before .before .before .before .before .before .before .before .behind .ensures) (c .before .before .before .before .before .before .before .before .before .before .branches .ensures) (c .before .before .y .given .1) (c .branched .ensures .all) (c .branched .ensures .is)
+branches-returns-4 t c = branches-done (c .before .before .before .before .before .before .before .before .before .before .before .before .before .before .before .before .before .before .before .before .before .before .before .before .before .before .before .before .before .before .before .constructors .ensures) (c .before .before .before .before .before .before .before .before .before .before .before .before .before .before .before .before .before .before .before .before .before .before .before .before .before .before .before .before .before .before .if1 .left) (c .before .before .before .before .before .before .before .before .before .before .before .before .before .before .before .before .before .before .before .before .before .before .before .before .before .branch .ensures) (c .before .before .before .before .before .before .before .before .before .before .before .before .before .before .before .before .before .x .given .1) (c .before .before .before .before .before .before .before .before .before .before .before .before .before .before .before .behind .ensures) (c .before .before .before .before .before .before .before .before .before .before .branches .ensures) (c .before .before .y .given .1) (c .branched .ensures .all) (c .branched .ensures .is)
 
 call-arity-requires : (t : ℕ) → call-lts.Need-arity-requires (
   arity-reads.Asked,
@@ -3550,7 +3550,7 @@ call-several-requires : (t : ℕ) → call-lts.Need-several-requires (
   apply-below t,
   apply.Post,
 ) (call-at t) call.Post
-call-several-requires t c κs = (load-same _ 900 (c .before .before .before .before .before .before .before .before .before .before .before .before .pre .0) _ (omega (arith, (c .before .before .before .before .arity .ensures .1))), ((c .before .before .before .before .before .before .before .before .before .before .before .before .pre .1 .0), (c .before .before .before .before .arity .ensures .1)))
+call-several-requires t c κs = (load-same _ 900 (c .before .before .before .before .before .before .before .before .before .before .pre .0) _ (omega (arith, (c .before .before .before .before .before .arity .ensures .1))), ((c .before .before .before .before .before .before .before .before .before .before .pre .1 .0), (c .before .before .before .before .before .arity .ensures .1)))
 
 call-enum-known-x : (t : ℕ) → call-lts.Need-enum-known-x (
   arity-reads.Asked,
@@ -3598,7 +3598,7 @@ call-same-length : (t : ℕ) → call-lts.Need-same-length (
   apply-below t,
   apply.Post,
 ) (call-at t) call.Post
-call-same-length t c = (c .before .before .before .before .before .before .before .before .before .before .several .kept .1 .1 .1 .1 .0)
+call-same-length t c = (c .before .before .before .before .before .before .before .before .before .before .several .kept .1 .1 .0)
 
 call-same-length-2 : (t : ℕ) → call-lts.Need-same-length-2 (
   arity-reads.Asked,
@@ -3610,7 +3610,7 @@ call-same-length-2 : (t : ℕ) → call-lts.Need-same-length-2 (
   apply-below t,
   apply.Post,
 ) (call-at t) call.Post
-call-same-length-2 t c = (c .before .before .before .before .before .before .before .before .before .before .several .kept .1 .1 .1 .1 .1 .0)
+call-same-length-2 t c = (c .before .before .before .before .before .before .before .before .before .before .several .kept .1 .1 .1 .1 .0)
 
 call-same-length-3 : (t : ℕ) → call-lts.Need-same-length-3 (
   arity-reads.Asked,
@@ -3622,7 +3622,7 @@ call-same-length-3 : (t : ℕ) → call-lts.Need-same-length-3 (
   apply-below t,
   apply.Post,
 ) (call-at t) call.Post
-call-same-length-3 t c = (c .before .before .before .before .before .before .before .before .before .before .several .kept .1 .1 .1 .1 .1 .1 .0)
+call-same-length-3 t c = (c .before .before .before .before .before .before .before .before .before .before .several .kept .1 .1 .1 .1 .1 .0)
 
 call-returns : (t : ℕ) → call-lts.Need-returns (
   arity-reads.Asked,
@@ -3634,7 +3634,7 @@ call-returns : (t : ℕ) → call-lts.Need-returns (
   apply-below t,
   apply.Post,
 ) (call-at t) call.Post
-call-returns t c = call-arguments (c .before .before .before .before .before .before .before .before .before .before .before .before .before .before .before .arity .ensures) (omega arith) (c .before .before .before .before .before .before .before .before .before .before .several .ensures) (c .before .enum-told .given .1) (c .refused .ensures)
+call-returns t c = call-arguments (c .before .before .before .before .before .before .before .before .before .before .before .before .before .before .before .before .arity .ensures) (omega arith) (c .before .before .before .before .before .before .before .before .before .before .several .ensures) (c .before .enum-told .given .1) (c .refused .ensures)
 
 call-slice-aggregate-apply : (t : ℕ) → call-lts.Need-slice-aggregate-apply (
   arity-reads.Asked,
@@ -3658,7 +3658,7 @@ call-apply-requires : (t : ℕ) → call-lts.Need-apply-requires (
   apply-below t,
   apply.Post,
 ) (call-at t) call.Post
-call-apply-requires t c κs = (load-same _ 900 (c .before .before .before .before .before .before .before .before .before .before .before .before .before .before .before .before .before .before .before .before .before .before .before .before .before .pre .0) 800 (omega arith), (room-row (c .before .before .before .before .before .before .before .before .before .before .before .before .before .before .before .before .before .before .before .before .before .before .before .before .before .pre .1 .0) (omega (arith, (c .before .before .before .before .before .before .before .before .before .before .before .before .several .kept .1 .1 .1 .1 .1 .1 .1 .1 .0))), (grows-all-to (c .before .before .before .before .before .before .before .before .before .before .before .before .several .ensures .grows) (c .before .before .before .x .given .1), ((c .before .before .before .before .before .before .before .before .before .before .before .before .before .before .before .before .before .before .before .before .before .before .before .before .before .pre .1 .1), (c .before .before .before .before .before .before .before .before .before .before .before .before .before .before .before .before .before .arity .ensures .1)))))
+call-apply-requires t c κs = (load-same _ 900 (c .before .before .before .before .before .before .before .before .before .before .before .before .before .before .before .before .before .before .before .before .before .before .before .before .pre .0) 800 (omega arith), (room-row (c .before .before .before .before .before .before .before .before .before .before .before .before .before .before .before .before .before .before .before .before .before .before .before .before .pre .1 .0) (omega (arith, (c .before .before .before .before .before .before .before .before .before .before .before .before .before .several .kept .1 .1 .1 .1 .1 .1 .1 .0))), (grows-all-to (c .before .before .before .before .before .before .before .before .before .before .before .before .before .several .ensures .grows) (c .before .before .before .before .x .given .1), ((c .before .before .before .before .before .before .before .before .before .before .before .before .before .before .before .before .before .before .before .before .before .before .before .before .pre .1 .1), (c .before .before .before .before .before .before .before .before .before .before .before .before .before .before .before .before .before .before .before .arity .ensures .1)))))
 
 call-same-length-4 : (t : ℕ) → call-lts.Need-same-length-4 (
   arity-reads.Asked,
@@ -3670,7 +3670,7 @@ call-same-length-4 : (t : ℕ) → call-lts.Need-same-length-4 (
   apply-below t,
   apply.Post,
 ) (call-at t) call.Post
-call-same-length-4 t c = (c .before .before .before .apply .kept .1 .1 .1 .1 .0) ∙ (c .before .before .before .before .before .before .before .before .before .before .before .before .before .before .before .before .several .kept .1 .1 .1 .1 .0)
+call-same-length-4 t c = (c .before .before .before .apply .kept .1 .1 .0) ∙ (c .before .before .before .before .before .before .before .before .before .before .before .before .before .before .before .before .before .several .kept .1 .1 .0)
 
 call-same-length-5 : (t : ℕ) → call-lts.Need-same-length-5 (
   arity-reads.Asked,
@@ -3682,7 +3682,7 @@ call-same-length-5 : (t : ℕ) → call-lts.Need-same-length-5 (
   apply-below t,
   apply.Post,
 ) (call-at t) call.Post
-call-same-length-5 t c = (c .before .before .before .before .before .before .before .before .before .before .before .before .before .before .before .before .several .kept .1 .1 .1 .1 .1 .0)
+call-same-length-5 t c = (c .before .before .before .before .before .before .before .before .before .before .before .before .before .before .before .before .before .several .kept .1 .1 .1 .1 .0)
 
 call-same-length-6 : (t : ℕ) → call-lts.Need-same-length-6 (
   arity-reads.Asked,
@@ -3694,7 +3694,7 @@ call-same-length-6 : (t : ℕ) → call-lts.Need-same-length-6 (
   apply-below t,
   apply.Post,
 ) (call-at t) call.Post
-call-same-length-6 t c = (c .before .before .before .before .before .before .before .before .before .before .before .before .before .before .before .before .several .kept .1 .1 .1 .1 .1 .1 .0)
+call-same-length-6 t c = (c .before .before .before .before .before .before .before .before .before .before .before .before .before .before .before .before .before .several .kept .1 .1 .1 .1 .1 .0)
 
 call-returns-2 : (t : ℕ) → call-lts.Need-returns-2 (
   arity-reads.Asked,
@@ -3706,7 +3706,7 @@ call-returns-2 : (t : ℕ) → call-lts.Need-returns-2 (
   apply-below t,
   apply.Post,
 ) (call-at t) call.Post
-call-returns-2 t c = call-applied (c .before .before .before .before .before .before .before .before .before .before .before .before .before .before .before .before .before .before .before .before .before .arity .ensures) (omega arith) (c .before .before .before .before .before .before .before .before .before .before .before .before .before .before .before .before .several .ensures) (c .before .before .before .before .before .before .before .x .given .1) (c .before .before .before .apply .ensures)
+call-returns-2 t c = call-applied (c .before .before .before .before .before .before .before .before .before .before .before .before .before .before .before .before .before .before .before .before .before .before .before .arity .ensures) (omega arith) (c .before .before .before .before .before .before .before .before .before .before .before .before .before .before .before .before .before .several .ensures) (c .before .before .before .before .before .before .before .before .x .given .1) (c .before .before .before .apply .ensures)
 
 case-of-expr-requires : (t : ℕ) → case-of-lts.Need-expr-requires (
   expr-below t,
@@ -3724,7 +3724,7 @@ case-of-expr-requires : (t : ℕ) → case-of-lts.Need-expr-requires (
   cased-reads.Asked,
   cased-reads.Learnt,
 ) (case-of-at t) case-of.Post
-case-of-expr-requires t c κs = (load-same _ 900 (c .before .before .before .before .before .before .before .before .before .before .pre .0) 0 (omega arith), room-same (c .before .before .before .before .before .before .before .before .before .before .pre .1 .0) (omega arith))
+case-of-expr-requires t c κs = (load-same _ 900 (c .before .before .before .before .before .before .before .before .pre .0) 0 (omega arith), room-same (c .before .before .before .before .before .before .before .before .pre .1 .0) (omega arith))
 
 case-of-enum-known-x : (t : ℕ) → case-of-lts.Need-enum-known-x (
   expr-below t,
@@ -3778,7 +3778,7 @@ case-of-same-length : (t : ℕ) → case-of-lts.Need-same-length (
   cased-reads.Asked,
   cased-reads.Learnt,
 ) (case-of-at t) case-of.Post
-case-of-same-length t c = (c .before .before .before .before .before .before .before .before .expr .kept .1 .1 .1 .1 .0)
+case-of-same-length t c = (c .before .before .before .before .before .before .before .before .expr .kept .1 .1 .0)
 
 case-of-same-length-2 : (t : ℕ) → case-of-lts.Need-same-length-2 (
   expr-below t,
@@ -3796,7 +3796,7 @@ case-of-same-length-2 : (t : ℕ) → case-of-lts.Need-same-length-2 (
   cased-reads.Asked,
   cased-reads.Learnt,
 ) (case-of-at t) case-of.Post
-case-of-same-length-2 t c = (c .before .before .before .before .before .before .before .before .expr .kept .1 .1 .1 .1 .1 .0)
+case-of-same-length-2 t c = (c .before .before .before .before .before .before .before .before .expr .kept .1 .1 .1 .1 .0)
 
 case-of-same-length-3 : (t : ℕ) → case-of-lts.Need-same-length-3 (
   expr-below t,
@@ -3814,7 +3814,7 @@ case-of-same-length-3 : (t : ℕ) → case-of-lts.Need-same-length-3 (
   cased-reads.Asked,
   cased-reads.Learnt,
 ) (case-of-at t) case-of.Post
-case-of-same-length-3 t c = (c .before .before .before .before .before .before .before .before .expr .kept .1 .1 .1 .1 .1 .1 .0)
+case-of-same-length-3 t c = (c .before .before .before .before .before .before .before .before .expr .kept .1 .1 .1 .1 .1 .0)
 
 case-of-returns : (t : ℕ) → case-of-lts.Need-returns (
   expr-below t,
@@ -3868,7 +3868,7 @@ case-of-add-t29 : (t : ℕ) → case-of-lts.Need-add-t29 (
   cased-reads.Asked,
   cased-reads.Learnt,
 ) (case-of-at t) case-of.Post
-case-of-add-t29 t c = omega (arith, (c .before .before .before .before .before .before .before .before .before .before .before .before .before .before .before .before .before .before .before .before .before .before .pre .1 .0 .line))
+case-of-add-t29 t c = omega (arith, (c .before .before .before .before .before .before .before .before .before .before .before .before .before .before .before .before .before .before .before .before .pre .1 .0 .line))
 
 case-of-same-length-4 : (t : ℕ) → case-of-lts.Need-same-length-4 (
   expr-below t,
@@ -3886,7 +3886,7 @@ case-of-same-length-4 : (t : ℕ) → case-of-lts.Need-same-length-4 (
   cased-reads.Asked,
   cased-reads.Learnt,
 ) (case-of-at t) case-of.Post
-case-of-same-length-4 t c = (c .before .before .before .before .before .before .before .before .before .before .before .expr .kept .1 .1 .1 .1 .0)
+case-of-same-length-4 t c = (c .before .before .before .before .before .before .before .before .before .before .before .expr .kept .1 .1 .0)
 
 case-of-same-length-5 : (t : ℕ) → case-of-lts.Need-same-length-5 (
   expr-below t,
@@ -3904,7 +3904,7 @@ case-of-same-length-5 : (t : ℕ) → case-of-lts.Need-same-length-5 (
   cased-reads.Asked,
   cased-reads.Learnt,
 ) (case-of-at t) case-of.Post
-case-of-same-length-5 t c = (c .before .before .before .before .before .before .before .before .before .before .before .expr .kept .1 .1 .1 .1 .1 .0)
+case-of-same-length-5 t c = (c .before .before .before .before .before .before .before .before .before .before .before .expr .kept .1 .1 .1 .1 .0)
 
 case-of-same-length-6 : (t : ℕ) → case-of-lts.Need-same-length-6 (
   expr-below t,
@@ -3922,7 +3922,7 @@ case-of-same-length-6 : (t : ℕ) → case-of-lts.Need-same-length-6 (
   cased-reads.Asked,
   cased-reads.Learnt,
 ) (case-of-at t) case-of.Post
-case-of-same-length-6 t c = (c .before .before .before .before .before .before .before .before .before .before .before .expr .kept .1 .1 .1 .1 .1 .1 .0)
+case-of-same-length-6 t c = (c .before .before .before .before .before .before .before .before .before .before .before .expr .kept .1 .1 .1 .1 .1 .0)
 
 case-of-returns-2 : (t : ℕ) → case-of-lts.Need-returns-2 (
   expr-below t,
@@ -4030,7 +4030,7 @@ case-of-add-t32 : (t : ℕ) → case-of-lts.Need-add-t32 (
   cased-reads.Asked,
   cased-reads.Learnt,
 ) (case-of-at t) case-of.Post
-case-of-add-t32 t c = omega (arith, (c .before .before .before .before .before .before .before .before .before .before .before .before .before .before .before .before .before .before .before .before .before .before .before .before .before .before .before .before .before .before .pre .1 .0 .line))
+case-of-add-t32 t c = omega (arith, (c .before .before .before .before .before .before .before .before .before .before .before .before .before .before .before .before .before .before .before .before .before .before .before .before .before .before .before .before .pre .1 .0 .line))
 
 case-of-same-length-7 : (t : ℕ) → case-of-lts.Need-same-length-7 (
   expr-below t,
@@ -4048,7 +4048,7 @@ case-of-same-length-7 : (t : ℕ) → case-of-lts.Need-same-length-7 (
   cased-reads.Asked,
   cased-reads.Learnt,
 ) (case-of-at t) case-of.Post
-case-of-same-length-7 t c = (c .before .before .before .before .before .before .before .before .before .before .before .before .before .before .before .before .before .before .before .expr .kept .1 .1 .1 .1 .0)
+case-of-same-length-7 t c = (c .before .before .before .before .before .before .before .before .before .before .before .before .before .before .before .before .before .before .before .expr .kept .1 .1 .0)
 
 case-of-same-length-8 : (t : ℕ) → case-of-lts.Need-same-length-8 (
   expr-below t,
@@ -4066,7 +4066,7 @@ case-of-same-length-8 : (t : ℕ) → case-of-lts.Need-same-length-8 (
   cased-reads.Asked,
   cased-reads.Learnt,
 ) (case-of-at t) case-of.Post
-case-of-same-length-8 t c = (c .before .before .before .before .before .before .before .before .before .before .before .before .before .before .before .before .before .before .before .expr .kept .1 .1 .1 .1 .1 .0)
+case-of-same-length-8 t c = (c .before .before .before .before .before .before .before .before .before .before .before .before .before .before .before .before .before .before .before .expr .kept .1 .1 .1 .1 .0)
 
 case-of-same-length-9 : (t : ℕ) → case-of-lts.Need-same-length-9 (
   expr-below t,
@@ -4084,7 +4084,7 @@ case-of-same-length-9 : (t : ℕ) → case-of-lts.Need-same-length-9 (
   cased-reads.Asked,
   cased-reads.Learnt,
 ) (case-of-at t) case-of.Post
-case-of-same-length-9 t c = (c .before .before .before .before .before .before .before .before .before .before .before .before .before .before .before .before .before .before .before .expr .kept .1 .1 .1 .1 .1 .1 .0)
+case-of-same-length-9 t c = (c .before .before .before .before .before .before .before .before .before .before .before .before .before .before .before .before .before .before .before .expr .kept .1 .1 .1 .1 .1 .0)
 
 case-of-returns-3 : (t : ℕ) → case-of-lts.Need-returns-3 (
   expr-below t,
@@ -4156,7 +4156,7 @@ case-of-branches-requires : (t : ℕ) → case-of-lts.Need-branches-requires (
   cased-reads.Asked,
   cased-reads.Learnt,
 ) (case-of-at t) case-of.Post
-case-of-branches-requires t c κs = (load-moved _ 900 (c .before .before .before .before .before .before .before .before .before .before .before .before .before .before .before .before .before .before .before .before .before .before .before .before .before .before .before .before .before .before .before .before .before .before .before .pre .0) _ _ (c .before .before .before .moved .ensures) (grows-to (c .before .before .before .before .before .before .before .before .before .before .before .before .before .before .before .before .before .before .before .before .before .before .before .before .expr .ensures .grows) (c .before .before .before .before .before .before .before .before .before .before .before .before .before .before .before .before .x .given .1)) (omega arith), (room-rest (c .before .before .before .before .before .before .before .before .before .before .before .before .before .before .before .before .before .before .before .before .before .before .before .before .before .before .before .before .before .before .before .before .before .before .before .pre .1 .0) (c .before .before .before .moved .ensures) ((c .before .before .before .before .before .before .before .before .before .before .before .before .before .before .before .before .before .before .before .before .before .before .before .before .expr .kept .1 .1 .1 .1 .1 .0)) ((c .before .before .before .before .before .before .before .before .before .before .before .before .before .before .before .before .before .before .before .before .before .before .before .before .expr .kept .1 .1 .1 .1 .1 .1 .0)), (omega (arith, ap (λ z. z .of) (c .before .before .before .before .subject .ensures), (c .before .before .before .before .before .before .before .before .before .before .before .before .before .before .before .before .before .before .before .before .before .before .before .before .before .before .before .before .before .before .before .before .before .before .before .pre .1 .1)), omega arith)))
+case-of-branches-requires t c κs = (load-moved _ 900 (c .before .before .before .before .before .before .before .before .before .before .before .before .before .before .before .before .before .before .before .before .before .before .before .before .before .before .before .before .before .before .before .before .before .before .pre .0) _ _ (c .before .before .before .before .moved .ensures) (grows-to (c .before .before .before .before .before .before .before .before .before .before .before .before .before .before .before .before .before .before .before .before .before .before .before .before .before .expr .ensures .grows) (c .before .before .before .before .before .before .before .before .before .before .before .before .before .before .before .before .before .x .given .1)) (omega arith), (room-rest (c .before .before .before .before .before .before .before .before .before .before .before .before .before .before .before .before .before .before .before .before .before .before .before .before .before .before .before .before .before .before .before .before .before .before .pre .1 .0) (c .before .before .before .before .moved .ensures) ((c .before .before .before .before .before .before .before .before .before .before .before .before .before .before .before .before .before .before .before .before .before .before .before .before .before .expr .kept .1 .1 .1 .1 .0)) ((c .before .before .before .before .before .before .before .before .before .before .before .before .before .before .before .before .before .before .before .before .before .before .before .before .before .expr .kept .1 .1 .1 .1 .1 .0)), (omega (arith, ap (λ z. z .of) (c .before .before .before .before .before .subject .ensures), (c .before .before .before .before .before .before .before .before .before .before .before .before .before .before .before .before .before .before .before .before .before .before .before .before .before .before .before .before .before .before .before .before .before .before .pre .1 .1)), omega arith)))
 
 case-of-enum-known-z : (t : ℕ) → case-of-lts.Need-enum-known-z (
   expr-below t,
@@ -4210,7 +4210,7 @@ case-of-same-length-10 : (t : ℕ) → case-of-lts.Need-same-length-10 (
   cased-reads.Asked,
   cased-reads.Learnt,
 ) (case-of-at t) case-of.Post
-case-of-same-length-10 t c = (c .before .before .before .before .before .before .before .before .branches .kept .1 .1 .1 .1 .0) ∙ (c .before .before .before .before .before .before .before .before .before .before .before .before .before .before .before .before .before .before .before .before .before .before .before .before .before .before .before .before .before .before .before .before .before .expr .kept .1 .1 .1 .1 .0)
+case-of-same-length-10 t c = (c .before .before .before .before .before .before .before .before .branches .kept .1 .1 .0) ∙ (c .before .before .before .before .before .before .before .before .before .before .before .before .before .before .before .before .before .before .before .before .before .before .before .before .before .before .before .before .before .before .before .before .before .before .expr .kept .1 .1 .0)
 
 case-of-same-length-11 : (t : ℕ) → case-of-lts.Need-same-length-11 (
   expr-below t,
@@ -4228,7 +4228,7 @@ case-of-same-length-11 : (t : ℕ) → case-of-lts.Need-same-length-11 (
   cased-reads.Asked,
   cased-reads.Learnt,
 ) (case-of-at t) case-of.Post
-case-of-same-length-11 t c = (c .before .before .before .before .before .before .before .before .branches .kept .1 .1 .1 .1 .1 .0) ∙ (c .before .before .before .before .before .before .before .before .before .before .before .before .before .before .before .before .before .before .before .before .before .before .before .before .before .before .before .before .before .before .before .before .before .expr .kept .1 .1 .1 .1 .1 .0)
+case-of-same-length-11 t c = (c .before .before .before .before .before .before .before .before .branches .kept .1 .1 .1 .1 .0) ∙ (c .before .before .before .before .before .before .before .before .before .before .before .before .before .before .before .before .before .before .before .before .before .before .before .before .before .before .before .before .before .before .before .before .before .before .expr .kept .1 .1 .1 .1 .0)
 
 case-of-same-length-12 : (t : ℕ) → case-of-lts.Need-same-length-12 (
   expr-below t,
@@ -4246,7 +4246,7 @@ case-of-same-length-12 : (t : ℕ) → case-of-lts.Need-same-length-12 (
   cased-reads.Asked,
   cased-reads.Learnt,
 ) (case-of-at t) case-of.Post
-case-of-same-length-12 t c = (c .before .before .before .before .before .before .before .before .branches .kept .1 .1 .1 .1 .1 .1 .0) ∙ (c .before .before .before .before .before .before .before .before .before .before .before .before .before .before .before .before .before .before .before .before .before .before .before .before .before .before .before .before .before .before .before .before .before .expr .kept .1 .1 .1 .1 .1 .1 .0)
+case-of-same-length-12 t c = (c .before .before .before .before .before .before .before .before .branches .kept .1 .1 .1 .1 .1 .0) ∙ (c .before .before .before .before .before .before .before .before .before .before .before .before .before .before .before .before .before .before .before .before .before .before .before .before .before .before .before .before .before .before .before .before .before .before .expr .kept .1 .1 .1 .1 .1 .0)
 
 case-of-returns-4 : (t : ℕ) → case-of-lts.Need-returns-4 (
   expr-below t,
@@ -4264,7 +4264,7 @@ case-of-returns-4 : (t : ℕ) → case-of-lts.Need-returns-4 (
   cased-reads.Asked,
   cased-reads.Learnt,
 ) (case-of-at t) case-of.Post
-case-of-returns-4 t c = case-branches (c .before .before .before .before .before .before .before .before .before .before .before .before .before .before .before .before .before .before .before .before .before .before .before .before .before .before .before .before .before .before .before .before .before .expr .ensures) (c .before .before .before .before .before .before .before .before .before .before .before .before .before .before .before .before .before .before .before .before .before .before .before .before .before .x .given .1) (c .before .before .before .before .before .before .before .before .before .before .before .before .before .before .before .before .before .before .before .before .before .before .kind .given .1) (c .before .before .before .before .before .before .before .before .before .before .before .before .before .before .before .before .before .before .before .frame-line .ensures) (c .before .before .before .before .before .before .before .before .before .before .before .before .before .before .before .before .before .type-at .ensures) (c .before .before .before .before .before .before .before .before .before .before .before .before .before .before .before .y .given .1) (c .before .before .before .before .before .before .before .before .before .before .before .before .moved .ensures) (c .before .before .before .before .before .before .before .before .before .before .before .before .before .subject .ensures) (c .before .before .before .before .before .before .before .before .branches .ensures) (c .enum-told3 .given .1)
+case-of-returns-4 t c = case-branches (c .before .before .before .before .before .before .before .before .before .before .before .before .before .before .before .before .before .before .before .before .before .before .before .before .before .before .before .before .before .before .before .before .before .before .expr .ensures) (c .before .before .before .before .before .before .before .before .before .before .before .before .before .before .before .before .before .before .before .before .before .before .before .before .before .before .x .given .1) (c .before .before .before .before .before .before .before .before .before .before .before .before .before .before .before .before .before .before .before .before .before .before .before .kind .given .1) (c .before .before .before .before .before .before .before .before .before .before .before .before .before .before .before .before .before .before .before .before .frame-line .ensures) (c .before .before .before .before .before .before .before .before .before .before .before .before .before .before .before .before .before .before .type-at .ensures) (c .before .before .before .before .before .before .before .before .before .before .before .before .before .before .before .before .y .given .1) (c .before .before .before .before .before .before .before .before .before .before .before .before .before .moved .ensures) (c .before .before .before .before .before .before .before .before .before .before .before .before .before .before .subject .ensures) (c .before .before .before .before .before .before .before .before .branches .ensures) (c .enum-told3 .given .1)
 
 case-of-cased-requires : (t : ℕ) → case-of-lts.Need-cased-requires (
   expr-below t,
@@ -4300,7 +4300,7 @@ case-of-same-length-13 : (t : ℕ) → case-of-lts.Need-same-length-13 (
   cased-reads.Asked,
   cased-reads.Learnt,
 ) (case-of-at t) case-of.Post
-case-of-same-length-13 t c = (c .before .before .before .before .before .before .before .before .before .before .branches .kept .1 .1 .1 .1 .0) ∙ (c .before .before .before .before .before .before .before .before .before .before .before .before .before .before .before .before .before .before .before .before .before .before .before .before .before .before .before .before .before .before .before .before .before .before .before .expr .kept .1 .1 .1 .1 .0)
+case-of-same-length-13 t c = (c .before .before .before .before .before .before .before .before .before .before .branches .kept .1 .1 .0) ∙ (c .before .before .before .before .before .before .before .before .before .before .before .before .before .before .before .before .before .before .before .before .before .before .before .before .before .before .before .before .before .before .before .before .before .before .before .before .expr .kept .1 .1 .0)
 
 case-of-same-length-14 : (t : ℕ) → case-of-lts.Need-same-length-14 (
   expr-below t,
@@ -4318,7 +4318,7 @@ case-of-same-length-14 : (t : ℕ) → case-of-lts.Need-same-length-14 (
   cased-reads.Asked,
   cased-reads.Learnt,
 ) (case-of-at t) case-of.Post
-case-of-same-length-14 t c = (c .before .before .before .before .before .before .before .before .before .before .branches .kept .1 .1 .1 .1 .1 .0) ∙ (c .before .before .before .before .before .before .before .before .before .before .before .before .before .before .before .before .before .before .before .before .before .before .before .before .before .before .before .before .before .before .before .before .before .before .before .expr .kept .1 .1 .1 .1 .1 .0)
+case-of-same-length-14 t c = (c .before .before .before .before .before .before .before .before .before .before .branches .kept .1 .1 .1 .1 .0) ∙ (c .before .before .before .before .before .before .before .before .before .before .before .before .before .before .before .before .before .before .before .before .before .before .before .before .before .before .before .before .before .before .before .before .before .before .before .before .expr .kept .1 .1 .1 .1 .0)
 
 case-of-same-length-15 : (t : ℕ) → case-of-lts.Need-same-length-15 (
   expr-below t,
@@ -4336,7 +4336,7 @@ case-of-same-length-15 : (t : ℕ) → case-of-lts.Need-same-length-15 (
   cased-reads.Asked,
   cased-reads.Learnt,
 ) (case-of-at t) case-of.Post
-case-of-same-length-15 t c = (c .before .before .before .before .before .before .before .before .before .before .branches .kept .1 .1 .1 .1 .1 .1 .0) ∙ (c .before .before .before .before .before .before .before .before .before .before .before .before .before .before .before .before .before .before .before .before .before .before .before .before .before .before .before .before .before .before .before .before .before .before .before .expr .kept .1 .1 .1 .1 .1 .1 .0)
+case-of-same-length-15 t c = (c .before .before .before .before .before .before .before .before .before .before .branches .kept .1 .1 .1 .1 .1 .0) ∙ (c .before .before .before .before .before .before .before .before .before .before .before .before .before .before .before .before .before .before .before .before .before .before .before .before .before .before .before .before .before .before .before .before .before .before .before .before .expr .kept .1 .1 .1 .1 .1 .0)
 
 case-of-returns-5 : (t : ℕ) → case-of-lts.Need-returns-5 (
   expr-below t,
@@ -4354,7 +4354,7 @@ case-of-returns-5 : (t : ℕ) → case-of-lts.Need-returns-5 (
   cased-reads.Asked,
   cased-reads.Learnt,
 ) (case-of-at t) case-of.Post
-case-of-returns-5 t c = case-done (c .before .before .before .before .before .before .before .before .before .before .before .before .before .before .before .before .before .before .before .before .before .before .before .before .before .before .before .before .before .before .before .before .before .before .before .expr .ensures) (c .before .before .before .before .before .before .before .before .before .before .before .before .before .before .before .before .before .before .before .before .before .before .before .before .before .before .before .x .given .1) (c .before .before .before .before .before .before .before .before .before .before .before .before .before .before .before .before .before .before .before .before .before .before .before .before .kind .given .1) (c .before .before .before .before .before .before .before .before .before .before .before .before .before .before .before .before .before .before .before .before .before .frame-line .ensures) (c .before .before .before .before .before .before .before .before .before .before .before .before .before .before .before .before .before .before .before .type-at .ensures) (c .before .before .before .before .before .before .before .before .before .before .before .before .before .before .before .before .before .y .given .1) (c .before .before .before .before .before .before .before .before .before .before .before .before .before .before .moved .ensures) (c .before .before .before .before .before .before .before .before .before .before .before .before .before .before .before .subject .ensures) (c .before .before .before .before .before .before .before .before .before .before .branches .ensures) (c .before .before .z .given .1) (c .cased .ensures .all) (c .cased .ensures .is)
+case-of-returns-5 t c = case-done (c .before .before .before .before .before .before .before .before .before .before .before .before .before .before .before .before .before .before .before .before .before .before .before .before .before .before .before .before .before .before .before .before .before .before .before .before .expr .ensures) (c .before .before .before .before .before .before .before .before .before .before .before .before .before .before .before .before .before .before .before .before .before .before .before .before .before .before .before .before .x .given .1) (c .before .before .before .before .before .before .before .before .before .before .before .before .before .before .before .before .before .before .before .before .before .before .before .before .before .kind .given .1) (c .before .before .before .before .before .before .before .before .before .before .before .before .before .before .before .before .before .before .before .before .before .before .frame-line .ensures) (c .before .before .before .before .before .before .before .before .before .before .before .before .before .before .before .before .before .before .before .before .type-at .ensures) (c .before .before .before .before .before .before .before .before .before .before .before .before .before .before .before .before .before .before .y .given .1) (c .before .before .before .before .before .before .before .before .before .before .before .before .before .before .before .moved .ensures) (c .before .before .before .before .before .before .before .before .before .before .before .before .before .before .before .before .subject .ensures) (c .before .before .before .before .before .before .before .before .before .before .branches .ensures) (c .before .before .z .given .1) (c .cased .ensures .all) (c .cased .ensures .is)
 
 choice-expr-requires : (t : ℕ) → choice-lts.Need-expr-requires (
   expr-below t,
@@ -4366,7 +4366,7 @@ choice-expr-requires : (t : ℕ) → choice-lts.Need-expr-requires (
   chosen-reads.Asked,
   chosen-reads.Learnt,
 ) (choice-at t) choice.Post
-choice-expr-requires t c κs = (load-same _ 900 (c .before .before .before .before .before .before .before .before .before .before .pre .0) 0 (omega arith), room-same (c .before .before .before .before .before .before .before .before .before .before .pre .1) (omega arith))
+choice-expr-requires t c κs = (load-same _ 900 (c .before .before .before .before .before .before .before .before .pre .0) 0 (omega arith), room-same (c .before .before .before .before .before .before .before .before .pre .1) (omega arith))
 
 choice-enum-known-x : (t : ℕ) → choice-lts.Need-enum-known-x (
   expr-below t,
@@ -4402,7 +4402,7 @@ choice-same-length : (t : ℕ) → choice-lts.Need-same-length (
   chosen-reads.Asked,
   chosen-reads.Learnt,
 ) (choice-at t) choice.Post
-choice-same-length t c = (c .before .before .before .before .before .before .before .before .expr .kept .1 .1 .1 .1 .0)
+choice-same-length t c = (c .before .before .before .before .before .before .before .before .expr .kept .1 .1 .0)
 
 choice-same-length-2 : (t : ℕ) → choice-lts.Need-same-length-2 (
   expr-below t,
@@ -4414,7 +4414,7 @@ choice-same-length-2 : (t : ℕ) → choice-lts.Need-same-length-2 (
   chosen-reads.Asked,
   chosen-reads.Learnt,
 ) (choice-at t) choice.Post
-choice-same-length-2 t c = (c .before .before .before .before .before .before .before .before .expr .kept .1 .1 .1 .1 .1 .0)
+choice-same-length-2 t c = (c .before .before .before .before .before .before .before .before .expr .kept .1 .1 .1 .1 .0)
 
 choice-same-length-3 : (t : ℕ) → choice-lts.Need-same-length-3 (
   expr-below t,
@@ -4426,7 +4426,7 @@ choice-same-length-3 : (t : ℕ) → choice-lts.Need-same-length-3 (
   chosen-reads.Asked,
   chosen-reads.Learnt,
 ) (choice-at t) choice.Post
-choice-same-length-3 t c = (c .before .before .before .before .before .before .before .before .expr .kept .1 .1 .1 .1 .1 .1 .0)
+choice-same-length-3 t c = (c .before .before .before .before .before .before .before .before .expr .kept .1 .1 .1 .1 .1 .0)
 
 choice-returns : (t : ℕ) → choice-lts.Need-returns (
   expr-below t,
@@ -4462,7 +4462,7 @@ choice-expr-requires-2 : (t : ℕ) → choice-lts.Need-expr-requires-2 (
   chosen-reads.Asked,
   chosen-reads.Learnt,
 ) (choice-at t) choice.Post
-choice-expr-requires-2 t c κs = (load-moved _ 900 (c .before .before .before .before .before .before .before .before .before .before .before .before .before .before .before .before .before .before .before .before .before .before .before .before .pre .0) _ 0 (c .before .before .before .behind .ensures) (grows-to (c .before .before .before .before .before .before .before .before .before .before .before .before .before .expr .ensures .grows) (c .before .before .before .before .before .x .given .1)) (omega arith), room-behind (c .before .before .before .before .before .before .before .before .before .before .before .before .before .before .before .before .before .before .before .before .before .before .before .before .pre .1) (c .before .before .before .behind .ensures) ((c .before .before .before .before .before .before .before .before .before .before .before .before .before .expr .kept .1 .1 .1 .1 .1 .0)) ((c .before .before .before .before .before .before .before .before .before .before .before .before .before .expr .kept .1 .1 .1 .1 .1 .1 .0)))
+choice-expr-requires-2 t c κs = (load-moved _ 900 (c .before .before .before .before .before .before .before .before .before .before .before .before .before .before .before .before .before .before .before .before .before .before .before .pre .0) _ 0 (c .before .before .before .before .behind .ensures) (grows-to (c .before .before .before .before .before .before .before .before .before .before .before .before .before .before .expr .ensures .grows) (c .before .before .before .before .before .before .x .given .1)) (omega arith), room-behind (c .before .before .before .before .before .before .before .before .before .before .before .before .before .before .before .before .before .before .before .before .before .before .before .pre .1) (c .before .before .before .before .behind .ensures) ((c .before .before .before .before .before .before .before .before .before .before .before .before .before .before .expr .kept .1 .1 .1 .1 .0)) ((c .before .before .before .before .before .before .before .before .before .before .before .before .before .before .expr .kept .1 .1 .1 .1 .1 .0)))
 
 choice-enum-known-y : (t : ℕ) → choice-lts.Need-enum-known-y (
   expr-below t,
@@ -4498,7 +4498,7 @@ choice-same-length-4 : (t : ℕ) → choice-lts.Need-same-length-4 (
   chosen-reads.Asked,
   chosen-reads.Learnt,
 ) (choice-at t) choice.Post
-choice-same-length-4 t c = (c .before .before .before .before .before .before .before .before .expr2 .kept .1 .1 .1 .1 .0) ∙ (c .before .before .before .before .before .before .before .before .before .before .before .before .before .before .before .before .before .before .before .before .before .before .expr .kept .1 .1 .1 .1 .0)
+choice-same-length-4 t c = (c .before .before .before .before .before .before .before .before .expr2 .kept .1 .1 .0) ∙ (c .before .before .before .before .before .before .before .before .before .before .before .before .before .before .before .before .before .before .before .before .before .before .before .expr .kept .1 .1 .0)
 
 choice-same-length-5 : (t : ℕ) → choice-lts.Need-same-length-5 (
   expr-below t,
@@ -4510,7 +4510,7 @@ choice-same-length-5 : (t : ℕ) → choice-lts.Need-same-length-5 (
   chosen-reads.Asked,
   chosen-reads.Learnt,
 ) (choice-at t) choice.Post
-choice-same-length-5 t c = (c .before .before .before .before .before .before .before .before .expr2 .kept .1 .1 .1 .1 .1 .0) ∙ (c .before .before .before .before .before .before .before .before .before .before .before .before .before .before .before .before .before .before .before .before .before .before .expr .kept .1 .1 .1 .1 .1 .0)
+choice-same-length-5 t c = (c .before .before .before .before .before .before .before .before .expr2 .kept .1 .1 .1 .1 .0) ∙ (c .before .before .before .before .before .before .before .before .before .before .before .before .before .before .before .before .before .before .before .before .before .before .before .expr .kept .1 .1 .1 .1 .0)
 
 choice-same-length-6 : (t : ℕ) → choice-lts.Need-same-length-6 (
   expr-below t,
@@ -4522,7 +4522,7 @@ choice-same-length-6 : (t : ℕ) → choice-lts.Need-same-length-6 (
   chosen-reads.Asked,
   chosen-reads.Learnt,
 ) (choice-at t) choice.Post
-choice-same-length-6 t c = (c .before .before .before .before .before .before .before .before .expr2 .kept .1 .1 .1 .1 .1 .1 .0) ∙ (c .before .before .before .before .before .before .before .before .before .before .before .before .before .before .before .before .before .before .before .before .before .before .expr .kept .1 .1 .1 .1 .1 .1 .0)
+choice-same-length-6 t c = (c .before .before .before .before .before .before .before .before .expr2 .kept .1 .1 .1 .1 .1 .0) ∙ (c .before .before .before .before .before .before .before .before .before .before .before .before .before .before .before .before .before .before .before .before .before .before .before .expr .kept .1 .1 .1 .1 .1 .0)
 
 choice-returns-2 : (t : ℕ) → choice-lts.Need-returns-2 (
   expr-below t,
@@ -4534,7 +4534,7 @@ choice-returns-2 : (t : ℕ) → choice-lts.Need-returns-2 (
   chosen-reads.Asked,
   chosen-reads.Learnt,
 ) (choice-at t) choice.Post
-choice-returns-2 t c = if-second (c .before .before .before .before .before .before .before .before .before .before .before .before .before .before .before .before .before .before .before .before .before .before .expr .ensures) (c .before .before .before .before .before .before .before .before .before .before .before .before .before .before .x .given .1) (c .before .before .before .before .before .before .before .before .before .before .before .before .behind .ensures) (c .before .before .before .before .before .before .before .before .expr2 .ensures) (c .enum-told2 .given .1)
+choice-returns-2 t c = if-second (c .before .before .before .before .before .before .before .before .before .before .before .before .before .before .before .before .before .before .before .before .before .before .before .expr .ensures) (c .before .before .before .before .before .before .before .before .before .before .before .before .before .before .before .x .given .1) (c .before .before .before .before .before .before .before .before .before .before .before .before .before .behind .ensures) (c .before .before .before .before .before .before .before .before .expr2 .ensures) (c .enum-told2 .given .1)
 
 choice-behind-requires-2 : (t : ℕ) → choice-lts.Need-behind-requires-2 (
   expr-below t,
@@ -4558,7 +4558,7 @@ choice-expr-requires-3 : (t : ℕ) → choice-lts.Need-expr-requires-3 (
   chosen-reads.Asked,
   chosen-reads.Learnt,
 ) (choice-at t) choice.Post
-choice-expr-requires-3 t c κs = (load-moved _ 900 (c .before .before .before .before .before .before .before .before .before .before .before .before .before .before .before .before .before .before .before .before .before .before .before .before .before .before .before .before .before .before .before .before .before .before .before .before .before .before .pre .0) _ 0 (c .before .before .before .behind2 .ensures) (grows-behind (c .before .before .before .before .before .before .before .before .before .before .before .before .before .before .before .before .before .before .before .before .before .before .before .before .before .before .before .before .before .before .before .before .before .before .before .before .before .before .args .p) (grows-to (c .before .before .before .before .before .before .before .before .before .before .before .before .before .before .before .before .before .before .before .before .before .before .before .before .before .before .before .expr .ensures .grows) (c .before .before .before .before .before .before .before .before .before .before .before .before .before .before .before .before .before .before .before .x .given .1)) (c .before .before .before .before .before .before .before .before .before .before .before .before .before .before .before .before .before .behind .ensures) (c .before .before .before .before .before .before .before .before .before .before .before .before .before .expr2 .ensures .grows) (c .before .before .before .before .before .y .given .1)) (omega arith), room-behind (c .before .before .before .before .before .before .before .before .before .before .before .before .before .before .before .before .before .before .before .before .before .before .before .before .before .before .before .before .before .before .before .before .before .before .before .before .before .before .pre .1) (c .before .before .before .behind2 .ensures) ((c .before .before .before .before .before .before .before .before .before .before .before .before .before .expr2 .kept .1 .1 .1 .1 .1 .0) ∙ (c .before .before .before .before .before .before .before .before .before .before .before .before .before .before .before .before .before .before .before .before .before .before .before .before .before .before .before .expr .kept .1 .1 .1 .1 .1 .0)) ((c .before .before .before .before .before .before .before .before .before .before .before .before .before .expr2 .kept .1 .1 .1 .1 .1 .1 .0) ∙ (c .before .before .before .before .before .before .before .before .before .before .before .before .before .before .before .before .before .before .before .before .before .before .before .before .before .before .before .expr .kept .1 .1 .1 .1 .1 .1 .0)))
+choice-expr-requires-3 t c κs = (load-moved _ 900 (c .before .before .before .before .before .before .before .before .before .before .before .before .before .before .before .before .before .before .before .before .before .before .before .before .before .before .before .before .before .before .before .before .before .before .before .before .before .before .pre .0) _ 0 (c .before .before .before .before .behind2 .ensures) (grows-behind (c .before .before .before .before .before .before .before .before .before .before .before .before .before .before .before .before .before .before .before .before .before .before .before .before .before .before .before .before .before .before .before .before .before .before .before .before .before .before .args .p) (grows-to (c .before .before .before .before .before .before .before .before .before .before .before .before .before .before .before .before .before .before .before .before .before .before .before .before .before .before .before .before .before .expr .ensures .grows) (c .before .before .before .before .before .before .before .before .before .before .before .before .before .before .before .before .before .before .before .before .before .x .given .1)) (c .before .before .before .before .before .before .before .before .before .before .before .before .before .before .before .before .before .before .before .behind .ensures) (c .before .before .before .before .before .before .before .before .before .before .before .before .before .before .expr2 .ensures .grows) (c .before .before .before .before .before .before .y .given .1)) (omega arith), room-behind (c .before .before .before .before .before .before .before .before .before .before .before .before .before .before .before .before .before .before .before .before .before .before .before .before .before .before .before .before .before .before .before .before .before .before .before .before .before .before .pre .1) (c .before .before .before .before .behind2 .ensures) ((c .before .before .before .before .before .before .before .before .before .before .before .before .before .before .expr2 .kept .1 .1 .1 .1 .0) ∙ (c .before .before .before .before .before .before .before .before .before .before .before .before .before .before .before .before .before .before .before .before .before .before .before .before .before .before .before .before .before .expr .kept .1 .1 .1 .1 .0)) ((c .before .before .before .before .before .before .before .before .before .before .before .before .before .before .expr2 .kept .1 .1 .1 .1 .1 .0) ∙ (c .before .before .before .before .before .before .before .before .before .before .before .before .before .before .before .before .before .before .before .before .before .before .before .before .before .before .before .before .before .expr .kept .1 .1 .1 .1 .1 .0)))
 
 choice-enum-known-z : (t : ℕ) → choice-lts.Need-enum-known-z (
   expr-below t,
@@ -4594,7 +4594,7 @@ choice-same-length-7 : (t : ℕ) → choice-lts.Need-same-length-7 (
   chosen-reads.Asked,
   chosen-reads.Learnt,
 ) (choice-at t) choice.Post
-choice-same-length-7 t c = (c .before .before .before .before .before .before .before .before .expr3 .kept .1 .1 .1 .1 .0) ∙ (c .before .before .before .before .before .before .before .before .before .before .before .before .before .before .before .before .before .before .before .before .before .before .expr2 .kept .1 .1 .1 .1 .0) ∙ (c .before .before .before .before .before .before .before .before .before .before .before .before .before .before .before .before .before .before .before .before .before .before .before .before .before .before .before .before .before .before .before .before .before .before .before .before .expr .kept .1 .1 .1 .1 .0)
+choice-same-length-7 t c = (c .before .before .before .before .before .before .before .before .expr3 .kept .1 .1 .0) ∙ (c .before .before .before .before .before .before .before .before .before .before .before .before .before .before .before .before .before .before .before .before .before .before .before .expr2 .kept .1 .1 .0) ∙ (c .before .before .before .before .before .before .before .before .before .before .before .before .before .before .before .before .before .before .before .before .before .before .before .before .before .before .before .before .before .before .before .before .before .before .before .before .before .before .expr .kept .1 .1 .0)
 
 choice-same-length-8 : (t : ℕ) → choice-lts.Need-same-length-8 (
   expr-below t,
@@ -4606,7 +4606,7 @@ choice-same-length-8 : (t : ℕ) → choice-lts.Need-same-length-8 (
   chosen-reads.Asked,
   chosen-reads.Learnt,
 ) (choice-at t) choice.Post
-choice-same-length-8 t c = (c .before .before .before .before .before .before .before .before .expr3 .kept .1 .1 .1 .1 .1 .0) ∙ (c .before .before .before .before .before .before .before .before .before .before .before .before .before .before .before .before .before .before .before .before .before .before .expr2 .kept .1 .1 .1 .1 .1 .0) ∙ (c .before .before .before .before .before .before .before .before .before .before .before .before .before .before .before .before .before .before .before .before .before .before .before .before .before .before .before .before .before .before .before .before .before .before .before .before .expr .kept .1 .1 .1 .1 .1 .0)
+choice-same-length-8 t c = (c .before .before .before .before .before .before .before .before .expr3 .kept .1 .1 .1 .1 .0) ∙ (c .before .before .before .before .before .before .before .before .before .before .before .before .before .before .before .before .before .before .before .before .before .before .before .expr2 .kept .1 .1 .1 .1 .0) ∙ (c .before .before .before .before .before .before .before .before .before .before .before .before .before .before .before .before .before .before .before .before .before .before .before .before .before .before .before .before .before .before .before .before .before .before .before .before .before .before .expr .kept .1 .1 .1 .1 .0)
 
 choice-same-length-9 : (t : ℕ) → choice-lts.Need-same-length-9 (
   expr-below t,
@@ -4618,7 +4618,7 @@ choice-same-length-9 : (t : ℕ) → choice-lts.Need-same-length-9 (
   chosen-reads.Asked,
   chosen-reads.Learnt,
 ) (choice-at t) choice.Post
-choice-same-length-9 t c = (c .before .before .before .before .before .before .before .before .expr3 .kept .1 .1 .1 .1 .1 .1 .0) ∙ (c .before .before .before .before .before .before .before .before .before .before .before .before .before .before .before .before .before .before .before .before .before .before .expr2 .kept .1 .1 .1 .1 .1 .1 .0) ∙ (c .before .before .before .before .before .before .before .before .before .before .before .before .before .before .before .before .before .before .before .before .before .before .before .before .before .before .before .before .before .before .before .before .before .before .before .before .expr .kept .1 .1 .1 .1 .1 .1 .0)
+choice-same-length-9 t c = (c .before .before .before .before .before .before .before .before .expr3 .kept .1 .1 .1 .1 .1 .0) ∙ (c .before .before .before .before .before .before .before .before .before .before .before .before .before .before .before .before .before .before .before .before .before .before .before .expr2 .kept .1 .1 .1 .1 .1 .0) ∙ (c .before .before .before .before .before .before .before .before .before .before .before .before .before .before .before .before .before .before .before .before .before .before .before .before .before .before .before .before .before .before .before .before .before .before .before .before .before .before .expr .kept .1 .1 .1 .1 .1 .0)
 
 choice-returns-3 : (t : ℕ) → choice-lts.Need-returns-3 (
   expr-below t,
@@ -4630,7 +4630,7 @@ choice-returns-3 : (t : ℕ) → choice-lts.Need-returns-3 (
   chosen-reads.Asked,
   chosen-reads.Learnt,
 ) (choice-at t) choice.Post
-choice-returns-3 t c = if-third (c .before .before .before .before .before .before .before .before .before .before .before .before .before .before .before .before .before .before .before .before .before .before .before .before .before .before .before .before .before .before .before .before .before .before .before .before .expr .ensures) (c .before .before .before .before .before .before .before .before .before .before .before .before .before .before .before .before .before .before .before .before .before .before .before .before .before .before .before .before .x .given .1) (c .before .before .before .before .before .before .before .before .before .before .before .before .before .before .before .before .before .before .before .before .before .before .before .before .before .before .behind .ensures) (c .before .before .before .before .before .before .before .before .before .before .before .before .before .before .before .before .before .before .before .before .before .before .expr2 .ensures) (c .before .before .before .before .before .before .before .before .before .before .before .before .before .before .y .given .1) (c .before .before .before .before .before .before .before .before .before .before .before .before .behind2 .ensures) (c .before .before .before .before .before .before .before .before .expr3 .ensures) (c .enum-told3 .given .1)
+choice-returns-3 t c = if-third (c .before .before .before .before .before .before .before .before .before .before .before .before .before .before .before .before .before .before .before .before .before .before .before .before .before .before .before .before .before .before .before .before .before .before .before .before .before .before .expr .ensures) (c .before .before .before .before .before .before .before .before .before .before .before .before .before .before .before .before .before .before .before .before .before .before .before .before .before .before .before .before .before .before .x .given .1) (c .before .before .before .before .before .before .before .before .before .before .before .before .before .before .before .before .before .before .before .before .before .before .before .before .before .before .before .before .behind .ensures) (c .before .before .before .before .before .before .before .before .before .before .before .before .before .before .before .before .before .before .before .before .before .before .before .expr2 .ensures) (c .before .before .before .before .before .before .before .before .before .before .before .before .before .before .before .y .given .1) (c .before .before .before .before .before .before .before .before .before .before .before .before .before .behind2 .ensures) (c .before .before .before .before .before .before .before .before .expr3 .ensures) (c .enum-told3 .given .1)
 
 choice-agree-requires : (t : ℕ) → choice-lts.Need-agree-requires (
   expr-below t,
@@ -4644,7 +4644,7 @@ choice-agree-requires : (t : ℕ) → choice-lts.Need-agree-requires (
 ) (choice-at t) choice.Post
 choice-agree-requires t c κs = tt
 
-choice-add-t37 : (t : ℕ) → choice-lts.Need-add-t37 (
+choice-add-t39 : (t : ℕ) → choice-lts.Need-add-t39 (
   expr-below t,
   expr.Post,
   behind-reads.Asked,
@@ -4654,7 +4654,7 @@ choice-add-t37 : (t : ℕ) → choice-lts.Need-add-t37 (
   chosen-reads.Asked,
   chosen-reads.Learnt,
 ) (choice-at t) choice.Post
-choice-add-t37 t c = omega (arith, (c .before .before .before .before .before .before .before .before .before .before .before .before .before .before .before .before .before .before .before .before .before .before .before .before .before .before .before .before .before .before .before .before .before .before .before .before .before .before .before .before .before .before .before .before .before .before .before .before .before .before .before .pre .1 .line))
+choice-add-t39 t c = omega (arith, (c .before .before .before .before .before .before .before .before .before .before .before .before .before .before .before .before .before .before .before .before .before .before .before .before .before .before .before .before .before .before .before .before .before .before .before .before .before .before .before .before .before .before .before .before .before .before .before .before .before .before .before .pre .1 .line))
 
 choice-same-length-10 : (t : ℕ) → choice-lts.Need-same-length-10 (
   expr-below t,
@@ -4666,7 +4666,7 @@ choice-same-length-10 : (t : ℕ) → choice-lts.Need-same-length-10 (
   chosen-reads.Asked,
   chosen-reads.Learnt,
 ) (choice-at t) choice.Post
-choice-same-length-10 t c = (c .before .before .before .before .before .before .before .before .before .before .before .before .expr3 .kept .1 .1 .1 .1 .0) ∙ (c .before .before .before .before .before .before .before .before .before .before .before .before .before .before .before .before .before .before .before .before .before .before .before .before .before .before .expr2 .kept .1 .1 .1 .1 .0) ∙ (c .before .before .before .before .before .before .before .before .before .before .before .before .before .before .before .before .before .before .before .before .before .before .before .before .before .before .before .before .before .before .before .before .before .before .before .before .before .before .before .before .expr .kept .1 .1 .1 .1 .0)
+choice-same-length-10 t c = (c .before .before .before .before .before .before .before .before .before .before .before .before .expr3 .kept .1 .1 .0) ∙ (c .before .before .before .before .before .before .before .before .before .before .before .before .before .before .before .before .before .before .before .before .before .before .before .before .before .before .before .expr2 .kept .1 .1 .0) ∙ (c .before .before .before .before .before .before .before .before .before .before .before .before .before .before .before .before .before .before .before .before .before .before .before .before .before .before .before .before .before .before .before .before .before .before .before .before .before .before .before .before .before .before .expr .kept .1 .1 .0)
 
 choice-same-length-11 : (t : ℕ) → choice-lts.Need-same-length-11 (
   expr-below t,
@@ -4678,7 +4678,7 @@ choice-same-length-11 : (t : ℕ) → choice-lts.Need-same-length-11 (
   chosen-reads.Asked,
   chosen-reads.Learnt,
 ) (choice-at t) choice.Post
-choice-same-length-11 t c = (c .before .before .before .before .before .before .before .before .before .before .before .before .expr3 .kept .1 .1 .1 .1 .1 .0) ∙ (c .before .before .before .before .before .before .before .before .before .before .before .before .before .before .before .before .before .before .before .before .before .before .before .before .before .before .expr2 .kept .1 .1 .1 .1 .1 .0) ∙ (c .before .before .before .before .before .before .before .before .before .before .before .before .before .before .before .before .before .before .before .before .before .before .before .before .before .before .before .before .before .before .before .before .before .before .before .before .before .before .before .before .expr .kept .1 .1 .1 .1 .1 .0)
+choice-same-length-11 t c = (c .before .before .before .before .before .before .before .before .before .before .before .before .expr3 .kept .1 .1 .1 .1 .0) ∙ (c .before .before .before .before .before .before .before .before .before .before .before .before .before .before .before .before .before .before .before .before .before .before .before .before .before .before .before .expr2 .kept .1 .1 .1 .1 .0) ∙ (c .before .before .before .before .before .before .before .before .before .before .before .before .before .before .before .before .before .before .before .before .before .before .before .before .before .before .before .before .before .before .before .before .before .before .before .before .before .before .before .before .before .before .expr .kept .1 .1 .1 .1 .0)
 
 choice-same-length-12 : (t : ℕ) → choice-lts.Need-same-length-12 (
   expr-below t,
@@ -4690,7 +4690,7 @@ choice-same-length-12 : (t : ℕ) → choice-lts.Need-same-length-12 (
   chosen-reads.Asked,
   chosen-reads.Learnt,
 ) (choice-at t) choice.Post
-choice-same-length-12 t c = (c .before .before .before .before .before .before .before .before .before .before .before .before .expr3 .kept .1 .1 .1 .1 .1 .1 .0) ∙ (c .before .before .before .before .before .before .before .before .before .before .before .before .before .before .before .before .before .before .before .before .before .before .before .before .before .before .expr2 .kept .1 .1 .1 .1 .1 .1 .0) ∙ (c .before .before .before .before .before .before .before .before .before .before .before .before .before .before .before .before .before .before .before .before .before .before .before .before .before .before .before .before .before .before .before .before .before .before .before .before .before .before .before .before .expr .kept .1 .1 .1 .1 .1 .1 .0)
+choice-same-length-12 t c = (c .before .before .before .before .before .before .before .before .before .before .before .before .expr3 .kept .1 .1 .1 .1 .1 .0) ∙ (c .before .before .before .before .before .before .before .before .before .before .before .before .before .before .before .before .before .before .before .before .before .before .before .before .before .before .before .expr2 .kept .1 .1 .1 .1 .1 .0) ∙ (c .before .before .before .before .before .before .before .before .before .before .before .before .before .before .before .before .before .before .before .before .before .before .before .before .before .before .before .before .before .before .before .before .before .before .before .before .before .before .before .before .before .before .expr .kept .1 .1 .1 .1 .1 .0)
 
 choice-returns-4 : (t : ℕ) → choice-lts.Need-returns-4 (
   expr-below t,
@@ -4702,7 +4702,7 @@ choice-returns-4 : (t : ℕ) → choice-lts.Need-returns-4 (
   chosen-reads.Asked,
   chosen-reads.Learnt,
 ) (choice-at t) choice.Post
-choice-returns-4 t c = if-differ (c .before .before .before .before .before .before .before .before .before .before .before .before .before .before .before .before .before .before .before .before .before .before .before .before .before .before .before .before .before .before .before .before .before .before .before .before .before .before .before .before .expr .ensures) (c .before .before .before .before .before .before .before .before .before .before .before .before .before .before .before .before .before .before .before .before .before .before .before .before .before .before .before .before .before .before .before .before .x .given .1) (c .before .before .before .before .before .before .before .before .before .before .before .before .before .before .before .before .before .before .before .before .before .before .before .before .before .before .before .before .before .before .behind .ensures) (c .before .before .before .before .before .before .before .before .before .before .before .before .before .before .before .before .before .before .before .before .before .before .before .before .before .before .expr2 .ensures) (c .before .before .before .before .before .before .before .before .before .before .before .before .before .before .before .before .before .before .y .given .1) (c .before .before .before .before .before .before .before .before .before .before .before .before .before .before .before .before .behind2 .ensures) (c .before .before .before .before .before .before .before .before .before .before .before .before .expr3 .ensures) (c .before .before .before .before .z .given .1) (c .before .before .agree .ensures) (not-true _ (c .before .if1 .taken))
+choice-returns-4 t c = if-differ (c .before .before .before .before .before .before .before .before .before .before .before .before .before .before .before .before .before .before .before .before .before .before .before .before .before .before .before .before .before .before .before .before .before .before .before .before .before .before .before .before .before .before .expr .ensures) (c .before .before .before .before .before .before .before .before .before .before .before .before .before .before .before .before .before .before .before .before .before .before .before .before .before .before .before .before .before .before .before .before .before .before .x .given .1) (c .before .before .before .before .before .before .before .before .before .before .before .before .before .before .before .before .before .before .before .before .before .before .before .before .before .before .before .before .before .before .before .before .behind .ensures) (c .before .before .before .before .before .before .before .before .before .before .before .before .before .before .before .before .before .before .before .before .before .before .before .before .before .before .before .expr2 .ensures) (c .before .before .before .before .before .before .before .before .before .before .before .before .before .before .before .before .before .before .before .y .given .1) (c .before .before .before .before .before .before .before .before .before .before .before .before .before .before .before .before .before .behind2 .ensures) (c .before .before .before .before .before .before .before .before .before .before .before .before .expr3 .ensures) (c .before .before .before .before .z .given .1) (c .before .before .agree .ensures) (not-true _ (c .before .if1 .taken))
 
 choice-chosen-requires : (t : ℕ) → choice-lts.Need-chosen-requires (
   expr-below t,
@@ -4726,7 +4726,7 @@ choice-same-length-13 : (t : ℕ) → choice-lts.Need-same-length-13 (
   chosen-reads.Asked,
   chosen-reads.Learnt,
 ) (choice-at t) choice.Post
-choice-same-length-13 t c = (c .before .before .before .before .before .before .before .before .before .before .before .before .expr3 .kept .1 .1 .1 .1 .0) ∙ (c .before .before .before .before .before .before .before .before .before .before .before .before .before .before .before .before .before .before .before .before .before .before .before .before .before .before .expr2 .kept .1 .1 .1 .1 .0) ∙ (c .before .before .before .before .before .before .before .before .before .before .before .before .before .before .before .before .before .before .before .before .before .before .before .before .before .before .before .before .before .before .before .before .before .before .before .before .before .before .before .before .expr .kept .1 .1 .1 .1 .0)
+choice-same-length-13 t c = (c .before .before .before .before .before .before .before .before .before .before .before .before .expr3 .kept .1 .1 .0) ∙ (c .before .before .before .before .before .before .before .before .before .before .before .before .before .before .before .before .before .before .before .before .before .before .before .before .before .before .before .expr2 .kept .1 .1 .0) ∙ (c .before .before .before .before .before .before .before .before .before .before .before .before .before .before .before .before .before .before .before .before .before .before .before .before .before .before .before .before .before .before .before .before .before .before .before .before .before .before .before .before .before .before .expr .kept .1 .1 .0)
 
 choice-same-length-14 : (t : ℕ) → choice-lts.Need-same-length-14 (
   expr-below t,
@@ -4738,7 +4738,7 @@ choice-same-length-14 : (t : ℕ) → choice-lts.Need-same-length-14 (
   chosen-reads.Asked,
   chosen-reads.Learnt,
 ) (choice-at t) choice.Post
-choice-same-length-14 t c = (c .before .before .before .before .before .before .before .before .before .before .before .before .expr3 .kept .1 .1 .1 .1 .1 .0) ∙ (c .before .before .before .before .before .before .before .before .before .before .before .before .before .before .before .before .before .before .before .before .before .before .before .before .before .before .expr2 .kept .1 .1 .1 .1 .1 .0) ∙ (c .before .before .before .before .before .before .before .before .before .before .before .before .before .before .before .before .before .before .before .before .before .before .before .before .before .before .before .before .before .before .before .before .before .before .before .before .before .before .before .before .expr .kept .1 .1 .1 .1 .1 .0)
+choice-same-length-14 t c = (c .before .before .before .before .before .before .before .before .before .before .before .before .expr3 .kept .1 .1 .1 .1 .0) ∙ (c .before .before .before .before .before .before .before .before .before .before .before .before .before .before .before .before .before .before .before .before .before .before .before .before .before .before .before .expr2 .kept .1 .1 .1 .1 .0) ∙ (c .before .before .before .before .before .before .before .before .before .before .before .before .before .before .before .before .before .before .before .before .before .before .before .before .before .before .before .before .before .before .before .before .before .before .before .before .before .before .before .before .before .before .expr .kept .1 .1 .1 .1 .0)
 
 choice-same-length-15 : (t : ℕ) → choice-lts.Need-same-length-15 (
   expr-below t,
@@ -4750,7 +4750,7 @@ choice-same-length-15 : (t : ℕ) → choice-lts.Need-same-length-15 (
   chosen-reads.Asked,
   chosen-reads.Learnt,
 ) (choice-at t) choice.Post
-choice-same-length-15 t c = (c .before .before .before .before .before .before .before .before .before .before .before .before .expr3 .kept .1 .1 .1 .1 .1 .1 .0) ∙ (c .before .before .before .before .before .before .before .before .before .before .before .before .before .before .before .before .before .before .before .before .before .before .before .before .before .before .expr2 .kept .1 .1 .1 .1 .1 .1 .0) ∙ (c .before .before .before .before .before .before .before .before .before .before .before .before .before .before .before .before .before .before .before .before .before .before .before .before .before .before .before .before .before .before .before .before .before .before .before .before .before .before .before .before .expr .kept .1 .1 .1 .1 .1 .1 .0)
+choice-same-length-15 t c = (c .before .before .before .before .before .before .before .before .before .before .before .before .expr3 .kept .1 .1 .1 .1 .1 .0) ∙ (c .before .before .before .before .before .before .before .before .before .before .before .before .before .before .before .before .before .before .before .before .before .before .before .before .before .before .before .expr2 .kept .1 .1 .1 .1 .1 .0) ∙ (c .before .before .before .before .before .before .before .before .before .before .before .before .before .before .before .before .before .before .before .before .before .before .before .before .before .before .before .before .before .before .before .before .before .before .before .before .before .before .before .before .before .before .expr .kept .1 .1 .1 .1 .1 .0)
 
 choice-returns-5 : (t : ℕ) → choice-lts.Need-returns-5 (
   expr-below t,
@@ -4762,7 +4762,7 @@ choice-returns-5 : (t : ℕ) → choice-lts.Need-returns-5 (
   chosen-reads.Asked,
   chosen-reads.Learnt,
 ) (choice-at t) choice.Post
-choice-returns-5 t c = if-done (c .before .before .before .before .before .before .before .before .before .before .before .before .before .before .before .before .before .before .before .before .before .before .before .before .before .before .before .before .before .before .before .before .before .before .before .before .before .before .before .before .expr .ensures) (c .before .before .before .before .before .before .before .before .before .before .before .before .before .before .before .before .before .before .before .before .before .before .before .before .before .before .before .before .before .before .before .before .x .given .1) (c .before .before .before .before .before .before .before .before .before .before .before .before .before .before .before .before .before .before .before .before .before .before .before .before .before .before .before .before .before .before .behind .ensures) (c .before .before .before .before .before .before .before .before .before .before .before .before .before .before .before .before .before .before .before .before .before .before .before .before .before .before .expr2 .ensures) (c .before .before .before .before .before .before .before .before .before .before .before .before .before .before .before .before .before .before .y .given .1) (c .before .before .before .before .before .before .before .before .before .before .before .before .before .before .before .before .behind2 .ensures) (c .before .before .before .before .before .before .before .before .before .before .before .before .expr3 .ensures) (c .before .before .before .before .z .given .1) (c .before .before .agree .ensures) (not-false _ (c .before .if1 .left)) (c .chosen .ensures .both) (c .chosen .ensures .all) (c .chosen .ensures .is)
+choice-returns-5 t c = if-done (c .before .before .before .before .before .before .before .before .before .before .before .before .before .before .before .before .before .before .before .before .before .before .before .before .before .before .before .before .before .before .before .before .before .before .before .before .before .before .before .before .before .before .expr .ensures) (c .before .before .before .before .before .before .before .before .before .before .before .before .before .before .before .before .before .before .before .before .before .before .before .before .before .before .before .before .before .before .before .before .before .before .x .given .1) (c .before .before .before .before .before .before .before .before .before .before .before .before .before .before .before .before .before .before .before .before .before .before .before .before .before .before .before .before .before .before .before .before .behind .ensures) (c .before .before .before .before .before .before .before .before .before .before .before .before .before .before .before .before .before .before .before .before .before .before .before .before .before .before .before .expr2 .ensures) (c .before .before .before .before .before .before .before .before .before .before .before .before .before .before .before .before .before .before .before .y .given .1) (c .before .before .before .before .before .before .before .before .before .before .before .before .before .before .before .before .before .behind2 .ensures) (c .before .before .before .before .before .before .before .before .before .before .before .before .expr3 .ensures) (c .before .before .before .before .z .given .1) (c .before .before .agree .ensures) (not-false _ (c .before .if1 .left)) (c .chosen .ensures .both) (c .chosen .ensures .all) (c .chosen .ensures .is)
 
 compound-enum-told : (t : ℕ) → compound-lts.Need-enum-told (
   binding-below t,
@@ -4802,7 +4802,7 @@ compound-binding-requires : (t : ℕ) → compound-lts.Need-binding-requires (
   fit-below t,
   fit.Post,
 ) (compound-at t) compound.Post
-compound-binding-requires t c κs = (load-same _ 1000 (c .before .before .before .before .before .before .before .before .before .before .before .before .pre .0) 900 (omega arith), (c .before .before .before .before .before .before .before .before .before .before .before .before .pre .1 .0))
+compound-binding-requires t c κs = (load-same _ 1000 (c .before .before .before .before .before .before .before .before .before .before .pre .0) 900 (omega arith), (c .before .before .before .before .before .before .before .before .before .before .pre .1 .0))
 
 compound-enum-told-2 : (t : ℕ) → compound-lts.Need-enum-told-2 (
   binding-below t,
@@ -4842,7 +4842,7 @@ compound-choice-requires : (t : ℕ) → compound-lts.Need-choice-requires (
   fit-below t,
   fit.Post,
 ) (compound-at t) compound.Post
-compound-choice-requires t c κs = (load-same _ 1000 (c .before .before .before .before .before .before .before .before .before .before .before .before .pre .0) 900 (omega arith), (c .before .before .before .before .before .before .before .before .before .before .before .before .pre .1 .0))
+compound-choice-requires t c κs = (load-same _ 1000 (c .before .before .before .before .before .before .before .before .before .before .pre .0) 900 (omega arith), (c .before .before .before .before .before .before .before .before .before .before .pre .1 .0))
 
 compound-enum-known-form : (t : ℕ) → compound-lts.Need-enum-known-form (
   binding-below t,
@@ -4882,7 +4882,7 @@ compound-operation-requires : (t : ℕ) → compound-lts.Need-operation-requires
   fit-below t,
   fit.Post,
 ) (compound-at t) compound.Post
-compound-operation-requires t c κs = (load-same _ 1000 (c .before .before .before .before .before .before .before .before .before .before .before .before .before .pre .0) 900 (omega arith), (c .before .before .before .before .before .before .before .before .before .before .before .before .before .pre .1 .0))
+compound-operation-requires t c κs = (load-same _ 1000 (c .before .before .before .before .before .before .before .before .before .before .before .pre .0) 900 (omega arith), (c .before .before .before .before .before .before .before .before .before .before .before .pre .1 .0))
 
 compound-enum-known-form-2 : (t : ℕ) → compound-lts.Need-enum-known-form-2 (
   binding-below t,
@@ -4922,7 +4922,7 @@ compound-call-requires : (t : ℕ) → compound-lts.Need-call-requires (
   fit-below t,
   fit.Post,
 ) (compound-at t) compound.Post
-compound-call-requires t c κs = (load-same _ 1000 (c .before .before .before .before .before .before .before .before .before .before .before .before .before .pre .0) 900 (omega arith), ((c .before .before .before .before .before .before .before .before .before .before .before .before .before .pre .1 .0), subst Operands (c .before .before .before .before .form2 .given .1) (c .before .before .before .before .before .before .before .before .before .before .before .before .before .pre .1 .1)))
+compound-call-requires t c κs = (load-same _ 1000 (c .before .before .before .before .before .before .before .before .before .before .before .pre .0) 900 (omega arith), ((c .before .before .before .before .before .before .before .before .before .before .before .pre .1 .0), subst Operands (c .before .before .before .before .before .form2 .given .1) (c .before .before .before .before .before .before .before .before .before .before .before .pre .1 .1)))
 
 compound-enum-known-form-3 : (t : ℕ) → compound-lts.Need-enum-known-form-3 (
   binding-below t,
@@ -4962,7 +4962,7 @@ compound-construct-requires : (t : ℕ) → compound-lts.Need-construct-requires
   fit-below t,
   fit.Post,
 ) (compound-at t) compound.Post
-compound-construct-requires t c κs = (load-same _ 1000 (c .before .before .before .before .before .before .before .before .before .before .before .before .before .pre .0) 900 (omega arith), ((c .before .before .before .before .before .before .before .before .before .before .before .before .before .pre .1 .0), subst Operands (c .before .before .before .before .form3 .given .1) (c .before .before .before .before .before .before .before .before .before .before .before .before .before .pre .1 .1)))
+compound-construct-requires t c κs = (load-same _ 1000 (c .before .before .before .before .before .before .before .before .before .before .before .pre .0) 900 (omega arith), ((c .before .before .before .before .before .before .before .before .before .before .before .pre .1 .0), subst Operands (c .before .before .before .before .before .form3 .given .1) (c .before .before .before .before .before .before .before .before .before .before .before .pre .1 .1)))
 
 compound-enum-known-form-4 : (t : ℕ) → compound-lts.Need-enum-known-form-4 (
   binding-below t,
@@ -5002,7 +5002,7 @@ compound-case-of-requires : (t : ℕ) → compound-lts.Need-case-of-requires (
   fit-below t,
   fit.Post,
 ) (compound-at t) compound.Post
-compound-case-of-requires t c κs = (load-same _ 1000 (c .before .before .before .before .before .before .before .before .before .before .before .before .before .pre .0) 900 (omega arith), ((c .before .before .before .before .before .before .before .before .before .before .before .before .before .pre .1 .0), subst Operands (c .before .before .before .before .form4 .given .1) (c .before .before .before .before .before .before .before .before .before .before .before .before .before .pre .1 .1)))
+compound-case-of-requires t c κs = (load-same _ 1000 (c .before .before .before .before .before .before .before .before .before .before .before .pre .0) 900 (omega arith), ((c .before .before .before .before .before .before .before .before .before .before .before .pre .1 .0), subst Operands (c .before .before .before .before .before .form4 .given .1) (c .before .before .before .before .before .before .before .before .before .before .before .pre .1 .1)))
 
 compound-enum-told-3 : (t : ℕ) → compound-lts.Need-enum-told-3 (
   binding-below t,
@@ -5042,7 +5042,7 @@ compound-adjust-requires : (t : ℕ) → compound-lts.Need-adjust-requires (
   fit-below t,
   fit.Post,
 ) (compound-at t) compound.Post
-compound-adjust-requires t c κs = (load-same _ 1000 (c .before .before .before .before .before .before .before .before .before .before .before .before .pre .0) 900 (omega arith), (c .before .before .before .before .before .before .before .before .before .before .before .before .pre .1 .0))
+compound-adjust-requires t c κs = (load-same _ 1000 (c .before .before .before .before .before .before .before .before .before .before .pre .0) 900 (omega arith), (c .before .before .before .before .before .before .before .before .before .before .pre .1 .0))
 
 compound-enum-known-form-5 : (t : ℕ) → compound-lts.Need-enum-known-form-5 (
   binding-below t,
@@ -5082,9 +5082,9 @@ compound-fit-requires : (t : ℕ) → compound-lts.Need-fit-requires (
   fit-below t,
   fit.Post,
 ) (compound-at t) compound.Post
-compound-fit-requires t c κs = (load-same _ 1000 (c .before .before .before .before .before .before .before .before .before .before .before .before .before .pre .0) 900 (omega arith), ((c .before .before .before .before .before .before .before .before .before .before .before .before .before .pre .1 .0), subst Operands (c .before .before .before .before .form5 .given .1) (c .before .before .before .before .before .before .before .before .before .before .before .before .before .pre .1 .1)))
+compound-fit-requires t c κs = (load-same _ 1000 (c .before .before .before .before .before .before .before .before .before .before .before .pre .0) 900 (omega arith), ((c .before .before .before .before .before .before .before .before .before .before .before .pre .1 .0), subst Operands (c .before .before .before .before .before .form5 .given .1) (c .before .before .before .before .before .before .before .before .before .before .before .pre .1 .1)))
 
-compound-add-t65 : (t : ℕ) → compound-lts.Need-add-t65 (
+compound-add-t72 : (t : ℕ) → compound-lts.Need-add-t72 (
   binding-below t,
   binding.Post,
   choice-below t,
@@ -5102,7 +5102,7 @@ compound-add-t65 : (t : ℕ) → compound-lts.Need-add-t65 (
   fit-below t,
   fit.Post,
 ) (compound-at t) compound.Post
-compound-add-t65 t c = omega (arith, (c .before .before .before .before .before .before .before .before .before .pre .1 .0 .line))
+compound-add-t72 t c = omega (arith, (c .before .before .before .before .before .before .pre .1 .0 .line))
 
 compound-same-length : (t : ℕ) → compound-lts.Need-same-length (
   binding-below t,
@@ -5122,7 +5122,7 @@ compound-same-length : (t : ℕ) → compound-lts.Need-same-length (
   fit-below t,
   fit.Post,
 ) (compound-at t) compound.Post
-compound-same-length t c = (c .before .before .before .before .before .before .binding .kept .1 .1 .1 .1 .0)
+compound-same-length t c = (c .before .before .before .before .before .before .binding .kept .1 .1 .0)
 
 compound-same-length-2 : (t : ℕ) → compound-lts.Need-same-length-2 (
   binding-below t,
@@ -5142,7 +5142,7 @@ compound-same-length-2 : (t : ℕ) → compound-lts.Need-same-length-2 (
   fit-below t,
   fit.Post,
 ) (compound-at t) compound.Post
-compound-same-length-2 t c = (c .before .before .before .before .before .before .binding .kept .1 .1 .1 .1 .1 .0)
+compound-same-length-2 t c = (c .before .before .before .before .before .before .binding .kept .1 .1 .1 .1 .0)
 
 compound-same-length-3 : (t : ℕ) → compound-lts.Need-same-length-3 (
   binding-below t,
@@ -5162,7 +5162,7 @@ compound-same-length-3 : (t : ℕ) → compound-lts.Need-same-length-3 (
   fit-below t,
   fit.Post,
 ) (compound-at t) compound.Post
-compound-same-length-3 t c = (c .before .before .before .before .before .before .binding .kept .1 .1 .1 .1 .1 .1 .0)
+compound-same-length-3 t c = (c .before .before .before .before .before .before .binding .kept .1 .1 .1 .1 .1 .0)
 
 compound-returns : (t : ℕ) → compound-lts.Need-returns (
   binding-below t,
@@ -5182,7 +5182,7 @@ compound-returns : (t : ℕ) → compound-lts.Need-returns (
   fit-below t,
   fit.Post,
 ) (compound-at t) compound.Post
-compound-returns t c = compound-is (c .before .before .before .before .before .before .before .before .before .before .enum-told .given .1) (c .before .before .before .before .before .before .binding .ensures)
+compound-returns t c = compound-is (c .before .before .before .before .before .before .before .before .before .before .before .enum-told .given .1) (c .before .before .before .before .before .before .binding .ensures)
 
 compound-same-length-4 : (t : ℕ) → compound-lts.Need-same-length-4 (
   binding-below t,
@@ -5202,7 +5202,7 @@ compound-same-length-4 : (t : ℕ) → compound-lts.Need-same-length-4 (
   fit-below t,
   fit.Post,
 ) (compound-at t) compound.Post
-compound-same-length-4 t c = (c .before .before .before .before .before .before .choice .kept .1 .1 .1 .1 .0)
+compound-same-length-4 t c = (c .before .before .before .before .before .before .choice .kept .1 .1 .0)
 
 compound-same-length-5 : (t : ℕ) → compound-lts.Need-same-length-5 (
   binding-below t,
@@ -5222,7 +5222,7 @@ compound-same-length-5 : (t : ℕ) → compound-lts.Need-same-length-5 (
   fit-below t,
   fit.Post,
 ) (compound-at t) compound.Post
-compound-same-length-5 t c = (c .before .before .before .before .before .before .choice .kept .1 .1 .1 .1 .1 .0)
+compound-same-length-5 t c = (c .before .before .before .before .before .before .choice .kept .1 .1 .1 .1 .0)
 
 compound-same-length-6 : (t : ℕ) → compound-lts.Need-same-length-6 (
   binding-below t,
@@ -5242,7 +5242,7 @@ compound-same-length-6 : (t : ℕ) → compound-lts.Need-same-length-6 (
   fit-below t,
   fit.Post,
 ) (compound-at t) compound.Post
-compound-same-length-6 t c = (c .before .before .before .before .before .before .choice .kept .1 .1 .1 .1 .1 .1 .0)
+compound-same-length-6 t c = (c .before .before .before .before .before .before .choice .kept .1 .1 .1 .1 .1 .0)
 
 compound-returns-2 : (t : ℕ) → compound-lts.Need-returns-2 (
   binding-below t,
@@ -5262,7 +5262,7 @@ compound-returns-2 : (t : ℕ) → compound-lts.Need-returns-2 (
   fit-below t,
   fit.Post,
 ) (compound-at t) compound.Post
-compound-returns-2 t c = compound-is (c .before .before .before .before .before .before .before .before .before .before .enum-told2 .given .1) (c .before .before .before .before .before .before .choice .ensures)
+compound-returns-2 t c = compound-is (c .before .before .before .before .before .before .before .before .before .before .before .enum-told2 .given .1) (c .before .before .before .before .before .before .choice .ensures)
 
 compound-same-length-7 : (t : ℕ) → compound-lts.Need-same-length-7 (
   binding-below t,
@@ -5282,7 +5282,7 @@ compound-same-length-7 : (t : ℕ) → compound-lts.Need-same-length-7 (
   fit-below t,
   fit.Post,
 ) (compound-at t) compound.Post
-compound-same-length-7 t c = (c .before .before .before .before .before .before .operation .kept .1 .1 .1 .1 .0)
+compound-same-length-7 t c = (c .before .before .before .before .before .before .operation .kept .1 .1 .0)
 
 compound-same-length-8 : (t : ℕ) → compound-lts.Need-same-length-8 (
   binding-below t,
@@ -5302,7 +5302,7 @@ compound-same-length-8 : (t : ℕ) → compound-lts.Need-same-length-8 (
   fit-below t,
   fit.Post,
 ) (compound-at t) compound.Post
-compound-same-length-8 t c = (c .before .before .before .before .before .before .operation .kept .1 .1 .1 .1 .1 .0)
+compound-same-length-8 t c = (c .before .before .before .before .before .before .operation .kept .1 .1 .1 .1 .0)
 
 compound-same-length-9 : (t : ℕ) → compound-lts.Need-same-length-9 (
   binding-below t,
@@ -5322,7 +5322,7 @@ compound-same-length-9 : (t : ℕ) → compound-lts.Need-same-length-9 (
   fit-below t,
   fit.Post,
 ) (compound-at t) compound.Post
-compound-same-length-9 t c = (c .before .before .before .before .before .before .operation .kept .1 .1 .1 .1 .1 .1 .0)
+compound-same-length-9 t c = (c .before .before .before .before .before .before .operation .kept .1 .1 .1 .1 .1 .0)
 
 compound-returns-3 : (t : ℕ) → compound-lts.Need-returns-3 (
   binding-below t,
@@ -5342,7 +5342,7 @@ compound-returns-3 : (t : ℕ) → compound-lts.Need-returns-3 (
   fit-below t,
   fit.Post,
 ) (compound-at t) compound.Post
-compound-returns-3 t c = compound-is (c .before .before .before .before .before .before .before .before .before .before .before .form .given .1) (c .before .before .before .before .before .before .operation .ensures)
+compound-returns-3 t c = compound-is (c .before .before .before .before .before .before .before .before .before .before .before .before .form .given .1) (c .before .before .before .before .before .before .operation .ensures)
 
 compound-same-length-10 : (t : ℕ) → compound-lts.Need-same-length-10 (
   binding-below t,
@@ -5362,7 +5362,7 @@ compound-same-length-10 : (t : ℕ) → compound-lts.Need-same-length-10 (
   fit-below t,
   fit.Post,
 ) (compound-at t) compound.Post
-compound-same-length-10 t c = (c .before .before .before .before .before .before .call .kept .1 .1 .1 .1 .0)
+compound-same-length-10 t c = (c .before .before .before .before .before .before .call .kept .1 .1 .0)
 
 compound-same-length-11 : (t : ℕ) → compound-lts.Need-same-length-11 (
   binding-below t,
@@ -5382,7 +5382,7 @@ compound-same-length-11 : (t : ℕ) → compound-lts.Need-same-length-11 (
   fit-below t,
   fit.Post,
 ) (compound-at t) compound.Post
-compound-same-length-11 t c = (c .before .before .before .before .before .before .call .kept .1 .1 .1 .1 .1 .0)
+compound-same-length-11 t c = (c .before .before .before .before .before .before .call .kept .1 .1 .1 .1 .0)
 
 compound-same-length-12 : (t : ℕ) → compound-lts.Need-same-length-12 (
   binding-below t,
@@ -5402,7 +5402,7 @@ compound-same-length-12 : (t : ℕ) → compound-lts.Need-same-length-12 (
   fit-below t,
   fit.Post,
 ) (compound-at t) compound.Post
-compound-same-length-12 t c = (c .before .before .before .before .before .before .call .kept .1 .1 .1 .1 .1 .1 .0)
+compound-same-length-12 t c = (c .before .before .before .before .before .before .call .kept .1 .1 .1 .1 .1 .0)
 
 compound-returns-4 : (t : ℕ) → compound-lts.Need-returns-4 (
   binding-below t,
@@ -5422,7 +5422,7 @@ compound-returns-4 : (t : ℕ) → compound-lts.Need-returns-4 (
   fit-below t,
   fit.Post,
 ) (compound-at t) compound.Post
-compound-returns-4 t c = compound-is (c .before .before .before .before .before .before .before .before .before .before .before .form2 .given .1) (c .before .before .before .before .before .before .call .ensures)
+compound-returns-4 t c = compound-is (c .before .before .before .before .before .before .before .before .before .before .before .before .form2 .given .1) (c .before .before .before .before .before .before .call .ensures)
 
 compound-same-length-13 : (t : ℕ) → compound-lts.Need-same-length-13 (
   binding-below t,
@@ -5442,7 +5442,7 @@ compound-same-length-13 : (t : ℕ) → compound-lts.Need-same-length-13 (
   fit-below t,
   fit.Post,
 ) (compound-at t) compound.Post
-compound-same-length-13 t c = (c .before .before .before .before .before .before .construct .kept .1 .1 .1 .1 .0)
+compound-same-length-13 t c = (c .before .before .before .before .before .before .construct .kept .1 .1 .0)
 
 compound-same-length-14 : (t : ℕ) → compound-lts.Need-same-length-14 (
   binding-below t,
@@ -5462,7 +5462,7 @@ compound-same-length-14 : (t : ℕ) → compound-lts.Need-same-length-14 (
   fit-below t,
   fit.Post,
 ) (compound-at t) compound.Post
-compound-same-length-14 t c = (c .before .before .before .before .before .before .construct .kept .1 .1 .1 .1 .1 .0)
+compound-same-length-14 t c = (c .before .before .before .before .before .before .construct .kept .1 .1 .1 .1 .0)
 
 compound-same-length-15 : (t : ℕ) → compound-lts.Need-same-length-15 (
   binding-below t,
@@ -5482,7 +5482,7 @@ compound-same-length-15 : (t : ℕ) → compound-lts.Need-same-length-15 (
   fit-below t,
   fit.Post,
 ) (compound-at t) compound.Post
-compound-same-length-15 t c = (c .before .before .before .before .before .before .construct .kept .1 .1 .1 .1 .1 .1 .0)
+compound-same-length-15 t c = (c .before .before .before .before .before .before .construct .kept .1 .1 .1 .1 .1 .0)
 
 compound-returns-5 : (t : ℕ) → compound-lts.Need-returns-5 (
   binding-below t,
@@ -5502,7 +5502,7 @@ compound-returns-5 : (t : ℕ) → compound-lts.Need-returns-5 (
   fit-below t,
   fit.Post,
 ) (compound-at t) compound.Post
-compound-returns-5 t c = compound-is (c .before .before .before .before .before .before .before .before .before .before .before .form3 .given .1) (c .before .before .before .before .before .before .construct .ensures)
+compound-returns-5 t c = compound-is (c .before .before .before .before .before .before .before .before .before .before .before .before .form3 .given .1) (c .before .before .before .before .before .before .construct .ensures)
 
 compound-same-length-16 : (t : ℕ) → compound-lts.Need-same-length-16 (
   binding-below t,
@@ -5522,7 +5522,7 @@ compound-same-length-16 : (t : ℕ) → compound-lts.Need-same-length-16 (
   fit-below t,
   fit.Post,
 ) (compound-at t) compound.Post
-compound-same-length-16 t c = (c .before .before .before .before .before .before .case-of .kept .1 .1 .1 .1 .0)
+compound-same-length-16 t c = (c .before .before .before .before .before .before .case-of .kept .1 .1 .0)
 
 compound-same-length-17 : (t : ℕ) → compound-lts.Need-same-length-17 (
   binding-below t,
@@ -5542,7 +5542,7 @@ compound-same-length-17 : (t : ℕ) → compound-lts.Need-same-length-17 (
   fit-below t,
   fit.Post,
 ) (compound-at t) compound.Post
-compound-same-length-17 t c = (c .before .before .before .before .before .before .case-of .kept .1 .1 .1 .1 .1 .0)
+compound-same-length-17 t c = (c .before .before .before .before .before .before .case-of .kept .1 .1 .1 .1 .0)
 
 compound-same-length-18 : (t : ℕ) → compound-lts.Need-same-length-18 (
   binding-below t,
@@ -5562,7 +5562,7 @@ compound-same-length-18 : (t : ℕ) → compound-lts.Need-same-length-18 (
   fit-below t,
   fit.Post,
 ) (compound-at t) compound.Post
-compound-same-length-18 t c = (c .before .before .before .before .before .before .case-of .kept .1 .1 .1 .1 .1 .1 .0)
+compound-same-length-18 t c = (c .before .before .before .before .before .before .case-of .kept .1 .1 .1 .1 .1 .0)
 
 compound-returns-6 : (t : ℕ) → compound-lts.Need-returns-6 (
   binding-below t,
@@ -5582,7 +5582,7 @@ compound-returns-6 : (t : ℕ) → compound-lts.Need-returns-6 (
   fit-below t,
   fit.Post,
 ) (compound-at t) compound.Post
-compound-returns-6 t c = compound-is (c .before .before .before .before .before .before .before .before .before .before .before .form4 .given .1) (c .before .before .before .before .before .before .case-of .ensures)
+compound-returns-6 t c = compound-is (c .before .before .before .before .before .before .before .before .before .before .before .before .form4 .given .1) (c .before .before .before .before .before .before .case-of .ensures)
 
 compound-same-length-19 : (t : ℕ) → compound-lts.Need-same-length-19 (
   binding-below t,
@@ -5602,7 +5602,7 @@ compound-same-length-19 : (t : ℕ) → compound-lts.Need-same-length-19 (
   fit-below t,
   fit.Post,
 ) (compound-at t) compound.Post
-compound-same-length-19 t c = (c .before .before .before .before .before .before .adjust .kept .1 .1 .1 .1 .0)
+compound-same-length-19 t c = (c .before .before .before .before .before .before .adjust .kept .1 .1 .0)
 
 compound-same-length-20 : (t : ℕ) → compound-lts.Need-same-length-20 (
   binding-below t,
@@ -5622,7 +5622,7 @@ compound-same-length-20 : (t : ℕ) → compound-lts.Need-same-length-20 (
   fit-below t,
   fit.Post,
 ) (compound-at t) compound.Post
-compound-same-length-20 t c = (c .before .before .before .before .before .before .adjust .kept .1 .1 .1 .1 .1 .0)
+compound-same-length-20 t c = (c .before .before .before .before .before .before .adjust .kept .1 .1 .1 .1 .0)
 
 compound-same-length-21 : (t : ℕ) → compound-lts.Need-same-length-21 (
   binding-below t,
@@ -5642,7 +5642,7 @@ compound-same-length-21 : (t : ℕ) → compound-lts.Need-same-length-21 (
   fit-below t,
   fit.Post,
 ) (compound-at t) compound.Post
-compound-same-length-21 t c = (c .before .before .before .before .before .before .adjust .kept .1 .1 .1 .1 .1 .1 .0)
+compound-same-length-21 t c = (c .before .before .before .before .before .before .adjust .kept .1 .1 .1 .1 .1 .0)
 
 compound-returns-7 : (t : ℕ) → compound-lts.Need-returns-7 (
   binding-below t,
@@ -5662,7 +5662,7 @@ compound-returns-7 : (t : ℕ) → compound-lts.Need-returns-7 (
   fit-below t,
   fit.Post,
 ) (compound-at t) compound.Post
-compound-returns-7 t c = compound-is (c .before .before .before .before .before .before .before .before .before .before .enum-told3 .given .1) (c .before .before .before .before .before .before .adjust .ensures)
+compound-returns-7 t c = compound-is (c .before .before .before .before .before .before .before .before .before .before .before .enum-told3 .given .1) (c .before .before .before .before .before .before .adjust .ensures)
 
 compound-same-length-22 : (t : ℕ) → compound-lts.Need-same-length-22 (
   binding-below t,
@@ -5682,7 +5682,7 @@ compound-same-length-22 : (t : ℕ) → compound-lts.Need-same-length-22 (
   fit-below t,
   fit.Post,
 ) (compound-at t) compound.Post
-compound-same-length-22 t c = (c .before .before .before .before .before .before .fit .kept .1 .1 .1 .1 .0)
+compound-same-length-22 t c = (c .before .before .before .before .before .before .fit .kept .1 .1 .0)
 
 compound-same-length-23 : (t : ℕ) → compound-lts.Need-same-length-23 (
   binding-below t,
@@ -5702,7 +5702,7 @@ compound-same-length-23 : (t : ℕ) → compound-lts.Need-same-length-23 (
   fit-below t,
   fit.Post,
 ) (compound-at t) compound.Post
-compound-same-length-23 t c = (c .before .before .before .before .before .before .fit .kept .1 .1 .1 .1 .1 .0)
+compound-same-length-23 t c = (c .before .before .before .before .before .before .fit .kept .1 .1 .1 .1 .0)
 
 compound-same-length-24 : (t : ℕ) → compound-lts.Need-same-length-24 (
   binding-below t,
@@ -5722,7 +5722,7 @@ compound-same-length-24 : (t : ℕ) → compound-lts.Need-same-length-24 (
   fit-below t,
   fit.Post,
 ) (compound-at t) compound.Post
-compound-same-length-24 t c = (c .before .before .before .before .before .before .fit .kept .1 .1 .1 .1 .1 .1 .0)
+compound-same-length-24 t c = (c .before .before .before .before .before .before .fit .kept .1 .1 .1 .1 .1 .0)
 
 compound-returns-8 : (t : ℕ) → compound-lts.Need-returns-8 (
   binding-below t,
@@ -5742,7 +5742,7 @@ compound-returns-8 : (t : ℕ) → compound-lts.Need-returns-8 (
   fit-below t,
   fit.Post,
 ) (compound-at t) compound.Post
-compound-returns-8 t c = compound-is (c .before .before .before .before .before .before .before .before .before .before .before .form5 .given .1) (c .before .before .before .before .before .before .fit .ensures)
+compound-returns-8 t c = compound-is (c .before .before .before .before .before .before .before .before .before .before .before .before .form5 .given .1) (c .before .before .before .before .before .before .fit .ensures)
 
 compound-returns-9 : (t : ℕ) → compound-lts.Need-returns-9 (
   binding-below t,
@@ -5762,7 +5762,7 @@ compound-returns-9 : (t : ℕ) → compound-lts.Need-returns-9 (
   fit-below t,
   fit.Post,
 ) (compound-at t) compound.Post
-compound-returns-9 t c = compound-none (c .before .before .before .before .before .before .before .before .before .args .form) (no-parts (c .before .before .before .before .before .before .before .before .before .args .form) (leaf-or-missing _ (c .before .match .keys9)))
+compound-returns-9 t c = compound-none (c .before .before .before .before .before .before .args .form) (no-parts (c .before .before .before .before .before .before .args .form) (leaf-or-missing _ (c .before .match .keys9)))
 
 construct-fields-requires : (t : ℕ) → construct-lts.Need-fields-requires (
   fields-reads.Asked,
@@ -5798,7 +5798,7 @@ construct-several-requires : (t : ℕ) → construct-lts.Need-several-requires (
   made-reads.Asked,
   made-reads.Learnt,
 ) (construct-at t) construct.Post
-construct-several-requires t c κs = (load-same _ 900 (c .before .before .before .before .before .before .before .before .before .before .before .before .pre .0) _ (omega (arith, (c .before .before .before .before .fields .ensures .1))), ((c .before .before .before .before .before .before .before .before .before .before .before .before .pre .1 .0), (c .before .before .before .before .fields .ensures .1)))
+construct-several-requires t c κs = (load-same _ 900 (c .before .before .before .before .before .before .before .before .before .before .pre .0) _ (omega (arith, (c .before .before .before .before .before .fields .ensures .1))), ((c .before .before .before .before .before .before .before .before .before .before .pre .1 .0), (c .before .before .before .before .before .fields .ensures .1)))
 
 construct-enum-known-x : (t : ℕ) → construct-lts.Need-enum-known-x (
   fields-reads.Asked,
@@ -5846,7 +5846,7 @@ construct-same-length : (t : ℕ) → construct-lts.Need-same-length (
   made-reads.Asked,
   made-reads.Learnt,
 ) (construct-at t) construct.Post
-construct-same-length t c = (c .before .before .before .before .before .before .before .before .before .before .several .kept .1 .1 .1 .1 .0)
+construct-same-length t c = (c .before .before .before .before .before .before .before .before .before .before .several .kept .1 .1 .0)
 
 construct-same-length-2 : (t : ℕ) → construct-lts.Need-same-length-2 (
   fields-reads.Asked,
@@ -5858,7 +5858,7 @@ construct-same-length-2 : (t : ℕ) → construct-lts.Need-same-length-2 (
   made-reads.Asked,
   made-reads.Learnt,
 ) (construct-at t) construct.Post
-construct-same-length-2 t c = (c .before .before .before .before .before .before .before .before .before .before .several .kept .1 .1 .1 .1 .1 .0)
+construct-same-length-2 t c = (c .before .before .before .before .before .before .before .before .before .before .several .kept .1 .1 .1 .1 .0)
 
 construct-same-length-3 : (t : ℕ) → construct-lts.Need-same-length-3 (
   fields-reads.Asked,
@@ -5870,7 +5870,7 @@ construct-same-length-3 : (t : ℕ) → construct-lts.Need-same-length-3 (
   made-reads.Asked,
   made-reads.Learnt,
 ) (construct-at t) construct.Post
-construct-same-length-3 t c = (c .before .before .before .before .before .before .before .before .before .before .several .kept .1 .1 .1 .1 .1 .1 .0)
+construct-same-length-3 t c = (c .before .before .before .before .before .before .before .before .before .before .several .kept .1 .1 .1 .1 .1 .0)
 
 construct-returns : (t : ℕ) → construct-lts.Need-returns (
   fields-reads.Asked,
@@ -5882,7 +5882,7 @@ construct-returns : (t : ℕ) → construct-lts.Need-returns (
   made-reads.Asked,
   made-reads.Learnt,
 ) (construct-at t) construct.Post
-construct-returns t c = con-fields (c .before .before .before .before .before .before .before .before .before .before .before .before .before .before .before .fields .ensures) (omega arith) (c .before .before .before .before .before .before .before .before .before .before .several .ensures) (c .before .enum-told .given .1) (c .refused .ensures)
+construct-returns t c = con-fields (c .before .before .before .before .before .before .before .before .before .before .before .before .before .before .before .before .fields .ensures) (omega arith) (c .before .before .before .before .before .before .before .before .before .before .several .ensures) (c .before .enum-told .given .1) (c .refused .ensures)
 
 construct-slice-aggregate-made : (t : ℕ) → construct-lts.Need-slice-aggregate-made (
   fields-reads.Asked,
@@ -5906,7 +5906,7 @@ construct-made-requires : (t : ℕ) → construct-lts.Need-made-requires (
   made-reads.Asked,
   made-reads.Learnt,
 ) (construct-at t) construct.Post
-construct-made-requires t c κs = ((c .before .before .before .before .before .before .before .before .before .before .before .before .before .before .before .before .before .before .before .before .before .before .before .before .pre .1 .0 .line), (c .before .before .before .before .before .before .before .before .before .before .before .before .before .before .before .before .before .before .before .before .before .before .before .before .pre .1 .1 .0))
+construct-made-requires t c κs = ((c .before .before .before .before .before .before .before .before .before .before .before .before .before .before .before .before .before .before .before .before .before .before .pre .1 .0 .line), (c .before .before .before .before .before .before .before .before .before .before .before .before .before .before .before .before .before .before .before .before .before .before .pre .1 .1 .0))
 
 construct-same-length-4 : (t : ℕ) → construct-lts.Need-same-length-4 (
   fields-reads.Asked,
@@ -5918,7 +5918,7 @@ construct-same-length-4 : (t : ℕ) → construct-lts.Need-same-length-4 (
   made-reads.Asked,
   made-reads.Learnt,
 ) (construct-at t) construct.Post
-construct-same-length-4 t c = (c .before .before .before .before .before .before .before .before .before .before .before .before .several .kept .1 .1 .1 .1 .0)
+construct-same-length-4 t c = (c .before .before .before .before .before .before .before .before .before .before .before .before .several .kept .1 .1 .0)
 
 construct-same-length-5 : (t : ℕ) → construct-lts.Need-same-length-5 (
   fields-reads.Asked,
@@ -5930,7 +5930,7 @@ construct-same-length-5 : (t : ℕ) → construct-lts.Need-same-length-5 (
   made-reads.Asked,
   made-reads.Learnt,
 ) (construct-at t) construct.Post
-construct-same-length-5 t c = (c .before .before .before .before .before .before .before .before .before .before .before .before .several .kept .1 .1 .1 .1 .1 .0)
+construct-same-length-5 t c = (c .before .before .before .before .before .before .before .before .before .before .before .before .several .kept .1 .1 .1 .1 .0)
 
 construct-same-length-6 : (t : ℕ) → construct-lts.Need-same-length-6 (
   fields-reads.Asked,
@@ -5942,7 +5942,7 @@ construct-same-length-6 : (t : ℕ) → construct-lts.Need-same-length-6 (
   made-reads.Asked,
   made-reads.Learnt,
 ) (construct-at t) construct.Post
-construct-same-length-6 t c = (c .before .before .before .before .before .before .before .before .before .before .before .before .several .kept .1 .1 .1 .1 .1 .1 .0)
+construct-same-length-6 t c = (c .before .before .before .before .before .before .before .before .before .before .before .before .several .kept .1 .1 .1 .1 .1 .0)
 
 construct-returns-2 : (t : ℕ) → construct-lts.Need-returns-2 (
   fields-reads.Asked,
@@ -5954,7 +5954,7 @@ construct-returns-2 : (t : ℕ) → construct-lts.Need-returns-2 (
   made-reads.Asked,
   made-reads.Learnt,
 ) (construct-at t) construct.Post
-construct-returns-2 t c = con-made (c .before .before .before .before .before .before .before .before .before .before .before .before .before .before .before .before .before .fields .ensures) (omega arith) (c .before .before .before .before .before .before .before .before .before .before .before .before .several .ensures) (c .before .before .before .x .given .1) (c .made .ensures)
+construct-returns-2 t c = con-made (c .before .before .before .before .before .before .before .before .before .before .before .before .before .before .before .before .before .before .fields .ensures) (omega arith) (c .before .before .before .before .before .before .before .before .before .before .before .before .several .ensures) (c .before .before .before .x .given .1) (c .made .ensures)
 
 enter-find-requires : (t : ℕ) → enter-lts.Need-find-requires (
   find-reads.Asked,
@@ -6004,7 +6004,7 @@ enter-body-requires : (t : ℕ) → enter-lts.Need-body-requires (
   body-below t,
   body.Post,
 ) (enter-at t) enter.Post
-enter-body-requires t c κs = (load-same _ 90 (c .before .before .before .before .before .before .before .before .before .before .before .before .before .before .before .pre .0) 80 (omega arith), ((c .before .before .before .before .before .before .before .before .before .before .before .before .before .before .before .pre .1 .0), (c .before .before .before .before .before .before .before .before .before .before .before .before .before .before .before .pre .1 .1)))
+enter-body-requires t c κs = (load-same _ 90 (c .before .before .before .before .before .before .before .before .before .before .before .before .before .before .pre .0) 80 (omega arith), ((c .before .before .before .before .before .before .before .before .before .before .before .before .before .before .pre .1 .0), (c .before .before .before .before .before .before .before .before .before .before .before .before .before .before .pre .1 .1)))
 
 enter-same-length : (t : ℕ) → enter-lts.Need-same-length (
   find-reads.Asked,
@@ -6044,7 +6044,7 @@ enter-same-length-3 : (t : ℕ) → enter-lts.Need-same-length-3 (
   body-below t,
   body.Post,
 ) (enter-at t) enter.Post
-enter-same-length-3 t c = (c .before .before .before .before .before .before .body .kept .1 .1 .1 .1 .0)
+enter-same-length-3 t c = (c .before .before .before .before .before .before .body .kept .1 .1 .0)
 
 enter-same-length-4 : (t : ℕ) → enter-lts.Need-same-length-4 (
   find-reads.Asked,
@@ -6054,7 +6054,7 @@ enter-same-length-4 : (t : ℕ) → enter-lts.Need-same-length-4 (
   body-below t,
   body.Post,
 ) (enter-at t) enter.Post
-enter-same-length-4 t c = (c .before .before .before .before .before .before .body .kept .1 .1 .1 .1 .1 .0)
+enter-same-length-4 t c = (c .before .before .before .before .before .before .body .kept .1 .1 .1 .1 .0)
 
 enter-same-length-5 : (t : ℕ) → enter-lts.Need-same-length-5 (
   find-reads.Asked,
@@ -6064,7 +6064,7 @@ enter-same-length-5 : (t : ℕ) → enter-lts.Need-same-length-5 (
   body-below t,
   body.Post,
 ) (enter-at t) enter.Post
-enter-same-length-5 t c = (c .before .before .before .before .before .before .body .kept .1 .1 .1 .1 .1 .1 .0)
+enter-same-length-5 t c = (c .before .before .before .before .before .before .body .kept .1 .1 .1 .1 .1 .0)
 
 enter-returns-2 : (t : ℕ) → enter-lts.Need-returns-2 (
   find-reads.Asked,
@@ -6074,9 +6074,9 @@ enter-returns-2 : (t : ℕ) → enter-lts.Need-returns-2 (
   body-below t,
   body.Post,
 ) (enter-at t) enter.Post
-enter-returns-2 t c = enter-absent (c .before .before .before .before .before .before .before .before .before .before .before .before .find .ensures) (c .before .before .before .before .before .before .before .before .before .before .enum-told .given .1) (c .before .before .before .before .before .before .body .ensures)
+enter-returns-2 t c = enter-absent (c .before .before .before .before .before .before .before .before .before .before .before .before .before .find .ensures) (c .before .before .before .before .before .before .before .before .before .before .before .enum-told .given .1) (c .before .before .before .before .before .before .body .ensures)
 
-expr-add-t19 : (t : ℕ) → expr-lts.Need-add-t19 (
+expr-add-t18 : (t : ℕ) → expr-lts.Need-add-t18 (
   frame-line-reads.Asked,
   frame-line-reads.Learnt,
   head-at-reads.Asked,
@@ -6096,7 +6096,7 @@ expr-add-t19 : (t : ℕ) → expr-lts.Need-add-t19 (
   compound-below t,
   compound.Post,
 ) (expr-at t) expr.Post
-expr-add-t19 t c = omega (arith, (c .before .before .before .before .before .before .before .before .before .before .pre .1 .line))
+expr-add-t18 t c = omega (arith, (c .before .before .before .before .before .before .before .pre .1 .line))
 
 expr-returns : (t : ℕ) → expr-lts.Need-returns (
   frame-line-reads.Asked,
@@ -6470,7 +6470,7 @@ expr-channel-type-requires : (t : ℕ) → expr-lts.Need-channel-type-requires (
   compound-below t,
   compound.Post,
 ) (expr-at t) expr.Post
-expr-channel-type-requires t c κs = now-counted (c .before .before .before .before .before .head-at .ensures) (c .before .form2 .given .1) (c .before .before .before .before .before .before .before .before .before .before .before .before .before .before .before .before .before .pre .1 .first)
+expr-channel-type-requires t c κs = tt
 
 expr-nothing-requires-2 : (t : ℕ) → expr-lts.Need-nothing-requires-2 (
   frame-line-reads.Asked,
@@ -6558,7 +6558,7 @@ expr-channel-type-requires-2 : (t : ℕ) → expr-lts.Need-channel-type-requires
   compound-below t,
   compound.Post,
 ) (expr-at t) expr.Post
-expr-channel-type-requires-2 t c κs = last-counted (c .before .before .before .before .before .head-at .ensures) (c .before .form3 .given .1) (c .before .before .before .before .before .before .before .before .before .before .before .before .before .before .before .before .before .pre .1 .first)
+expr-channel-type-requires-2 t c κs = tt
 
 expr-nothing-requires-3 : (t : ℕ) → expr-lts.Need-nothing-requires-3 (
   frame-line-reads.Asked,
@@ -6624,7 +6624,7 @@ expr-compound-requires : (t : ℕ) → expr-lts.Need-compound-requires (
   compound-below t,
   compound.Post,
 ) (expr-at t) expr.Post
-expr-compound-requires t c κs = (load-down _ 0 (c .before .before .before .before .before .before .before .before .before .before .before .before .before .before .before .before .before .before .pre .0) _ 1000 (c .before .before .before .before .down .ensures) (omega (arith, (c .before .before .before .before .before .before .before .before .before .if1 .left))) (omega arith), (room-down (c .before .before .before .before .before .before .before .before .before .before .before .before .before .before .before .before .before .before .pre .1) (c .before .before .before .before .down .ensures) (omega (arith, (c .before .before .before .before .before .before .before .before .before .if1 .left))) refl, operands-of (c .before .before .before .before .before .before .head-at .ensures) _ refl))
+expr-compound-requires t c κs = (load-down _ 0 (c .before .before .before .before .before .before .before .before .before .before .before .before .before .before .before .before .pre .0) _ 1000 (c .before .before .before .before .before .down .ensures) (omega (arith, (c .before .before .before .before .before .before .before .before .before .before .if1 .left))) (omega arith), (room-down (c .before .before .before .before .before .before .before .before .before .before .before .before .before .before .before .before .pre .1) (c .before .before .before .before .before .down .ensures) (omega (arith, (c .before .before .before .before .before .before .before .before .before .before .if1 .left))) refl, operands-of (c .before .before .before .before .before .before .before .head-at .ensures) _ refl))
 
 expr-returns-2 : (t : ℕ) → expr-lts.Need-returns-2 (
   frame-line-reads.Asked,
@@ -6778,7 +6778,7 @@ expr-same-length-2 : (t : ℕ) → expr-lts.Need-same-length-2 (
   compound-below t,
   compound.Post,
 ) (expr-at t) expr.Post
-expr-same-length-2 t c = (c .before .before .before .before .before .before .compound .kept .1 .1 .1 .1 .0)
+expr-same-length-2 t c = (c .before .before .before .before .before .before .compound .kept .1 .1 .0)
 
 expr-same-length-3 : (t : ℕ) → expr-lts.Need-same-length-3 (
   frame-line-reads.Asked,
@@ -6800,7 +6800,7 @@ expr-same-length-3 : (t : ℕ) → expr-lts.Need-same-length-3 (
   compound-below t,
   compound.Post,
 ) (expr-at t) expr.Post
-expr-same-length-3 t c = (c .before .before .before .before .before .before .compound .kept .1 .1 .1 .1 .1 .0)
+expr-same-length-3 t c = (c .before .before .before .before .before .before .compound .kept .1 .1 .1 .1 .0)
 
 expr-same-length-4 : (t : ℕ) → expr-lts.Need-same-length-4 (
   frame-line-reads.Asked,
@@ -6822,7 +6822,7 @@ expr-same-length-4 : (t : ℕ) → expr-lts.Need-same-length-4 (
   compound-below t,
   compound.Post,
 ) (expr-at t) expr.Post
-expr-same-length-4 t c = (c .before .before .before .before .before .before .compound .kept .1 .1 .1 .1 .1 .1 .0)
+expr-same-length-4 t c = (c .before .before .before .before .before .before .compound .kept .1 .1 .1 .1 .1 .0)
 
 expr-returns-7 : (t : ℕ) → expr-lts.Need-returns-7 (
   frame-line-reads.Asked,
@@ -6844,7 +6844,7 @@ expr-returns-7 : (t : ℕ) → expr-lts.Need-returns-7 (
   compound-below t,
   compound.Post,
 ) (expr-at t) expr.Post
-expr-returns-7 t c = expr-compound (c .before .before .before .before .before .before .before .before .before .before .before .before .before .before .frame-line .ensures) (c .before .before .before .before .before .before .before .before .before .before .before .before .before .head-at .ensures) (c .before .before .before .before .before .before .before .before .before .before .before .down .ensures) (c .before .before .before .before .before .before .before .before .before .before .before .before .before .head-at .result .form) refl (no-leaf (c .before .before .before .before .before .before .before .before .before .before .before .before .before .head-at .result .form) (behind-leaves _ (c .before .before .before .before .before .before .before .before .before .before .match .keys6))) (c .before .before .before .before .before .before .compound .ensures)
+expr-returns-7 t c = expr-compound (c .before .before .before .before .before .before .before .before .before .before .before .before .before .before .before .frame-line .ensures) (c .before .before .before .before .before .before .before .before .before .before .before .before .before .before .head-at .ensures) (c .before .before .before .before .before .before .before .before .before .before .before .before .down .ensures) (c .before .before .before .before .before .before .before .before .before .before .before .before .before .before .head-at .result .form) refl (no-leaf (c .before .before .before .before .before .before .before .before .before .before .before .before .before .before .head-at .result .form) (behind-leaves _ (c .before .before .before .before .before .before .before .before .before .before .before .match .keys6))) (c .before .before .before .before .before .before .compound .ensures)
 
 fit-expr-requires : (t : ℕ) → fit-lts.Need-expr-requires (
   expr-below t,
@@ -6862,7 +6862,7 @@ fit-expr-requires : (t : ℕ) → fit-lts.Need-expr-requires (
   fitted-reads.Asked,
   fitted-reads.Learnt,
 ) (fit-at t) fit.Post
-fit-expr-requires t c κs = (load-same _ 900 (c .before .before .before .before .before .before .before .before .before .before .pre .0) 0 (omega arith), room-same (c .before .before .before .before .before .before .before .before .before .before .pre .1 .0) (omega arith))
+fit-expr-requires t c κs = (load-same _ 900 (c .before .before .before .before .before .before .before .before .pre .0) 0 (omega arith), room-same (c .before .before .before .before .before .before .before .before .pre .1 .0) (omega arith))
 
 fit-enum-known-x : (t : ℕ) → fit-lts.Need-enum-known-x (
   expr-below t,
@@ -6916,7 +6916,7 @@ fit-same-length : (t : ℕ) → fit-lts.Need-same-length (
   fitted-reads.Asked,
   fitted-reads.Learnt,
 ) (fit-at t) fit.Post
-fit-same-length t c = (c .before .before .before .before .before .before .before .before .expr .kept .1 .1 .1 .1 .0)
+fit-same-length t c = (c .before .before .before .before .before .before .before .before .expr .kept .1 .1 .0)
 
 fit-same-length-2 : (t : ℕ) → fit-lts.Need-same-length-2 (
   expr-below t,
@@ -6934,7 +6934,7 @@ fit-same-length-2 : (t : ℕ) → fit-lts.Need-same-length-2 (
   fitted-reads.Asked,
   fitted-reads.Learnt,
 ) (fit-at t) fit.Post
-fit-same-length-2 t c = (c .before .before .before .before .before .before .before .before .expr .kept .1 .1 .1 .1 .1 .0)
+fit-same-length-2 t c = (c .before .before .before .before .before .before .before .before .expr .kept .1 .1 .1 .1 .0)
 
 fit-same-length-3 : (t : ℕ) → fit-lts.Need-same-length-3 (
   expr-below t,
@@ -6952,7 +6952,7 @@ fit-same-length-3 : (t : ℕ) → fit-lts.Need-same-length-3 (
   fitted-reads.Asked,
   fitted-reads.Learnt,
 ) (fit-at t) fit.Post
-fit-same-length-3 t c = (c .before .before .before .before .before .before .before .before .expr .kept .1 .1 .1 .1 .1 .1 .0)
+fit-same-length-3 t c = (c .before .before .before .before .before .before .before .before .expr .kept .1 .1 .1 .1 .1 .0)
 
 fit-returns : (t : ℕ) → fit-lts.Need-returns (
   expr-below t,
@@ -7006,7 +7006,7 @@ fit-add-t27 : (t : ℕ) → fit-lts.Need-add-t27 (
   fitted-reads.Asked,
   fitted-reads.Learnt,
 ) (fit-at t) fit.Post
-fit-add-t27 t c = omega (arith, (c .before .before .before .before .before .before .before .before .before .before .before .before .before .before .before .before .before .before .before .before .before .before .pre .1 .0 .line))
+fit-add-t27 t c = omega (arith, (c .before .before .before .before .before .before .before .before .before .before .before .before .before .before .before .before .before .before .before .before .pre .1 .0 .line))
 
 fit-same-length-4 : (t : ℕ) → fit-lts.Need-same-length-4 (
   expr-below t,
@@ -7024,7 +7024,7 @@ fit-same-length-4 : (t : ℕ) → fit-lts.Need-same-length-4 (
   fitted-reads.Asked,
   fitted-reads.Learnt,
 ) (fit-at t) fit.Post
-fit-same-length-4 t c = (c .before .before .before .before .before .before .before .before .before .before .before .expr .kept .1 .1 .1 .1 .0)
+fit-same-length-4 t c = (c .before .before .before .before .before .before .before .before .before .before .before .expr .kept .1 .1 .0)
 
 fit-same-length-5 : (t : ℕ) → fit-lts.Need-same-length-5 (
   expr-below t,
@@ -7042,7 +7042,7 @@ fit-same-length-5 : (t : ℕ) → fit-lts.Need-same-length-5 (
   fitted-reads.Asked,
   fitted-reads.Learnt,
 ) (fit-at t) fit.Post
-fit-same-length-5 t c = (c .before .before .before .before .before .before .before .before .before .before .before .expr .kept .1 .1 .1 .1 .1 .0)
+fit-same-length-5 t c = (c .before .before .before .before .before .before .before .before .before .before .before .expr .kept .1 .1 .1 .1 .0)
 
 fit-same-length-6 : (t : ℕ) → fit-lts.Need-same-length-6 (
   expr-below t,
@@ -7060,7 +7060,7 @@ fit-same-length-6 : (t : ℕ) → fit-lts.Need-same-length-6 (
   fitted-reads.Asked,
   fitted-reads.Learnt,
 ) (fit-at t) fit.Post
-fit-same-length-6 t c = (c .before .before .before .before .before .before .before .before .before .before .before .expr .kept .1 .1 .1 .1 .1 .1 .0)
+fit-same-length-6 t c = (c .before .before .before .before .before .before .before .before .before .before .before .expr .kept .1 .1 .1 .1 .1 .0)
 
 fit-returns-2 : (t : ℕ) → fit-lts.Need-returns-2 (
   expr-below t,
@@ -7096,7 +7096,7 @@ fit-cast-t28 : (t : ℕ) → fit-lts.Need-cast-t28 (
   fitted-reads.Asked,
   fitted-reads.Learnt,
 ) (fit-at t) fit.Post
-fit-cast-t28 t c = omega (arith, (c .before .before .before .before .before .before .before .before .before .before .before .before .before .before .before .before .before .before .before .before .before .before .before .pre .1 .1))
+fit-cast-t28 t c = omega (arith, (c .before .before .before .before .before .before .before .before .before .before .before .before .before .before .before .before .before .before .before .before .before .pre .1 .1))
 
 fit-word-of-requires : (t : ℕ) → fit-lts.Need-word-of-requires (
   expr-below t,
@@ -7186,7 +7186,7 @@ fit-widen-requires : (t : ℕ) → fit-lts.Need-widen-requires (
   fitted-reads.Asked,
   fitted-reads.Learnt,
 ) (fit-at t) fit.Post
-fit-widen-requires t c κs = room-widens (c .before .before .before .before .before .before .before .before .before .before .before .before .before .before .before .before .before .before .before .before .before .before .before .before .before .before .before .before .before .before .pre .1 .0) (c .behind .ensures) (omega arith) (omega arith)
+fit-widen-requires t c κs = room-widens (c .before .before .before .before .before .before .before .before .before .before .before .before .before .before .before .before .before .before .before .before .before .before .before .before .before .before .before .before .pre .1 .0) (c .behind .ensures) (omega arith) (omega arith)
 
 fit-expr-requires-2 : (t : ℕ) → fit-lts.Need-expr-requires-2 (
   expr-below t,
@@ -7204,7 +7204,7 @@ fit-expr-requires-2 : (t : ℕ) → fit-lts.Need-expr-requires-2 (
   fitted-reads.Asked,
   fitted-reads.Learnt,
 ) (fit-at t) fit.Post
-fit-expr-requires-2 t c κs = (load-wide _ 900 (c .before .before .before .before .before .before .before .before .before .before .before .before .before .before .before .before .before .before .before .before .before .before .before .before .before .before .before .before .before .before .before .before .before .before .pre .0) _ _ 1 0 0 (c .before .before .before .before .behind .ensures) (c .before .before .before .widen .ensures) (grows-to (c .before .before .before .before .before .before .before .before .before .before .before .before .before .before .before .before .before .before .before .before .before .before .before .expr .ensures .grows) (c .before .before .before .before .before .before .before .before .before .before .before .before .before .before .before .x .given .1)) (omega arith), room-wide (c .before .before .before .before .before .before .before .before .before .before .before .before .before .before .before .before .before .before .before .before .before .before .before .before .before .before .before .before .before .before .before .before .before .before .pre .1 .0) (c .before .before .before .before .behind .ensures) (c .before .before .before .widen .ensures) ((c .before .before .before .before .before .before .before .put .kept .0) ∙ (c .before .before .before .before .before .before .before .before .before .before .before .before .before .before .before .before .before .before .before .before .before .before .before .expr .kept .1 .1 .1 .1 .1 .0)) ((c .before .before .before .before .before .before .before .before .before .before .before .before .before .before .before .before .before .before .before .before .before .before .before .expr .kept .1 .1 .1 .1 .1 .1 .0)) (omega arith) (omega arith))
+fit-expr-requires-2 t c κs = (load-wide _ 900 (c .before .before .before .before .before .before .before .before .before .before .before .before .before .before .before .before .before .before .before .before .before .before .before .before .before .before .before .before .before .before .before .before .before .pre .0) _ _ 1 0 0 (c .before .before .before .before .before .behind .ensures) (c .before .before .before .before .widen .ensures) (grows-to (c .before .before .before .before .before .before .before .before .before .before .before .before .before .before .before .before .before .before .before .before .before .before .before .before .expr .ensures .grows) (c .before .before .before .before .before .before .before .before .before .before .before .before .before .before .before .before .x .given .1)) (omega arith), room-wide (c .before .before .before .before .before .before .before .before .before .before .before .before .before .before .before .before .before .before .before .before .before .before .before .before .before .before .before .before .before .before .before .before .before .pre .1 .0) (c .before .before .before .before .before .behind .ensures) (c .before .before .before .before .widen .ensures) ((c .before .before .before .before .before .before .before .before .put .kept .0) ∙ (c .before .before .before .before .before .before .before .before .before .before .before .before .before .before .before .before .before .before .before .before .before .before .before .before .expr .kept .1 .1 .1 .1 .0)) ((c .before .before .before .before .before .before .before .before .before .before .before .before .before .before .before .before .before .before .before .before .before .before .before .before .expr .kept .1 .1 .1 .1 .1 .0)) (omega arith) (omega arith))
 
 fit-enum-known-y : (t : ℕ) → fit-lts.Need-enum-known-y (
   expr-below t,
@@ -7258,7 +7258,7 @@ fit-same-length-7 : (t : ℕ) → fit-lts.Need-same-length-7 (
   fitted-reads.Asked,
   fitted-reads.Learnt,
 ) (fit-at t) fit.Post
-fit-same-length-7 t c = (c .before .before .before .before .before .before .before .before .expr2 .kept .1 .1 .1 .1 .0) ∙ (c .before .before .before .before .before .before .before .before .before .before .before .before .before .before .before .before .before .before .before .before .before .before .before .before .before .before .before .before .before .before .before .before .expr .kept .1 .1 .1 .1 .0)
+fit-same-length-7 t c = (c .before .before .before .before .before .before .before .before .expr2 .kept .1 .1 .0) ∙ (c .before .before .before .before .before .before .before .before .before .before .before .before .before .before .before .before .before .before .before .before .before .before .before .before .before .before .before .before .before .before .before .before .before .expr .kept .1 .1 .0)
 
 fit-same-length-8 : (t : ℕ) → fit-lts.Need-same-length-8 (
   expr-below t,
@@ -7276,7 +7276,7 @@ fit-same-length-8 : (t : ℕ) → fit-lts.Need-same-length-8 (
   fitted-reads.Asked,
   fitted-reads.Learnt,
 ) (fit-at t) fit.Post
-fit-same-length-8 t c = (c .before .before .before .before .before .before .before .before .expr2 .kept .1 .1 .1 .1 .1 .0) ∙ (c .before .before .before .before .before .before .before .before .before .before .before .before .before .before .before .before .put .kept .0) ∙ (c .before .before .before .before .before .before .before .before .before .before .before .before .before .before .before .before .before .before .before .before .before .before .before .before .before .before .before .before .before .before .before .before .expr .kept .1 .1 .1 .1 .1 .0)
+fit-same-length-8 t c = (c .before .before .before .before .before .before .before .before .expr2 .kept .1 .1 .1 .1 .0) ∙ (c .before .before .before .before .before .before .before .before .before .before .before .before .before .before .before .before .before .put .kept .0) ∙ (c .before .before .before .before .before .before .before .before .before .before .before .before .before .before .before .before .before .before .before .before .before .before .before .before .before .before .before .before .before .before .before .before .before .expr .kept .1 .1 .1 .1 .0)
 
 fit-same-length-9 : (t : ℕ) → fit-lts.Need-same-length-9 (
   expr-below t,
@@ -7294,7 +7294,7 @@ fit-same-length-9 : (t : ℕ) → fit-lts.Need-same-length-9 (
   fitted-reads.Asked,
   fitted-reads.Learnt,
 ) (fit-at t) fit.Post
-fit-same-length-9 t c = (c .before .before .before .before .before .before .before .before .expr2 .kept .1 .1 .1 .1 .1 .1 .0) ∙ (c .before .before .before .before .before .before .before .before .before .before .before .before .before .before .before .before .before .before .before .before .before .before .before .before .before .before .before .before .before .before .before .before .expr .kept .1 .1 .1 .1 .1 .1 .0)
+fit-same-length-9 t c = (c .before .before .before .before .before .before .before .before .expr2 .kept .1 .1 .1 .1 .1 .0) ∙ (c .before .before .before .before .before .before .before .before .before .before .before .before .before .before .before .before .before .before .before .before .before .before .before .before .before .before .before .before .before .before .before .before .before .expr .kept .1 .1 .1 .1 .1 .0)
 
 fit-returns-3 : (t : ℕ) → fit-lts.Need-returns-3 (
   expr-below t,
@@ -7312,7 +7312,7 @@ fit-returns-3 : (t : ℕ) → fit-lts.Need-returns-3 (
   fitted-reads.Asked,
   fitted-reads.Learnt,
 ) (fit-at t) fit.Post
-fit-returns-3 t c = fit-first _ (c .before .before .before .before .before .before .before .before .before .before .before .before .before .before .before .before .before .before .before .before .before .before .before .before .before .before .before .before .before .before .before .before .expr .ensures) (scope-long (c .before .before .before .before .before .before .before .before .before .before .before .before .before .before .before .before .before .before .before .before .before .before .before .before .before .before .before .before .before .before .before .before .before .before .before .before .before .before .before .before .before .before .before .pre .1 .0) ((c .before .before .before .before .before .before .before .before .before .before .before .before .before .before .before .before .before .before .before .before .before .before .before .before .before .before .before .before .before .before .before .before .expr .kept .1 .1 .1 .1 .1 .0))) (c .before .before .before .before .before .before .before .before .before .before .before .before .before .before .before .before .before .before .before .before .before .before .before .before .x .given .1) (c .before .before .before .before .before .before .before .before .before .before .before .before .before .before .before .before .before .before .before .before .before .kind .given .1) (c .before .before .before .before .before .before .before .before .before .before .before .before .before .before .before .before .before .before .before .word-of .ensures .is) (c .before .before .before .before .before .before .before .before .before .before .before .before .before .behind .ensures) (c .before .before .before .before .before .before .before .before .before .before .before .before .widen .ensures) (put-is (c .before .before .before .before .before .before .before .before .before .before .before .before .before .before .before .before .put .ensures) (c .before .before .before .before .before .before .before .before .expr2 .ensures)) (c .enum-told2 .given .1)
+fit-returns-3 t c = fit-first _ (c .before .before .before .before .before .before .before .before .before .before .before .before .before .before .before .before .before .before .before .before .before .before .before .before .before .before .before .before .before .before .before .before .before .expr .ensures) (scope-long (c .before .before .before .before .before .before .before .before .before .before .before .before .before .before .before .before .before .before .before .before .before .before .before .before .before .before .before .before .before .before .before .before .before .before .before .before .before .before .before .before .before .before .pre .1 .0) ((c .before .before .before .before .before .before .before .before .before .before .before .before .before .before .before .before .before .before .before .before .before .before .before .before .before .before .before .before .before .before .before .before .before .expr .kept .1 .1 .1 .1 .0))) (c .before .before .before .before .before .before .before .before .before .before .before .before .before .before .before .before .before .before .before .before .before .before .before .before .before .x .given .1) (c .before .before .before .before .before .before .before .before .before .before .before .before .before .before .before .before .before .before .before .before .before .before .kind .given .1) (c .before .before .before .before .before .before .before .before .before .before .before .before .before .before .before .before .before .before .before .before .word-of .ensures .is) (c .before .before .before .before .before .before .before .before .before .before .before .before .before .before .behind .ensures) (c .before .before .before .before .before .before .before .before .before .before .before .before .before .widen .ensures) (put-is (c .before .before .before .before .before .before .before .before .before .before .before .before .before .before .before .before .before .put .ensures) (c .before .before .before .before .before .before .before .before .expr2 .ensures)) (c .enum-told2 .given .1)
 
 fit-behind-requires-2 : (t : ℕ) → fit-lts.Need-behind-requires-2 (
   expr-below t,
@@ -7348,7 +7348,7 @@ fit-expr-requires-3 : (t : ℕ) → fit-lts.Need-expr-requires-3 (
   fitted-reads.Asked,
   fitted-reads.Learnt,
 ) (fit-at t) fit.Post
-fit-expr-requires-3 t c κs = (load-moved _ 900 (c .before .before .before .before .before .before .before .before .before .before .before .before .before .before .before .before .before .before .before .before .before .before .before .before .before .before .before .before .before .before .before .before .before .before .before .before .before .before .before .before .before .before .before .before .before .before .before .before .pre .0) _ 0 (c .before .before .before .behind2 .ensures) (grows-wide (c .before .before .before .before .before .before .before .before .before .before .before .before .before .before .before .before .before .before .before .before .before .before .before .before .before .before .before .before .before .before .before .before .before .before .before .before .before .before .before .before .before .before .before .before .before .before .before .before .args .p) 1 0 (grows-to (c .before .before .before .before .before .before .before .before .before .before .before .before .before .before .before .before .before .before .before .before .before .before .before .before .before .before .before .before .before .before .before .before .before .before .before .before .before .expr .ensures .grows) (c .before .before .before .before .before .before .before .before .before .before .before .before .before .before .before .before .before .before .before .before .before .before .before .before .before .before .before .before .before .x .given .1)) (c .before .before .before .before .before .before .before .before .before .before .before .before .before .before .before .before .before .before .behind .ensures) (c .before .before .before .before .before .before .before .before .before .before .before .before .before .before .before .before .before .widen .ensures) (c .before .before .before .before .before .before .before .before .before .before .before .before .before .expr2 .ensures .grows) (c .before .before .before .before .before .y .given .1)) (omega arith), room-behind (c .before .before .before .before .before .before .before .before .before .before .before .before .before .before .before .before .before .before .before .before .before .before .before .before .before .before .before .before .before .before .before .before .before .before .before .before .before .before .before .before .before .before .before .before .before .before .before .before .pre .1 .0) (c .before .before .before .behind2 .ensures) ((c .before .before .before .before .before .before .before .before .before .before .before .before .before .expr2 .kept .1 .1 .1 .1 .1 .0) ∙ (c .before .before .before .before .before .before .before .before .before .before .before .before .before .before .before .before .before .before .before .before .before .put .kept .0) ∙ (c .before .before .before .before .before .before .before .before .before .before .before .before .before .before .before .before .before .before .before .before .before .before .before .before .before .before .before .before .before .before .before .before .before .before .before .before .before .expr .kept .1 .1 .1 .1 .1 .0)) ((c .before .before .before .before .before .before .before .before .before .before .before .before .before .expr2 .kept .1 .1 .1 .1 .1 .1 .0) ∙ (c .before .before .before .before .before .before .before .before .before .before .before .before .before .before .before .before .before .before .before .before .before .before .before .before .before .before .before .before .before .before .before .before .before .before .before .before .before .expr .kept .1 .1 .1 .1 .1 .1 .0)))
+fit-expr-requires-3 t c κs = (load-moved _ 900 (c .before .before .before .before .before .before .before .before .before .before .before .before .before .before .before .before .before .before .before .before .before .before .before .before .before .before .before .before .before .before .before .before .before .before .before .before .before .before .before .before .before .before .before .before .before .before .before .before .pre .0) _ 0 (c .before .before .before .before .behind2 .ensures) (grows-wide (c .before .before .before .before .before .before .before .before .before .before .before .before .before .before .before .before .before .before .before .before .before .before .before .before .before .before .before .before .before .before .before .before .before .before .before .before .before .before .before .before .before .before .before .before .before .before .before .before .args .p) 1 0 (grows-to (c .before .before .before .before .before .before .before .before .before .before .before .before .before .before .before .before .before .before .before .before .before .before .before .before .before .before .before .before .before .before .before .before .before .before .before .before .before .before .before .expr .ensures .grows) (c .before .before .before .before .before .before .before .before .before .before .before .before .before .before .before .before .before .before .before .before .before .before .before .before .before .before .before .before .before .before .before .x .given .1)) (c .before .before .before .before .before .before .before .before .before .before .before .before .before .before .before .before .before .before .before .before .behind .ensures) (c .before .before .before .before .before .before .before .before .before .before .before .before .before .before .before .before .before .before .before .widen .ensures) (c .before .before .before .before .before .before .before .before .before .before .before .before .before .before .expr2 .ensures .grows) (c .before .before .before .before .before .before .y .given .1)) (omega arith), room-behind (c .before .before .before .before .before .before .before .before .before .before .before .before .before .before .before .before .before .before .before .before .before .before .before .before .before .before .before .before .before .before .before .before .before .before .before .before .before .before .before .before .before .before .before .before .before .before .before .before .pre .1 .0) (c .before .before .before .before .behind2 .ensures) ((c .before .before .before .before .before .before .before .before .before .before .before .before .before .before .expr2 .kept .1 .1 .1 .1 .0) ∙ (c .before .before .before .before .before .before .before .before .before .before .before .before .before .before .before .before .before .before .before .before .before .before .before .put .kept .0) ∙ (c .before .before .before .before .before .before .before .before .before .before .before .before .before .before .before .before .before .before .before .before .before .before .before .before .before .before .before .before .before .before .before .before .before .before .before .before .before .before .before .expr .kept .1 .1 .1 .1 .0)) ((c .before .before .before .before .before .before .before .before .before .before .before .before .before .before .expr2 .kept .1 .1 .1 .1 .1 .0) ∙ (c .before .before .before .before .before .before .before .before .before .before .before .before .before .before .before .before .before .before .before .before .before .before .before .before .before .before .before .before .before .before .before .before .before .before .before .before .before .before .before .expr .kept .1 .1 .1 .1 .1 .0)))
 
 fit-enum-known-z : (t : ℕ) → fit-lts.Need-enum-known-z (
   expr-below t,
@@ -7402,7 +7402,7 @@ fit-same-length-10 : (t : ℕ) → fit-lts.Need-same-length-10 (
   fitted-reads.Asked,
   fitted-reads.Learnt,
 ) (fit-at t) fit.Post
-fit-same-length-10 t c = (c .before .before .before .before .before .before .before .before .expr3 .kept .1 .1 .1 .1 .0) ∙ (c .before .before .before .before .before .before .before .before .before .before .before .before .before .before .before .before .before .before .before .before .before .before .expr2 .kept .1 .1 .1 .1 .0) ∙ (c .before .before .before .before .before .before .before .before .before .before .before .before .before .before .before .before .before .before .before .before .before .before .before .before .before .before .before .before .before .before .before .before .before .before .before .before .before .before .before .before .before .before .before .before .before .before .expr .kept .1 .1 .1 .1 .0)
+fit-same-length-10 t c = (c .before .before .before .before .before .before .before .before .expr3 .kept .1 .1 .0) ∙ (c .before .before .before .before .before .before .before .before .before .before .before .before .before .before .before .before .before .before .before .before .before .before .before .expr2 .kept .1 .1 .0) ∙ (c .before .before .before .before .before .before .before .before .before .before .before .before .before .before .before .before .before .before .before .before .before .before .before .before .before .before .before .before .before .before .before .before .before .before .before .before .before .before .before .before .before .before .before .before .before .before .before .before .expr .kept .1 .1 .0)
 
 fit-same-length-11 : (t : ℕ) → fit-lts.Need-same-length-11 (
   expr-below t,
@@ -7420,7 +7420,7 @@ fit-same-length-11 : (t : ℕ) → fit-lts.Need-same-length-11 (
   fitted-reads.Asked,
   fitted-reads.Learnt,
 ) (fit-at t) fit.Post
-fit-same-length-11 t c = (c .before .before .before .before .before .before .before .before .expr3 .kept .1 .1 .1 .1 .1 .0) ∙ (c .before .before .before .before .before .before .before .before .before .before .before .before .before .before .before .before .before .before .before .before .before .before .expr2 .kept .1 .1 .1 .1 .1 .0) ∙ (c .before .before .before .before .before .before .before .before .before .before .before .before .before .before .before .before .before .before .before .before .before .before .before .before .before .before .before .before .before .before .put .kept .0) ∙ (c .before .before .before .before .before .before .before .before .before .before .before .before .before .before .before .before .before .before .before .before .before .before .before .before .before .before .before .before .before .before .before .before .before .before .before .before .before .before .before .before .before .before .before .before .before .before .expr .kept .1 .1 .1 .1 .1 .0)
+fit-same-length-11 t c = (c .before .before .before .before .before .before .before .before .expr3 .kept .1 .1 .1 .1 .0) ∙ (c .before .before .before .before .before .before .before .before .before .before .before .before .before .before .before .before .before .before .before .before .before .before .before .expr2 .kept .1 .1 .1 .1 .0) ∙ (c .before .before .before .before .before .before .before .before .before .before .before .before .before .before .before .before .before .before .before .before .before .before .before .before .before .before .before .before .before .before .before .before .put .kept .0) ∙ (c .before .before .before .before .before .before .before .before .before .before .before .before .before .before .before .before .before .before .before .before .before .before .before .before .before .before .before .before .before .before .before .before .before .before .before .before .before .before .before .before .before .before .before .before .before .before .before .before .expr .kept .1 .1 .1 .1 .0)
 
 fit-same-length-12 : (t : ℕ) → fit-lts.Need-same-length-12 (
   expr-below t,
@@ -7438,7 +7438,7 @@ fit-same-length-12 : (t : ℕ) → fit-lts.Need-same-length-12 (
   fitted-reads.Asked,
   fitted-reads.Learnt,
 ) (fit-at t) fit.Post
-fit-same-length-12 t c = (c .before .before .before .before .before .before .before .before .expr3 .kept .1 .1 .1 .1 .1 .1 .0) ∙ (c .before .before .before .before .before .before .before .before .before .before .before .before .before .before .before .before .before .before .before .before .before .before .expr2 .kept .1 .1 .1 .1 .1 .1 .0) ∙ (c .before .before .before .before .before .before .before .before .before .before .before .before .before .before .before .before .before .before .before .before .before .before .before .before .before .before .before .before .before .before .before .before .before .before .before .before .before .before .before .before .before .before .before .before .before .before .expr .kept .1 .1 .1 .1 .1 .1 .0)
+fit-same-length-12 t c = (c .before .before .before .before .before .before .before .before .expr3 .kept .1 .1 .1 .1 .1 .0) ∙ (c .before .before .before .before .before .before .before .before .before .before .before .before .before .before .before .before .before .before .before .before .before .before .before .expr2 .kept .1 .1 .1 .1 .1 .0) ∙ (c .before .before .before .before .before .before .before .before .before .before .before .before .before .before .before .before .before .before .before .before .before .before .before .before .before .before .before .before .before .before .before .before .before .before .before .before .before .before .before .before .before .before .before .before .before .before .before .before .expr .kept .1 .1 .1 .1 .1 .0)
 
 fit-returns-4 : (t : ℕ) → fit-lts.Need-returns-4 (
   expr-below t,
@@ -7456,7 +7456,7 @@ fit-returns-4 : (t : ℕ) → fit-lts.Need-returns-4 (
   fitted-reads.Asked,
   fitted-reads.Learnt,
 ) (fit-at t) fit.Post
-fit-returns-4 t c = fit-other _ (c .before .before .before .before .before .before .before .before .before .before .before .before .before .before .before .before .before .before .before .before .before .before .before .before .before .before .before .before .before .before .before .before .before .before .before .before .before .before .before .before .before .before .before .before .before .before .expr .ensures) (scope-long (c .before .before .before .before .before .before .before .before .before .before .before .before .before .before .before .before .before .before .before .before .before .before .before .before .before .before .before .before .before .before .before .before .before .before .before .before .before .before .before .before .before .before .before .before .before .before .before .before .before .before .before .before .before .before .before .before .before .pre .1 .0) ((c .before .before .before .before .before .before .before .before .before .before .before .before .before .before .before .before .before .before .before .before .before .before .before .before .before .before .before .before .before .before .before .before .before .before .before .before .before .before .before .before .before .before .before .before .before .before .expr .kept .1 .1 .1 .1 .1 .0))) (c .before .before .before .before .before .before .before .before .before .before .before .before .before .before .before .before .before .before .before .before .before .before .before .before .before .before .before .before .before .before .before .before .before .before .before .before .before .before .x .given .1) (c .before .before .before .before .before .before .before .before .before .before .before .before .before .before .before .before .before .before .before .before .before .before .before .before .before .before .before .before .before .before .before .before .before .before .before .kind .given .1) (c .before .before .before .before .before .before .before .before .before .before .before .before .before .before .before .before .before .before .before .before .before .before .before .before .before .before .before .before .before .before .before .before .before .word-of .ensures .is) (c .before .before .before .before .before .before .before .before .before .before .before .before .before .before .before .before .before .before .before .before .before .before .before .before .before .before .before .behind .ensures) (c .before .before .before .before .before .before .before .before .before .before .before .before .before .before .before .before .before .before .before .before .before .before .before .before .before .before .widen .ensures) (put-is (c .before .before .before .before .before .before .before .before .before .before .before .before .before .before .before .before .before .before .before .before .before .before .before .before .before .before .before .before .before .before .put .ensures) (c .before .before .before .before .before .before .before .before .before .before .before .before .before .before .before .before .before .before .before .before .before .before .expr2 .ensures)) (c .before .before .before .before .before .before .before .before .before .before .before .before .before .before .y .given .1) (c .before .before .before .before .before .before .before .before .before .before .before .before .behind2 .ensures) (c .before .before .before .before .before .before .before .before .expr3 .ensures) (c .enum-told3 .given .1)
+fit-returns-4 t c = fit-other _ (c .before .before .before .before .before .before .before .before .before .before .before .before .before .before .before .before .before .before .before .before .before .before .before .before .before .before .before .before .before .before .before .before .before .before .before .before .before .before .before .before .before .before .before .before .before .before .before .before .expr .ensures) (scope-long (c .before .before .before .before .before .before .before .before .before .before .before .before .before .before .before .before .before .before .before .before .before .before .before .before .before .before .before .before .before .before .before .before .before .before .before .before .before .before .before .before .before .before .before .before .before .before .before .before .before .before .before .before .before .before .before .before .before .pre .1 .0) ((c .before .before .before .before .before .before .before .before .before .before .before .before .before .before .before .before .before .before .before .before .before .before .before .before .before .before .before .before .before .before .before .before .before .before .before .before .before .before .before .before .before .before .before .before .before .before .before .before .expr .kept .1 .1 .1 .1 .0))) (c .before .before .before .before .before .before .before .before .before .before .before .before .before .before .before .before .before .before .before .before .before .before .before .before .before .before .before .before .before .before .before .before .before .before .before .before .before .before .before .before .x .given .1) (c .before .before .before .before .before .before .before .before .before .before .before .before .before .before .before .before .before .before .before .before .before .before .before .before .before .before .before .before .before .before .before .before .before .before .before .before .before .kind .given .1) (c .before .before .before .before .before .before .before .before .before .before .before .before .before .before .before .before .before .before .before .before .before .before .before .before .before .before .before .before .before .before .before .before .before .before .before .word-of .ensures .is) (c .before .before .before .before .before .before .before .before .before .before .before .before .before .before .before .before .before .before .before .before .before .before .before .before .before .before .before .before .before .behind .ensures) (c .before .before .before .before .before .before .before .before .before .before .before .before .before .before .before .before .before .before .before .before .before .before .before .before .before .before .before .before .widen .ensures) (put-is (c .before .before .before .before .before .before .before .before .before .before .before .before .before .before .before .before .before .before .before .before .before .before .before .before .before .before .before .before .before .before .before .before .put .ensures) (c .before .before .before .before .before .before .before .before .before .before .before .before .before .before .before .before .before .before .before .before .before .before .before .expr2 .ensures)) (c .before .before .before .before .before .before .before .before .before .before .before .before .before .before .before .y .given .1) (c .before .before .before .before .before .before .before .before .before .before .before .before .before .behind2 .ensures) (c .before .before .before .before .before .before .before .before .expr3 .ensures) (c .enum-told3 .given .1)
 
 fit-agree-requires : (t : ℕ) → fit-lts.Need-agree-requires (
   expr-below t,
@@ -7476,7 +7476,7 @@ fit-agree-requires : (t : ℕ) → fit-lts.Need-agree-requires (
 ) (fit-at t) fit.Post
 fit-agree-requires t c κs = tt
 
-fit-add-t49 : (t : ℕ) → fit-lts.Need-add-t49 (
+fit-add-t51 : (t : ℕ) → fit-lts.Need-add-t51 (
   expr-below t,
   expr.Post,
   word-of-reads.Asked,
@@ -7492,7 +7492,7 @@ fit-add-t49 : (t : ℕ) → fit-lts.Need-add-t49 (
   fitted-reads.Asked,
   fitted-reads.Learnt,
 ) (fit-at t) fit.Post
-fit-add-t49 t c = omega (arith, (c .before .before .before .before .before .before .before .before .before .before .before .before .before .before .before .before .before .before .before .before .before .before .before .before .before .before .before .before .before .before .before .before .before .before .before .before .before .before .before .before .before .before .before .before .before .before .before .before .before .before .before .before .before .before .before .before .before .before .before .before .before .pre .1 .0 .line))
+fit-add-t51 t c = omega (arith, (c .before .before .before .before .before .before .before .before .before .before .before .before .before .before .before .before .before .before .before .before .before .before .before .before .before .before .before .before .before .before .before .before .before .before .before .before .before .before .before .before .before .before .before .before .before .before .before .before .before .before .before .before .before .before .before .before .before .before .before .before .before .pre .1 .0 .line))
 
 fit-same-length-13 : (t : ℕ) → fit-lts.Need-same-length-13 (
   expr-below t,
@@ -7510,7 +7510,7 @@ fit-same-length-13 : (t : ℕ) → fit-lts.Need-same-length-13 (
   fitted-reads.Asked,
   fitted-reads.Learnt,
 ) (fit-at t) fit.Post
-fit-same-length-13 t c = (c .before .before .before .before .before .before .before .before .before .before .before .before .expr3 .kept .1 .1 .1 .1 .0) ∙ (c .before .before .before .before .before .before .before .before .before .before .before .before .before .before .before .before .before .before .before .before .before .before .before .before .before .before .expr2 .kept .1 .1 .1 .1 .0) ∙ (c .before .before .before .before .before .before .before .before .before .before .before .before .before .before .before .before .before .before .before .before .before .before .before .before .before .before .before .before .before .before .before .before .before .before .before .before .before .before .before .before .before .before .before .before .before .before .before .before .before .before .expr .kept .1 .1 .1 .1 .0)
+fit-same-length-13 t c = (c .before .before .before .before .before .before .before .before .before .before .before .before .expr3 .kept .1 .1 .0) ∙ (c .before .before .before .before .before .before .before .before .before .before .before .before .before .before .before .before .before .before .before .before .before .before .before .before .before .before .before .expr2 .kept .1 .1 .0) ∙ (c .before .before .before .before .before .before .before .before .before .before .before .before .before .before .before .before .before .before .before .before .before .before .before .before .before .before .before .before .before .before .before .before .before .before .before .before .before .before .before .before .before .before .before .before .before .before .before .before .before .before .before .before .expr .kept .1 .1 .0)
 
 fit-same-length-14 : (t : ℕ) → fit-lts.Need-same-length-14 (
   expr-below t,
@@ -7528,7 +7528,7 @@ fit-same-length-14 : (t : ℕ) → fit-lts.Need-same-length-14 (
   fitted-reads.Asked,
   fitted-reads.Learnt,
 ) (fit-at t) fit.Post
-fit-same-length-14 t c = (c .before .before .before .before .before .before .before .before .before .before .before .before .expr3 .kept .1 .1 .1 .1 .1 .0) ∙ (c .before .before .before .before .before .before .before .before .before .before .before .before .before .before .before .before .before .before .before .before .before .before .before .before .before .before .expr2 .kept .1 .1 .1 .1 .1 .0) ∙ (c .before .before .before .before .before .before .before .before .before .before .before .before .before .before .before .before .before .before .before .before .before .before .before .before .before .before .before .before .before .before .before .before .before .before .put .kept .0) ∙ (c .before .before .before .before .before .before .before .before .before .before .before .before .before .before .before .before .before .before .before .before .before .before .before .before .before .before .before .before .before .before .before .before .before .before .before .before .before .before .before .before .before .before .before .before .before .before .before .before .before .before .expr .kept .1 .1 .1 .1 .1 .0)
+fit-same-length-14 t c = (c .before .before .before .before .before .before .before .before .before .before .before .before .expr3 .kept .1 .1 .1 .1 .0) ∙ (c .before .before .before .before .before .before .before .before .before .before .before .before .before .before .before .before .before .before .before .before .before .before .before .before .before .before .before .expr2 .kept .1 .1 .1 .1 .0) ∙ (c .before .before .before .before .before .before .before .before .before .before .before .before .before .before .before .before .before .before .before .before .before .before .before .before .before .before .before .before .before .before .before .before .before .before .before .before .put .kept .0) ∙ (c .before .before .before .before .before .before .before .before .before .before .before .before .before .before .before .before .before .before .before .before .before .before .before .before .before .before .before .before .before .before .before .before .before .before .before .before .before .before .before .before .before .before .before .before .before .before .before .before .before .before .before .before .expr .kept .1 .1 .1 .1 .0)
 
 fit-same-length-15 : (t : ℕ) → fit-lts.Need-same-length-15 (
   expr-below t,
@@ -7546,7 +7546,7 @@ fit-same-length-15 : (t : ℕ) → fit-lts.Need-same-length-15 (
   fitted-reads.Asked,
   fitted-reads.Learnt,
 ) (fit-at t) fit.Post
-fit-same-length-15 t c = (c .before .before .before .before .before .before .before .before .before .before .before .before .expr3 .kept .1 .1 .1 .1 .1 .1 .0) ∙ (c .before .before .before .before .before .before .before .before .before .before .before .before .before .before .before .before .before .before .before .before .before .before .before .before .before .before .expr2 .kept .1 .1 .1 .1 .1 .1 .0) ∙ (c .before .before .before .before .before .before .before .before .before .before .before .before .before .before .before .before .before .before .before .before .before .before .before .before .before .before .before .before .before .before .before .before .before .before .before .before .before .before .before .before .before .before .before .before .before .before .before .before .before .before .expr .kept .1 .1 .1 .1 .1 .1 .0)
+fit-same-length-15 t c = (c .before .before .before .before .before .before .before .before .before .before .before .before .expr3 .kept .1 .1 .1 .1 .1 .0) ∙ (c .before .before .before .before .before .before .before .before .before .before .before .before .before .before .before .before .before .before .before .before .before .before .before .before .before .before .before .expr2 .kept .1 .1 .1 .1 .1 .0) ∙ (c .before .before .before .before .before .before .before .before .before .before .before .before .before .before .before .before .before .before .before .before .before .before .before .before .before .before .before .before .before .before .before .before .before .before .before .before .before .before .before .before .before .before .before .before .before .before .before .before .before .before .before .before .expr .kept .1 .1 .1 .1 .1 .0)
 
 fit-returns-5 : (t : ℕ) → fit-lts.Need-returns-5 (
   expr-below t,
@@ -7564,7 +7564,7 @@ fit-returns-5 : (t : ℕ) → fit-lts.Need-returns-5 (
   fitted-reads.Asked,
   fitted-reads.Learnt,
 ) (fit-at t) fit.Post
-fit-returns-5 t c = fit-differ _ (c .before .before .before .before .before .before .before .before .before .before .before .before .before .before .before .before .before .before .before .before .before .before .before .before .before .before .before .before .before .before .before .before .before .before .before .before .before .before .before .before .before .before .before .before .before .before .before .before .before .before .expr .ensures) (scope-long (c .before .before .before .before .before .before .before .before .before .before .before .before .before .before .before .before .before .before .before .before .before .before .before .before .before .before .before .before .before .before .before .before .before .before .before .before .before .before .before .before .before .before .before .before .before .before .before .before .before .before .before .before .before .before .before .before .before .before .before .before .before .pre .1 .0) ((c .before .before .before .before .before .before .before .before .before .before .before .before .before .before .before .before .before .before .before .before .before .before .before .before .before .before .before .before .before .before .before .before .before .before .before .before .before .before .before .before .before .before .before .before .before .before .before .before .before .before .expr .kept .1 .1 .1 .1 .1 .0))) (c .before .before .before .before .before .before .before .before .before .before .before .before .before .before .before .before .before .before .before .before .before .before .before .before .before .before .before .before .before .before .before .before .before .before .before .before .before .before .before .before .before .before .x .given .1) (c .before .before .before .before .before .before .before .before .before .before .before .before .before .before .before .before .before .before .before .before .before .before .before .before .before .before .before .before .before .before .before .before .before .before .before .before .before .before .before .kind .given .1) (c .before .before .before .before .before .before .before .before .before .before .before .before .before .before .before .before .before .before .before .before .before .before .before .before .before .before .before .before .before .before .before .before .before .before .before .before .before .word-of .ensures .is) (c .before .before .before .before .before .before .before .before .before .before .before .before .before .before .before .before .before .before .before .before .before .before .before .before .before .before .before .before .before .before .before .behind .ensures) (c .before .before .before .before .before .before .before .before .before .before .before .before .before .before .before .before .before .before .before .before .before .before .before .before .before .before .before .before .before .before .widen .ensures) (put-is (c .before .before .before .before .before .before .before .before .before .before .before .before .before .before .before .before .before .before .before .before .before .before .before .before .before .before .before .before .before .before .before .before .before .before .put .ensures) (c .before .before .before .before .before .before .before .before .before .before .before .before .before .before .before .before .before .before .before .before .before .before .before .before .before .before .expr2 .ensures)) (c .before .before .before .before .before .before .before .before .before .before .before .before .before .before .before .before .before .before .y .given .1) (c .before .before .before .before .before .before .before .before .before .before .before .before .before .before .before .before .behind2 .ensures) (c .before .before .before .before .before .before .before .before .before .before .before .before .expr3 .ensures) (c .before .before .before .before .z .given .1) (c .before .before .agree .ensures) (not-true _ (c .before .if1 .taken))
+fit-returns-5 t c = fit-differ _ (c .before .before .before .before .before .before .before .before .before .before .before .before .before .before .before .before .before .before .before .before .before .before .before .before .before .before .before .before .before .before .before .before .before .before .before .before .before .before .before .before .before .before .before .before .before .before .before .before .before .before .before .before .expr .ensures) (scope-long (c .before .before .before .before .before .before .before .before .before .before .before .before .before .before .before .before .before .before .before .before .before .before .before .before .before .before .before .before .before .before .before .before .before .before .before .before .before .before .before .before .before .before .before .before .before .before .before .before .before .before .before .before .before .before .before .before .before .before .before .before .before .pre .1 .0) ((c .before .before .before .before .before .before .before .before .before .before .before .before .before .before .before .before .before .before .before .before .before .before .before .before .before .before .before .before .before .before .before .before .before .before .before .before .before .before .before .before .before .before .before .before .before .before .before .before .before .before .before .before .expr .kept .1 .1 .1 .1 .0))) (c .before .before .before .before .before .before .before .before .before .before .before .before .before .before .before .before .before .before .before .before .before .before .before .before .before .before .before .before .before .before .before .before .before .before .before .before .before .before .before .before .before .before .before .before .x .given .1) (c .before .before .before .before .before .before .before .before .before .before .before .before .before .before .before .before .before .before .before .before .before .before .before .before .before .before .before .before .before .before .before .before .before .before .before .before .before .before .before .before .before .kind .given .1) (c .before .before .before .before .before .before .before .before .before .before .before .before .before .before .before .before .before .before .before .before .before .before .before .before .before .before .before .before .before .before .before .before .before .before .before .before .before .before .before .word-of .ensures .is) (c .before .before .before .before .before .before .before .before .before .before .before .before .before .before .before .before .before .before .before .before .before .before .before .before .before .before .before .before .before .before .before .before .before .behind .ensures) (c .before .before .before .before .before .before .before .before .before .before .before .before .before .before .before .before .before .before .before .before .before .before .before .before .before .before .before .before .before .before .before .before .widen .ensures) (put-is (c .before .before .before .before .before .before .before .before .before .before .before .before .before .before .before .before .before .before .before .before .before .before .before .before .before .before .before .before .before .before .before .before .before .before .before .before .put .ensures) (c .before .before .before .before .before .before .before .before .before .before .before .before .before .before .before .before .before .before .before .before .before .before .before .before .before .before .before .expr2 .ensures)) (c .before .before .before .before .before .before .before .before .before .before .before .before .before .before .before .before .before .before .before .y .given .1) (c .before .before .before .before .before .before .before .before .before .before .before .before .before .before .before .before .before .behind2 .ensures) (c .before .before .before .before .before .before .before .before .before .before .before .before .expr3 .ensures) (c .before .before .before .before .z .given .1) (c .before .before .agree .ensures) (not-true _ (c .before .if1 .taken))
 
 fit-fitted-requires : (t : ℕ) → fit-lts.Need-fitted-requires (
   expr-below t,
@@ -7600,7 +7600,7 @@ fit-same-length-16 : (t : ℕ) → fit-lts.Need-same-length-16 (
   fitted-reads.Asked,
   fitted-reads.Learnt,
 ) (fit-at t) fit.Post
-fit-same-length-16 t c = (c .before .before .before .before .before .before .before .before .before .before .before .before .expr3 .kept .1 .1 .1 .1 .0) ∙ (c .before .before .before .before .before .before .before .before .before .before .before .before .before .before .before .before .before .before .before .before .before .before .before .before .before .before .expr2 .kept .1 .1 .1 .1 .0) ∙ (c .before .before .before .before .before .before .before .before .before .before .before .before .before .before .before .before .before .before .before .before .before .before .before .before .before .before .before .before .before .before .before .before .before .before .before .before .before .before .before .before .before .before .before .before .before .before .before .before .before .before .expr .kept .1 .1 .1 .1 .0)
+fit-same-length-16 t c = (c .before .before .before .before .before .before .before .before .before .before .before .before .expr3 .kept .1 .1 .0) ∙ (c .before .before .before .before .before .before .before .before .before .before .before .before .before .before .before .before .before .before .before .before .before .before .before .before .before .before .before .expr2 .kept .1 .1 .0) ∙ (c .before .before .before .before .before .before .before .before .before .before .before .before .before .before .before .before .before .before .before .before .before .before .before .before .before .before .before .before .before .before .before .before .before .before .before .before .before .before .before .before .before .before .before .before .before .before .before .before .before .before .before .before .expr .kept .1 .1 .0)
 
 fit-same-length-17 : (t : ℕ) → fit-lts.Need-same-length-17 (
   expr-below t,
@@ -7618,7 +7618,7 @@ fit-same-length-17 : (t : ℕ) → fit-lts.Need-same-length-17 (
   fitted-reads.Asked,
   fitted-reads.Learnt,
 ) (fit-at t) fit.Post
-fit-same-length-17 t c = (c .before .before .before .before .before .before .before .before .before .before .before .before .expr3 .kept .1 .1 .1 .1 .1 .0) ∙ (c .before .before .before .before .before .before .before .before .before .before .before .before .before .before .before .before .before .before .before .before .before .before .before .before .before .before .expr2 .kept .1 .1 .1 .1 .1 .0) ∙ (c .before .before .before .before .before .before .before .before .before .before .before .before .before .before .before .before .before .before .before .before .before .before .before .before .before .before .before .before .before .before .before .before .before .before .put .kept .0) ∙ (c .before .before .before .before .before .before .before .before .before .before .before .before .before .before .before .before .before .before .before .before .before .before .before .before .before .before .before .before .before .before .before .before .before .before .before .before .before .before .before .before .before .before .before .before .before .before .before .before .before .before .expr .kept .1 .1 .1 .1 .1 .0)
+fit-same-length-17 t c = (c .before .before .before .before .before .before .before .before .before .before .before .before .expr3 .kept .1 .1 .1 .1 .0) ∙ (c .before .before .before .before .before .before .before .before .before .before .before .before .before .before .before .before .before .before .before .before .before .before .before .before .before .before .before .expr2 .kept .1 .1 .1 .1 .0) ∙ (c .before .before .before .before .before .before .before .before .before .before .before .before .before .before .before .before .before .before .before .before .before .before .before .before .before .before .before .before .before .before .before .before .before .before .before .before .put .kept .0) ∙ (c .before .before .before .before .before .before .before .before .before .before .before .before .before .before .before .before .before .before .before .before .before .before .before .before .before .before .before .before .before .before .before .before .before .before .before .before .before .before .before .before .before .before .before .before .before .before .before .before .before .before .before .before .expr .kept .1 .1 .1 .1 .0)
 
 fit-same-length-18 : (t : ℕ) → fit-lts.Need-same-length-18 (
   expr-below t,
@@ -7636,7 +7636,7 @@ fit-same-length-18 : (t : ℕ) → fit-lts.Need-same-length-18 (
   fitted-reads.Asked,
   fitted-reads.Learnt,
 ) (fit-at t) fit.Post
-fit-same-length-18 t c = (c .before .before .before .before .before .before .before .before .before .before .before .before .expr3 .kept .1 .1 .1 .1 .1 .1 .0) ∙ (c .before .before .before .before .before .before .before .before .before .before .before .before .before .before .before .before .before .before .before .before .before .before .before .before .before .before .expr2 .kept .1 .1 .1 .1 .1 .1 .0) ∙ (c .before .before .before .before .before .before .before .before .before .before .before .before .before .before .before .before .before .before .before .before .before .before .before .before .before .before .before .before .before .before .before .before .before .before .before .before .before .before .before .before .before .before .before .before .before .before .before .before .before .before .expr .kept .1 .1 .1 .1 .1 .1 .0)
+fit-same-length-18 t c = (c .before .before .before .before .before .before .before .before .before .before .before .before .expr3 .kept .1 .1 .1 .1 .1 .0) ∙ (c .before .before .before .before .before .before .before .before .before .before .before .before .before .before .before .before .before .before .before .before .before .before .before .before .before .before .before .expr2 .kept .1 .1 .1 .1 .1 .0) ∙ (c .before .before .before .before .before .before .before .before .before .before .before .before .before .before .before .before .before .before .before .before .before .before .before .before .before .before .before .before .before .before .before .before .before .before .before .before .before .before .before .before .before .before .before .before .before .before .before .before .before .before .before .before .expr .kept .1 .1 .1 .1 .1 .0)
 
 fit-returns-6 : (t : ℕ) → fit-lts.Need-returns-6 (
   expr-below t,
@@ -7654,7 +7654,7 @@ fit-returns-6 : (t : ℕ) → fit-lts.Need-returns-6 (
   fitted-reads.Asked,
   fitted-reads.Learnt,
 ) (fit-at t) fit.Post
-fit-returns-6 t c = fit-done _ (c .before .before .before .before .before .before .before .before .before .before .before .before .before .before .before .before .before .before .before .before .before .before .before .before .before .before .before .before .before .before .before .before .before .before .before .before .before .before .before .before .before .before .before .before .before .before .before .before .before .before .expr .ensures) (scope-long (c .before .before .before .before .before .before .before .before .before .before .before .before .before .before .before .before .before .before .before .before .before .before .before .before .before .before .before .before .before .before .before .before .before .before .before .before .before .before .before .before .before .before .before .before .before .before .before .before .before .before .before .before .before .before .before .before .before .before .before .before .before .pre .1 .0) ((c .before .before .before .before .before .before .before .before .before .before .before .before .before .before .before .before .before .before .before .before .before .before .before .before .before .before .before .before .before .before .before .before .before .before .before .before .before .before .before .before .before .before .before .before .before .before .before .before .before .before .expr .kept .1 .1 .1 .1 .1 .0))) (c .before .before .before .before .before .before .before .before .before .before .before .before .before .before .before .before .before .before .before .before .before .before .before .before .before .before .before .before .before .before .before .before .before .before .before .before .before .before .before .before .before .before .x .given .1) (c .before .before .before .before .before .before .before .before .before .before .before .before .before .before .before .before .before .before .before .before .before .before .before .before .before .before .before .before .before .before .before .before .before .before .before .before .before .before .before .kind .given .1) (c .before .before .before .before .before .before .before .before .before .before .before .before .before .before .before .before .before .before .before .before .before .before .before .before .before .before .before .before .before .before .before .before .before .before .before .before .before .word-of .ensures .is) (c .before .before .before .before .before .before .before .before .before .before .before .before .before .before .before .before .before .before .before .before .before .before .before .before .before .before .before .before .before .before .before .behind .ensures) (c .before .before .before .before .before .before .before .before .before .before .before .before .before .before .before .before .before .before .before .before .before .before .before .before .before .before .before .before .before .before .widen .ensures) (put-is (c .before .before .before .before .before .before .before .before .before .before .before .before .before .before .before .before .before .before .before .before .before .before .before .before .before .before .before .before .before .before .before .before .before .before .put .ensures) (c .before .before .before .before .before .before .before .before .before .before .before .before .before .before .before .before .before .before .before .before .before .before .before .before .before .before .expr2 .ensures)) (c .before .before .before .before .before .before .before .before .before .before .before .before .before .before .before .before .before .before .y .given .1) (c .before .before .before .before .before .before .before .before .before .before .before .before .before .before .before .before .behind2 .ensures) (c .before .before .before .before .before .before .before .before .before .before .before .before .expr3 .ensures) (c .before .before .before .before .z .given .1) (c .before .before .agree .ensures) (not-false _ (c .before .if1 .left)) (c .fitted .ensures .held) (c .fitted .ensures .both) (c .fitted .ensures .all) (c .fitted .ensures .is)
+fit-returns-6 t c = fit-done _ (c .before .before .before .before .before .before .before .before .before .before .before .before .before .before .before .before .before .before .before .before .before .before .before .before .before .before .before .before .before .before .before .before .before .before .before .before .before .before .before .before .before .before .before .before .before .before .before .before .before .before .before .before .expr .ensures) (scope-long (c .before .before .before .before .before .before .before .before .before .before .before .before .before .before .before .before .before .before .before .before .before .before .before .before .before .before .before .before .before .before .before .before .before .before .before .before .before .before .before .before .before .before .before .before .before .before .before .before .before .before .before .before .before .before .before .before .before .before .before .before .before .pre .1 .0) ((c .before .before .before .before .before .before .before .before .before .before .before .before .before .before .before .before .before .before .before .before .before .before .before .before .before .before .before .before .before .before .before .before .before .before .before .before .before .before .before .before .before .before .before .before .before .before .before .before .before .before .before .before .expr .kept .1 .1 .1 .1 .0))) (c .before .before .before .before .before .before .before .before .before .before .before .before .before .before .before .before .before .before .before .before .before .before .before .before .before .before .before .before .before .before .before .before .before .before .before .before .before .before .before .before .before .before .before .before .x .given .1) (c .before .before .before .before .before .before .before .before .before .before .before .before .before .before .before .before .before .before .before .before .before .before .before .before .before .before .before .before .before .before .before .before .before .before .before .before .before .before .before .before .before .kind .given .1) (c .before .before .before .before .before .before .before .before .before .before .before .before .before .before .before .before .before .before .before .before .before .before .before .before .before .before .before .before .before .before .before .before .before .before .before .before .before .before .before .word-of .ensures .is) (c .before .before .before .before .before .before .before .before .before .before .before .before .before .before .before .before .before .before .before .before .before .before .before .before .before .before .before .before .before .before .before .before .before .behind .ensures) (c .before .before .before .before .before .before .before .before .before .before .before .before .before .before .before .before .before .before .before .before .before .before .before .before .before .before .before .before .before .before .before .before .widen .ensures) (put-is (c .before .before .before .before .before .before .before .before .before .before .before .before .before .before .before .before .before .before .before .before .before .before .before .before .before .before .before .before .before .before .before .before .before .before .before .before .put .ensures) (c .before .before .before .before .before .before .before .before .before .before .before .before .before .before .before .before .before .before .before .before .before .before .before .before .before .before .before .expr2 .ensures)) (c .before .before .before .before .before .before .before .before .before .before .before .before .before .before .before .before .before .before .before .y .given .1) (c .before .before .before .before .before .before .before .before .before .before .before .before .before .before .before .before .before .behind2 .ensures) (c .before .before .before .before .before .before .before .before .before .before .before .before .expr3 .ensures) (c .before .before .before .before .z .given .1) (c .before .before .agree .ensures) (not-false _ (c .before .if1 .left)) (c .fitted .ensures .held) (c .fitted .ensures .both) (c .fitted .ensures .all) (c .fitted .ensures .is)
 
 operation-expr-requires : (t : ℕ) → operation-lts.Need-expr-requires (
   expr-below t,
@@ -7664,7 +7664,7 @@ operation-expr-requires : (t : ℕ) → operation-lts.Need-expr-requires (
   operated-reads.Asked,
   operated-reads.Learnt,
 ) (operation-at t) operation.Post
-operation-expr-requires t c κs = (load-same _ 900 (c .before .before .before .before .before .before .before .before .before .before .pre .0) 0 (omega arith), room-same (c .before .before .before .before .before .before .before .before .before .before .pre .1) (omega arith))
+operation-expr-requires t c κs = (load-same _ 900 (c .before .before .before .before .before .before .before .before .pre .0) 0 (omega arith), room-same (c .before .before .before .before .before .before .before .before .pre .1) (omega arith))
 
 operation-enum-known-x : (t : ℕ) → operation-lts.Need-enum-known-x (
   expr-below t,
@@ -7694,7 +7694,7 @@ operation-same-length : (t : ℕ) → operation-lts.Need-same-length (
   operated-reads.Asked,
   operated-reads.Learnt,
 ) (operation-at t) operation.Post
-operation-same-length t c = (c .before .before .before .before .before .before .before .before .expr .kept .1 .1 .1 .1 .0)
+operation-same-length t c = (c .before .before .before .before .before .before .before .before .expr .kept .1 .1 .0)
 
 operation-same-length-2 : (t : ℕ) → operation-lts.Need-same-length-2 (
   expr-below t,
@@ -7704,7 +7704,7 @@ operation-same-length-2 : (t : ℕ) → operation-lts.Need-same-length-2 (
   operated-reads.Asked,
   operated-reads.Learnt,
 ) (operation-at t) operation.Post
-operation-same-length-2 t c = (c .before .before .before .before .before .before .before .before .expr .kept .1 .1 .1 .1 .1 .0)
+operation-same-length-2 t c = (c .before .before .before .before .before .before .before .before .expr .kept .1 .1 .1 .1 .0)
 
 operation-same-length-3 : (t : ℕ) → operation-lts.Need-same-length-3 (
   expr-below t,
@@ -7714,7 +7714,7 @@ operation-same-length-3 : (t : ℕ) → operation-lts.Need-same-length-3 (
   operated-reads.Asked,
   operated-reads.Learnt,
 ) (operation-at t) operation.Post
-operation-same-length-3 t c = (c .before .before .before .before .before .before .before .before .expr .kept .1 .1 .1 .1 .1 .1 .0)
+operation-same-length-3 t c = (c .before .before .before .before .before .before .before .before .expr .kept .1 .1 .1 .1 .1 .0)
 
 operation-returns : (t : ℕ) → operation-lts.Need-returns (
   expr-below t,
@@ -7744,7 +7744,7 @@ operation-expr-requires-2 : (t : ℕ) → operation-lts.Need-expr-requires-2 (
   operated-reads.Asked,
   operated-reads.Learnt,
 ) (operation-at t) operation.Post
-operation-expr-requires-2 t c κs = (load-moved _ 900 (c .before .before .before .before .before .before .before .before .before .before .before .before .before .before .before .before .before .before .before .before .before .before .before .before .pre .0) _ 0 (c .before .before .before .behind .ensures) (grows-to (c .before .before .before .before .before .before .before .before .before .before .before .before .before .expr .ensures .grows) (c .before .before .before .before .before .x .given .1)) (omega arith), room-behind (c .before .before .before .before .before .before .before .before .before .before .before .before .before .before .before .before .before .before .before .before .before .before .before .before .pre .1) (c .before .before .before .behind .ensures) ((c .before .before .before .before .before .before .before .before .before .before .before .before .before .expr .kept .1 .1 .1 .1 .1 .0)) ((c .before .before .before .before .before .before .before .before .before .before .before .before .before .expr .kept .1 .1 .1 .1 .1 .1 .0)))
+operation-expr-requires-2 t c κs = (load-moved _ 900 (c .before .before .before .before .before .before .before .before .before .before .before .before .before .before .before .before .before .before .before .before .before .before .before .pre .0) _ 0 (c .before .before .before .before .behind .ensures) (grows-to (c .before .before .before .before .before .before .before .before .before .before .before .before .before .before .expr .ensures .grows) (c .before .before .before .before .before .before .x .given .1)) (omega arith), room-behind (c .before .before .before .before .before .before .before .before .before .before .before .before .before .before .before .before .before .before .before .before .before .before .before .pre .1) (c .before .before .before .before .behind .ensures) ((c .before .before .before .before .before .before .before .before .before .before .before .before .before .before .expr .kept .1 .1 .1 .1 .0)) ((c .before .before .before .before .before .before .before .before .before .before .before .before .before .before .expr .kept .1 .1 .1 .1 .1 .0)))
 
 operation-enum-known-y : (t : ℕ) → operation-lts.Need-enum-known-y (
   expr-below t,
@@ -7774,7 +7774,7 @@ operation-same-length-4 : (t : ℕ) → operation-lts.Need-same-length-4 (
   operated-reads.Asked,
   operated-reads.Learnt,
 ) (operation-at t) operation.Post
-operation-same-length-4 t c = (c .before .before .before .before .before .before .before .before .expr2 .kept .1 .1 .1 .1 .0) ∙ (c .before .before .before .before .before .before .before .before .before .before .before .before .before .before .before .before .before .before .before .before .before .before .expr .kept .1 .1 .1 .1 .0)
+operation-same-length-4 t c = (c .before .before .before .before .before .before .before .before .expr2 .kept .1 .1 .0) ∙ (c .before .before .before .before .before .before .before .before .before .before .before .before .before .before .before .before .before .before .before .before .before .before .before .expr .kept .1 .1 .0)
 
 operation-same-length-5 : (t : ℕ) → operation-lts.Need-same-length-5 (
   expr-below t,
@@ -7784,7 +7784,7 @@ operation-same-length-5 : (t : ℕ) → operation-lts.Need-same-length-5 (
   operated-reads.Asked,
   operated-reads.Learnt,
 ) (operation-at t) operation.Post
-operation-same-length-5 t c = (c .before .before .before .before .before .before .before .before .expr2 .kept .1 .1 .1 .1 .1 .0) ∙ (c .before .before .before .before .before .before .before .before .before .before .before .before .before .before .before .before .before .before .before .before .before .before .expr .kept .1 .1 .1 .1 .1 .0)
+operation-same-length-5 t c = (c .before .before .before .before .before .before .before .before .expr2 .kept .1 .1 .1 .1 .0) ∙ (c .before .before .before .before .before .before .before .before .before .before .before .before .before .before .before .before .before .before .before .before .before .before .before .expr .kept .1 .1 .1 .1 .0)
 
 operation-same-length-6 : (t : ℕ) → operation-lts.Need-same-length-6 (
   expr-below t,
@@ -7794,7 +7794,7 @@ operation-same-length-6 : (t : ℕ) → operation-lts.Need-same-length-6 (
   operated-reads.Asked,
   operated-reads.Learnt,
 ) (operation-at t) operation.Post
-operation-same-length-6 t c = (c .before .before .before .before .before .before .before .before .expr2 .kept .1 .1 .1 .1 .1 .1 .0) ∙ (c .before .before .before .before .before .before .before .before .before .before .before .before .before .before .before .before .before .before .before .before .before .before .expr .kept .1 .1 .1 .1 .1 .1 .0)
+operation-same-length-6 t c = (c .before .before .before .before .before .before .before .before .expr2 .kept .1 .1 .1 .1 .1 .0) ∙ (c .before .before .before .before .before .before .before .before .before .before .before .before .before .before .before .before .before .before .before .before .before .before .before .expr .kept .1 .1 .1 .1 .1 .0)
 
 operation-returns-2 : (t : ℕ) → operation-lts.Need-returns-2 (
   expr-below t,
@@ -7804,7 +7804,7 @@ operation-returns-2 : (t : ℕ) → operation-lts.Need-returns-2 (
   operated-reads.Asked,
   operated-reads.Learnt,
 ) (operation-at t) operation.Post
-operation-returns-2 t c = op-second (c .before .before .before .before .before .before .before .before .before .before .before .before .before .before .before .before .before .before .before .before .before .before .expr .ensures) (c .before .before .before .before .before .before .before .before .before .before .before .before .before .before .x .given .1) (c .before .before .before .before .before .before .before .before .before .before .before .before .behind .ensures) (c .before .before .before .before .before .before .before .before .expr2 .ensures) (c .enum-told2 .given .1)
+operation-returns-2 t c = op-second (c .before .before .before .before .before .before .before .before .before .before .before .before .before .before .before .before .before .before .before .before .before .before .before .expr .ensures) (c .before .before .before .before .before .before .before .before .before .before .before .before .before .before .before .x .given .1) (c .before .before .before .before .before .before .before .before .before .before .before .before .before .behind .ensures) (c .before .before .before .before .before .before .before .before .expr2 .ensures) (c .enum-told2 .given .1)
 
 operation-operated-requires : (t : ℕ) → operation-lts.Need-operated-requires (
   expr-below t,
@@ -7824,7 +7824,7 @@ operation-same-length-7 : (t : ℕ) → operation-lts.Need-same-length-7 (
   operated-reads.Asked,
   operated-reads.Learnt,
 ) (operation-at t) operation.Post
-operation-same-length-7 t c = (c .before .before .before .before .before .before .before .before .before .before .expr2 .kept .1 .1 .1 .1 .0) ∙ (c .before .before .before .before .before .before .before .before .before .before .before .before .before .before .before .before .before .before .before .before .before .before .before .before .expr .kept .1 .1 .1 .1 .0)
+operation-same-length-7 t c = (c .before .before .before .before .before .before .before .before .before .before .expr2 .kept .1 .1 .0) ∙ (c .before .before .before .before .before .before .before .before .before .before .before .before .before .before .before .before .before .before .before .before .before .before .before .before .before .expr .kept .1 .1 .0)
 
 operation-same-length-8 : (t : ℕ) → operation-lts.Need-same-length-8 (
   expr-below t,
@@ -7834,7 +7834,7 @@ operation-same-length-8 : (t : ℕ) → operation-lts.Need-same-length-8 (
   operated-reads.Asked,
   operated-reads.Learnt,
 ) (operation-at t) operation.Post
-operation-same-length-8 t c = (c .before .before .before .before .before .before .before .before .before .before .expr2 .kept .1 .1 .1 .1 .1 .0) ∙ (c .before .before .before .before .before .before .before .before .before .before .before .before .before .before .before .before .before .before .before .before .before .before .before .before .expr .kept .1 .1 .1 .1 .1 .0)
+operation-same-length-8 t c = (c .before .before .before .before .before .before .before .before .before .before .expr2 .kept .1 .1 .1 .1 .0) ∙ (c .before .before .before .before .before .before .before .before .before .before .before .before .before .before .before .before .before .before .before .before .before .before .before .before .before .expr .kept .1 .1 .1 .1 .0)
 
 operation-same-length-9 : (t : ℕ) → operation-lts.Need-same-length-9 (
   expr-below t,
@@ -7844,7 +7844,7 @@ operation-same-length-9 : (t : ℕ) → operation-lts.Need-same-length-9 (
   operated-reads.Asked,
   operated-reads.Learnt,
 ) (operation-at t) operation.Post
-operation-same-length-9 t c = (c .before .before .before .before .before .before .before .before .before .before .expr2 .kept .1 .1 .1 .1 .1 .1 .0) ∙ (c .before .before .before .before .before .before .before .before .before .before .before .before .before .before .before .before .before .before .before .before .before .before .before .before .expr .kept .1 .1 .1 .1 .1 .1 .0)
+operation-same-length-9 t c = (c .before .before .before .before .before .before .before .before .before .before .expr2 .kept .1 .1 .1 .1 .1 .0) ∙ (c .before .before .before .before .before .before .before .before .before .before .before .before .before .before .before .before .before .before .before .before .before .before .before .before .before .expr .kept .1 .1 .1 .1 .1 .0)
 
 operation-returns-3 : (t : ℕ) → operation-lts.Need-returns-3 (
   expr-below t,
@@ -7854,7 +7854,7 @@ operation-returns-3 : (t : ℕ) → operation-lts.Need-returns-3 (
   operated-reads.Asked,
   operated-reads.Learnt,
 ) (operation-at t) operation.Post
-operation-returns-3 t c = op-done (c .before .before .before .before .before .before .before .before .before .before .before .before .before .before .before .before .before .before .before .before .before .before .before .before .expr .ensures) (c .before .before .before .before .before .before .before .before .before .before .before .before .before .before .before .before .x .given .1) (c .before .before .before .before .before .before .before .before .before .before .before .before .before .before .behind .ensures) (c .before .before .before .before .before .before .before .before .before .before .expr2 .ensures) (c .before .before .y .given .1) (c .operated .ensures .typed) (c .operated .ensures .both) (c .operated .ensures .one) (c .operated .ensures .all) (c .operated .ensures .is)
+operation-returns-3 t c = op-done (c .before .before .before .before .before .before .before .before .before .before .before .before .before .before .before .before .before .before .before .before .before .before .before .before .before .expr .ensures) (c .before .before .before .before .before .before .before .before .before .before .before .before .before .before .before .before .before .x .given .1) (c .before .before .before .before .before .before .before .before .before .before .before .before .before .before .before .behind .ensures) (c .before .before .before .before .before .before .before .before .before .before .expr2 .ensures) (c .before .before .y .given .1) (c .operated .ensures .typed) (c .operated .ensures .both) (c .operated .ensures .one) (c .operated .ensures .all) (c .operated .ensures .is)
 
 several-none-requires : (t : ℕ) → several-lts.Need-none-requires (
   none-reads.Asked,
@@ -7914,7 +7914,7 @@ several-expr-requires : (t : ℕ) → several-lts.Need-expr-requires (
   one-more-reads.Asked,
   one-more-reads.Learnt,
 ) (several-at t) several.Post
-several-expr-requires t c κs = (load-same _ _ (c .before .before .before .before .before .before .before .before .before .before .before .before .pre .0) 0 (omega arith), room-same (c .before .before .before .before .before .before .before .before .before .before .before .before .pre .1 .0) (omega arith))
+several-expr-requires t c κs = (load-same _ _ (c .before .before .before .before .before .before .before .before .before .before .pre .0) 0 (omega arith), room-same (c .before .before .before .before .before .before .before .before .before .before .pre .1 .0) (omega arith))
 
 several-enum-known-x : (t : ℕ) → several-lts.Need-enum-known-x (
   none-reads.Asked,
@@ -7994,7 +7994,7 @@ several-same-length : (t : ℕ) → several-lts.Need-same-length (
   one-more-reads.Asked,
   one-more-reads.Learnt,
 ) (several-at t) several.Post
-several-same-length t c = (c .before .before .before .before .before .before .before .before .before .expr .kept .1 .1 .1 .1 .0)
+several-same-length t c = (c .before .before .before .before .before .before .before .before .before .expr .kept .1 .1 .0)
 
 several-same-length-2 : (t : ℕ) → several-lts.Need-same-length-2 (
   none-reads.Asked,
@@ -8014,7 +8014,7 @@ several-same-length-2 : (t : ℕ) → several-lts.Need-same-length-2 (
   one-more-reads.Asked,
   one-more-reads.Learnt,
 ) (several-at t) several.Post
-several-same-length-2 t c = (c .before .before .before .before .before .before .before .before .before .expr .kept .1 .1 .1 .1 .1 .0)
+several-same-length-2 t c = (c .before .before .before .before .before .before .before .before .before .expr .kept .1 .1 .1 .1 .0)
 
 several-same-length-3 : (t : ℕ) → several-lts.Need-same-length-3 (
   none-reads.Asked,
@@ -8034,7 +8034,7 @@ several-same-length-3 : (t : ℕ) → several-lts.Need-same-length-3 (
   one-more-reads.Asked,
   one-more-reads.Learnt,
 ) (several-at t) several.Post
-several-same-length-3 t c = (c .before .before .before .before .before .before .before .before .before .expr .kept .1 .1 .1 .1 .1 .1 .0)
+several-same-length-3 t c = (c .before .before .before .before .before .before .before .before .before .expr .kept .1 .1 .1 .1 .1 .0)
 
 several-returns-2 : (t : ℕ) → several-lts.Need-returns-2 (
   none-reads.Asked,
@@ -8054,7 +8054,7 @@ several-returns-2 : (t : ℕ) → several-lts.Need-returns-2 (
   one-more-reads.Asked,
   one-more-reads.Learnt,
 ) (several-at t) several.Post
-several-returns-2 t c = several-first _ (c .before .before .before .before .before .before .before .before .before .before .before .before .before .if1 .left) (c .before .before .before .before .before .before .before .before .before .expr .ensures) (c .before .enum-told .given .1) (c .refused-all .ensures)
+several-returns-2 t c = several-first _ (c .before .before .before .before .before .before .before .before .before .before .before .before .before .before .if1 .left) (c .before .before .before .before .before .before .before .before .before .expr .ensures) (c .before .enum-told .given .1) (c .refused-all .ensures)
 
 several-kind-word-requires : (t : ℕ) → several-lts.Need-kind-word-requires (
   none-reads.Asked,
@@ -8134,7 +8134,7 @@ several-add-several : (t : ℕ) → several-lts.Need-add-several (
   one-more-reads.Asked,
   one-more-reads.Learnt,
 ) (several-at t) several.Post
-several-add-several t c = omega (arith, (c .before .before .before .before .before .before .before .before .before .before .before .before .before .before .before .before .before .before .before .before .before .before .before .if1 .left), (c .before .before .before .before .before .before .before .before .before .before .before .before .before .before .before .before .before .before .before .before .before .before .before .before .before .before .before .before .before .before .before .before .pre .1 .1))
+several-add-several t c = omega (arith, (c .before .before .before .before .before .before .before .before .before .before .before .before .before .before .before .before .before .before .before .before .before .before .before .before .before .if1 .left), (c .before .before .before .before .before .before .before .before .before .before .before .before .before .before .before .before .before .before .before .before .before .before .before .before .before .before .before .before .before .before .before .pre .1 .1))
 
 several-several-requires : (t : ℕ) → several-lts.Need-several-requires (
   none-reads.Asked,
@@ -8154,7 +8154,7 @@ several-several-requires : (t : ℕ) → several-lts.Need-several-requires (
   one-more-reads.Asked,
   one-more-reads.Learnt,
 ) (several-at t) several.Post
-several-several-requires t c κs = (load-moved _ _ (c .before .before .before .before .before .before .before .before .before .before .before .before .before .before .before .before .before .before .before .before .before .before .before .before .before .before .before .before .before .before .before .before .pre .0) _ _ (c .before .behind .ensures) (grows-to (c .before .before .before .before .before .before .before .before .before .before .before .before .before .before .before .before .before .before .before .expr .ensures .grows) (c .before .before .before .before .before .before .before .before .before .before .before .x .given .1)) (omega (arith, (c .before .before .before .before .before .before .before .before .before .before .before .before .before .before .before .before .before .before .before .before .before .before .before .if1 .left))), (room-rest (c .before .before .before .before .before .before .before .before .before .before .before .before .before .before .before .before .before .before .before .before .before .before .before .before .before .before .before .before .before .before .before .before .pre .1 .0) (c .before .behind .ensures) ((c .before .before .before .before .before .before .before .before .before .before .before .before .before .before .before .before .before .before .before .expr .kept .1 .1 .1 .1 .1 .0)) ((c .before .before .before .before .before .before .before .before .before .before .before .before .before .before .before .before .before .before .before .expr .kept .1 .1 .1 .1 .1 .1 .0)), (c .before .before .before .before .before .before .before .before .before .before .before .before .before .before .before .before .before .before .before .before .before .before .before .before .before .before .before .before .before .before .before .before .pre .1 .1)))
+several-several-requires t c κs = (load-moved _ _ (c .before .before .before .before .before .before .before .before .before .before .before .before .before .before .before .before .before .before .before .before .before .before .before .before .before .before .before .before .before .before .before .pre .0) _ _ (c .before .behind .ensures) (grows-to (c .before .before .before .before .before .before .before .before .before .before .before .before .before .before .before .before .before .before .before .before .expr .ensures .grows) (c .before .before .before .before .before .before .before .before .before .before .before .before .x .given .1)) (omega (arith, (c .before .before .before .before .before .before .before .before .before .before .before .before .before .before .before .before .before .before .before .before .before .before .before .before .before .if1 .left))), (room-rest (c .before .before .before .before .before .before .before .before .before .before .before .before .before .before .before .before .before .before .before .before .before .before .before .before .before .before .before .before .before .before .before .pre .1 .0) (c .before .behind .ensures) ((c .before .before .before .before .before .before .before .before .before .before .before .before .before .before .before .before .before .before .before .before .expr .kept .1 .1 .1 .1 .0)) ((c .before .before .before .before .before .before .before .before .before .before .before .before .before .before .before .before .before .before .before .before .expr .kept .1 .1 .1 .1 .1 .0)), (c .before .before .before .before .before .before .before .before .before .before .before .before .before .before .before .before .before .before .before .before .before .before .before .before .before .before .before .before .before .before .before .pre .1 .1)))
 
 several-one-more-requires : (t : ℕ) → several-lts.Need-one-more-requires (
   none-reads.Asked,
@@ -8194,7 +8194,7 @@ several-same-length-4 : (t : ℕ) → several-lts.Need-same-length-4 (
   one-more-reads.Asked,
   one-more-reads.Learnt,
 ) (several-at t) several.Post
-several-same-length-4 t c = (c .before .before .before .before .before .before .before .before .before .several .kept .1 .1 .1 .1 .0) ∙ (c .before .before .before .before .before .before .before .before .before .before .before .before .before .before .before .before .before .before .before .before .before .before .before .before .before .before .before .before .before .expr .kept .1 .1 .1 .1 .0)
+several-same-length-4 t c = (c .before .before .before .before .before .before .before .before .before .several .kept .1 .1 .0) ∙ (c .before .before .before .before .before .before .before .before .before .before .before .before .before .before .before .before .before .before .before .before .before .before .before .before .before .before .before .before .before .before .expr .kept .1 .1 .0)
 
 several-same-length-5 : (t : ℕ) → several-lts.Need-same-length-5 (
   none-reads.Asked,
@@ -8214,7 +8214,7 @@ several-same-length-5 : (t : ℕ) → several-lts.Need-same-length-5 (
   one-more-reads.Asked,
   one-more-reads.Learnt,
 ) (several-at t) several.Post
-several-same-length-5 t c = (c .before .before .before .before .before .before .before .before .before .several .kept .1 .1 .1 .1 .1 .0) ∙ (c .before .before .before .before .before .before .before .before .before .before .before .before .before .before .before .before .before .before .before .before .before .before .before .before .before .before .before .before .before .expr .kept .1 .1 .1 .1 .1 .0)
+several-same-length-5 t c = (c .before .before .before .before .before .before .before .before .before .several .kept .1 .1 .1 .1 .0) ∙ (c .before .before .before .before .before .before .before .before .before .before .before .before .before .before .before .before .before .before .before .before .before .before .before .before .before .before .before .before .before .before .expr .kept .1 .1 .1 .1 .0)
 
 several-same-length-6 : (t : ℕ) → several-lts.Need-same-length-6 (
   none-reads.Asked,
@@ -8234,7 +8234,7 @@ several-same-length-6 : (t : ℕ) → several-lts.Need-same-length-6 (
   one-more-reads.Asked,
   one-more-reads.Learnt,
 ) (several-at t) several.Post
-several-same-length-6 t c = (c .before .before .before .before .before .before .before .before .before .several .kept .1 .1 .1 .1 .1 .1 .0) ∙ (c .before .before .before .before .before .before .before .before .before .before .before .before .before .before .before .before .before .before .before .before .before .before .before .before .before .before .before .before .before .expr .kept .1 .1 .1 .1 .1 .1 .0)
+several-same-length-6 t c = (c .before .before .before .before .before .before .before .before .before .several .kept .1 .1 .1 .1 .1 .0) ∙ (c .before .before .before .before .before .before .before .before .before .before .before .before .before .before .before .before .before .before .before .before .before .before .before .before .before .before .before .before .before .before .expr .kept .1 .1 .1 .1 .1 .0)
 
 several-same-length-7 : (t : ℕ) → several-lts.Need-same-length-7 (
   none-reads.Asked,
@@ -8254,7 +8254,7 @@ several-same-length-7 : (t : ℕ) → several-lts.Need-same-length-7 (
   one-more-reads.Asked,
   one-more-reads.Learnt,
 ) (several-at t) several.Post
-several-same-length-7 t c = (c .before .before .before .before .before .before .before .before .before .several .kept .1 .1 .1 .1 .1 .1 .1 .1 .0) ∙ (c .before .before .before .before .before .before .before .before .before .before .before .before .before .before .before .before .before .put .kept .0)
+several-same-length-7 t c = (c .before .before .before .before .before .before .before .before .before .several .kept .1 .1 .1 .1 .1 .1 .1 .0) ∙ (c .before .before .before .before .before .before .before .before .before .before .before .before .before .before .before .before .before .before .put .kept .0)
 
 several-returns-3 : (t : ℕ) → several-lts.Need-returns-3 (
   none-reads.Asked,
@@ -8274,7 +8274,7 @@ several-returns-3 : (t : ℕ) → several-lts.Need-returns-3 (
   one-more-reads.Asked,
   one-more-reads.Learnt,
 ) (several-at t) several.Post
-several-returns-3 t c = several-more _ (c .before .before .before .before .before .before .before .before .before .before .before .before .before .before .before .before .before .before .before .before .before .before .before .before .before .before .before .before .before .before .before .before .before .if1 .left) (c .before .before .before .before .before .before .before .before .before .before .before .before .before .before .before .before .before .before .before .before .before .before .before .before .before .before .before .before .before .expr .ensures) (c .before .before .before .before .before .before .before .before .before .before .before .before .before .before .before .before .before .before .before .before .before .x .given .1) (c .before .before .before .before .before .before .before .before .before .before .before .before .before .before .before .before .before .before .kind-word .ensures .is) (c .before .before .before .before .before .before .before .before .before .before .before .before .before .before .before .before .before .put .ensures) (c .before .before .before .before .before .before .before .before .before .before .before .behind .ensures) (c .before .before .before .before .before .before .before .before .before .several .ensures) (c .one-more .ensures)
+several-returns-3 t c = several-more _ (c .before .before .before .before .before .before .before .before .before .before .before .before .before .before .before .before .before .before .before .before .before .before .before .before .before .before .before .before .before .before .before .before .before .before .before .if1 .left) (c .before .before .before .before .before .before .before .before .before .before .before .before .before .before .before .before .before .before .before .before .before .before .before .before .before .before .before .before .before .before .expr .ensures) (c .before .before .before .before .before .before .before .before .before .before .before .before .before .before .before .before .before .before .before .before .before .before .x .given .1) (c .before .before .before .before .before .before .before .before .before .before .before .before .before .before .before .before .before .before .before .kind-word .ensures .is) (c .before .before .before .before .before .before .before .before .before .before .before .before .before .before .before .before .before .before .put .ensures) (c .before .before .before .before .before .before .before .before .before .before .before .behind .ensures) (c .before .before .before .before .before .before .before .before .before .several .ensures) (c .one-more .ensures)
 
 pub +adjust+apply+at-splits+binding+body+branch+branches+call+case-of+choice+compound+construct+enter+expr+fit+operation+several-spec :
     {M : Type 1} → statement M
@@ -8315,7 +8315,7 @@ pub +adjust+apply+at-splits+binding+body+branch+branches+call+case-of+choice+com
     (adjust-size-at-requires t)
     (adjust-enum-known-s t)
     (adjust-enum-told t)
-    (adjust-add-t22 t)
+    (adjust-add-t21 t)
     (adjust-same-length t)
     (adjust-returns t)
     (adjust-moved-requires t)
@@ -8496,7 +8496,7 @@ pub +adjust+apply+at-splits+binding+body+branch+branches+call+case-of+choice+com
     (body-at t)
     body.Post
     (body-cast-if1 t)
-    (body-add-t18 t)
+    (body-add-t17 t)
     (body-returns t)
     (body-add-requires t)
     (body-body-place-requires t)
@@ -8508,7 +8508,7 @@ pub +adjust+apply+at-splits+binding+body+branch+branches+call+case-of+choice+com
     (body-same-length-3 t)
     (body-returns-2 t)
     (body-is-kind-requires t)
-    (body-add-t31 t)
+    (body-add-t32 t)
     (body-same-length-4 t)
     (body-same-length-5 t)
     (body-same-length-6 t)
@@ -8717,7 +8717,7 @@ pub +adjust+apply+at-splits+binding+body+branch+branches+call+case-of+choice+com
     (choice-same-length-9 t)
     (choice-returns-3 t)
     (choice-agree-requires t)
-    (choice-add-t37 t)
+    (choice-add-t39 t)
     (choice-same-length-10 t)
     (choice-same-length-11 t)
     (choice-same-length-12 t)
@@ -8763,7 +8763,7 @@ pub +adjust+apply+at-splits+binding+body+branch+branches+call+case-of+choice+com
     (compound-adjust-requires t)
     (compound-enum-known-form-5 t)
     (compound-fit-requires t)
-    (compound-add-t65 t)
+    (compound-add-t72 t)
     (compound-same-length t)
     (compound-same-length-2 t)
     (compound-same-length-3 t)
@@ -8869,7 +8869,7 @@ pub +adjust+apply+at-splits+binding+body+branch+branches+call+case-of+choice+com
     )
     (expr-at t)
     expr.Post
-    (expr-add-t19 t)
+    (expr-add-t18 t)
     (expr-returns t)
     (expr-frame-line-requires t)
     (expr-head-at-requires t)
@@ -8957,7 +8957,7 @@ pub +adjust+apply+at-splits+binding+body+branch+branches+call+case-of+choice+com
     (fit-same-length-12 t)
     (fit-returns-4 t)
     (fit-agree-requires t)
-    (fit-add-t49 t)
+    (fit-add-t51 t)
     (fit-same-length-13 t)
     (fit-same-length-14 t)
     (fit-same-length-15 t)

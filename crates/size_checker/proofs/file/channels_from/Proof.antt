@@ -9,13 +9,13 @@ use Rattle.size_checker.proofs.file.channels_from.Statement.{statement}
 use Rattle.size_checker.proofs.file.channels_from.Tie as tie
 
 abbrev Inv-loop : tie.InvT-loop
-Inv-loop text frames types functions channels list₀ n from word used last all₀ c₀ list all c = Along (lent text frames types functions) channels list₀ n from word used c list all × (length list ≡ length list₀)
+Inv-loop text index list₀ hints₀ n from word used last all₀ c₀ list hints all c = Along (lent text index) list₀ n from word used c list all × (length list ≡ length list₀)
 
 abbrev μ-loop : tie.MeasureT-loop
-μ-loop text frames types functions channels list₀ n from word used last all₀ c₀ list all c = last - c
+μ-loop text index list₀ hints₀ n from word used last all₀ c₀ list hints all c = last - c
 
 add-last : tie.Need-add-last Inv-loop μ-loop
-add-last c = omega (arith, (c .before .before .before .before .before .before .before .pre .0 .inputs), (c .before .before .before .before .before .before .before .pre .0 .nodes))
+add-last c = omega (arith, (c .before .before .before .pre .0 .inputs), (c .before .before .before .pre .0 .nodes))
 
 none-yet-requires : tie.Need-none-yet-requires Inv-loop μ-loop
 none-yet-requires c κs = tt
@@ -24,7 +24,7 @@ loop-holds : tie.Need-loop-holds Inv-loop μ-loop
 loop-holds c = (along-start (c .none-yet .ensures), refl)
 
 channel-requires : tie.Need-channel-requires Inv-loop μ-loop
-channel-requires c κs = ((c .before .before .before .before .before .before .before .before .before .before .before .pre .0), (omega (arith, (c .before .before .before .before .before .before .before .before .before .before .before .pre .0 .inputs), (c .before .before .before .before .before .before .before .before .before .before .before .pre .0 .nodes), (c .before .loop-test .taken)), (c .before .before .before .before .before .before .before .before .before .before .before .pre .1)))
+channel-requires c κs = ((c .before .before .before .before .before .before .before .before .pre .0), (omega (arith, (c .before .before .before .before .before .before .before .before .pre .0 .inputs), (c .before .before .before .before .before .before .before .before .pre .0 .nodes), (c .before .before .loop-test .taken)), (c .before .before .before .before .before .before .before .before .pre .1)))
 
 enum-known-x : tie.Need-enum-known-x Inv-loop μ-loop
 enum-known-x c = (c .match .keys1)
@@ -36,22 +36,22 @@ refused-all-requires : tie.Need-refused-all-requires Inv-loop μ-loop
 refused-all-requires c κs = tt
 
 same-length : tie.Need-same-length Inv-loop μ-loop
-same-length c = (c .before .before .before .before .before .channel .kept .1 .1 .1 .1 .1 .0) ∙ (c .before .before .before .before .before .before .before .before .loop .inv .1)
+same-length c = (c .before .before .before .before .before .channel .kept .1 .1 .0) ∙ (c .before .before .before .before .before .before .before .before .before .loop .inv .1)
 
 returns : tie.Need-returns Inv-loop μ-loop
-returns c = along-no (c .before .before .before .before .before .before .before .before .loop .inv .0) (c .before .before .before .before .before .before .before .loop-test .taken) (c .before .before .before .before .before .channel .ensures) (c .before .enum-told .given .1) (c .refused-all .ensures)
+returns c = along-no (c .before .before .before .before .before .before .before .before .before .loop .inv .0) (c .before .before .before .before .before .before .before .before .loop-test .taken) (c .before .before .before .before .before .channel .ensures) (c .before .enum-told .given .1) (c .refused-all .ensures)
 
 joined-requires : tie.Need-joined-requires Inv-loop μ-loop
 joined-requires c κs = tt
 
 add-c : tie.Need-add-c Inv-loop μ-loop
-add-c c = omega (arith, (c .before .before .before .before .before .before .before .before .loop-test .taken), (c .before .before .before .before .before .before .before .before .before .before .before .before .before .before .before .before .before .before .pre .0 .inputs), (c .before .before .before .before .before .before .before .before .before .before .before .before .before .before .before .before .before .before .pre .0 .nodes))
+add-c c = omega (arith, (c .before .before .before .before .before .before .before .before .before .loop-test .taken), (c .before .before .before .before .before .before .before .before .before .before .before .before .before .before .before .pre .0 .inputs), (c .before .before .before .before .before .before .before .before .before .before .before .before .before .before .before .pre .0 .nodes))
 
 loop-less : tie.Need-loop-less Inv-loop μ-loop
-loop-less c = omega (arith, (c .before .before .before .before .before .before .before .before .loop-test .taken))
+loop-less c = omega (arith, (c .before .before .before .before .before .before .before .before .before .loop-test .taken))
 
 loop-again : tie.Need-loop-again Inv-loop μ-loop
-loop-again c = (along-on (c .before .before .before .before .before .before .before .before .before .loop .inv .0) (c .before .before .before .before .before .before .before .before .loop-test .taken) (c .before .before .before .before .before .before .channel .ensures) (c .before .before .x .given .1) (c .joined .ensures), (c .before .before .before .before .before .before .channel .kept .1 .1 .1 .1 .1 .0) ∙ (c .before .before .before .before .before .before .before .before .before .loop .inv .1))
+loop-again c = (along-on (c .before .before .before .before .before .before .before .before .before .before .loop .inv .0) (c .before .before .before .before .before .before .before .before .before .loop-test .taken) (c .before .before .before .before .before .before .channel .ensures) (c .before .before .x .given .1) (c .joined .ensures), (c .before .before .before .before .before .before .channel .kept .1 .1 .0) ∙ (c .before .before .before .before .before .before .before .before .before .before .loop .inv .1))
 
 same-length-2 : tie.Need-same-length-2 Inv-loop μ-loop
 same-length-2 c = (c .before .loop .inv .1)

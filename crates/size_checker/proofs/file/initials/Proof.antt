@@ -1,6 +1,6 @@
 -- Initial values: the list cleared, the counts tested.
 use native.Mathlib.Omega.{arith}
-use mathlib.Core.Path.{_∙_}
+use mathlib.Core.Path.{refl, _∙_}
 use borrow.Author.Tests.{not-true, not-false}
 use Rattle.size_checker.specs.ChannelLaws.{limited-few, limited-many}
 use Rattle.size_checker.specs.FileLaws.{initials-many, initials-done}
@@ -20,13 +20,13 @@ returns : tie.Need-returns
 returns c = initials-many (limited-many (c .before .limited .ensures) (not-true _ (c .if1 .taken)))
 
 channels-from-requires : tie.Need-channels-from-requires
-channels-from-requires c κs = (limited-few (c .before .before .limited .ensures) (not-false _ (c .before .if1 .left)), omega arith)
+channels-from-requires c κs = (limited-few (c .before .before .before .limited .ensures) (not-false _ (c .before .before .if1 .left)), λ other. refl)
 
 same-length-2 : tie.Need-same-length-2
-same-length-2 c = (c .before .before .channels-from .kept .1 .1 .1 .1 .1 .0) ∙ (c .before .before .before .before .before .before .before .before .clear .kept .0)
+same-length-2 c = (c .before .before .channels-from .kept .1 .1 .0) ∙ (c .before .before .before .before .before .before .before .before .before .clear .kept .0)
 
 returns-2 : tie.Need-returns-2
-returns-2 c = initials-done _ (limited-few (c .before .before .before .before .before .limited .ensures) (not-false _ (c .before .before .before .before .if1 .left))) (c .before .before .before .before .before .before .before .before .clear .ensures) (c .before .before .channels-from .ensures)
+returns-2 c = initials-done _ (limited-few (c .before .before .before .before .before .before .limited .ensures) (not-false _ (c .before .before .before .before .before .if1 .left))) (c .before .before .before .before .before .before .before .before .before .clear .ensures) (c .before .before .channels-from .ensures)
 
 pub initials-spec : {M : Type 1} → statement M
 initials-spec =

@@ -1,9 +1,11 @@
 -- A whole file: initial values, then updates.
-use native.Mathlib.Omega.{arith}
-use mathlib.Core.Path.{_∙_}
+use mathlib.Core.Path.{refl, _∙_}
 use Rattle.size_checker.specs.FileLaws.{file-first, file-done}
 use Rattle.size_checker.proofs.file.sized_file.Statement.{statement}
 use Rattle.size_checker.proofs.file.sized_file.Tie as tie
+
+frame-counts-requires : tie.Need-frame-counts-requires
+frame-counts-requires c κs = tt
 
 initials-requires : tie.Need-initials-requires
 initials-requires c κs = tt
@@ -15,24 +17,25 @@ enum-told : tie.Need-enum-told
 enum-told c = (c .match .keys2)
 
 same-length : tie.Need-same-length
-same-length c = (c .before .before .before .before .initials .kept .1 .1 .1 .1 .1 .0)
+same-length c = (c .before .before .before .before .initials .kept .1 .1 .0)
 
 returns : tie.Need-returns
-returns c = file-first (c .before .before .before .before .initials .ensures) (c .enum-told .given .1)
+returns c = file-first ((c .before .before .before .before .before .before .before .frame-counts .ensures .0)) (c .before .before .before .before .initials .ensures) (c .enum-told .given .1)
 
 channels-from-requires : tie.Need-channels-from-requires
-channels-from-requires c κs = (c .before .before .before .before .before .before .initials .ensures .few (c .before .before .x .given .1), omega arith)
+channels-from-requires c κs = ((c .before .before .before .before .before .before .before .initials .ensures .few) (c .before .before .before .x .given .1), λ other. absurd (other refl))
 
 same-length-2 : tie.Need-same-length-2
-same-length-2 c = (c .before .before .channels-from .kept .1 .1 .1 .1 .1 .0) ∙ (c .before .before .before .before .before .before .before .before .before .initials .kept .1 .1 .1 .1 .1 .0)
+same-length-2 c = (c .before .before .channels-from .kept .1 .1 .0) ∙ (c .before .before .before .before .before .before .before .before .before .before .initials .kept .1 .1 .0)
 
 returns-2 : tie.Need-returns-2
-returns-2 c = file-done (c .before .before .before .before .before .before .before .before .before .initials .ensures) (c .before .before .before .before .before .x .given .1) (c .before .before .channels-from .ensures)
+returns-2 c = file-done ((c .before .before .before .before .before .before .before .before .before .before .before .before .before .frame-counts .ensures .0)) (c .before .before .before .before .before .before .before .before .before .before .initials .ensures) (c .before .before .before .before .before .before .x .given .1) (c .before .before .channels-from .ensures)
 
 pub sized-file-spec : {M : Type 1} → statement M
 sized-file-spec =
     tie.close
     (tie.spec
+    frame-counts-requires
     initials-requires
     enum-known-x
     enum-told

@@ -12,7 +12,7 @@ add-t12 : tie.Need-add-t12
 add-t12 c = search needs
 
 returns : tie.Need-returns
-returns c = made-too-large (c .before .before .own-sum .ensures) (c .before .if1 .taken)
+returns c = made-too-large _ (c .before .before .own-sum .ensures) (c .before .if1 .taken)
 
 fields-agree-requires : tie.Need-fields-agree-requires
 fields-agree-requires c κs = search needs
@@ -21,7 +21,7 @@ add-t14 : tie.Need-add-t14
 add-t14 c = search needs
 
 returns-2 : tie.Need-returns-2
-returns-2 c = made-differs (c .before .before .before .before .own-sum .ensures) (omega (arith, (c .before .before .before .if1 .left))) (c .before .before .fields-agree .ensures) (not-true _ (c .before .if2 .taken))
+returns-2 c = made-differs _ (c .before .before .before .before .own-sum .ensures) (omega (arith, (c .before .before .before .if1 .left))) (c .before .before .fields-agree .ensures) (not-true _ (c .before .if2 .taken))
 
 one-cell-requires : tie.Need-one-cell-requires
 one-cell-requires c κs = search needs
@@ -39,7 +39,7 @@ cast-t18 : tie.Need-cast-t18
 cast-t18 c = search needs
 
 returns-3 : tie.Need-returns-3
-returns-3 c = made-done (c .before .before .before .before .before .before .before .own-sum .ensures) (omega (arith, (c .before .before .before .before .before .before .if1 .left))) (c .before .before .before .before .before .fields-agree .ensures) (not-false _ (c .before .before .before .before .if2 .left)) ((c .before .before .before .before .before .before .before .before .before .before .pre .1)) (c .before .one-cell .ensures) (c .after .ensures)
+returns-3 c = made-done _ (c .before .before .before .before .before .before .before .own-sum .ensures) (omega (arith, (c .before .before .before .before .before .before .if1 .left))) (c .before .before .before .before .before .fields-agree .ensures) (not-false _ (c .before .before .before .before .if2 .left)) ((c .before .before .before .before .before .before .before .before .before .pre .1)) (c .before .one-cell .ensures) (c .after .ensures)
 
 pub made-spec : {M : Type 1} → statement M
 made-spec =

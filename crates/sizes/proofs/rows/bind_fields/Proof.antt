@@ -1,15 +1,16 @@
 -- The types of a constructor's fields, written into a scope one by one.
 use Prim.Native.Nat.{_-_}
 use native.Mathlib.Omega.{arith}
+use Rattle.index.specs.Sections.{typesOf}
 use Rattle.sizes.specs.BindLaws.{Binding, binding-start, binding-on, binding-end}
 use Rattle.sizes.proofs.rows.bind_fields.Statement.{statement}
 use Rattle.sizes.proofs.rows.bind_fields.Tie as tie
 
 abbrev Inv-loop : tie.InvT-loop
-Inv-loop types scope₀ sizes t c to from n next₀ i₀ scope next i = Binding types scope₀ sizes t c to from n next i scope
+Inv-loop index scope₀ sizes t c to from n next₀ i₀ scope next i = Binding (typesOf index) scope₀ sizes t c to from n next i scope
 
 abbrev μ-loop : tie.MeasureT-loop
-μ-loop types scope₀ sizes t c to from n next₀ i₀ scope next i = n - i
+μ-loop index scope₀ sizes t c to from n next₀ i₀ scope next i = n - i
 
 fields-requires : tie.Need-fields-requires Inv-loop μ-loop
 fields-requires c κs = tt

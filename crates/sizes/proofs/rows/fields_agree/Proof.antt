@@ -2,15 +2,16 @@
 use Prim.Native.Nat.{_-_}
 use native.Mathlib.Omega.{arith}
 use borrow.Author.Tests.{not-true, not-false}
+use Rattle.index.specs.Sections.{typesOf}
 use Rattle.sizes.specs.AgreeLaws.{AgreeFrom, agree-start, agree-not, agree-on, agree-end}
 use Rattle.sizes.proofs.rows.fields_agree.Statement.{statement}
 use Rattle.sizes.proofs.rows.fields_agree.Tie as tie
 
 abbrev Inv-loop : tie.InvT-loop
-Inv-loop types row t c n i₀ i = AgreeFrom types row t c i
+Inv-loop index row t c n i₀ i = AgreeFrom (typesOf index) row t c i
 
 abbrev μ-loop : tie.MeasureT-loop
-μ-loop types row t c n i₀ i = n - i
+μ-loop index row t c n i₀ i = n - i
 
 fields-requires : tie.Need-fields-requires Inv-loop μ-loop
 fields-requires c κs = tt

@@ -2,15 +2,16 @@
 use Prim.Native.Nat.{_-_}
 use mathlib.Core.Logic.{⊎-elim}
 use native.Mathlib.Omega.{arith}
+use Rattle.index.specs.Sections.{typesOf}
 use Rattle.sizes.specs.SumLaws.{Summed, summed-start, summed-own, summed-other, summed-end}
 use Rattle.sizes.proofs.rows.own_sum.Statement.{statement}
 use Rattle.sizes.proofs.rows.own_sum.Tie as tie
 
 abbrev Inv-loop : tie.InvT-loop
-Inv-loop types row t c n sum₀ i₀ sum i = Summed types row t c n i sum
+Inv-loop index row t c n sum₀ i₀ sum i = Summed (typesOf index) row t c n i sum
 
 abbrev μ-loop : tie.MeasureT-loop
-μ-loop types row t c n sum₀ i₀ sum i = n - i
+μ-loop index row t c n sum₀ i₀ sum i = n - i
 
 fields-requires : tie.Need-fields-requires Inv-loop μ-loop
 fields-requires c κs = tt
