@@ -1,4 +1,4 @@
--- The table of frames says where the lines of a text that was read are: the part of each entry is the line of its number.
+-- The section of frames says where the lines of a text that was read are: the part of each entry is the line of its number.
 use Prim.Native.Nat.{ℕ, zero, suc, _*_, _≤_, _<_}
 use mathlib.Core.List.{List, [], _∷_, _++_, map}
 use mathlib.Core.Bool.{Bool, true, false}

@@ -1,0 +1,20 @@
+-- The refusal of a frame, with the frame's number.
+use mathlib.Core.Path.{refl}
+use borrow.Author.Needs.{needs}
+use Rattle.reader.proofs.frame_refusal.Statement.{statement}
+use Rattle.reader.proofs.frame_refusal.Tie as tie
+
+enum-told : tie.Need-enum-told
+enum-told c = search needs
+
+enum-known-x : tie.Need-enum-known-x
+enum-known-x c = search needs
+
+returns : tie.Need-returns
+returns c = rw (c .enum-told .given .1) refl
+
+returns-2 : tie.Need-returns-2
+returns-2 c = rw (c .before .x .given .1) refl
+
+pub frame-refusal-spec : {M : Type 1} → statement M
+frame-refusal-spec = tie.close (tie.spec enum-told enum-known-x returns returns-2)
