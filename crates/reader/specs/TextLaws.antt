@@ -3,7 +3,7 @@ use Prim.Native.Nat.{ℕ}
 use mathlib.Core.List.{List}
 use mathlib.Core.Path.{_≡_, sym, ap, _∙_}
 use native.Mathlib.Omega.{arith}
-use lib.ListN.{length, replicate}
+use lib.ListN.{replicate}
 use Rattle.language.specs.Result.{Result}
 use Rattle.language.specs.Syntax.{File}
 use Rattle.language.specs.Reader.{readFile}
@@ -17,8 +17,8 @@ use Rattle.reader.specs.declared.Reading.the-variants.{Done, Fault}
 use Rattle.reader.specs.Texts.{textRefusal, Judges, Ready, LinesRead, all-lines, bad-line, TextRead, done, fault}
 
 -- a row of the index's length, cleared
-pub cleared : (index : List ℕ) {index′ : List ℕ} → index′ ≡ replicate (length index) 0 → length index ≡ indexWords → index′ ≡ replicate indexWords 0
-cleared index e long = e ∙ ap (λ n. replicate n 0) long
+pub cleared : {n : ℕ} {index : List ℕ} → index ≡ replicate n 0 → n ≡ indexWords → index ≡ replicate indexWords 0
+cleared e long = e ∙ ap (λ m. replicate m 0) long
 
 -- ---- all lines are read, or one is refused
 module _ {r : Reading} {index : List ℕ} where

@@ -1,14 +1,13 @@
 -- The refusal of a frame, with the frame's number.
 use mathlib.Core.Path.{refl}
-use borrow.Author.Needs.{needs}
 use Rattle.reader.proofs.frame_refusal.Statement.{statement}
 use Rattle.reader.proofs.frame_refusal.Tie as tie
 
 enum-told : tie.Need-enum-told
-enum-told c = search needs
+enum-told c = (c .match .keys1)
 
 enum-known-x : tie.Need-enum-known-x
-enum-known-x c = search needs
+enum-known-x c = (c .match .keys2)
 
 returns : tie.Need-returns
 returns c = rw (c .enum-told .given .1) refl
