@@ -1,13 +1,12 @@
 -- The index of a file as a whole: its counts, then its frames, types, functions and channels. A row of the index's length is the
 -- index of a file where its sections are.
-use Prim.Native.Nat.{ℕ, _+_, _≤_}
+use Prim.Native.Nat.{ℕ, _+_}
 use mathlib.Core.List.{List, [], _∷_, _++_}
 use mathlib.Core.Path.{_≡_, refl, sym, ap, ap₂, _∙_}
 use native.Mathlib.Omega.{arith}
 use lib.ListN.{length, take, drop, length-drop, take-append-drop}
 use lib.Seq.{take-all, take-at, drop-append-add, drop-drop}
 use Rattle.language.specs.Syntax.{File}
-use Rattle.language.specs.Layout.{padded}
 use Rattle.theory.specs.Padding.{padded-length}
 use Rattle.index.specs.Tables.{frameTable, typeTable, functionTable, channelTable}
 use Rattle.index.specs.Sections.{countWords, frameTableWords, typeTableWords, functionTableWords, channelTableWords, framesFrom, typesFrom, functionsFrom, channelsFrom, indexWords, section, countsOf, framesOf, typesOf, functionsOf, channelsOf}

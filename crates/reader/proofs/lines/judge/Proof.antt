@@ -35,7 +35,7 @@ returns-2 : tie.Need-returns-2 Inv-loop μ-loop
 returns-2 c = bad-judges (c .before .before .before .before .loop .inv) (c .before .before .before .loop-test .taken) (c .before .before .line-end .ensures) (c .enum-told .given .1)
 
 cast-put-frame : tie.Need-cast-put-frame Inv-loop μ-loop
-cast-put-frame c = omega (arith, (c .before .before .before .before .before .before .loop .inv .counted .within), (c .before .before .before .before .before .before .loop .inv .fits))
+cast-put-frame c = omega (arith, (c .before .before .before .before .before .before .loop .inv .counted .within), (c .before .before .before .before .before .before .loop .inv .fits), end-within (c .before .before .before .before .before .before .loop .inv) (c .before .before .before .before .line-end .ensures) (c .before .before .x .given .1))
 
 sub-put-frame : tie.Need-sub-put-frame Inv-loop μ-loop
 sub-put-frame c = omega (arith, end-behind (c .before .before .before .before .before .before .loop .inv) (c .before .before .before .before .line-end .ensures) (c .before .before .x .given .1))
