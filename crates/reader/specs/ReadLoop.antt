@@ -30,7 +30,7 @@ use Rattle.reader.specs.declared.Frame.the-variants.{Taken, Refused}
 use Rattle.reader.specs.declared.Reading.{Reading}
 use Rattle.reader.specs.declared.Reading.the-variants.{Done, Fault}
 use Rattle.reader.specs.Held.{Held, Fits, FrameRead, taken, refused, ReadsFrame}
-use Rattle.reader.specs.Texts.{frameRefusal, Finished, without-node, with-node, Listed, Ready, LinesRead, all-lines, bad-line}
+use Rattle.reader.specs.Texts.{frameReading, Finished, without-node, with-node, Listed, Ready, LinesRead, all-lines, bad-line}
 use Rattle.reader.specs.TableLaws.{blank-held}
 use Rattle.reader.specs.LineLaws.{line-long, frame-refused, frame-taken, no-node, some-node, frames-of-file}
 
@@ -124,12 +124,12 @@ module _ {t index : List ℕ} {all at read : ℕ} {known : Counts} (s : LinesTo 
         };
       }
 
-  pub line-refused : {l index′ : List ℕ} {x : Frame} {m : ℕ} {r : Reading} → at < length t → l ≡ firstLine (drop at t) → ReadsFrame l index known all x index′ → x ≡ Refused m → r ≡ frameRefusal x (read + 1) → LinesRead r index′ (readFile t)
+  pub line-refused : {l index′ : List ℕ} {x : Frame} {m : ℕ} {r : Reading} → at < length t → l ≡ firstLine (drop at t) → ReadsFrame l index known all x index′ → x ≡ Refused m → r ≡ frameReading x (read + 1) → LinesRead r index′ (readFile t)
   line-refused {l} {m = m} h e v q a =
       let x = line-there h e in
       let r = s .so in
       let no-file = frame-fault (v .says (r .file) (r .held) (suc read) (line-filled x .1)) q in
-      lines-fault t (a ∙ ap (λ y. frameRefusal y (read + 1)) q) (r .is ∙ frame-refused all (suc read) (r .file) (x .split) (ap (readFrame all (suc read) (r .file)) (sym (x .here .bytes)) ∙ no-file .1) ∙ ap (no m) (sym (add-one read)))
+      lines-fault t (a ∙ ap (λ y. frameReading y (read + 1)) q) (r .is ∙ frame-refused all (suc read) (r .file) (x .split) (ap (readFrame all (suc read) (r .file)) (sym (x .here .bytes)) ∙ no-file .1) ∙ ap (no m) (sym (add-one read)))
 
   pub line-taken : {l index′ : List ℕ} {x : Frame} {n : Counts} → at < length t → l ≡ firstLine (drop at t) → ReadsFrame l index known all x index′ → x ≡ Taken n → LinesTo t all n (at + length l + 1) (read + 1) index′
   line-taken {l} {index′} {n = n} h e v q = record { fits = s .fits; fewer = omega (arith, s .fewer); left = next .others; walk = next .here .next; so = go }

@@ -14,7 +14,7 @@ use Rattle.index.specs.Sections.{typesFrom, functionsFrom, channelsFrom, typeTa
 use Rattle.index.specs.SectionLaws.{kept-behind, section-zero}
 use Rattle.reader.specs.declared.Reading.{Reading}
 use Rattle.reader.specs.declared.Reading.the-variants.{Done, Fault}
-use Rattle.reader.specs.Texts.{textRefusal, Judges, Ready, LinesRead, all-lines, bad-line, TextRead, done, fault}
+use Rattle.reader.specs.Texts.{textReading, Judges, Ready, LinesRead, all-lines, bad-line, TextRead, done, fault}
 
 -- a row of the index's length, cleared
 pub cleared : {n : ℕ} {index : List ℕ} → index ≡ replicate n 0 → n ≡ indexWords → index ≡ replicate indexWords 0
@@ -43,5 +43,5 @@ module _ {text index index′ : List ℕ} {j : Judged} (zeros : index ≡ replic
         channelsZero = kept-behind (v .outside) channelsFrom channelTableWords (omega arith) ∙ ap (section channelsFrom channelTableWords) zeros ∙ section-zero channelsFrom channelTableWords indexWords (omega arith);
       }
 
-  pub text-refused : {r : Reading} {n k : ℕ} → j ≡ Refused n k → r ≡ textRefusal j → LinesRead r index′ (readFile text)
-  text-refused {n = n} {k} q a = rw (judged-refused text n k (sym (v .is) ∙ q)) (bad-line (a ∙ ap textRefusal q))
+  pub text-refused : {r : Reading} {n k : ℕ} → j ≡ Refused n k → r ≡ textReading j → LinesRead r index′ (readFile text)
+  text-refused {n = n} {k} q a = rw (judged-refused text n k (sym (v .is) ∙ q)) (bad-line (a ∙ ap textReading q))

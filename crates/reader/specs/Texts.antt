@@ -21,14 +21,14 @@ use Rattle.reader.specs.declared.Frame.the-variants.{Taken, Refused}
 use Rattle.reader.specs.declared.Reading.{Reading}
 use Rattle.reader.specs.declared.Reading.the-variants.{Done, Fault}
 
--- a refusal of a frame, and one of the text as a whole, is one of the reading
-abbrev pub frameRefusal : Frame → ℕ → Reading
-frameRefusal (Taken n) frame = Done
-frameRefusal (Refused m) frame = Fault m frame
+-- the answer on a frame, and the one on the text as a whole, as that of the reading: a refusal stays one
+abbrev pub frameReading : Frame → ℕ → Reading
+frameReading (Taken n) frame = Done
+frameReading (Refused m) frame = Fault m frame
 
-abbrev pub textRefusal : Judged → Reading
-textRefusal (Channels n) = Done
-textRefusal (TextRefused m frame) = Fault m frame
+abbrev pub textReading : Judged → Reading
+textReading (Channels n) = Done
+textReading (TextRefused m frame) = Fault m frame
 
 -- behind the last frame: "no node (frame: one after the last)", or the counts are written
 pub data Finished (n : Counts) (next : ℕ) (index : List ℕ) : Reading → List ℕ → Type 0 where

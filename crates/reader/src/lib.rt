@@ -6,7 +6,7 @@ ghost use mathlib.Core.Path.{_≡_};
 ghost use lib.ListN.{replicate};
 ghost use Rattle.language.specs.Reader.{readFile};
 ghost use Rattle.index.specs.Sections.{indexWords};
-ghost use Rattle.reader.specs.Texts.{frameRefusal, textRefusal, Finished, Ready, LinesRead, TextRead};
+ghost use Rattle.reader.specs.Texts.{frameReading, textReading, Finished, Ready, LinesRead, TextRead};
 use frames::frame;
 use index::Counts;
 use index::INDEX_WORDS;
@@ -28,9 +28,9 @@ pub enum Reading {
     Fault(u32, u32),
 }
 
-// The refusal of a frame, with its number.
-fn frame_refusal(x: Frame, frame: u32) -> Reading
-    ensures { λ r. ⌜ r ≡ frameRefusal x frame ⌝ }
+// A frame's answer as that of the reading: a refusal comes with the frame's number.
+fn frame_reading(x: Frame, frame: u32) -> Reading
+    ensures { λ r. ⌜ r ≡ frameReading x frame ⌝ }
 {
     match x {
         Frame::Taken(_) => Reading::Done,
@@ -38,9 +38,9 @@ fn frame_refusal(x: Frame, frame: u32) -> Reading
     }
 }
 
-// The refusal of a text as a whole.
-fn text_refusal(x: Judged) -> Reading
-    ensures { λ r. ⌜ r ≡ textRefusal x ⌝ }
+// The answer on a text as a whole as that of the reading.
+fn text_reading(x: Judged) -> Reading
+    ensures { λ r. ⌜ r ≡ textReading x ⌝ }
 {
     match x {
         Judged::Channels(_) => Reading::Done,
@@ -76,7 +76,7 @@ fn read_lines(text: &[u8], index: &mut [u32; INDEX_WORDS], channels: u32) -> Rea
         let line = line_of(text, index, at, read);
         let x = frame(line, index, known, channels);
         let Frame::Taken(n) = x else {
-            return frame_refusal(x, read + 1);
+            return frame_reading(x, read + 1);
         };
         known = n;
         at = at + line.len() + 1;
@@ -92,7 +92,7 @@ fn read_into(text: &[u8], index: &mut [u32; INDEX_WORDS]) -> Reading
 {
     let j = judge(text, index);
     let Judged::Channels(channels) = j else {
-        return text_refusal(j);
+        return text_reading(j);
     };
     read_lines(text, index, channels)
 }

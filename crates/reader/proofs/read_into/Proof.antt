@@ -12,11 +12,11 @@ enum-known-j c = (c .match .keys1)
 enum-told : tie.Need-enum-told
 enum-told c = (c .match .keys2)
 
-text-refusal-requires : tie.Need-text-refusal-requires
-text-refusal-requires c κs = tt
+text-reading-requires : tie.Need-text-reading-requires
+text-reading-requires c κs = tt
 
 returns : tie.Need-returns
-returns c = text-refused (c .before .before .before .before .before .before .pre) (c .before .before .before .judge .ensures) (c .before .enum-told .given .1) (c .text-refusal .ensures)
+returns c = text-refused (c .before .before .before .before .before .before .pre) (c .before .before .before .judge .ensures) (c .before .enum-told .given .1) (c .text-reading .ensures)
 
 read-lines-requires : tie.Need-read-lines-requires
 read-lines-requires c κs = text-ready (c .before .before .before .before .before .before .before .pre) (c .before .before .before .before .judge .ensures) (c .before .before .j .given .1)
@@ -31,7 +31,7 @@ read-into-spec =
     judge-requires
     enum-known-j
     enum-told
-    text-refusal-requires
+    text-reading-requires
     returns
     read-lines-requires
     returns-2)

@@ -28,14 +28,14 @@ enum-known-x c = (c .match .keys1)
 enum-told : tie.Need-enum-told Inv-loop μ-loop
 enum-told c = (c .match .keys2)
 
-add-frame-refusal : tie.Need-add-frame-refusal Inv-loop μ-loop
-add-frame-refusal c = omega (arith, (c .before .before .before .before .before .before .before .loop .inv .fewer), (c .before .before .before .before .before .before .before .loop .inv .walk .within), (c .before .before .before .before .before .before .before .loop .inv .fits))
+add-frame-reading : tie.Need-add-frame-reading Inv-loop μ-loop
+add-frame-reading c = omega (arith, (c .before .before .before .before .before .before .before .loop .inv .fewer), (c .before .before .before .before .before .before .before .loop .inv .walk .within), (c .before .before .before .before .before .before .before .loop .inv .fits))
 
-frame-refusal-requires : tie.Need-frame-refusal-requires Inv-loop μ-loop
-frame-refusal-requires c κs = tt
+frame-reading-requires : tie.Need-frame-reading-requires Inv-loop μ-loop
+frame-reading-requires c κs = tt
 
 returns : tie.Need-returns Inv-loop μ-loop
-returns c = line-refused (c .before .before .before .before .before .before .before .before .loop .inv) (c .before .before .before .before .before .before .before .loop-test .taken) (c .before .before .before .before .before .line-of .ensures) (c .before .before .before .frame .ensures) (c .before .enum-told .given .1) (c .frame-refusal .ensures)
+returns c = line-refused (c .before .before .before .before .before .before .before .before .loop .inv) (c .before .before .before .before .before .before .before .loop-test .taken) (c .before .before .before .before .before .line-of .ensures) (c .before .before .before .frame .ensures) (c .before .enum-told .given .1) (c .frame-reading .ensures)
 
 add-at : tie.Need-add-at Inv-loop μ-loop
 add-at c = omega (arith, line-end (c .before .before .before .before .before .before .before .before .loop .inv) (c .before .before .before .before .before .before .before .loop-test .taken) (c .before .before .before .before .before .line-of .ensures), (c .before .before .before .before .before .before .before .before .loop .inv .fits))
@@ -72,8 +72,8 @@ read-lines-spec =
     frame-requires
     enum-known-x
     enum-told
-    add-frame-refusal
-    frame-refusal-requires
+    add-frame-reading
+    frame-reading-requires
     returns
     add-at
     add-at-2
