@@ -1,5 +1,5 @@
--- What the functions that pass over an expression promise: from a place within the line, and for every scope that the tables
--- tell, the answer is the parser's.
+-- What the functions that pass over an expression promise: from a place within the line, and for every scope that the index
+-- tells, the answer is the parser's.
 use Prim.Native.Nat.{ℕ, _+_, _*_, _<_, _≤_}
 use mathlib.Core.List.{List, []}
 use mathlib.Core.Path.{_≡_}
@@ -20,33 +20,34 @@ use Rattle.text.specs.declared.Step.the-variants.{Next, Stop}
 use Rattle.expression_reader.specs.Parts.{headAt}
 use Rattle.expression_reader.specs.declared.Names.{Names}
 use Rattle.index.specs.Tables.{functionWords}
+use Rattle.index.specs.Sections.{typesOf, functionsOf}
 use Rattle.index.specs.Enters.{TellsType}
 
--- the scope that the numbers in s and the tables tell
-pub record Tells (types functions : List ℕ) (s : Names) (S : Scope) : Type 0 where
+-- the scope that the numbers in s and the index tell
+pub record Tells (index : List ℕ) (s : Names) (S : Scope) : Type 0 where
   pub variables : S .variables ≡ s .variables
   pub sizes : S .sizes ≡ s .sizes
   pub now : S .now ≡ s .now
   pub last : S .last ≡ s .last
   pub typeCount : length (S .types) ≡ s .types
   pub functionCount : length (S .arities) ≡ s .functions
-  pub each : (t : ℕ) → t < s .types → TellsType types t (getD (S .types) t [])
-  pub arities : (f : ℕ) → f < s .functions → getD functions (functionWords * f) 0 ≡ getD (S .arities) f 0
+  pub each : (t : ℕ) → t < s .types → TellsType (typesOf index) t (getD (S .types) t [])
+  pub arities : (f : ℕ) → f < s .functions → getD (functionsOf index) (functionWords * f) 0 ≡ getD (S .arities) f 0
   pub few : (f : ℕ) → f < s .functions → getD (S .arities) f 0 ≤ parametersMost
 
-pub record Follows {A : Type 0} (line types functions : List ℕ) (c : Cursor) (s : Names) (r : Step) (p : Scope → Parser A) : Type 0 where
-  pub says : (S : Scope) → Tells types functions s S → c .at ≤ length (bytesOf line) → Passes line (c .at) r (forget (p S (bytesFrom line (c .at))))
-  -- whatever the tables tell, the cursor does not go back, and stays within the line
+pub record Follows {A : Type 0} (line index : List ℕ) (c : Cursor) (s : Names) (r : Step) (p : Scope → Parser A) : Type 0 where
+  pub says : (S : Scope) → Tells index s S → c .at ≤ length (bytesOf line) → Passes line (c .at) r (forget (p S (bytesFrom line (c .at))))
+  -- whatever the index tells, the cursor does not go back, and stays within the line
   pub on : c .at ≤ length (bytesOf line) → Moved (c .at) (bytesOf line) r
 
 -- the same for a number, which is how many parts follow
-pub record Opens (line types functions : List ℕ) (c : Cursor) (s : Names) (r : Number) (p : Scope → Parser ℕ) : Type 0 where
-  pub says : (S : Scope) → Tells types functions s S → c .at ≤ length (bytesOf line) → ReadsNumber line (c .at) r (p S (bytesFrom line (c .at)))
+pub record Opens (line index : List ℕ) (c : Cursor) (s : Names) (r : Number) (p : Scope → Parser ℕ) : Type 0 where
+  pub says : (S : Scope) → Tells index s S → c .at ≤ length (bytesOf line) → ReadsNumber line (c .at) r (p S (bytesFrom line (c .at)))
   pub on : c .at ≤ length (bytesOf line) → Moved (c .at) (bytesOf line) (stepOf r)
 
 -- the head of an expression: where there is one, the cursor has gone on and a level was left
-pub record Heads (line types functions : List ℕ) (c : Cursor) (s : Names) (r : Number) (levels : ℕ) : Type 0 where
-  pub says : (S : Scope) → Tells types functions s S → c .at ≤ length (bytesOf line) → ReadsNumber line (c .at) r (headAt levels S (bytesFrom line (c .at)))
+pub record Heads (line index : List ℕ) (c : Cursor) (s : Names) (r : Number) (levels : ℕ) : Type 0 where
+  pub says : (S : Scope) → Tells index s S → c .at ≤ length (bytesOf line) → ReadsNumber line (c .at) r (headAt levels S (bytesFrom line (c .at)))
   pub further : {f : Found} → r ≡ Is f → (c .at < f .next .at) × (f .next .at ≤ length (bytesOf line))
   pub level : {f : Found} → r ≡ Is f → 0 < levels
 

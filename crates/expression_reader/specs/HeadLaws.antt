@@ -66,9 +66,9 @@ module _ (line : List ℕ) (c : Cursor) (levels : ℕ) {x : Number} (v : ReadsNu
   code-further : {f : Found} → x ≡ Is f → c .at < f .next .at
   code-further {f} e = shorter-further (bytesOf line) (c .at) (f .next .at) (place-shorter (ltb 0 levels) 16 13 (bytesFrom line (c .at)) (number-got (v .0) e))
 
-module _ (line types functions : List ℕ) (c : Cursor) (s : Names) (levels : ℕ) {x : Number} (v : ReadsNumber line (c .at) x (placeIn (ltb 0 levels) 16 13 (bytesFrom line (c .at))) × Below byteRange x) (room : 0 < levels → Roomy s) where
+module _ (line index : List ℕ) (c : Cursor) (s : Names) (levels : ℕ) {x : Number} (v : ReadsNumber line (c .at) x (placeIn (ltb 0 levels) 16 13 (bytesFrom line (c .at))) × Below byteRange x) (room : 0 < levels → Roomy s) where
   -- no code: refused as the definition refuses
-  pub head-none : {n : ℕ} → x ≡ Refused n → Heads line types functions c s x levels
+  pub head-none : {n : ℕ} → x ≡ Refused n → Heads line index c s x levels
   unfolding headAt
   head-none {n} e = record {
     says = λ S t here. number-none (v .0) e (by S t levels room (v .0));
@@ -76,12 +76,12 @@ module _ (line types functions : List ℕ) (c : Cursor) (s : Names) (levels : �
     level = λ h. absurd (let z : _≡_ {A = ℕ} 0 1 = cc in omega arith);
   }
     where
-      by : (S : Scope) → Tells types functions s S → (m : ℕ) → (0 < m → Roomy s) → ReadsNumber line (c .at) x (placeIn (ltb 0 m) 16 13 (bytesFrom line (c .at))) → headAt m S (bytesFrom line (c .at)) ≡ bad n
+      by : (S : Scope) → Tells index s S → (m : ℕ) → (0 < m → Roomy s) → ReadsNumber line (c .at) x (placeIn (ltb 0 m) 16 13 (bytesFrom line (c .at))) → headAt m S (bytesFrom line (c .at)) ≡ bad n
       by S t zero w r = code-in-stops false 16 forms (λ form. refuse 7) r e
       by S t (suc m) w r = rw (tells-roomy t (w (omega arith))) (code-in-stops true 16 forms (λ form. parts (exprAt m) S form) (rw (lt-ltb 0 (suc m) (omega arith)) at r) e)
 
-  module _ {f : Found} (e : x ≡ Is f) {r : Number} (u : Opens line types functions (f .next) s r (λ S. parts (exprAt (levels - 1)) S (formAt (f .value)))) where
-    head-is : (S : Scope) → Tells types functions s S → headAt levels S (bytesFrom line (c .at)) ≡ parts (exprAt (levels - 1)) S (formAt (f .value)) (bytesFrom line (f .next .at))
+  module _ {f : Found} (e : x ≡ Is f) {r : Number} (u : Opens line index (f .next) s r (λ S. parts (exprAt (levels - 1)) S (formAt (f .value)))) where
+    head-is : (S : Scope) → Tells index s S → headAt levels S (bytesFrom line (c .at)) ≡ parts (exprAt (levels - 1)) S (formAt (f .value)) (bytesFrom line (f .next .at))
     unfolding headAt
     head-is S t = by levels room (v .0) (code-level line c levels v e)
       where
@@ -96,7 +96,7 @@ module _ (line types functions : List ℕ) (c : Cursor) (s : Names) (levels : �
     next-within : f .next .at ≤ length (bytesOf line)
     next-within = ends-within (number-moved (v .0) e)
 
-    pub head-done : Heads line types functions c s r levels
+    pub head-done : Heads line index c s r levels
     head-done = record {
       says = λ S t here. reads-behind (number-moved (v .0) e) (head-is S t) (u .says S t next-within);
       further = λ h. let m = rw (ap stepOf h) at (u .on next-within) in (lt-of-lt-of-le (code-further line c levels v e) (goes m), ends-within m);

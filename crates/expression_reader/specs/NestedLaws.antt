@@ -26,30 +26,30 @@ use Rattle.expression_reader.specs.Follows.{Tells, Follows, Heads, level
 use Rattle.expression_reader.specs.ScopeLaws.{LevelsIn, roomy, narrow, levels-in, narrow-scope}
 
 -- ---- another parser that says the same
-same-follows : {A B : Type 0} {line types functions : List ℕ} {c : Cursor} {s : Names} {r : Step} (p : Scope → Parser A) (q : Scope → Parser B) → ((S : Scope) → Tells types functions s S → forget (p S (bytesFrom line (c .at))) ≡ forget (q S (bytesFrom line (c .at)))) → Follows line types functions c s r q → Follows line types functions c s r p
+same-follows : {A B : Type 0} {line index : List ℕ} {c : Cursor} {s : Names} {r : Step} (p : Scope → Parser A) (q : Scope → Parser B) → ((S : Scope) → Tells index s S → forget (p S (bytesFrom line (c .at))) ≡ forget (q S (bytesFrom line (c .at)))) → Follows line index c s r q → Follows line index c s r p
 same-follows {line} {c} {r} p q same u = record { says = λ S t here. subst (λ y. Passes line (c .at) r y) (sym (same S t)) (u .says S t here); on = u .on }
 
 -- ---- so far: what remains decides the rest
-pub record NestedTo (line types functions : List ℕ) (c : Cursor) (s : Names) (levels most : ℕ) (next : Cursor) (W : List ℕ) (depth left : ℕ) : Type 0 where
+pub record NestedTo (line index : List ℕ) (c : Cursor) (s : Names) (levels most : ℕ) (next : Cursor) (W : List ℕ) (depth left : ℕ) : Type 0 where
   pub deep : depth ≤ most
   pub long : length W ≡ nestingMost
-  pub rest : (r : Step) → Follows line types functions next s r (λ S. remaining most S left W depth) → Follows line types functions c s r (exprAt levels)
+  pub rest : (r : Step) → Follows line index next s r (λ S. remaining most S left W depth) → Follows line index c s r (exprAt levels)
 
-module _ (line types functions : List ℕ) (c : Cursor) (s : Names) (levels : ℕ) where
-  pub nested-start : {most : ℕ} {W : List ℕ} → most ≡ levelsIn s levels → length W ≡ nestingMost → NestedTo line types functions c s levels most c W 0 1
+module _ (line index : List ℕ) (c : Cursor) (s : Names) (levels : ℕ) where
+  pub nested-start : {most : ℕ} {W : List ℕ} → most ≡ levelsIn s levels → length W ≡ nestingMost → NestedTo line index c s levels most c W 0 1
   nested-start {most} {W} e size = record {
     deep = omega arith;
     long = size;
     rest = λ r u. same-follows (exprAt levels) (λ S. remaining most S 1 W 0) (λ S t. exprs-one (exprAt levels S) (bytesFrom line (c .at)) ∙ by S t (levels-in s levels e)) u;
   }
     where
-      by : (S : Scope) → Tells types functions s S → {m : ℕ} → LevelsIn s levels m → forget (exprs (exprAt levels S) 1 (bytesFrom line (c .at))) ≡ forget (remaining m S 1 W 0 (bytesFrom line (c .at)))
+      by : (S : Scope) → Tells index s S → {m : ℕ} → LevelsIn s levels m → forget (exprs (exprAt levels S) 1 (bytesFrom line (c .at))) ≡ forget (remaining m S 1 W 0 (bytesFrom line (c .at)))
       by S t (roomy w) = remaining-all levels S W 1 (bytesFrom line (c .at))
       by S t (narrow h) = ap forget (narrow-exprs levels S (narrow-scope t h) 1 (bytesFrom line (c .at))) ∙ remaining-all 0 S W 1 (bytesFrom line (c .at))
 
-  module _ {most : ℕ} {next : Cursor} {W : List ℕ} {depth left : ℕ} (p : NestedTo line types functions c s levels most next W depth left) where
+  module _ {most : ℕ} {next : Cursor} {W : List ℕ} {depth left : ℕ} (p : NestedTo line index c s levels most next W depth left) where
     -- nothing is left
-    pub nested-end : left ≡ 0 → depth ≡ 0 → Follows line types functions c s (Next next) (exprAt levels)
+    pub nested-end : left ≡ 0 → depth ≡ 0 → Follows line index c s (Next next) (exprAt levels)
     unfolding forget
     nested-end none out = p .rest (Next next) (rw (none, out) (record {
       says = λ S t here. pass-here (moved {c = next} (le-refl (next .at)) here) (ap forget (remaining-none most S W (bytesFrom line (next .at))));
@@ -57,7 +57,7 @@ module _ (line types functions : List ℕ) (c : Cursor) (s : Names) (levels : �
     }))
 
     -- what waited goes on
-    pub nested-resumed : {m : ℕ} → left ≡ 0 → (depth ≡ 0 → ⊥) → m ≡ getD W (depth - 1) 0 → NestedTo line types functions c s levels most next W (depth - 1) m
+    pub nested-resumed : {m : ℕ} → left ≡ 0 → (depth ≡ 0 → ⊥) → m ≡ getD W (depth - 1) 0 → NestedTo line index c s levels most next W (depth - 1) m
     nested-resumed {m} none deep e = record {
       deep = omega (arith, p .deep);
       long = p .long;
@@ -72,8 +72,8 @@ module _ (line types functions : List ℕ) (c : Cursor) (s : Names) (levels : �
             ∙ ap (λ k. forget (remaining most S k W (depth - 1) (bytesFrom line (next .at)))) (sym e)
 
     -- ---- the head of the next one
-    module _ (some : left ≡ 0 → ⊥) {x : Number} (h : Heads line types functions next s x (most - depth)) where
-      pub nested-refused : {m : ℕ} {r : Step} → x ≡ Refused m → r ≡ stepOf x → Follows line types functions c s r (exprAt levels)
+    module _ (some : left ≡ 0 → ⊥) {x : Number} (h : Heads line index next s x (most - depth)) where
+      pub nested-refused : {m : ℕ} {r : Step} → x ≡ Refused m → r ≡ stepOf x → Follows line index c s r (exprAt levels)
       nested-refused {r = r} e d = p .rest r (record {
         says = λ S t here. subst (λ y. Passes line (next .at) r y) (sym (remaining-head most S W left depth (bytesFrom line (next .at)) (omega (arith, some)))) (read-stops-pass _ (h .says S t here) e d);
         on = λ here. rw (d, e) stopped;
@@ -81,20 +81,20 @@ module _ (line types functions : List ℕ) (c : Cursor) (s : Names) (levels : �
 
       module _ {f : Found} (e : x ≡ Is f) where
         -- what is left behind the head
-        behind-head : (r : Step) (q : Scope → Parser (Unit {0})) → ((S : Scope) (cs : List ℕ) → andThen (exprs (exprAt (most - depth - 1) S) (f .value) cs) (λ es ds. remaining most S (left - 1) W depth ds) ≡ q S cs) → Follows line types functions (f .next) s r q → Follows line types functions next s r (λ S. remaining most S left W depth)
+        behind-head : (r : Step) (q : Scope → Parser (Unit {0})) → ((S : Scope) (cs : List ℕ) → andThen (exprs (exprAt (most - depth - 1) S) (f .value) cs) (λ es ds. remaining most S (left - 1) W depth ds) ≡ q S cs) → Follows line index (f .next) s r q → Follows line index next s r (λ S. remaining most S left W depth)
         behind-head r q same u = record {
           says = λ S t here. subst (λ y. Passes line (next .at) r y) (sym (remaining-head most S W left depth (bytesFrom line (next .at)) (omega (arith, some)))) (read-then-pass _ (h .says S t here) e (subst (λ y. Passes line (f .next .at) r (forget y)) (sym (same S (bytesFrom line (f .next .at)))) (u .says S t (h .further e .1))));
           on = λ here. moved-from (omega (arith, h .further e .0)) (u .on (h .further e .1));
         }
 
-        pub nested-passed : {d : Cursor} → f .value ≡ 0 → d ≡ f .next → NestedTo line types functions c s levels most d W depth (left - 1)
+        pub nested-passed : {d : Cursor} → f .value ≡ 0 → d ≡ f .next → NestedTo line index c s levels most d W depth (left - 1)
         nested-passed none q = rw q (record {
           deep = p .deep;
           long = p .long;
           rest = λ r u. p .rest r (behind-head r (λ S. remaining most S (left - 1) W depth) (λ S cs. rw none (remaining-leaf most S W (left - 1) depth cs)) u);
         })
 
-        pub nested-inside : {d : Cursor} {T : List ℕ} → most ≤ nestingMost → d ≡ f .next → T ≡ set W depth (left - 1) → NestedTo line types functions c s levels most d T (depth + 1) (f .value)
+        pub nested-inside : {d : Cursor} {T : List ℕ} → most ≤ nestingMost → d ≡ f .next → T ≡ set W depth (left - 1) → NestedTo line index c s levels most d T (depth + 1) (f .value)
         nested-inside few q w =
             let level : 0 < most - depth = h .level e in
             rw (q, w) (record {
@@ -113,7 +113,7 @@ module _ (line types functions : List ℕ) (c : Cursor) (s : Names) (levels : �
 abbrev pub bytesLeft : List ℕ → ℕ → ℕ
 bytesLeft line at = length (bytesOf line) - at
 
-pub fewer-left : {line types functions : List ℕ} {next d : Cursor} {s : Names} {x : Number} {levels : ℕ} {f : Found} (depth deeper : ℕ) → deeper ≤ depth + 1 → Heads line types functions next s x levels → x ≡ Is f → d ≡ f .next → bytesLeft line (d .at) * 2 + deeper < bytesLeft line (next .at) * 2 + depth
+pub fewer-left : {line index : List ℕ} {next d : Cursor} {s : Names} {x : Number} {levels : ℕ} {f : Found} (depth deeper : ℕ) → deeper ≤ depth + 1 → Heads line index next s x levels → x ≡ Is f → d ≡ f .next → bytesLeft line (d .at) * 2 + deeper < bytesLeft line (next .at) * 2 + depth
 fewer-left {line} {next = next} {f = f} depth deeper few h e q = rw q (less (length (bytesOf line)) (next .at) (f .next .at) (h .further e .0) (h .further e .1))
   where
     less : (size at behind : ℕ) → at < behind → behind ≤ size → (size - behind) * 2 + deeper < (size - at) * 2 + depth

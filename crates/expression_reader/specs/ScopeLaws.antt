@@ -1,4 +1,4 @@
--- Scopes that tables tell, and levels left in them.
+-- Scopes that the index tells, and levels left in them.
 use Prim.Native.Nat.{ℕ, _+_, _%_, _≤_, _<_}
 use mathlib.Core.List.{List}
 use mathlib.Core.Bool.{Bool, true, false}
@@ -13,15 +13,15 @@ use Rattle.theory.specs.Lists.{both-left, both-right}
 use Rattle.expression_reader.specs.declared.Names.{Names}
 use Rattle.expression_reader.specs.Follows.{Tells, Roomy, levelsIn, widerNames}
 
-pub tells-wider : {types functions : List ℕ} {s : Names} {S : Scope} (v z : ℕ) → Tells types functions s S → Tells types functions (widerNames v z s) (wider v z S)
+pub tells-wider : {index : List ℕ} {s : Names} {S : Scope} (v z : ℕ) → Tells index s S → Tells index (widerNames v z s) (wider v z S)
 unfolding wider
 tells-wider v z t = record { variables = ap (λ n. n + v) (t .variables); sizes = ap (λ n. n + z) (t .sizes); now = t .now; last = t .last; typeCount = t .typeCount; functionCount = t .functionCount; each = t .each; arities = t .arities; few = t .few }
 
-tells-room : {types functions : List ℕ} {s : Names} {S : Scope} → Tells types functions s S → roomIn S ≡ both (leb (s .variables) variablesMost) (leb (s .sizes) sizeVariablesMost)
+tells-room : {index : List ℕ} {s : Names} {S : Scope} → Tells index s S → roomIn S ≡ both (leb (s .variables) variablesMost) (leb (s .sizes) sizeVariablesMost)
 unfolding roomIn
 tells-room t = rw (t .variables, t .sizes)
 
-pub tells-roomy : {types functions : List ℕ} {s : Names} {S : Scope} → Tells types functions s S → Roomy s → roomIn S ≡ true
+pub tells-roomy : {index : List ℕ} {s : Names} {S : Scope} → Tells index s S → Roomy s → roomIn S ≡ true
 unfolding both
 tells-roomy {s} t w = tells-room t ∙ rw (le-leb (s .variables) variablesMost (w .variables), le-leb (s .sizes) sizeVariablesMost (w .sizes))
 
@@ -63,5 +63,5 @@ pub levels-most : {s : Names} {levels most : ℕ} → LevelsIn s levels most →
 levels-most (roomy w) = omega arith
 levels-most (narrow h) = omega arith
 
-pub narrow-scope : {types functions : List ℕ} {s : Names} {S : Scope} → Tells types functions s S → both (leb (s .variables) variablesMost) (leb (s .sizes) sizeVariablesMost) ≡ false → roomIn S ≡ false
+pub narrow-scope : {index : List ℕ} {s : Names} {S : Scope} → Tells index s S → both (leb (s .variables) variablesMost) (leb (s .sizes) sizeVariablesMost) ≡ false → roomIn S ≡ false
 narrow-scope t h = tells-room t ∙ h

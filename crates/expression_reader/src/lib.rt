@@ -8,11 +8,12 @@ ghost use Rattle.language.specs.Limits.{byteRange, nestingMost};
 ghost use Rattle.language.specs.ReadExpr.{exprAt, exprBehind, branches as branchesRead, letForm, callForm, conForm, caseForm, fitForm};
 ghost use Rattle.expression_reader.specs.Follows.{Follows, Opens, Heads, Roomy, widerNames, levelsIn, openedBy, formAt};
 ghost use Rattle.expression_reader.specs.Parts.{parts};
-use index::arity;
-use index::constructors;
-use index::fields;
-use index::own_fields;
+use index::INDEX_WORDS;
+use index::functions::arity;
 use index::put;
+use index::types::constructors;
+use index::types::fields;
+use index::types::own_fields;
 use index::word_at;
 use language::limits::NESTING_MOST;
 use language::limits::SIZE_MOST;
@@ -78,21 +79,21 @@ fn opened(x: Step, parts: u32) -> Number
 }
 
 // `18`: a call; its arguments follow.
-fn call(line: &[u8], types: &[u32], functions: &[u32], c: Cursor, s: Names) -> Number
-    ensures { λ r. ⌜ Opens (now (line .entry)) (now (types .entry)) (now (functions .entry)) c s r (λ S. parts (exprAt 0) S callForm) ⌝ }
+fn call(line: &[u8], index: &[u32; INDEX_WORDS], c: Cursor, s: Names) -> Number
+    ensures { λ r. ⌜ Opens (now (line .entry)) (now (index .entry)) c s r (λ S. parts (exprAt 0) S callForm) ⌝ }
 {
     let known = s.functions;
     let x = c.index(line, known);
     let Number::Is(f) = x else {
         return x;
     };
-    let parts = arity(functions, f.value);
+    let parts = arity(index, f.value);
     opened(step_of(x), parts)
 }
 
 // `19`: a constructor; its fields follow.
-fn construct(line: &[u8], types: &[u32], functions: &[u32], c: Cursor, s: Names) -> Number
-    ensures { λ r. ⌜ Opens (now (line .entry)) (now (types .entry)) (now (functions .entry)) c s r (λ S. parts (exprAt 0) S conForm) ⌝ }
+fn construct(line: &[u8], index: &[u32; INDEX_WORDS], c: Cursor, s: Names) -> Number
+    ensures { λ r. ⌜ Opens (now (line .entry)) (now (index .entry)) c s r (λ S. parts (exprAt 0) S conForm) ⌝ }
 {
     let known = s.types;
     let x = c.index(line, known);
@@ -101,27 +102,27 @@ fn construct(line: &[u8], types: &[u32], functions: &[u32], c: Cursor, s: Names)
     };
     let t = f.value;
     let second = f.next;
-    let count = constructors(types, t);
+    let count = constructors(index, t);
     let y = second.index(line, count);
     let Number::Is(g) = y else {
         return y;
     };
-    let parts = fields(types, t, g.value);
+    let parts = fields(index, t, g.value);
     opened(step_of(y), parts)
 }
 
 // An expression; none is nested deeper than the limit.
-pub fn expr(line: &[u8], types: &[u32], functions: &[u32], c: Cursor, s: Names) -> Step
-    ensures { λ r. ⌜ Follows (now (line .entry)) (now (types .entry)) (now (functions .entry)) c s r (exprAt nestingMost) ⌝ }
+pub fn expr(line: &[u8], index: &[u32; INDEX_WORDS], c: Cursor, s: Names) -> Step
+    ensures { λ r. ⌜ Follows (now (line .entry)) (now (index .entry)) c s r (exprAt nestingMost) ⌝ }
 {
-    nested(line, types, functions, c, s, NESTING_MOST)
+    nested(line, index, c, s, NESTING_MOST)
 }
 
 // An expression with so many levels left. The parts of a form that are in its own scope are passed in the same loop; for each level
 // inside, `waiting` has how many are still to be passed there.
-fn nested(line: &[u8], types: &[u32], functions: &[u32], c: Cursor, s: Names, levels: u32) -> Step
+fn nested(line: &[u8], index: &[u32; INDEX_WORDS], c: Cursor, s: Names, levels: u32) -> Step
     requires { ⌜ levels ≤ nestingMost ⌝ }
-    ensures { λ r. ⌜ Follows (now (line .entry)) (now (types .entry)) (now (functions .entry)) c s r (exprAt levels) ⌝ }
+    ensures { λ r. ⌜ Follows (now (line .entry)) (now (index .entry)) c s r (exprAt levels) ⌝ }
 {
     let most = levels_in(s, levels);
     let mut waiting = [0u32; NESTING_MOST as usize];
@@ -136,7 +137,7 @@ fn nested(line: &[u8], types: &[u32], functions: &[u32], c: Cursor, s: Names, le
             depth -= 1;
             left = word_at(&waiting, depth as usize);
         } else {
-            let x = head(line, types, functions, next, s, most - depth);
+            let x = head(line, index, next, s, most - depth);
             let Number::Is(f) = x else {
                 return step_of(x);
             };
@@ -152,24 +153,23 @@ fn nested(line: &[u8], types: &[u32], functions: &[u32], c: Cursor, s: Names, le
 }
 
 // The code of an expression and what stands behind it, up to parts in the same scope: how many of those follow.
-fn head(line: &[u8], types: &[u32], functions: &[u32], c: Cursor, s: Names, levels: u32) -> Number
+fn head(line: &[u8], index: &[u32; INDEX_WORDS], c: Cursor, s: Names, levels: u32) -> Number
     requires { ⌜ levels ≤ nestingMost ⌝ }
     requires { ⌜ (0 < levels → Roomy s) ⌝ }
-    ensures { λ r. ⌜ Heads (now (line .entry)) (now (types .entry)) (now (functions .entry)) c s r levels ⌝ }
+    ensures { λ r. ⌜ Heads (now (line .entry)) (now (index .entry)) c s r levels ⌝ }
 {
     let x = c.code_in(line, 0 < levels, 16, 13);
     let Number::Is(f) = x else {
         return x;
     };
     let next = f.next;
-    behind(line, types, functions, next, s, levels - 1, f.value)
+    behind(line, index, next, s, levels - 1, f.value)
 }
 
 // What stands behind the code of a form, with so many levels left inside; forms are counted from `10`.
 fn behind(
     line: &[u8],
-    types: &[u32],
-    functions: &[u32],
+    index: &[u32; INDEX_WORDS],
     c: Cursor,
     s: Names,
     levels: u32,
@@ -178,7 +178,7 @@ fn behind(
     requires { ⌜ levels ≤ nestingMost ⌝ }
     requires { ⌜ Roomy s ⌝ }
     requires { ⌜ form < 13 ⌝ }
-    ensures { λ r. ⌜ Opens (now (line .entry)) (now (types .entry)) (now (functions .entry)) c s r (λ S. parts (exprAt levels) S (formAt form)) ⌝ }
+    ensures { λ r. ⌜ Opens (now (line .entry)) (now (index .entry)) c s r (λ S. parts (exprAt levels) S (formAt form)) ⌝ }
 {
     match form {
         0 => opened(step_of(c.code(line, 0, 2)), 0),
@@ -186,36 +186,36 @@ fn behind(
         2 => opened(step_of(c.index(line, s.variables)), 0),
         3 => opened(step_of(c.index(line, s.now)), 0),
         4 => opened(step_of(c.index(line, s.last)), 0),
-        5 => opened(binding(line, types, functions, c, s, levels), 0),
+        5 => opened(binding(line, index, c, s, levels), 0),
         6 => opened(Step::Next(c), 3),
         7 => opened(step_of(c.code(line, 0, 8)), 2),
-        8 => call(line, types, functions, c, s),
-        9 => construct(line, types, functions, c, s),
-        10 => opened(case_of(line, types, functions, c, s, levels), 0),
+        8 => call(line, index, c, s),
+        9 => construct(line, index, c, s),
+        10 => opened(case_of(line, index, c, s, levels), 0),
         11 => opened(c.size(line, s.sizes, NESTING_MOST), 1),
-        _ => opened(fit(line, types, functions, c, s, levels), 0),
+        _ => opened(fit(line, index, c, s, levels), 0),
     }
 }
 
 // `15`: a let.
-fn binding(line: &[u8], types: &[u32], functions: &[u32], c: Cursor, s: Names, levels: u32) -> Step
+fn binding(line: &[u8], index: &[u32; INDEX_WORDS], c: Cursor, s: Names, levels: u32) -> Step
     requires { ⌜ levels ≤ nestingMost ⌝ }
     requires { ⌜ Roomy s ⌝ }
-    ensures { λ r. ⌜ Follows (now (line .entry)) (now (types .entry)) (now (functions .entry)) c s r (λ S. exprBehind (exprAt levels) S letForm) ⌝ }
+    ensures { λ r. ⌜ Follows (now (line .entry)) (now (index .entry)) c s r (λ S. exprBehind (exprAt levels) S letForm) ⌝ }
 {
-    let x = nested(line, types, functions, c, s, levels);
+    let x = nested(line, index, c, s, levels);
     let Step::Next(next) = x else {
         return x;
     };
     let inner = wider(s, 1, 0);
-    nested(line, types, functions, next, inner, levels)
+    nested(line, index, next, inner, levels)
 }
 
 // `1A`: a case: its subject, its return type, a branch for each constructor.
-fn case_of(line: &[u8], types: &[u32], functions: &[u32], c: Cursor, s: Names, levels: u32) -> Step
+fn case_of(line: &[u8], index: &[u32; INDEX_WORDS], c: Cursor, s: Names, levels: u32) -> Step
     requires { ⌜ levels ≤ nestingMost ⌝ }
     requires { ⌜ Roomy s ⌝ }
-    ensures { λ r. ⌜ Follows (now (line .entry)) (now (types .entry)) (now (functions .entry)) c s r (λ S. exprBehind (exprAt levels) S caseForm) ⌝ }
+    ensures { λ r. ⌜ Follows (now (line .entry)) (now (index .entry)) c s r (λ S. exprBehind (exprAt levels) S caseForm) ⌝ }
 {
     let known = s.types;
     let sizes = s.sizes;
@@ -225,7 +225,7 @@ fn case_of(line: &[u8], types: &[u32], functions: &[u32], c: Cursor, s: Names, l
     };
     let t = f.value;
     let subject = f.next;
-    let y = nested(line, types, functions, subject, s, levels);
+    let y = nested(line, index, subject, s, levels);
     let Step::Next(written) = y else {
         return y;
     };
@@ -233,14 +233,13 @@ fn case_of(line: &[u8], types: &[u32], functions: &[u32], c: Cursor, s: Names, l
     let Step::Next(next) = z else {
         return z;
     };
-    branches(line, types, functions, next, s, levels, t, 0)
+    branches(line, index, next, s, levels, t, 0)
 }
 
 // The branches of a case over type t from constructor k on.
 fn branches(
     line: &[u8],
-    types: &[u32],
-    functions: &[u32],
+    index: &[u32; INDEX_WORDS],
     c: Cursor,
     s: Names,
     levels: u32,
@@ -250,41 +249,41 @@ fn branches(
     requires { ⌜ levels ≤ nestingMost ⌝ }
     requires { ⌜ Roomy s ⌝ }
     requires { ⌜ (t < s .types) × (k < byteRange) ⌝ }
-    ensures { λ r. ⌜ Follows (now (line .entry)) (now (types .entry)) (now (functions .entry)) c s r (λ S. branchesRead (exprAt levels) S (drop k (getD (S .types) t []))) ⌝ }
+    ensures { λ r. ⌜ Follows (now (line .entry)) (now (index .entry)) c s r (λ S. branchesRead (exprAt levels) S (drop k (getD (S .types) t []))) ⌝ }
 {
-    let count = constructors(types, t);
+    let count = constructors(index, t);
     if count <= k {
         return Step::Next(c);
     }
-    let variables = fields(types, t, k);
-    let sizes = own_fields(types, t, k);
+    let variables = fields(index, t, k);
+    let sizes = own_fields(index, t, k);
     let inner = wider(s, variables, sizes);
-    let x = nested(line, types, functions, c, inner, levels);
+    let x = nested(line, index, c, inner, levels);
     let Step::Next(next) = x else {
         return x;
     };
-    branches(line, types, functions, next, s, levels, t, k + 1)
+    branches(line, index, next, s, levels, t, k + 1)
 }
 
 // `1C`: a fit: its bound, the subject, the arm where it fits, the other arm.
-fn fit(line: &[u8], types: &[u32], functions: &[u32], c: Cursor, s: Names, levels: u32) -> Step
+fn fit(line: &[u8], index: &[u32; INDEX_WORDS], c: Cursor, s: Names, levels: u32) -> Step
     requires { ⌜ levels ≤ nestingMost ⌝ }
     requires { ⌜ Roomy s ⌝ }
-    ensures { λ r. ⌜ Follows (now (line .entry)) (now (types .entry)) (now (functions .entry)) c s r (λ S. exprBehind (exprAt levels) S fitForm) ⌝ }
+    ensures { λ r. ⌜ Follows (now (line .entry)) (now (index .entry)) c s r (λ S. exprBehind (exprAt levels) S fitForm) ⌝ }
 {
     let x = c.count(line, 1, SIZE_MOST);
     let Number::Is(f) = x else {
         return step_of(x);
     };
     let first = f.next;
-    let y = nested(line, types, functions, first, s, levels);
+    let y = nested(line, index, first, s, levels);
     let Step::Next(second) = y else {
         return y;
     };
     let inner = wider(s, 1, 0);
-    let z = nested(line, types, functions, second, inner, levels);
+    let z = nested(line, index, second, inner, levels);
     let Step::Next(third) = z else {
         return z;
     };
-    nested(line, types, functions, third, s, levels)
+    nested(line, index, third, s, levels)
 }

@@ -1,5 +1,6 @@
 pub mod Tables
 pub mod Sections
+pub mod Whole
 pub mod SectionLaws
 pub mod Padded
 pub mod Entries

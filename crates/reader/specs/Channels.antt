@@ -26,6 +26,8 @@ use Rattle.text.specs.Bytes.{bytesOf, bytesFrom, mapRead, forget, stepOf, Reads
 use Rattle.text.specs.DigitLaws.{bytes-length}
 use Rattle.text.specs.StepLaws.{ends-within, number-got, number-bad, number-moved, pass-got, pass-bad, pass-moved, pass-none, passes-behind, pass-stops-pass, forget-then}
 use Rattle.index.specs.Tables.{functionWords, functionEntry, functionTable, channelWords, inputEntry, nodeEntry, channelTable}
+use Rattle.index.specs.Sections.{channelsFrom, channelTableWords, typesOf, channelsOf}
+use Rattle.index.specs.SectionLaws.{Outside}
 use Rattle.index.specs.Enters.{TellsType}
 use Rattle.index.specs.TypeTable.{tells-type}
 use Rattle.index.specs.FunctionTable.{tells-parameters}
@@ -41,34 +43,34 @@ use Rattle.reader.specs.Places.{place-behind}
 abbrev pub outsideNames : Counts → ℕ → ℕ → Names
 outsideNames n now last = record { variables = 0; sizes = 0; now = now; last = last; types = n .types; functions = n .functions }
 
--- ---- the tables tell the scope outside all functions
+-- ---- the index tells the scope outside all functions
 abbrev pub noFunction : Function
 noFunction = record { parameters = []; result = rbool; conditions = []; measure = []; body = ebool true }
 
 pub arity-at : (Fs : List Function) (f : ℕ) → getD (aritiesOf Fs) f 0 ≡ length (getD Fs f noFunction .parameters)
 arity-at Fs f = List·getD-map (λ (F : Function). length (F .parameters)) Fs f noFunction
 
-module _ {types functions channels : List ℕ} {n : Counts} {P : File} (held : Held types functions channels n P) where
-  pub tells-types : (t : ℕ) → t < n .types → TellsType types t (getD (P .types) t [])
-  tells-types t h = let less : t < length (P .types) = omega (arith, held .typeCount) in tells-type (P .types) t (held .typesAre) (held .fewTypes) less (all-getD (held .parts) t [] less)
+module _ {index : List ℕ} {n : Counts} {P : File} (held : Held index n P) where
+  pub tells-types : (t : ℕ) → t < n .types → TellsType (typesOf index) t (getD (P .types) t [])
+  tells-types t h = let less : t < length (P .types) = omega (arith, held .counted .typeCount) in tells-type (P .types) t (held .typesAre) (held .fewTypes) less (all-getD (held .parts) t [] less)
 
   pub few-arities : (f : ℕ) → f < length (P .functions) → getD (aritiesOf (P .functions)) f 0 ≤ parametersMost
   few-arities f less = omega (arith, arity-at (P .functions) f, all-getD (held .parameters) f noFunction less)
 
-  tells-outside : (now last : ℕ) → Tells types functions (outsideNames n now last) (outerScope (P .types) (P .functions) now last)
+  tells-outside : (now last : ℕ) → Tells index (outsideNames n now last) (outerScope (P .types) (P .functions) now last)
   unfolding outerScope functionTable
   tells-outside now last = record {
     variables = refl;
     sizes = refl;
     now = refl;
     last = refl;
-    typeCount = held .typeCount;
-    functionCount = length-map (P .functions) _ ∙ held .functionCount;
+    typeCount = held .counted .typeCount;
+    functionCount = length-map (P .functions) _ ∙ held .counted .functionCount;
     each = tells-types;
-    arities = λ f h. let less : f < length (P .functions) = omega (arith, held .functionCount) in
+    arities = λ f h. let less : f < length (P .functions) = omega (arith, held .counted .functionCount) in
         tells-parameters (functionsMost * functionWords) (P .functions) [] f noFunction (held .functionsAre ∙ sym (ap (padded (functionsMost * functionWords)) (append-nil (spellAll functionEntry (P .functions))))) (omega (arith, held .fewFunctions)) less (all-getD (held .parameters) f noFunction less) .count
         ∙ sym (arity-at (P .functions) f);
-    few = λ f h. few-arities f (omega (arith, held .functionCount));
+    few = λ f h. few-arities f (omega (arith, held .counted .functionCount));
   }
 
 -- ---- a declared type: the word and the place behind it
@@ -119,10 +121,10 @@ pub place-is : {line : List ℕ} {n : Counts} {at word : ℕ} → Fits line n �
 place-is {line} fits w h = w .says (omega (arith, bytes-length line, fits .short))
 
 -- the same names, by another word
-pub follows-as : {line types functions : List ℕ} {c : Cursor} {s t : Names} {r : Step} {p : Scope → Parser Expr} → s ≡ t → Follows line types functions c s r p → Follows line types functions c t r p
-follows-as {line} {types} {functions} {c} {r} {p} e u = subst (λ m. Follows line types functions c m r p) e u
+pub follows-as : {line index : List ℕ} {c : Cursor} {s t : Names} {r : Step} {p : Scope → Parser Expr} → s ≡ t → Follows line index c s r p → Follows line index c t r p
+follows-as {line} {index} {c} {r} {p} e u = subst (λ m. Follows line index c m r p) e u
 
--- three words behind a channel table so far
+-- three words behind the channels so far
 pub channel-added : {channels channels′ : List ℕ} {to : ℕ} (a b d : ℕ) (before : List ℕ) → channels′ ≡ set (set (set channels to a) (to + 1) b) (to + 2) d → channels ≡ padded (channelsMost * channelWords) before → length before ≡ to → to + 3 ≤ channelsMost * channelWords →
     channels′ ≡ padded (channelsMost * channelWords) (before ++ (a ∷ b ∷ d ∷ []))
 channel-added {channels} {to} a b d before w tb len room =
@@ -132,33 +134,34 @@ channel-added {channels} {to} a b d before w tb len room =
     let three = next-word d n (before ++ (a ∷ []) ++ (b ∷ [])) w two (omega (arith, length-append before (a ∷ []), length-append (before ++ (a ∷ [])) (b ∷ []))) (omega arith) in
     three ∙ ap (padded n) (ap (λ l. l ++ (d ∷ [])) (append-assoc before (a ∷ []) (b ∷ [])) ∙ append-assoc before (a ∷ b ∷ []) (d ∷ []))
 
-module _ (line types functions channels channels′ : List ℕ) (n : Counts) {x : Number} (v : ReadsNumber line 1 x (mapRead declaredWord (declared (n .types) (bytesFrom line 1)))) where
+module _ (line index : List ℕ) (n : Counts) {x : Number} (v : ReadsNumber line 1 x (mapRead declaredWord (declared (n .types) (bytesFrom line 1)))) where
   -- ---- an input
-  -- where the frame is refused, nothing is said of the table
-  input-stops : {r : Step} {k : ℕ} → r ≡ Stop k → ((P : File) → Held types functions channels n P → Passes line 1 r (forget (input P (bytesFrom line 1)))) → ReadsInput line types functions channels n r channels′
+  -- where the frame is refused, the index is as it was
+  input-stops : {r : Step} {k : ℕ} → r ≡ Stop k → ((P : File) → Held index n P → Passes line 1 r (forget (input P (bytesFrom line 1)))) → ReadsInput line index n r index
   input-stops e says = record {
     says = λ P held none few long. says P held;
     enters = λ P held none few long i rest h. bad-is-not-got (sym (pass-bad (says P held) e) ∙ h);
+    outside = record { before = refl; behind = refl };
   }
 
-  pub input-no-type : {k : ℕ} {r : Step} → x ≡ Refused k → r ≡ stepOf x → ReadsInput line types functions channels n r channels′
+  pub input-no-type : {k : ℕ} {r : Step} → x ≡ Refused k → r ≡ stepOf x → ReadsInput line index n r index
   unfolding input forget
   input-no-type {k} e d = input-stops (d ∙ ap stepOf e) λ P held.
-      let none : declared (length (P .types)) (bytesFrom line 1) ≡ bad k = ap (λ t. declared t (bytesFrom line 1)) (held .typeCount) ∙ map-bad declaredWord _ (number-bad v e) in
+      let none : declared (length (P .types)) (bytesFrom line 1) ≡ bad k = ap (λ t. declared t (bytesFrom line 1)) (held .counted .typeCount) ∙ map-bad declaredWord _ (number-bad v e) in
       pass-none e d (ap forget (then-bad _ none))
 
   module _ {f : Found} (e : x ≡ Is f) where
     within : f .next .at ≤ length (bytesOf line)
     within = ends-within (number-moved v e)
 
-    type-read : {P : File} → Held types functions channels n P → Mapped declaredWord (declared (length (P .types)) (bytesFrom line 1)) (f .value) (bytesFrom line (f .next .at))
-    type-read {P} held = map-got declaredWord _ (ap (λ t. mapRead declaredWord (declared t (bytesFrom line 1))) (held .typeCount) ∙ number-got v e)
+    type-read : {P : File} → Held index n P → Mapped declaredWord (declared (length (P .types)) (bytesFrom line 1)) (f .value) (bytesFrom line (f .next .at))
+    type-read {P} held = map-got declaredWord _ (ap (λ t. mapRead declaredWord (declared t (bytesFrom line 1))) (held .counted .typeCount) ∙ number-got v e)
 
-    type-place : {P : File} (held : Held types functions channels n P) → 1 ≤ length (bytesOf line) → f .next .at ≡ 1 + length (declaredBytes (type-read held .value))
+    type-place : {P : File} (held : Held index n P) → 1 ≤ length (bytesOf line) → f .next .at ≡ 1 + length (declaredBytes (type-read held .value))
     type-place {P} held long = place-behind (declared-exact (length (P .types))) line 1 (f .next .at) long within (type-read held .is)
 
-    pub input-read : {r : Step} {a : ℕ} → Fits line n → PlaceWord (f .next .at) a → Follows line types functions (f .next) (outsideNames n 0 0) r (exprAt nestingMost) → channels′ ≡ set (set (set channels (channelWords * n .inputs) (f .value)) (channelWords * n .inputs + 1) a) (channelWords * n .inputs + 2) 0 →
-        ReadsInput line types functions channels n r channels′
+    pub input-read : {index′ : List ℕ} {r : Step} {a : ℕ} → Fits line n → PlaceWord (f .next .at) a → Follows line index (f .next) (outsideNames n 0 0) r (exprAt nestingMost) → (channelsOf index′ ≡ set (set (set (channelsOf index) (channelWords * n .inputs) (f .value)) (channelWords * n .inputs + 1) a) (channelWords * n .inputs + 2) 0) × Outside channelsFrom channelTableWords index index′ →
+        ReadsInput line index n r index′
     unfolding input inputEntry channelTable
     input-read {r} {a} fits p u w = record {
       says = λ P held none few long. let g = type-read held in passes-behind (number-moved v e) (ap forget (then-got _ (g .is)) ∙ forget-then _ _) (u .says (outerScope (P .types) (P .functions) 0 0) (tells-outside held 0 0) within);
@@ -166,36 +169,38 @@ module _ (line types functions channels channels′ : List ℕ) (n : Counts) {x 
           let g = type-read held in
           let m = last-got (λ (t : Expr). record { declared = g .value; initial = t }) _ (sym (then-got _ (g .is)) ∙ h) in
           let empty : length (P .nodes) ≡ 0 = ap length none in
-          let so-far : channels ≡ padded (channelsMost * channelWords) (spellAll inputEntry (P .inputs) ++ spellAll nodeEntry []) = held .channelsAre ∙ ap (channelTable (P .inputs)) none in
-          let added = channel-added (f .value) a 0 (spellAll inputEntry (P .inputs) ++ spellAll nodeEntry []) w so-far (channels-so-far (P .inputs) [] ∙ omega (arith, held .inputCount)) (omega arith) in
+          let so-far : channelsOf index ≡ padded (channelsMost * channelWords) (spellAll inputEntry (P .inputs) ++ spellAll nodeEntry []) = held .channelsAre ∙ ap (channelTable (P .inputs)) none in
+          let added = channel-added (f .value) a 0 (spellAll inputEntry (P .inputs) ++ spellAll nodeEntry []) (w .0) so-far (channels-so-far (P .inputs) [] ∙ omega (arith, held .counted .inputCount)) (omega arith) in
           let entry : f .value ∷ a ∷ 0 ∷ [] ≡ inputEntry i = three-words (sym (g .word)) (place-is fits p (ends-within (number-moved v e)) ∙ type-place held long) refl ∙ ap inputEntry (sym (m .made)) in
           added ∙ ap (λ l. padded (channelsMost * channelWords) ((spellAll inputEntry (P .inputs) ++ spellAll nodeEntry []) ++ l)) entry ∙ sym (input-more (P .inputs) i);
+      outside = w .1;
     }
 
   -- ---- a node
   module _ (all : ℕ) where
-    node-stops : {r : Step} {k : ℕ} → r ≡ Stop k → ((P : File) → Held types functions channels n P → Passes line 1 r (forget (node all P (bytesFrom line 1)))) → ReadsNode line types functions channels n all r channels′
+    node-stops : {r : Step} {k : ℕ} → r ≡ Stop k → ((P : File) → Held index n P → Passes line 1 r (forget (node all P (bytesFrom line 1)))) → ReadsNode line index n all r index
     node-stops e says = record {
       says = λ P held few long. says P held;
       enters = λ P held few long m rest h. bad-is-not-got (sym (pass-bad (says P held) e) ∙ h);
+      outside = record { before = refl; behind = refl };
     }
 
-    pub node-no-type : {k : ℕ} {r : Step} → x ≡ Refused k → r ≡ stepOf x → ReadsNode line types functions channels n all r channels′
+    pub node-no-type : {k : ℕ} {r : Step} → x ≡ Refused k → r ≡ stepOf x → ReadsNode line index n all r index
     unfolding node forget
     node-no-type {k} e d = node-stops (d ∙ ap stepOf e) λ P held.
-        let none : declared (length (P .types)) (bytesFrom line 1) ≡ bad k = ap (λ t. declared t (bytesFrom line 1)) (held .typeCount) ∙ map-bad declaredWord _ (number-bad v e) in
+        let none : declared (length (P .types)) (bytesFrom line 1) ≡ bad k = ap (λ t. declared t (bytesFrom line 1)) (held .counted .typeCount) ∙ map-bad declaredWord _ (number-bad v e) in
         pass-none e d (ap forget (then-bad _ none))
 
-    module _ {f : Found} (e : x ≡ Is f) {y : Step} (u : Follows line types functions (f .next) (outsideNames n 0 0) y (exprAt nestingMost)) where
-      initial-passes : {P : File} → Held types functions channels n P → Passes line (f .next .at) y (forget (exprAt nestingMost (outerScope (P .types) (P .functions) 0 0) (bytesFrom line (f .next .at))))
+    module _ {f : Found} (e : x ≡ Is f) {y : Step} (u : Follows line index (f .next) (outsideNames n 0 0) y (exprAt nestingMost)) where
+      initial-passes : {P : File} → Held index n P → Passes line (f .next .at) y (forget (exprAt nestingMost (outerScope (P .types) (P .functions) 0 0) (bytesFrom line (f .next .at))))
       initial-passes {P} held = u .says (outerScope (P .types) (P .functions) 0 0) (tells-outside held 0 0) (ends-within (number-moved v e))
 
-      pub node-no-initial : {k : ℕ} → y ≡ Stop k → ReadsNode line types functions channels n all y channels′
+      pub node-no-initial : {k : ℕ} → y ≡ Stop k → ReadsNode line index n all y index
       unfolding node
       node-no-initial {k} h = node-stops h λ P held. passes-behind (number-moved v e) (ap forget (then-got _ (type-read e held .is))) (pass-stops-pass _ _ (initial-passes held) h)
 
-      pub node-read : {d : Cursor} {r : Step} {a b : ℕ} → y ≡ Next d → Fits line n → PlaceWord (f .next .at) a → PlaceWord (d .at) b → Follows line types functions d (outsideNames n (n .inputs + n .nodes) all) r (exprAt nestingMost) →
-          channels′ ≡ set (set (set channels (channelWords * (n .inputs + n .nodes)) (f .value)) (channelWords * (n .inputs + n .nodes) + 1) a) (channelWords * (n .inputs + n .nodes) + 2) b → ReadsNode line types functions channels n all r channels′
+      pub node-read : {index′ : List ℕ} {d : Cursor} {r : Step} {a b : ℕ} → y ≡ Next d → Fits line n → PlaceWord (f .next .at) a → PlaceWord (d .at) b → Follows line index d (outsideNames n (n .inputs + n .nodes) all) r (exprAt nestingMost) →
+          (channelsOf index′ ≡ set (set (set (channelsOf index) (channelWords * (n .inputs + n .nodes)) (f .value)) (channelWords * (n .inputs + n .nodes) + 1) a) (channelWords * (n .inputs + n .nodes) + 2) b) × Outside channelsFrom channelTableWords index index′ → ReadsNode line index n all r index′
       unfolding node nodeEntry channelTable
       node-read {d} {r} {a} {b} there fits p q z w = record {
         says = λ P held few long.
@@ -207,11 +212,12 @@ module _ (line types functions channels channels′ : List ℕ) (n : Counts) {x 
             let i = pass-got (initial-passes held) there in
             let made = last-got (λ (t : Expr). record { declared = g .value; initial = i .value; update = t }) _ (sym (then-got _ (i .is)) ∙ sym (then-got _ (g .is)) ∙ h) in
             let so-far : List ℕ = spellAll inputEntry (P .inputs) ++ spellAll nodeEntry (P .nodes) in
-            let added = channel-added (f .value) a b so-far w (held .channelsAre) (channels-so-far (P .inputs) (P .nodes) ∙ omega (arith, held .inputCount, held .nodeCount)) (omega (arith, held .inputCount, held .fewInputs)) in
+            let added = channel-added (f .value) a b so-far (w .0) (held .channelsAre) (channels-so-far (P .inputs) (P .nodes) ∙ omega (arith, held .counted .inputCount, held .counted .nodeCount)) (omega (arith, held .counted .inputCount, held .fewInputs)) in
             let behind = place-behind (expr-exact nestingMost (outerScope (P .types) (P .functions) 0 0)) line (f .next .at) (d .at) (ends-within (number-moved v e)) (ends-within (pass-moved (initial-passes held) there)) (i .is) in
             let entry : f .value ∷ a ∷ b ∷ [] ≡ nodeEntry m = three-words (sym (g .word)) (place-is fits p (ends-within (number-moved v e)) ∙ type-place e held long) (place-is fits q (ends-within (pass-moved (initial-passes held) there)) ∙ behind ∙ ap (λ p. p + length (exprBytes (i .value))) (type-place e held long)) ∙ ap nodeEntry (sym (made .made)) in
             added ∙ ap (λ l. padded (channelsMost * channelWords) (so-far ++ l)) entry ∙ sym (node-more (P .inputs) (P .nodes) m);
+        outside = w .1;
       }
         where
-          update-passes : {P : File} → Held types functions channels n P → Passes line (d .at) r (forget (exprAt nestingMost (outerScope (P .types) (P .functions) (length (P .inputs) + length (P .nodes)) all) (bytesFrom line (d .at))))
-          update-passes {P} held = rw (held .inputCount, held .nodeCount) (z .says (outerScope (P .types) (P .functions) (n .inputs + n .nodes) all) (tells-outside held (n .inputs + n .nodes) all) (ends-within (pass-moved (initial-passes held) there)))
+          update-passes : {P : File} → Held index n P → Passes line (d .at) r (forget (exprAt nestingMost (outerScope (P .types) (P .functions) (length (P .inputs) + length (P .nodes)) all) (bytesFrom line (d .at))))
+          update-passes {P} held = rw (held .counted .inputCount, held .counted .nodeCount) (z .says (outerScope (P .types) (P .functions) (n .inputs + n .nodes) all) (tells-outside held (n .inputs + n .nodes) all) (ends-within (pass-moved (initial-passes held) there)))

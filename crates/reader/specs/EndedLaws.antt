@@ -19,7 +19,6 @@ use Rattle.text.specs.DigitLaws.{bytes-length}
 use Rattle.index.specs.declared.Counts.{Counts}
 use Rattle.reader.specs.declared.Frame.{Frame}
 use Rattle.reader.specs.declared.Frame.the-variants.{Taken, Refused}
-use Rattle.reader.specs.Held.{refused}
 use Rattle.reader.specs.Frames.{endedAs}
 
 -- ---- the end of a frame

@@ -20,6 +20,8 @@ use Rattle.text.specs.declared.Step.{Step}
 use Rattle.text.specs.Bytes.{bytesOf, bytesFrom, forget, ReadsNumber}
 use Rattle.text.specs.StepLaws.{number-got, number-bad}
 use Rattle.index.specs.Tables.{typeWords, typeEntry, typeTable}
+use Rattle.index.specs.Sections.{framesFrom, typesFrom, frameTableWords, typeTableWords, typesOf}
+use Rattle.index.specs.SectionLaws.{Outside, kept-before}
 use Rattle.index.specs.Enters.{Enters, typeBehind, SelfFree}
 use Rattle.index.specs.TypeTable.{FewParts, type-def-behind, type-added, read-few, self-free-told}
 use Rattle.index.specs.declared.Counts.{Counts}
@@ -27,16 +29,16 @@ use Rattle.reader.specs.declared.Frame.{Frame}
 use Rattle.reader.specs.declared.Frame.the-variants.{Taken, Refused}
 use Rattle.reader.specs.Held.{Held, ReadsFunction, ReadsInput, ReadsNode, FrameRead, taken, refused, ReadsFrame, TypeTaken}
 use Rattle.reader.specs.Functions.{passes-as}
-use Rattle.reader.specs.Frames.{ordered, Ordered, endedAs, moreTypes, moreFunctions, moreInputs, moreNodes}
+use Rattle.reader.specs.Frames.{ordered, Ordered, endedAs, oneMore}
 use Rattle.reader.specs.OrderLaws.{Which, first, fourth, nothing-left, second, third, unknown, which}
 use Rattle.reader.specs.EndedLaws.{Ended, ended-is, ends, stops}
 use Rattle.reader.specs.HeldLaws.{held-function, held-input, held-node, held-type}
 
 -- ---- the answer of a frame, where the parser's is known
-as-read : {r : Frame} {types functions channels : List ℕ} {y z : Result File} → z ≡ y → FrameRead r types functions channels y → FrameRead r types functions channels z
-as-read {r} {types} {functions} {channels} e u = subst (FrameRead r types functions channels) (sym e) u
+as-read : {r : Frame} {index : List ℕ} {y z : Result File} → z ≡ y → FrameRead r index y → FrameRead r index z
+as-read {r} {index} e u = subst (FrameRead r index) (sym e) u
 
-bound : {A : Type 0} {frame : ℕ} {y : Read A} {n : Counts} {x : Frame} {types functions channels : List ℕ} (k : A → File) → Ended frame y n x → ((a : A) (rest : List ℕ) → y ≡ got a rest → Held types functions channels n (k a)) → FrameRead x types functions channels (bind (whole frame y) (λ a. ok (k a)))
+bound : {A : Type 0} {frame : ℕ} {y : Read A} {n : Counts} {x : Frame} {index : List ℕ} (k : A → File) → Ended frame y n x → ((a : A) (rest : List ℕ) → y ≡ got a rest → Held index n (k a)) → FrameRead x index (bind (whole frame y) (λ a. ok (k a)))
 unfolding bind
 bound k (stops e p) f = as-read (ap (λ w. bind w (λ a. ok (k a))) p) (refused e)
 bound k (ends {a} {rest} e h p) f = as-read (ap (λ w. bind w (λ b. ok (k b))) p) (taken e (f a rest h))
@@ -45,47 +47,47 @@ bound k (ends {a} {rest} e h p) f = as-read (ap (λ w. bind w (λ b. ok (k b))) 
 taken-refused : {B : Type 0} {n : Counts} {k : ℕ} {x : Frame} → x ≡ Taken n → x ≡ Refused k → B
 taken-refused e h = absurd (let same = sym e ∙ h in let z : _≡_ {A = ℕ} 0 1 = cc in omega arith)
 
-module _ (line types types′ : List ℕ) (n : Counts) {r : Step} (v : Enters typeEntry line 1 (typeWords * n .types) types r types′ (typeBehind (n .types) (bytesFrom line 1))) {x : Frame} {more : Counts} (m : more ≡ moreTypes n) (e : x ≡ endedAs line r more) where
-  type-ended : {functions channels : List ℕ} {P : File} → Held types functions channels n P → (frame : ℕ) → Ended frame (typeDef P (bytesFrom line 1)) (moreTypes n) x
-  type-ended {P} held frame = ended-is frame (typeDef P (bytesFrom line 1)) r (passes-as (ap forget (type-def-behind P (bytesFrom line 1) ∙ ap (λ t. typeBehind t (bytesFrom line 1)) (held .typeCount))) (v .passes)) (e ∙ ap (endedAs line r) m)
+module _ (line index index′ : List ℕ) (n : Counts) {r : Step} (v : Enters typeEntry line 1 (typeWords * n .types) (typesOf index) r (typesOf index′) (typeBehind (n .types) (bytesFrom line 1)) × Outside typesFrom typeTableWords index index′) {x : Frame} {more : Counts} (m : more ≡ oneMore 1 n) (e : x ≡ endedAs line r more) where
+  type-ended : {P : File} → Held index n P → (frame : ℕ) → Ended frame (typeDef P (bytesFrom line 1)) (oneMore 1 n) x
+  type-ended {P} held frame = ended-is frame (typeDef P (bytesFrom line 1)) r (passes-as (ap forget (type-def-behind P (bytesFrom line 1) ∙ ap (λ t. typeBehind t (bytesFrom line 1)) (held .counted .typeCount))) (v .0 .passes)) (e ∙ ap (endedAs line r) m)
 
-  module _ {functions channels : List ℕ} {P : File} (held : Held types functions channels n P) (few : n .types < typesMost) {d : TypeDef} {rest : List ℕ} (h : typeDef P (bytesFrom line 1) ≡ got d rest) where
+  module _ {P : File} (held : Held index n P) (few : n .types < typesMost) {d : TypeDef} {rest : List ℕ} (h : typeDef P (bytesFrom line 1) ≡ got d rest) where
     behind-is : typeBehind (n .types) (bytesFrom line 1) ≡ got d rest
-    behind-is = ap (λ t. typeBehind t (bytesFrom line 1)) (sym (held .typeCount)) ∙ sym (type-def-behind P (bytesFrom line 1)) ∙ h
+    behind-is = ap (λ t. typeBehind t (bytesFrom line 1)) (sym (held .counted .typeCount)) ∙ sym (type-def-behind P (bytesFrom line 1)) ∙ h
 
-    type-table : types′ ≡ typeTable (P .types ++ (d ∷ []))
-    type-table = type-added (P .types) v (held .typeCount) few (held .typesAre) behind-is
+    type-table : typesOf index′ ≡ typeTable (P .types ++ (d ∷ []))
+    type-table = type-added (P .types) (v .0) (held .counted .typeCount) few (held .typesAre) behind-is
 
     type-few : FewParts d
     type-few = read-few (n .types) (bytesFrom line 1) behind-is
 
-  pub type-stops : {k : ℕ} → x ≡ Refused k → TypeTaken line types n x types′
+  pub type-stops : {k : ℕ} → x ≡ Refused k → TypeTaken line index n x index′
   unfolding readKind bind
-  type-stops no-frame = record { says = λ functions channels P held frame few. by held frame (type-ended held frame) }
+  type-stops no-frame = record { says = λ P held frame few. by held frame (type-ended held frame); outside = v .1 }
     where
-      by : {functions channels : List ℕ} {P : File} → Held types functions channels n P → (frame : ℕ) → Ended frame (typeDef P (bytesFrom line 1)) (moreTypes n) x → FrameRead x types′ functions channels (readKind 0 frame P (bytesFrom line 1) typeKind)
+      by : {P : File} → Held index n P → (frame : ℕ) → Ended frame (typeDef P (bytesFrom line 1)) (oneMore 1 n) x → FrameRead x index′ (readKind 0 frame P (bytesFrom line 1) typeKind)
       by {P} held frame (stops s p) = as-read (ap (λ w. bind w (λ d. need (selfFree d) 8 frame (ok (withType P d)))) p) (refused s)
       by held frame (ends s h p) = taken-refused s no-frame
 
-  module _ {there : Counts} (yes : x ≡ Taken there) {b : Bool} (free : SelfFree types′ (n .types) b) where
-    pub type-free : b ≡ true → TypeTaken line types n x types′
+  module _ {there : Counts} (yes : x ≡ Taken there) {b : Bool} (free : SelfFree (typesOf index′) (n .types) b) where
+    pub type-free : b ≡ true → TypeTaken line index n x index′
     unfolding readKind bind need
-    type-free t = record { says = λ functions channels P held frame few. by held few frame (type-ended held frame) }
+    type-free t = record { says = λ P held frame few. by held few frame (type-ended held frame); outside = v .1 }
       where
-        by : {functions channels : List ℕ} {P : File} → Held types functions channels n P → n .types < typesMost → (frame : ℕ) → Ended frame (typeDef P (bytesFrom line 1)) (moreTypes n) x → FrameRead x types′ functions channels (readKind 0 frame P (bytesFrom line 1) typeKind)
+        by : {P : File} → Held index n P → n .types < typesMost → (frame : ℕ) → Ended frame (typeDef P (bytesFrom line 1)) (oneMore 1 n) x → FrameRead x index′ (readKind 0 frame P (bytesFrom line 1) typeKind)
         by held few frame (stops s p) = taken-refused yes s
         by {P} held few frame (ends {a = d} s h p) =
-            let is-free : selfFree d ≡ true = sym (self-free-told (P .types) d free (type-table held few h) (held .typeCount) few (type-few held few h)) ∙ t in
-            as-read (ap (λ w. bind w (λ d. need (selfFree d) 8 frame (ok (withType P d)))) p ∙ ap (λ b. need b 8 frame (ok (withType P d))) is-free) (taken s (held-type held d (type-table held few h) few (type-few held few h)))
+            let is-free : selfFree d ≡ true = sym (self-free-told (P .types) d free (type-table held few h) (held .counted .typeCount) few (type-few held few h)) ∙ t in
+            as-read (ap (λ w. bind w (λ d. need (selfFree d) 8 frame (ok (withType P d)))) p ∙ ap (λ b. need b 8 frame (ok (withType P d))) is-free) (taken s (held-type held d (type-table held few h) (v .1) few (type-few held few h)))
 
-    pub type-not-free : b ≡ false → TypeTaken line types n (Refused 8) types′
+    pub type-not-free : b ≡ false → TypeTaken line index n (Refused 8) index′
     unfolding readKind bind need
-    type-not-free t = record { says = λ functions channels P held frame few. by held few frame (type-ended held frame) }
+    type-not-free t = record { says = λ P held frame few. by held few frame (type-ended held frame); outside = v .1 }
       where
-        by : {functions channels : List ℕ} {P : File} → Held types functions channels n P → n .types < typesMost → (frame : ℕ) → Ended frame (typeDef P (bytesFrom line 1)) (moreTypes n) x → FrameRead (Refused 8) types′ functions channels (readKind 0 frame P (bytesFrom line 1) typeKind)
+        by : {P : File} → Held index n P → n .types < typesMost → (frame : ℕ) → Ended frame (typeDef P (bytesFrom line 1)) (oneMore 1 n) x → FrameRead (Refused 8) index′ (readKind 0 frame P (bytesFrom line 1) typeKind)
         by held few frame (stops s p) = taken-refused yes s
         by {P} held few frame (ends {a = d} s h p) =
-            let not-free : selfFree d ≡ false = sym (self-free-told (P .types) d free (type-table held few h) (held .typeCount) few (type-few held few h)) ∙ t in
+            let not-free : selfFree d ≡ false = sym (self-free-told (P .types) d free (type-table held few h) (held .counted .typeCount) few (type-few held few h)) ∙ t in
             as-read (ap (λ w. bind w (λ d. need (selfFree d) 8 frame (ok (withType P d)))) p ∙ ap (λ b. need b 8 frame (ok (withType P d))) not-free) (refused refl)
 
 -- ---- the kind's byte, and what the definition makes of it
@@ -113,78 +115,86 @@ module _ (all frame : ℕ) (P : File) where
   unfolding from need
   in-order bs e t = rw (e, t)
 
-module _ (line types functions channels : List ℕ) (n : Counts) (all : ℕ) {x : Number} (v : ReadsNumber line 0 x (byte (bytesFrom line 0))) where
-  pub frame-no-kind : {k : ℕ} {types′ functions′ channels′ : List ℕ} → x ≡ NoNumber k → ReadsFrame line types functions channels n all (Refused 4) types′ functions′ channels′
+module _ (line index : List ℕ) (n : Counts) (all : ℕ) {x : Number} (v : ReadsNumber line 0 x (byte (bytesFrom line 0))) where
+  pub frame-no-kind : {k : ℕ} → x ≡ NoNumber k → ReadsFrame line index n all (Refused 4) index
   unfolding readFrame
-  frame-no-kind e = record { says = λ P held frame long. as-read (ap (readFrame all frame P) (no-byte (bytesOf line) (number-bad v e))) (refused refl) }
+  frame-no-kind e = record { says = λ P held frame long. as-read (ap (readFrame all frame P) (no-byte (bytesOf line) (number-bad v e))) (refused refl); frames = refl }
 
   module _ {f : Found} (e : x ≡ Is f) {b : Bool} (o : Ordered (f .value) n b) where
     kind-first : bytesOf line ≡ f .value ∷ bytesFrom line 1
     kind-first = first-byte (bytesOf line) (number-got v e)
 
-    pub frame-unordered : {types′ functions′ channels′ : List ℕ} → not b ≡ true → ReadsFrame line types functions channels n all (Refused 3) types′ functions′ channels′
+    pub frame-unordered : not b ≡ true → ReadsFrame line index n all (Refused 3) index
     frame-unordered t = record {
       says = λ P held frame long.
-          as-read (frame-is all frame P (bytesOf line) kind-first ∙ out-of-order all frame P (decode 0x01 kinds (f .value)) (bytesFrom line 1) (sym (o .says types functions channels P held) ∙ not-true b t)) (refused refl);
+          as-read (frame-is all frame P (bytesOf line) kind-first ∙ out-of-order all frame P (decode 0x01 kinds (f .value)) (bytesFrom line 1) (sym (o .says P (held .counted)) ∙ not-true b t)) (refused refl);
+      frames = refl;
     }
 
     module _ (t : not b ≡ false) where
-      in-turn : {P : File} {kind : Kind} → Held types functions channels n P → decode 0x01 kinds (f .value) ≡ some kind → inOrder kind P ≡ true
+      in-turn : {P : File} {kind : Kind} → Held index n P → decode 0x01 kinds (f .value) ≡ some kind → inOrder kind P ≡ true
       unfolding ordered
-      in-turn {P} held d = ap (λ w. ordered w P) (sym d) ∙ sym (o .says types functions channels P held) ∙ not-false b t
+      in-turn {P} held d = ap (λ w. ordered w P) (sym d) ∙ sym (o .says P (held .counted)) ∙ not-false b t
 
-      behind-kind : {P : File} {kind : Kind} (frame : ℕ) → Held types functions channels n P → decode 0x01 kinds (f .value) ≡ some kind → readFrame all frame P (bytesOf line) ≡ readKind all frame P (bytesFrom line 1) kind
+      behind-kind : {P : File} {kind : Kind} (frame : ℕ) → Held index n P → decode 0x01 kinds (f .value) ≡ some kind → readFrame all frame P (bytesOf line) ≡ readKind all frame P (bytesFrom line 1) kind
       behind-kind {P} frame held d = frame-is all frame P (bytesOf line) kind-first ∙ in-order all frame P (bytesFrom line 1) d (in-turn held d)
 
-      pub frame-type : {r : Frame} {types′ : List ℕ} → f .value ≡ 1 → TypeTaken line types n r types′ → ReadsFrame line types functions channels n all r types′ functions channels
+      pub frame-type : {r : Frame} {index′ : List ℕ} → f .value ≡ 1 → TypeTaken line index n r index′ → ReadsFrame line index n all r index′
       unfolding decode choose inOrder readKind
       frame-type k u = record {
         says = λ P held frame long.
             let d : decode 0x01 kinds (f .value) ≡ some typeKind = ap (decode 0x01 kinds) k in
             let few : length (P .types) < typesMost = ltb-true _ _ (both-right _ _ (in-turn held d)) in
-            as-read (behind-kind frame held d) (u .says functions channels P held frame (omega (arith, held .typeCount)));
+            as-read (behind-kind frame held d) (u .says P held frame (omega (arith, held .counted .typeCount)));
+        frames = kept-before (u .outside) framesFrom frameTableWords (omega arith);
       }
 
-      pub frame-function : {s : Step} {r : Frame} {more : Counts} {functions′ : List ℕ} → f .value ≡ 2 → ReadsFunction line types functions n s functions′ → more ≡ moreFunctions n → r ≡ endedAs line s more → ReadsFrame line types functions channels n all r types functions′ channels
+      pub frame-function : {s : Step} {r : Frame} {more : Counts} {index′ : List ℕ} → f .value ≡ 2 → ReadsFunction line index n s index′ → more ≡ oneMore (f .value) n → r ≡ endedAs line s more → ReadsFrame line index n all r index′
       unfolding decode choose inOrder readKind
       frame-function {s} k u m h = record {
         says = λ P held frame long.
             let d : decode 0x01 kinds (f .value) ≡ some functionKind = ap (decode 0x01 kinds) k in
             let less : length (P .functions) < functionsMost = ltb-true _ _ (both-right _ _ (in-turn held d)) in
-            let few : n .functions < functionsMost = omega (arith, held .functionCount) in
-            as-read (behind-kind frame held d) (bound (withFunction P) (ended-is frame (function P (bytesFrom line 1)) s (u .says channels P held few long) (h ∙ ap (endedAs line s) m)) (λ F rest g. held-function held F (u .enters channels P held few long F rest g) few));
+            let few : n .functions < functionsMost = omega (arith, held .counted .functionCount) in
+            as-read (behind-kind frame held d) (bound (withFunction P) (ended-is frame (function P (bytesFrom line 1)) s (u .says P held few long) (h ∙ ap (endedAs line s) (m ∙ ap (λ i. oneMore i n) k))) (λ F rest g. held-function held F (u .enters P held few long F rest g) (u .outside) few));
+        frames = kept-before (u .outside) framesFrom frameTableWords (omega arith);
       }
 
-      pub frame-input : {s : Step} {r : Frame} {more : Counts} {channels′ : List ℕ} → f .value ≡ 3 → ReadsInput line types functions channels n s channels′ → more ≡ moreInputs n → r ≡ endedAs line s more → ReadsFrame line types functions channels n all r types functions channels′
+      pub frame-input : {s : Step} {r : Frame} {more : Counts} {index′ : List ℕ} → f .value ≡ 3 → ReadsInput line index n s index′ → more ≡ oneMore (f .value) n → r ≡ endedAs line s more → ReadsFrame line index n all r index′
       unfolding decode choose inOrder readKind
       frame-input {s} k u m h = record {
         says = λ P held frame long.
             let d : decode 0x01 kinds (f .value) ≡ some inputKind = ap (decode 0x01 kinds) k in
             let less : length (P .inputs) < inputsMost = ltb-true _ _ (both-right _ _ (in-turn held d)) in
-            let few : n .inputs < inputsMost = omega (arith, held .inputCount) in
+            let few : n .inputs < inputsMost = omega (arith, held .counted .inputCount) in
             let empty : P .nodes ≡ [] = nothing-left (P .nodes) (both-left _ _ (in-turn held d)) in
-            as-read (behind-kind frame held d) (bound (withInput P) (ended-is frame (input P (bytesFrom line 1)) s (u .says P held empty few long) (h ∙ ap (endedAs line s) m)) (λ i rest g. held-input held i (u .enters P held empty few long i rest g) empty few));
+            as-read (behind-kind frame held d) (bound (withInput P) (ended-is frame (input P (bytesFrom line 1)) s (u .says P held empty few long) (h ∙ ap (endedAs line s) (m ∙ ap (λ i. oneMore i n) k))) (λ i rest g. held-input held i (u .enters P held empty few long i rest g) (u .outside) empty few));
+        frames = kept-before (u .outside) framesFrom frameTableWords (omega arith);
       }
 
-      module _ {s : Step} {r : Frame} {more : Counts} {channels′ : List ℕ} where
-        node-here : f .value ≡ 4 → ReadsNode line types functions channels n all s channels′ → more ≡ moreNodes n → r ≡ endedAs line s more → ReadsFrame line types functions channels n all r types functions channels′
+      module _ {s : Step} {r : Frame} {more : Counts} {index′ : List ℕ} where
+        node-here : f .value ≡ 4 → ReadsNode line index n all s index′ → more ≡ oneMore (f .value) n → r ≡ endedAs line s more → ReadsFrame line index n all r index′
         unfolding decode choose inOrder readKind
         node-here k u m h = record {
           says = λ P held frame long.
               let d : decode 0x01 kinds (f .value) ≡ some nodeKind = ap (decode 0x01 kinds) k in
               let less : length (P .nodes) < nodesMost = ltb-true _ _ (in-turn held d) in
-              let few : n .nodes < nodesMost = omega (arith, held .nodeCount) in
-              as-read (behind-kind frame held d) (bound (withNode P) (ended-is frame (node all P (bytesFrom line 1)) s (u .says P held few long) (h ∙ ap (endedAs line s) m)) (λ a rest g. held-node held a (u .enters P held few long a rest g) few));
+              let few : n .nodes < nodesMost = omega (arith, held .counted .nodeCount) in
+              as-read (behind-kind frame held d) (bound (withNode P) (ended-is frame (node all P (bytesFrom line 1)) s (u .says P held few long) (h ∙ ap (endedAs line s) (m ∙ ap (λ i. oneMore i n) k))) (λ a rest g. held-node held a (u .enters P held few long a rest g) (u .outside) few));
+          frames = kept-before (u .outside) framesFrom frameTableWords (omega arith);
         }
 
         -- a kind that is in turn, and none of the first three
-        pub frame-node : (f .value ≡ 1 → ⊥) → (f .value ≡ 2 → ⊥) → (f .value ≡ 3 → ⊥) → ReadsNode line types functions channels n all s channels′ → more ≡ moreNodes n → r ≡ endedAs line s more → ReadsFrame line types functions channels n all r types functions channels′
+        pub frame-node : (f .value ≡ 1 → ⊥) → (f .value ≡ 2 → ⊥) → (f .value ≡ 3 → ⊥) → ReadsNode line index n all s index′ → more ≡ oneMore (f .value) n → r ≡ endedAs line s more → ReadsFrame line index n all r index′
         unfolding ordered
-        frame-node one two three u m h = record { says = λ P held frame long. by P held frame long (which (f .value)) refl }
+        frame-node one two three u m h = record {
+          says = λ P held frame long. by P held frame long (which (f .value)) refl;
+          frames = kept-before (u .outside) framesFrom frameTableWords (omega arith);
+        }
           where
-            by : (P : File) (held : Held types functions channels n P) (frame : ℕ) → 1 ≤ length (bytesOf line) → {k : ℕ} → Which k → f .value ≡ k → FrameRead r types functions channels′ (readFrame all frame P (bytesOf line))
+            by : (P : File) (held : Held index n P) (frame : ℕ) → 1 ≤ length (bytesOf line) → {k : ℕ} → Which k → f .value ≡ k → FrameRead r index′ (readFrame all frame P (bytesOf line))
             by P held frame long first k = absurd (one k)
             by P held frame long second k = absurd (two k)
             by P held frame long third k = absurd (three k)
             by P held frame long fourth k = node-here k u m h .says P held frame long
-            by P held frame long (unknown p) k = absurd (let same = ap (λ w. ordered w P) (sym (ap (decode 0x01 kinds) k ∙ p)) ∙ sym (o .says types functions channels P held) ∙ not-false b t in let z : _≡_ {A = ℕ} 0 1 = cc in omega arith)
+            by P held frame long (unknown p) k = absurd (let same = ap (λ w. ordered w P) (sym (ap (decode 0x01 kinds) k ∙ p)) ∙ sym (o .says P (held .counted)) ∙ not-false b t in let z : _≡_ {A = ℕ} 0 1 = cc in omega arith)

@@ -1,17 +1,16 @@
--- The table of frames says where the lines of a text that was read are: the part of each entry is the line of its number.
+-- The section of frames says where the lines of a text that was read are: the part of each entry is the line of its number.
 use Prim.Native.Nat.{ℕ, zero, suc, _*_, _≤_, _<_}
-use mathlib.Core.List.{List, [], _∷_, _++_, map}
-use mathlib.Core.Bool.{Bool, true, false}
+use mathlib.Core.List.{List, [], _++_, map}
 use mathlib.Core.Path.{_≡_, refl, sym, ap, ap₂, _∙_}
 use native.Mathlib.Omega.{arith}
 use lib.ListN.{length, getD, take, drop, length-append, length-map}
 use lib.Seq.{take-suc}
-use lib.Dec.{eqb}
-use Rattle.language.specs.Result.{ok, choose}
+use Rattle.language.specs.Result.{ok}
 use Rattle.language.specs.Syntax.{File}
-use Rattle.language.specs.Format.{lineFeed, fileFrames}
+use Rattle.language.specs.Format.{fileFrames}
 use Rattle.language.specs.Reader.{readFile}
-use Rattle.text.specs.Lines.{firstLine, lineStart, framesFrom}
+use Rattle.text.specs.Lines.{lineStart, framesFrom}
+use Rattle.text.specs.LinesJudge.{first-line-taken}
 use Rattle.text.specs.LinesWalk.{line-frame, line-start-next}
 use Rattle.theory.specs.FileFrames.{frameOfType, frameOfFunction, frameOfInput, frameOfNode}
 use Rattle.index.specs.Tables.{framesMost, frameTable}
@@ -37,16 +36,6 @@ frames-counted P =
       length-map (P .inputs) frameOfInput,
       length-map (P .nodes) frameOfNode,
     )
-
--- the first line is the part of its length
-first-line-taken : (l : List ℕ) → take (length (firstLine l)) l ≡ firstLine l
-unfolding firstLine choose
-first-line-taken [] = refl
-first-line-taken (c ∷ l) = go (eqb c lineFeed) (first-line-taken l)
-  where
-    go : (feed : Bool) → take (length (firstLine l)) l ≡ firstLine l → take (length (choose feed [] (c ∷ firstLine l))) (c ∷ l) ≡ choose feed [] (c ∷ firstLine l)
-    go true e = refl
-    go false e = ap (λ (m : List ℕ). c ∷ m) e
 
 -- ---- a text of these frames
 module _ (t : List ℕ) (fs : List (List ℕ)) (are : framesFrom 1 t ≡ ok fs) where

@@ -1,7 +1,7 @@
 -- Function frames: what the reads of the parts promise, a function's frame promises.
 use Prim.Native.Nat.{ℕ, zero, suc, _+_, _-_, _*_, _%_, _≤_, _<_}
 use mathlib.Core.List.{List, [], _∷_, _++_}
-use mathlib.Core.Path.{_≡_, refl, sym, ap, _∙_}
+use mathlib.Core.Path.{_≡_, refl, sym, ap, subst, _∙_}
 use native.Mathlib.Omega.{arith}
 use lib.ListN.{length, getD, set, length-map, length-append, length-drop, List·getD-append}
 use lib.Seq.{getD-at}
@@ -10,7 +10,7 @@ use Rattle.language.specs.Syntax.{Plain, ResultType, Condition, Expr, Function,
 use Rattle.language.specs.Format.{spellAll, plainBytes, resultBytes, conditionBytes, exprBytes, functionBytes}
 use Rattle.language.specs.Layout.{padded}
 use Rattle.language.specs.Scope.{namedCount, aritiesOf, bodyScope}
-use Rattle.language.specs.Parser.{Read, got, Parser, andThen, index, counted}
+use Rattle.language.specs.Parser.{Read, got, Parser, andThen, index as indexRead, counted}
 use Rattle.language.specs.ReadExpr.{plain, result, exprAt}
 use Rattle.language.specs.Reader.{condition, function}
 use Rattle.theory.specs.Alls.{all-getD}
@@ -24,7 +24,9 @@ use Rattle.text.specs.declared.Step.the-variants.{Next, Stop}
 use Rattle.text.specs.Bytes.{bytesOf, bytesFrom, forget, Passes}
 use Rattle.text.specs.StepLaws.{ends-within, Gives, pass-got, pass-bad, pass-moved, passes-behind, pass-stops-pass, forget-then}
 use Rattle.index.specs.Tables.{functionWords, functionEntry, functionTable, resultPlace, conditionsPlace, measurePlace, bodyPlace}
-use Rattle.index.specs.Enters.{Enters, parametersEntry, Named, TellsParameters}
+use Rattle.index.specs.Sections.{typesFrom, functionsFrom, typeTableWords, functionTableWords, functionsOf}
+use Rattle.index.specs.SectionLaws.{Outside, outside-then, kept-before}
+use Rattle.index.specs.Enters.{Enters, parametersEntry, Named, TellsType, TellsParameters}
 use Rattle.index.specs.FunctionTable.{headWords, ParametersRead, parameters-read, places-added, tells-parameters}
 use Rattle.index.specs.ParserLaws.{bad-is-not-got}
 use Rattle.expression_reader.specs.declared.Names.{Names}
@@ -42,7 +44,7 @@ abbrev behindMeasure : File → List Plain → ResultType → List Condition →
 behindMeasure P ps r cs m bs = andThen (exprAt nestingMost (bodyScope (P .types) (P .functions) ps) bs) (λ e rest. got (record { parameters = ps; result = r; conditions = cs; measure = m; body = e }) rest)
 
 abbrev behindConditions : File → List Plain → ResultType → List Condition → Parser Function
-behindConditions P ps r cs bs = andThen (counted 0 measuresMost (index (namedCount ps)) bs) (λ m. behindMeasure P ps r cs m)
+behindConditions P ps r cs bs = andThen (counted 0 measuresMost (indexRead (namedCount ps)) bs) (λ m. behindMeasure P ps r cs m)
 
 abbrev behindResult : File → List Plain → ResultType → Parser Function
 behindResult P ps r bs = andThen (counted 0 conditionsMost (condition (namedCount ps)) bs) (λ cs. behindConditions P ps r cs)
@@ -57,7 +59,7 @@ function-is P bs = refl
 pub passes-as : {line : List ℕ} {at : ℕ} {r : Step} {y z : Read (Unit {0})} → z ≡ y → Passes line at r y → Passes line at r z
 passes-as p u = record { is = u .is ∙ sym p; on = u .on }
 
--- ---- the scope of a body, told by the table with the parameters of the function itself
+-- ---- the scope of a body, told by the index with the parameters of the function itself
 small : (a b : ℕ) → a ≡ b → b ≤ parametersMost → a % byteRange ≡ b
 small a b e h = omega arith
 
@@ -75,24 +77,24 @@ last-or (suc f) (suc n) h = by (last-or f n (omega arith))
     by (before k) = before (omega arith)
     by (here k) = here (ap suc k)
 
-module _ {types functions functions₁ channels : List ℕ} {n : Counts} {P : File} (held : Held types functions channels n P) {ps : List Plain} where
-  tells-inside : {variables sizes : ℕ} → n .functions < functionsMost → functions₁ ≡ padded (functionsMost * functionWords) (spellAll functionEntry (P .functions) ++ parametersEntry ps) → TellsParameters functions₁ (n .functions) ps →
-      length ps ≡ variables → namedCount ps ≡ sizes → Tells types functions₁ (insideNames n variables sizes) (bodyScope (P .types) (P .functions) ps)
+module _ {index index₁ : List ℕ} {n : Counts} {P : File} (held : Held index n P) (o : Outside functionsFrom functionTableWords index index₁) {ps : List Plain} where
+  tells-inside : {variables sizes : ℕ} → n .functions < functionsMost → functionsOf index₁ ≡ padded (functionsMost * functionWords) (spellAll functionEntry (P .functions) ++ parametersEntry ps) → TellsParameters (functionsOf index₁) (n .functions) ps →
+      length ps ≡ variables → namedCount ps ≡ sizes → Tells index₁ (insideNames n variables sizes) (bodyScope (P .types) (P .functions) ps)
   unfolding bodyScope
   tells-inside few tb told v z = record {
     variables = v;
     sizes = z;
     now = refl;
     last = refl;
-    typeCount = held .typeCount;
-    functionCount = length-append (aritiesOf (P .functions)) (length ps ∷ []) ∙ omega (arith, length-map (P .functions) (λ (F : Function). length (F .parameters)), held .functionCount);
-    each = tells-types held;
+    typeCount = held .counted .typeCount;
+    functionCount = length-append (aritiesOf (P .functions)) (length ps ∷ []) ∙ omega (arith, length-map (P .functions) (λ (F : Function). length (F .parameters)), held .counted .functionCount);
+    each = λ t h. subst (λ types. TellsType types t (getD (P .types) t [])) (sym (kept-before o typesFrom typeTableWords (omega arith))) (tells-types held t h);
     arities = λ f h. by f (last-or f (n .functions) h);
     few = λ f h. most f (last-or f (n .functions) h);
   }
     where
       long : length (aritiesOf (P .functions)) ≡ n .functions
-      long = length-map (P .functions) (λ (F : Function). length (F .parameters)) ∙ held .functionCount
+      long = length-map (P .functions) (λ (F : Function). length (F .parameters)) ∙ held .counted .functionCount
 
       arity-of : (f : ℕ) → Last f (n .functions) → ℕ
       arity-of f (before h) = getD (aritiesOf (P .functions)) f 0
@@ -102,15 +104,15 @@ module _ {types functions functions₁ channels : List ℕ} {n : Counts} {P : Fi
       arity-is f (before h) = List·getD-append (aritiesOf (P .functions)) (length ps ∷ []) 0 f (omega (arith, long))
       arity-is f (here e) = getD-at (aritiesOf (P .functions)) (length ps) [] 0 f (long ∙ sym e)
 
-      by : (f : ℕ) → Last f (n .functions) → getD functions₁ (functionWords * f) 0 ≡ getD (aritiesOf (P .functions) ++ (length ps ∷ [])) f 0
+      by : (f : ℕ) → Last f (n .functions) → getD (functionsOf index₁) (functionWords * f) 0 ≡ getD (aritiesOf (P .functions) ++ (length ps ∷ [])) f 0
       by f (before h) =
-          let less : f < length (P .functions) = omega (arith, held .functionCount) in
+          let less : f < length (P .functions) = omega (arith, held .counted .functionCount) in
           tells-parameters (functionsMost * functionWords) (P .functions) (parametersEntry ps) f noFunction tb (omega (arith, held .fewFunctions)) less (all-getD (held .parameters) f noFunction less) .count
           ∙ sym (arity-at (P .functions) f) ∙ sym (arity-is f (before h))
-      by f (here e) = ap (λ i. getD functions₁ (functionWords * i) 0) e ∙ told .count ∙ sym (arity-is f (here e))
+      by f (here e) = ap (λ i. getD (functionsOf index₁) (functionWords * i) 0) e ∙ told .count ∙ sym (arity-is f (here e))
 
       most : (f : ℕ) → Last f (n .functions) → getD (aritiesOf (P .functions) ++ (length ps ∷ [])) f 0 ≤ parametersMost
-      most f (before h) = omega (arith, arity-is f (before h), few-arities held f (omega (arith, held .functionCount)))
+      most f (before h) = omega (arith, arity-is f (before h), few-arities held f (omega (arith, held .counted .functionCount)))
       most f (here e) = omega (arith, arity-is f (here e), told .few)
 
 -- ---- the places: from the front, and from the end of all that is spelled
@@ -146,46 +148,47 @@ places-are F line rest {c} {d} {m} {b} long within at₁ at₂ at₄ all end =
     record { result = omega arith; conditions = omega arith; measure = omega arith; body = omega arith }
 
 -- ---- the frame, part by part
-module _ (line types functions functions′ : List ℕ) (n : Counts) {w : Step} {functions₁ : List ℕ} (v : Enters parametersEntry line 1 (functionWords * n .functions) functions w functions₁ (counted 0 parametersMost (plain (n .types)) (bytesFrom line 1))) where
-  -- where the frame is refused, nothing is said of the table
-  function-stops : {r : Step} {k : ℕ} → r ≡ Stop k → ((channels : List ℕ) (P : File) → Held types functions channels n P → n .functions < functionsMost → Passes line 1 r (forget (function P (bytesFrom line 1)))) → ReadsFunction line types functions n r functions′
+module _ (line index : List ℕ) (n : Counts) {w : Step} {index₁ : List ℕ} (v : Enters parametersEntry line 1 (functionWords * n .functions) (functionsOf index) w (functionsOf index₁) (counted 0 parametersMost (plain (n .types)) (bytesFrom line 1)) × Outside functionsFrom functionTableWords index index₁) where
+  -- where the frame is refused, nothing is said of the function's entry
+  function-stops : {r : Step} {k : ℕ} → r ≡ Stop k → ((P : File) → Held index n P → n .functions < functionsMost → Passes line 1 r (forget (function P (bytesFrom line 1)))) → ReadsFunction line index n r index₁
   function-stops e says = record {
-    says = λ channels P held few long. says channels P held few;
-    enters = λ channels P held few long F rest h. bad-is-not-got (sym (pass-bad (says channels P held few) e) ∙ h);
+    says = λ P held few long. says P held few;
+    enters = λ P held few long F rest h. bad-is-not-got (sym (pass-bad (says P held few) e) ∙ h);
+    outside = v .1;
   }
 
-  parameters-pass : {channels : List ℕ} {P : File} → Held types functions channels n P → Passes line 1 w (forget (counted 0 parametersMost (plain (length (P .types))) (bytesFrom line 1)))
-  parameters-pass {P} held = passes-as (ap (λ t. forget (counted 0 parametersMost (plain t) (bytesFrom line 1))) (held .typeCount)) (v .passes)
+  parameters-pass : {P : File} → Held index n P → Passes line 1 w (forget (counted 0 parametersMost (plain (length (P .types))) (bytesFrom line 1)))
+  parameters-pass {P} held = passes-as (ap (λ t. forget (counted 0 parametersMost (plain t) (bytesFrom line 1))) (held .counted .typeCount)) (v .0 .passes)
 
-  pub function-no-parameters : {k : ℕ} → w ≡ Stop k → ReadsFunction line types functions n w functions′
-  function-no-parameters e = function-stops e λ channels P held few. passes-as (ap forget (function-is P (bytesFrom line 1))) (pass-stops-pass _ _ (parameters-pass held) e)
+  pub function-no-parameters : {k : ℕ} → w ≡ Stop k → ReadsFunction line index n w index₁
+  function-no-parameters e = function-stops e λ P held few. passes-as (ap forget (function-is P (bytesFrom line 1))) (pass-stops-pass _ _ (parameters-pass held) e)
 
-  module _ {c : Cursor} (e : w ≡ Next c) {vars : ℕ} (named : Named functions₁ (n .functions) vars) where
-    module _ {channels : List ℕ} {P : File} (held : Held types functions channels n P) (few : n .functions < functionsMost) where
-      head : ParametersRead (n .types) (P .functions) (n .functions) (bytesFrom line 1) (bytesFrom line (c .at)) functions₁
-      head = parameters-read (n .types) (P .functions) v (held .functionCount) few (held .functionsAre) e
+  module _ {c : Cursor} (e : w ≡ Next c) {vars : ℕ} (named : Named (functionsOf index₁) (n .functions) vars) where
+    module _ {P : File} (held : Held index n P) (few : n .functions < functionsMost) where
+      head : ParametersRead (n .types) (P .functions) (n .functions) (bytesFrom line 1) (bytesFrom line (c .at)) (functionsOf index₁)
+      head = parameters-read (n .types) (P .functions) (v .0) (held .counted .functionCount) few (held .functionsAre) e
 
       sizes-are : namedCount (head .list) ≡ vars
       sizes-are = sym (named .says (head .list) (head .tells))
 
       parameters-are : counted 0 parametersMost (plain (length (P .types))) (bytesFrom line 1) ≡ got (head .list) (bytesFrom line (c .at))
-      parameters-are = ap (λ t. counted 0 parametersMost (plain t) (bytesFrom line 1)) (held .typeCount) ∙ head .read
+      parameters-are = ap (λ t. counted 0 parametersMost (plain t) (bytesFrom line 1)) (held .counted .typeCount) ∙ head .read
 
       to-result : function P (bytesFrom line 1) ≡ behindParameters P (head .list) (bytesFrom line (c .at))
       to-result = function-is P (bytesFrom line 1) ∙ then-got _ parameters-are
 
       from-parameters : {r : Step} → Passes line (c .at) r (forget (behindParameters P (head .list) (bytesFrom line (c .at)))) → Passes line 1 r (forget (function P (bytesFrom line 1)))
-      from-parameters u = passes-behind (pass-moved (v .passes) e) (ap forget to-result) u
+      from-parameters u = passes-behind (pass-moved (v .0 .passes) e) (ap forget to-result) u
 
     module _ {x : Step} (p : Passes line (c .at) x (forget (result (n .types) vars (bytesFrom line (c .at))))) where
-      result-passes : {channels : List ℕ} {P : File} (held : Held types functions channels n P) (few : n .functions < functionsMost) → Passes line (c .at) x (forget (result (length (P .types)) (namedCount (head held few .list)) (bytesFrom line (c .at))))
-      result-passes held few = passes-as (ap (λ t. forget (result t (namedCount (head held few .list)) (bytesFrom line (c .at)))) (held .typeCount) ∙ ap (λ z. forget (result (n .types) z (bytesFrom line (c .at)))) (sizes-are held few)) p
+      result-passes : {P : File} (held : Held index n P) (few : n .functions < functionsMost) → Passes line (c .at) x (forget (result (length (P .types)) (namedCount (head held few .list)) (bytesFrom line (c .at))))
+      result-passes held few = passes-as (ap (λ t. forget (result t (namedCount (head held few .list)) (bytesFrom line (c .at)))) (held .counted .typeCount) ∙ ap (λ z. forget (result (n .types) z (bytesFrom line (c .at)))) (sizes-are held few)) p
 
-      pub function-no-result : {k : ℕ} → x ≡ Stop k → ReadsFunction line types functions n x functions′
-      function-no-result h = function-stops h λ channels P held few. from-parameters held few (pass-stops-pass _ _ (result-passes held few) h)
+      pub function-no-result : {k : ℕ} → x ≡ Stop k → ReadsFunction line index n x index₁
+      function-no-result h = function-stops h λ P held few. from-parameters held few (pass-stops-pass _ _ (result-passes held few) h)
 
       module _ {d : Cursor} (e₂ : x ≡ Next d) where
-        module _ {channels : List ℕ} {P : File} (held : Held types functions channels n P) (few : n .functions < functionsMost) where
+        module _ {P : File} (held : Held index n P) (few : n .functions < functionsMost) where
           the-result : Gives (result (length (P .types)) (namedCount (head held few .list)) (bytesFrom line (c .at))) (bytesFrom line (d .at))
           the-result = pass-got (result-passes held few) e₂
 
@@ -193,30 +196,30 @@ module _ (line types functions functions′ : List ℕ) (n : Counts) {w : Step} 
           from-result u = from-parameters held few (passes-behind (pass-moved p e₂) (ap forget (then-got _ (the-result .is))) u)
 
         module _ {y : Step} (q : Passes line (d .at) y (forget (counted 0 conditionsMost (condition vars) (bytesFrom line (d .at))))) where
-          conditions-pass : {channels : List ℕ} {P : File} (held : Held types functions channels n P) (few : n .functions < functionsMost) → Passes line (d .at) y (forget (counted 0 conditionsMost (condition (namedCount (head held few .list))) (bytesFrom line (d .at))))
+          conditions-pass : {P : File} (held : Held index n P) (few : n .functions < functionsMost) → Passes line (d .at) y (forget (counted 0 conditionsMost (condition (namedCount (head held few .list))) (bytesFrom line (d .at))))
           conditions-pass held few = passes-as (ap (λ z. forget (counted 0 conditionsMost (condition z) (bytesFrom line (d .at)))) (sizes-are held few)) q
 
-          pub function-no-conditions : {k : ℕ} → y ≡ Stop k → ReadsFunction line types functions n y functions′
-          function-no-conditions h = function-stops h λ channels P held few. from-result held few (pass-stops-pass _ _ (conditions-pass held few) h)
+          pub function-no-conditions : {k : ℕ} → y ≡ Stop k → ReadsFunction line index n y index₁
+          function-no-conditions h = function-stops h λ P held few. from-result held few (pass-stops-pass _ _ (conditions-pass held few) h)
 
           module _ {m : Cursor} (e₃ : y ≡ Next m) where
-            module _ {channels : List ℕ} {P : File} (held : Held types functions channels n P) (few : n .functions < functionsMost) where
+            module _ {P : File} (held : Held index n P) (few : n .functions < functionsMost) where
               the-conditions : Gives (counted 0 conditionsMost (condition (namedCount (head held few .list))) (bytesFrom line (d .at))) (bytesFrom line (m .at))
               the-conditions = pass-got (conditions-pass held few) e₃
 
               from-conditions : {r : Step} → Passes line (m .at) r (forget (behindConditions P (head held few .list) (the-result held few .value) (the-conditions .value) (bytesFrom line (m .at)))) → Passes line 1 r (forget (function P (bytesFrom line 1)))
               from-conditions u = from-result held few (passes-behind (pass-moved q e₃) (ap forget (then-got _ (the-conditions .is))) u)
 
-            module _ {z : Step} (s : Passes line (m .at) z (forget (counted 0 measuresMost (index vars) (bytesFrom line (m .at))))) where
-              measure-passes : {channels : List ℕ} {P : File} (held : Held types functions channels n P) (few : n .functions < functionsMost) → Passes line (m .at) z (forget (counted 0 measuresMost (index (namedCount (head held few .list))) (bytesFrom line (m .at))))
-              measure-passes held few = passes-as (ap (λ i. forget (counted 0 measuresMost (index i) (bytesFrom line (m .at)))) (sizes-are held few)) s
+            module _ {z : Step} (s : Passes line (m .at) z (forget (counted 0 measuresMost (indexRead vars) (bytesFrom line (m .at))))) where
+              measure-passes : {P : File} (held : Held index n P) (few : n .functions < functionsMost) → Passes line (m .at) z (forget (counted 0 measuresMost (indexRead (namedCount (head held few .list))) (bytesFrom line (m .at))))
+              measure-passes held few = passes-as (ap (λ i. forget (counted 0 measuresMost (indexRead i) (bytesFrom line (m .at)))) (sizes-are held few)) s
 
-              pub function-no-measure : {k : ℕ} → z ≡ Stop k → ReadsFunction line types functions n z functions′
-              function-no-measure h = function-stops h λ channels P held few. from-conditions held few (pass-stops-pass _ _ (measure-passes held few) h)
+              pub function-no-measure : {k : ℕ} → z ≡ Stop k → ReadsFunction line index n z index₁
+              function-no-measure h = function-stops h λ P held few. from-conditions held few (pass-stops-pass _ _ (measure-passes held few) h)
 
               module _ {b : Cursor} (e₄ : z ≡ Next b) where
-                module _ {channels : List ℕ} {P : File} (held : Held types functions channels n P) (few : n .functions < functionsMost) where
-                  the-measure : Gives (counted 0 measuresMost (index (namedCount (head held few .list))) (bytesFrom line (m .at))) (bytesFrom line (b .at))
+                module _ {P : File} (held : Held index n P) (few : n .functions < functionsMost) where
+                  the-measure : Gives (counted 0 measuresMost (indexRead (namedCount (head held few .list))) (bytesFrom line (m .at))) (bytesFrom line (b .at))
                   the-measure = pass-got (measure-passes held few) e₄
 
                   from-measure : {r : Step} → Passes line (b .at) r (forget (behindMeasure P (head held few .list) (the-result held few .value) (the-conditions held few .value) (the-measure .value) (bytesFrom line (b .at)))) → Passes line 1 r (forget (function P (bytesFrom line 1)))
@@ -225,23 +228,25 @@ module _ (line types functions functions′ : List ℕ) (n : Counts) {w : Step} 
                   to-body : function P (bytesFrom line 1) ≡ behindMeasure P (head held few .list) (the-result held few .value) (the-conditions held few .value) (the-measure .value) (bytesFrom line (b .at))
                   to-body = to-result held few ∙ then-got _ (the-result held few .is) ∙ then-got _ (the-conditions held few .is) ∙ then-got _ (the-measure .is)
 
-                  scope-told : {variables : ℕ} → variables ≡ getD functions₁ (functionWords * n .functions) 0 % byteRange → Tells types functions₁ (insideNames n variables vars) (bodyScope (P .types) (P .functions) (head held few .list))
-                  scope-told a = tells-inside held few (head held few .table) (head held few .tells) (sym (a ∙ small _ _ (head held few .tells .count) (head held few .tells .few))) (sizes-are held few)
+                  scope-told : {variables : ℕ} → variables ≡ getD (functionsOf index₁) (functionWords * n .functions) 0 % byteRange → Tells index₁ (insideNames n variables vars) (bodyScope (P .types) (P .functions) (head held few .list))
+                  scope-told a = tells-inside held (v .1) few (head held few .table) (head held few .tells) (sym (a ∙ small _ _ (head held few .tells .count) (head held few .tells .few))) (sizes-are held few)
 
-                pub function-read : {variables to i₁ i₂ i₃ i₄ : ℕ} {r : Step} → Fits line n → variables ≡ getD functions₁ (functionWords * n .functions) 0 % byteRange → Follows line types functions₁ b (insideNames n variables vars) r (exprAt nestingMost) →
+                pub function-read : {index′ : List ℕ} {variables i₁ i₂ i₃ i₄ : ℕ} {r : Step} → Fits line n → variables ≡ getD (functionsOf index₁) (functionWords * n .functions) 0 % byteRange → Follows line index₁ b (insideNames n variables vars) r (exprAt nestingMost) →
                     PlaceWord (c .at) i₁ → PlaceWord (d .at) i₂ → PlaceWord (m .at) i₃ → PlaceWord (b .at) i₄ →
-                    to ≡ functionWords * n .functions + headWords → functions′ ≡ set (set (set (set functions₁ to i₁) (to + 1) i₂) (to + 2) i₃) (to + 3) i₄ → ReadsFunction line types functions n r functions′
-                function-read {to} {i₁} {i₂} {i₃} {i₄} {r} fits a u p₁ p₂ p₃ p₄ where-to wrote = record {
-                  says = λ channels P held few long. from-measure held few (passes-as (forget-then _ _) (u .says (bodyScope (P .types) (P .functions) (head held few .list)) (scope-told held few a) within₄));
-                  enters = λ channels P held few long F rest h.
+                    (functionsOf index′ ≡ set (set (set (set (functionsOf index₁) (functionWords * n .functions + headWords) i₁) (functionWords * n .functions + headWords + 1) i₂) (functionWords * n .functions + headWords + 2) i₃) (functionWords * n .functions + headWords + 3) i₄)
+                    × Outside functionsFrom functionTableWords index₁ index′ → ReadsFunction line index n r index′
+                function-read {index′} {i₁ = i₁} {i₂} {i₃} {i₄} {r} fits a u p₁ p₂ p₃ p₄ wrote = record {
+                  says = λ P held few long. from-measure held few (passes-as (forget-then _ _) (u .says (bodyScope (P .types) (P .functions) (head held few .list)) (scope-told held few a) within₄));
+                  enters = λ P held few long F rest h.
                       let made = last-got (λ (t : Expr). record { parameters = head held few .list; result = the-result held few .value; conditions = the-conditions held few .value; measure = the-measure held few .value; body = t }) _ (sym (to-body held few) ∙ h) in (
                         entered held few long (made .value) (h ∙ ap (λ G. got G rest) (made .made)) (made .is) ∙ ap (λ G. functionTable (P .functions ++ (G ∷ []))) (sym (made .made)),
                         omega (arith, ap (λ G. length (G .parameters)) (made .made), head held few .tells .few),
                       );
+                  outside = outside-then (v .1) (wrote .1);
                 }
                   where
                     within₁ : c .at ≤ length (bytesOf line)
-                    within₁ = ends-within (pass-moved (v .passes) e)
+                    within₁ = ends-within (pass-moved (v .0 .passes) e)
 
                     within₂ : d .at ≤ length (bytesOf line)
                     within₂ = ends-within (pass-moved p e₂)
@@ -252,11 +257,11 @@ module _ (line types functions functions′ : List ℕ) (n : Counts) {w : Step} 
                     within₄ : b .at ≤ length (bytesOf line)
                     within₄ = ends-within (pass-moved s e₄)
 
-                    the-function : {channels : List ℕ} {P : File} → Held types functions channels n P → n .functions < functionsMost → Expr → Function
+                    the-function : {P : File} → Held index n P → n .functions < functionsMost → Expr → Function
                     the-function held few t = record { parameters = head held few .list; result = the-result held few .value; conditions = the-conditions held few .value; measure = the-measure held few .value; body = t }
 
-                    entered : {channels : List ℕ} {P : File} (held : Held types functions channels n P) (few : n .functions < functionsMost) → 1 ≤ length (bytesOf line) → (t : Expr) {rest : List ℕ} → function P (bytesFrom line 1) ≡ got (the-function held few t) rest →
-                        exprAt nestingMost (bodyScope (P .types) (P .functions) (head held few .list)) (bytesFrom line (b .at)) ≡ got t rest → functions′ ≡ functionTable (P .functions ++ (the-function held few t ∷ []))
+                    entered : {P : File} (held : Held index n P) (few : n .functions < functionsMost) → 1 ≤ length (bytesOf line) → (t : Expr) {rest : List ℕ} → function P (bytesFrom line 1) ≡ got (the-function held few t) rest →
+                        exprAt nestingMost (bodyScope (P .types) (P .functions) (head held few .list)) (bytesFrom line (b .at)) ≡ got t rest → functionsOf index′ ≡ functionTable (P .functions ++ (the-function held few t ∷ []))
                     entered {P} held few long t {rest} all end =
                         let F = the-function held few t in
                         let at₁ = place-behind (counted-exact (plain-exact (n .types)) 0 parametersMost) line 1 (c .at) long within₁ (head held few .read) in
@@ -264,12 +269,11 @@ module _ (line types functions functions′ : List ℕ) (n : Counts) {w : Step} 
                         let at₄ = place-behind (counted-exact (index-exact (namedCount (head held few .list))) 0 measuresMost) line (m .at) (b .at) within₃ within₄ (the-measure held few .is) in
                         let places = places-are F line rest long within₄ at₁ at₂ at₄ (read-spelled (function-exact P) line 1 all .spelled) (read-spelled (expr-exact nestingMost (bodyScope (P .types) (P .functions) (head held few .list))) line (b .at) end .spelled) in
                         let at = functionWords * n .functions + headWords in
-                        let table₁ = set functions₁ at i₁ in
+                        let table₁ = set (functionsOf index₁) at i₁ in
                         let table₂ = set table₁ (at + 1) i₂ in
                         let table₃ = set table₂ (at + 2) i₃ in
-                        let same = wrote ∙ ap (λ i. set (set (set (set functions₁ i i₁) (i + 1) i₂) (i + 2) i₃) (i + 3) i₄) where-to in
-                        places-added (P .functions) F (held .functionCount) few (head held few .table)
-                        (ap (set functions₁ at) (place-is fits p₁ within₁ ∙ places .result))
+                        places-added (P .functions) F (held .counted .functionCount) few (head held few .table)
+                        (ap (set (functionsOf index₁) at) (place-is fits p₁ within₁ ∙ places .result))
                         (ap (set table₁ (at + 1)) (place-is fits p₂ within₂ ∙ places .conditions))
                         (ap (set table₂ (at + 2)) (place-is fits p₃ within₃ ∙ places .measure))
-                        (same ∙ ap (set table₃ (at + 3)) (place-is fits p₄ within₄ ∙ places .body))
+                        (wrote .0 ∙ ap (set table₃ (at + 3)) (place-is fits p₄ within₄ ∙ places .body))

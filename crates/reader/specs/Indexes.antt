@@ -1,11 +1,12 @@
--- A text that was read is indexed: what the reader promises of its tables gives all that Indexed says.
-use Prim.Native.Nat.{ℕ, _+_, _*_, _<_}
+-- A text that was read is indexed: what the reader promises of its index gives all that Indexed says.
+use Prim.Native.Nat.{ℕ, _+_, _*_, _%_, _<_}
 use mathlib.Core.List.{List, []}
 use mathlib.Core.Option.{some}
-use mathlib.Core.Path.{_≡_, refl, sym, ap, subst, _∙_}
+use mathlib.Core.Path.{_≡_, refl, sym, ap, _∙_}
 use native.Mathlib.Nat.{add-zero}
 use native.Mathlib.Omega.{arith}
 use lib.ListN.{length, getD, getElem? as look}
+use Rattle.language.specs.Limits.{byteRange}
 use Rattle.language.specs.Result.{Result, ok}
 use Rattle.language.specs.Syntax.{Function, Input, Node, File, constructorsOf}
 use Rattle.language.specs.Format.{declaredBytes, exprBytes}
@@ -13,23 +14,22 @@ use Rattle.language.specs.Reader.{readFile}
 use Rattle.language.specs.Within.{Within}
 use Rattle.theory.specs.Places.{look-at}
 use Rattle.theory.specs.ReaderExact.{reader-forth}
-use Rattle.index.specs.Tables.{typeTable, functionWords, functionTable, channelWords, inputEntry, nodeEntry, channelTable, frameTable}
-use Rattle.index.specs.Tables.{resultPlace, conditionsPlace, measurePlace, bodyPlace}
+use Rattle.index.specs.Tables.{typeTable, functionWords, functionTable, channelWords, inputEntry, nodeEntry, channelTable, resultPlace, conditionsPlace, measurePlace, bodyPlace}
+use Rattle.index.specs.Sections.{countsOf, countsIn}
+use Rattle.index.specs.Whole.{countsEntry, FileSections, whole-sections}
 use Rattle.index.specs.TypeTable.{FewParts, each-within-few, tells-type}
 use Rattle.index.specs.FunctionTable.{headWords}
 use Rattle.encoding.specs.FrameParts.{FunctionSpelled, InputSpelled, NodeSpelled}
 use Rattle.encoding.specs.FrameSpells.{lineAt, type-spelled, function-spelled, input-spelled, node-spelled}
-use Rattle.index.specs.declared.Counts.{Counts}
 use Rattle.reader.specs.declared.Reading.{Reading}
 use Rattle.reader.specs.declared.Reading.the-variants.{Done}
-use Rattle.reader.specs.Held.{Held}
 use Rattle.reader.specs.Texts.{TextRead, done, fault}
-use Rattle.index.specs.Indexed.{resultAt, conditionsAt, measureAt, bodyAt, initialAt, updateAt, functionLine, channelLine, TypeIndexed, FunctionIndexed, ChannelIndexed, NodeIndexed, Indexed, Counted, ReadIndexed}
+use Rattle.index.specs.Indexed.{resultAt, conditionsAt, measureAt, bodyAt, initialAt, updateAt, functionLine, channelLine, TypeIndexed, FunctionIndexed, ChannelIndexed, NodeIndexed, Counted, Indexed}
 use Rattle.encoding.specs.WithinParts.{function-within}
 use Rattle.reader.specs.FrameLines.{frame-indexed}
 use Rattle.index.specs.TableWords.{tells-field, parameters-told, place-told, input-told, node-told}
 
--- ---- a text that was read, and the tables of its file
+-- ---- a text that was read, and the sections of its file
 module _ (text : List ℕ) {P : File} (read : readFile text ≡ ok P) where
   in-limits : Within P
   in-limits = reader-forth text P read .1
@@ -88,29 +88,42 @@ module _ (text : List ℕ) {P : File} (read : readFile text ≡ ok P) where
         update = rw update (s .update);
       }
 
-  tables-index : {frames types functions channels : List ℕ} {n : Counts} → Held types functions channels n P → frames ≡ frameTable P → Indexed text frames types functions channels P
-  tables-index held table =
+  counts-indexed : (index : List ℕ) → countsOf index ≡ countsEntry P → Counted (countsIn index) P
+  counts-indexed index counts =
+      let w = in-limits in
+      record {
+        typeCount = small 0 (length (P .types)) (ap (λ l. getD l 0 0) counts) (omega (arith, w .fewTypes));
+        functionCount = small 1 (length (P .functions)) (ap (λ l. getD l 1 0) counts) (omega (arith, w .fewFunctions));
+        inputCount = small 2 (length (P .inputs)) (ap (λ l. getD l 2 0) counts) (omega (arith, w .fewInputs));
+        nodeCount = small 3 (length (P .nodes)) (ap (λ l. getD l 3 0) counts) (omega (arith, w .fewNodes));
+      }
+    where
+      small : (i n : ℕ) → getD (countsOf index) i 0 ≡ n → n < byteRange → n ≡ getD (countsOf index) i 0 % byteRange
+      small i n e less = omega arith
+
+  file-indexed : {index : List ℕ} → FileSections index P → Indexed text index P
+  file-indexed {index} s =
       let w = in-limits in
       record {
         read = read;
         short = omega (arith, w .text, ap length (reader-forth text P read .0));
         within = w;
-        eachFrame = frame-indexed read (omega (arith, w .fewTypes, w .fewFunctions, w .fewInputs, w .fewNodes)) table;
-        eachType = type-indexed (held .typesAre);
-        eachFunction = function-indexed (held .functionsAre);
-        eachInput = input-indexed (held .channelsAre);
-        eachNode = node-indexed (held .channelsAre);
+        counted = counts-indexed index (s .counts);
+        eachFrame = frame-indexed read (omega (arith, w .fewTypes, w .fewFunctions, w .fewInputs, w .fewNodes)) (s .frames);
+        eachType = type-indexed (s .types);
+        eachFunction = function-indexed (s .functions);
+        eachInput = input-indexed (s .channels);
+        eachNode = node-indexed (s .channels);
       }
 
 -- ---- what the reader promises
-held-counted : {types functions channels : List ℕ} {n : Counts} {P : File} → Held types functions channels n P → Counted n P
-held-counted h = record { typeCount = h .typeCount; functionCount = h .functionCount; inputCount = h .inputCount; nodeCount = h .nodeCount }
+pub record ReadIndexed (text index : List ℕ) : Type 0 where
+  pub file : File
+  pub indexed : Indexed text index file
 
-pub read-indexes : {text frames types functions channels : List ℕ} {r : Reading} {n : Counts} → TextRead r frames types functions channels (readFile text) → r ≡ Done n → ReadIndexed text frames types functions channels n
-read-indexes {text} {frames} {types} {functions} {channels} {r} {n} told answer = go (readFile text) refl told
+pub read-indexes : {text index : List ℕ} {r : Reading} → TextRead r index (readFile text) → r ≡ Done → ReadIndexed text index
+read-indexes {text} {index} {r} told answer = go (readFile text) refl told
   where
-    go : (x : Result File) → readFile text ≡ x → TextRead r frames types functions channels x → ReadIndexed text frames types functions channels n
-    go x q (done {n = m} {P = P} e held table) =
-        let same : m ≡ n = let u = sym e ∙ answer in cc in
-        record { file = P; indexed = tables-index text q held table; counted = subst (λ k. Counted k P) same (held-counted held) }
-    go x q (fault e z) = absurd (let u = sym e ∙ answer in let z : _≡_ {A = ℕ} 0 1 = cc in omega arith)
+    go : (x : Result File) → readFile text ≡ x → TextRead r index x → ReadIndexed text index
+    go x q (done {P = P} e whole) = record { file = P; indexed = file-indexed text q (whole-sections whole) }
+    go x q (fault e zeros) = absurd (let u = sym e ∙ answer in let z : _≡_ {A = ℕ} 0 1 = cc in omega arith)

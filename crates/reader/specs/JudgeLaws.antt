@@ -1,45 +1,55 @@
--- The pass over a whole text: at each turn the lines so far are in the table of frames. A line by its entry there.
+-- The pass over a whole text: at each turn the lines so far are in the section of frames. A line by its entry there.
 use Prim.Native.Nat.{ℕ, _+_, _-_, _*_, _≤_, _<_}
 use mathlib.Core.List.{List, [], _∷_, _++_}
 use mathlib.Core.Path.{_≡_, refl, sym, ap, _∙_}
 use native.Mathlib.Omega.{arith}
-use lib.ListN.{length, set, take, drop, getD, replicate, length-drop}
+use lib.ListN.{length, set, take, drop, replicate, length-drop}
 use Rattle.language.specs.Limits.{textMost}
 use Rattle.language.specs.Result.{ok}
 use Rattle.language.specs.Layout.{padded}
-use Rattle.text.specs.declared.lines.Judged.the-variants.{Lines, Refused}
+use Rattle.text.specs.declared.lines.Judged.the-variants.{Channels, Refused}
 use Rattle.text.specs.declared.lines.LineEnd.{LineEnd}
 use Rattle.text.specs.declared.lines.LineEnd.the-variants.{At, Bad}
 use Rattle.text.specs.Bytes.{bytesOf}
 use Rattle.text.specs.Lines.{firstLine, lineEnd, channelsOf, judgement}
 use Rattle.text.specs.LinesEnd.{first-line-fits}
 use Rattle.text.specs.LinesJudge.{first-line-taken, line-ended, Counted, counted-start, counted-on, frames-are, judged-bad, judged-end, judged-too-long}
-use Rattle.index.specs.Tables.{frameWords, framesMost, placesFrom}
+use Rattle.index.specs.Tables.{frameWords, placesFrom}
+use Rattle.index.specs.Sections.{framesFrom as framesStart, frameTableWords, indexWords, framesOf}
+use Rattle.index.specs.SectionLaws.{Outside, outside-then, section-zero}
+use Rattle.index.specs.Indexed.{frameLength}
 use Rattle.index.specs.FrameTable.{placeBehind, no-frames}
 use Rattle.reader.specs.Texts.{Judges, Listed}
 use Rattle.reader.specs.TableLaws.{place-entered, place-behind}
 use Rattle.reader.specs.LineLaws.{line-long}
 
-pub record JudgedTo (t frames₀ : List ℕ) (at lines channels : ℕ) (frames : List ℕ) : Type 0 where
+pub record JudgedTo (t index₀ : List ℕ) (at lines channels : ℕ) (index : List ℕ) : Type 0 where
   pub fits : length t ≤ textMost
   pub earlier : List (List ℕ)
   pub counted : Counted t at lines channels earlier
   pub place : placeBehind 0 earlier ≡ at
-  pub places : frames ≡ padded (framesMost * frameWords) (placesFrom 0 earlier)
-  pub kept : length frames ≡ length frames₀
+  pub places : framesOf index ≡ padded frameTableWords (placesFrom 0 earlier)
+  pub outside : Outside framesStart frameTableWords index₀ index
 
-pub judged-start : (t frames : List ℕ) → length t ≤ textMost → frames ≡ replicate (framesMost * frameWords) 0 → JudgedTo t frames 0 0 0 frames
+pub judged-start : (t index : List ℕ) → length t ≤ textMost → index ≡ replicate indexWords 0 → JudgedTo t index 0 0 0 index
 unfolding placeBehind
-judged-start t frames fits zeros = record { fits = fits; earlier = []; counted = counted-start t; place = refl; places = zeros ∙ sym no-frames; kept = refl }
+judged-start t index fits zeros = record {
+  fits = fits;
+  earlier = [];
+  counted = counted-start t;
+  place = refl;
+  places = ap framesOf zeros ∙ section-zero framesStart frameTableWords indexWords (omega arith) ∙ sym no-frames;
+  outside = record { before = refl; behind = refl };
+}
 
--- a refusal says nothing of the table
-refused-judges : {t frames : List ℕ} {n k : ℕ} → Refused n k ≡ judgement t → Judges t (Refused n k) frames
-refused-judges e = record { is = e; places = λ c q fs f. absurd (let z : _≡_ {A = ℕ} 0 1 = cc in omega arith) }
+-- a refusal says nothing of the frames
+refused-judges : {t index index′ : List ℕ} {n k : ℕ} → Refused n k ≡ judgement t → Outside framesStart frameTableWords index index′ → Judges t index (Refused n k) index′
+refused-judges e o = record { is = e; places = λ c q fs f. absurd (let z : _≡_ {A = ℕ} 0 1 = cc in omega arith); outside = o }
 
-pub too-long-judges : (t frames : List ℕ) → textMost < length t → Judges t (Refused 1 0) frames
-too-long-judges t frames h = refused-judges (judged-too-long t h)
+pub too-long-judges : (t index : List ℕ) → textMost < length t → Judges t index (Refused 1 0) index
+too-long-judges t index h = refused-judges (judged-too-long t h) (record { before = refl; behind = refl })
 
-module _ {t frames₀ frames : List ℕ} {at lines channels : ℕ} (p : JudgedTo t frames₀ at lines channels frames) where
+module _ {t index₀ index : List ℕ} {at lines channels : ℕ} (p : JudgedTo t index₀ at lines channels index) where
   -- where a good line ends
   pub end-behind : {x : LineEnd} {end : ℕ} → x ≡ lineEnd t at → x ≡ At end → at < end
   end-behind v q = line-ended t at v q .from
@@ -47,12 +57,12 @@ module _ {t frames₀ frames : List ℕ} {at lines channels : ℕ} (p : JudgedTo
   pub end-within : {x : LineEnd} {end : ℕ} → x ≡ lineEnd t at → x ≡ At end → end < length t
   end-within v q = line-ended t at v q .less
 
-  pub bad-judges : {x : LineEnd} → at < length t → x ≡ lineEnd t at → x ≡ Bad → Judges t (Refused 2 (lines + 1)) frames
-  bad-judges h v q = refused-judges (judged-bad (p .counted) (p .fits) h v q)
+  pub bad-judges : {x : LineEnd} → at < length t → x ≡ lineEnd t at → x ≡ Bad → Judges t index₀ (Refused 2 (lines + 1)) index
+  bad-judges h v q = refused-judges (judged-bad (p .counted) (p .fits) h v q) (p .outside)
 
-  pub judged-on : {x : LineEnd} {end one : ℕ} {frames₁ frames₂ : List ℕ} → x ≡ lineEnd t at → x ≡ At end → frames₁ ≡ set frames (frameWords * lines) at → frames₂ ≡ set frames₁ (frameWords * lines + 1) (end - at) → length frames₂ ≡ length frames →
-      one ≡ channelsOf (bytesOf (take (end - at) (drop at t))) → JudgedTo t frames₀ (end + 1) (lines + 1) (channels + one) frames₂
-  judged-on {end = end} v q put₁ put₂ same is =
+  pub judged-on : {x : LineEnd} {end one : ℕ} {index′ : List ℕ} → x ≡ lineEnd t at → x ≡ At end → (framesOf index′ ≡ set (set (framesOf index) (frameWords * lines) at) (frameWords * lines + 1) (end - at)) × Outside framesStart frameTableWords index index′ →
+      one ≡ channelsOf (bytesOf (take (end - at) (drop at t))) → JudgedTo t index₀ (end + 1) (lines + 1) (channels + one) index′
+  judged-on {end = end} v q wrote is =
       let n = line-ended t at v q in
       let long : end - at ≡ 2 * length (n .frame) = omega (arith, n .place, line-long (firstLine (drop at t)) (n .frame) (n .spelled) .0) in
       record {
@@ -60,18 +70,19 @@ module _ {t frames₀ frames : List ℕ} {at lines channels : ℕ} (p : JudgedTo
         earlier = p .earlier ++ (n .frame ∷ []);
         counted = counted-on (p .counted) n is;
         place = place-behind 0 (p .earlier) (n .frame) ∙ omega (arith, p .place, long, n .from);
-        places = place-entered (framesMost * frameWords) (p .earlier) (n .frame) (p .places) (p .counted .count) (p .place) long put₁ put₂;
-        kept = same ∙ p .kept;
+        places = place-entered frameTableWords (p .earlier) (n .frame) (p .places) (p .counted .count) (p .place) long (wrote .0);
+        outside = outside-then (p .outside) (wrote .1);
       }
 
-  pub all-judges : length t ≤ at → Judges t (Lines (record { lines = lines; channels = channels })) frames
+  pub all-judges : length t ≤ at → Judges t index₀ (Channels channels) index
   all-judges h = record {
     is = judged-end (p .counted) (p .fits) h;
-    places = λ c q fs f. p .places ∙ ap (λ l. padded (framesMost * frameWords) (placesFrom 0 l)) (let z : ok (p .earlier) ≡ ok fs = sym (frames-are (p .counted) h) ∙ f in cc);
+    places = λ c q fs f. p .places ∙ ap (λ l. padded frameTableWords (placesFrom 0 l)) (let z : ok (p .earlier) ≡ ok fs = sym (frames-are (p .counted) h) ∙ f in cc);
+    outside = p .outside;
   }
 
 -- ---- a line by its entry
-module _ {t frames : List ℕ} {at read size : ℕ} (p : Listed t frames at read) (is : size ≡ getD frames (frameWords * read + 1) 0) (some : size ≡ 0 → ⊥) where
+module _ {t index : List ℕ} {at read size : ℕ} (p : Listed t index at read) (is : size ≡ frameLength (framesOf index) read) (some : size ≡ 0 → ⊥) where
   listed-size : size ≡ length (firstLine (drop at t))
   listed-size = is ∙ p .says (λ e. some (is ∙ e))
 

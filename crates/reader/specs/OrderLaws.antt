@@ -15,7 +15,7 @@ use Rattle.language.specs.Parser.{decode}
 use Rattle.language.specs.Reader.{kinds, isEmpty, inOrder}
 use Rattle.theory.specs.Lists.{both-never}
 use Rattle.index.specs.declared.Counts.{Counts}
-use Rattle.reader.specs.Held.{Held}
+use Rattle.index.specs.Indexed.{Counted}
 use Rattle.reader.specs.Frames.{ordered, Ordered}
 
 -- ---- kinds
@@ -58,56 +58,56 @@ nothing-left (a ∷ l) e = absurd (let z : _≡_ {A = ℕ} 0 1 = cc in omega ari
 module _ {kind : ℕ} {n : Counts} where
   pub node-order : kind ≡ 4 → Ordered kind n (ltb (n .nodes) nodesMost)
   unfolding ordered decode choose inOrder
-  node-order e = record { says = λ types functions channels P held. rw (e, held .nodeCount) }
+  node-order e = record { says = λ P same. rw (e, same .nodeCount) }
 
   pub nodes-before : (kind ≡ 4 → ⊥) → (n .nodes ≡ 0 → ⊥) → Ordered kind n false
   unfolding ordered decode choose inOrder both
-  nodes-before other late = record { says = λ types functions channels P held. sym (by held (empty-not (P .nodes) (λ e. late (sym (held .nodeCount) ∙ e))) (which kind) other) }
+  nodes-before other late = record { says = λ P same. sym (by same (empty-not (P .nodes) (λ e. late (sym (same .nodeCount) ∙ e))) (which kind) other) }
     where
-      by : {types functions channels : List ℕ} {P : File} → Held types functions channels n P → isEmpty (P .nodes) ≡ false → {k : ℕ} → Which k → (k ≡ 4 → ⊥) → ordered (decode 0x01 kinds k) P ≡ false
-      by {P} held e first h = rw (e, both-never (isEmpty (P .inputs)) refl, both-never (isEmpty (P .functions)) refl)
-      by {P} held e second h = rw (e, both-never (isEmpty (P .inputs)) refl)
-      by held e third h = rw e
-      by held e fourth h = absurd (h refl)
-      by held e (unknown p) h = rw p
+      by : {P : File} → Counted n P → isEmpty (P .nodes) ≡ false → {k : ℕ} → Which k → (k ≡ 4 → ⊥) → ordered (decode 0x01 kinds k) P ≡ false
+      by {P} same e first h = rw (e, both-never (isEmpty (P .inputs)) refl, both-never (isEmpty (P .functions)) refl)
+      by {P} same e second h = rw (e, both-never (isEmpty (P .inputs)) refl)
+      by same e third h = rw e
+      by same e fourth h = absurd (h refl)
+      by same e (unknown p) h = rw p
 
   pub input-order : kind ≡ 3 → n .nodes ≡ 0 → Ordered kind n (ltb (n .inputs) inputsMost)
   unfolding ordered decode choose inOrder both
-  input-order e z = record { says = λ types functions channels P held. rw (e, empty-is (P .nodes) (held .nodeCount ∙ z), held .inputCount) }
+  input-order e z = record { says = λ P same. rw (e, empty-is (P .nodes) (same .nodeCount ∙ z), same .inputCount) }
 
   pub inputs-before : (kind ≡ 4 → ⊥) → (kind ≡ 3 → ⊥) → (n .inputs ≡ 0 → ⊥) → Ordered kind n false
   unfolding ordered decode choose inOrder both
-  inputs-before fo th late = record { says = λ types functions channels P held. sym (by held (empty-not (P .inputs) (λ e. late (sym (held .inputCount) ∙ e))) (which kind) fo th) }
+  inputs-before fo th late = record { says = λ P same. sym (by same (empty-not (P .inputs) (λ e. late (sym (same .inputCount) ∙ e))) (which kind) fo th) }
     where
-      by : {types functions channels : List ℕ} {P : File} → Held types functions channels n P → isEmpty (P .inputs) ≡ false → {k : ℕ} → Which k → (k ≡ 4 → ⊥) → (k ≡ 3 → ⊥) → ordered (decode 0x01 kinds k) P ≡ false
-      by {P} held e first h j = rw (e, both-never (isEmpty (P .functions)) refl)
-      by held e second h j = rw e
-      by held e third h j = absurd (j refl)
-      by held e fourth h j = absurd (h refl)
-      by held e (unknown p) h j = rw p
+      by : {P : File} → Counted n P → isEmpty (P .inputs) ≡ false → {k : ℕ} → Which k → (k ≡ 4 → ⊥) → (k ≡ 3 → ⊥) → ordered (decode 0x01 kinds k) P ≡ false
+      by {P} same e first h j = rw (e, both-never (isEmpty (P .functions)) refl)
+      by same e second h j = rw e
+      by same e third h j = absurd (j refl)
+      by same e fourth h j = absurd (h refl)
+      by same e (unknown p) h j = rw p
 
   pub function-order : kind ≡ 2 → n .nodes ≡ 0 → n .inputs ≡ 0 → Ordered kind n (ltb (n .functions) functionsMost)
   unfolding ordered decode choose inOrder both
-  function-order e z z′ = record { says = λ types functions channels P held. rw (e, empty-is (P .nodes) (held .nodeCount ∙ z), empty-is (P .inputs) (held .inputCount ∙ z′), held .functionCount) }
+  function-order e z z′ = record { says = λ P same. rw (e, empty-is (P .nodes) (same .nodeCount ∙ z), empty-is (P .inputs) (same .inputCount ∙ z′), same .functionCount) }
 
   pub functions-before : (kind ≡ 4 → ⊥) → (kind ≡ 3 → ⊥) → (kind ≡ 2 → ⊥) → (n .functions ≡ 0 → ⊥) → Ordered kind n false
   unfolding ordered decode choose inOrder both
-  functions-before fo th se late = record { says = λ types functions channels P held. sym (by held (empty-not (P .functions) (λ e. late (sym (held .functionCount) ∙ e))) (which kind) fo th se) }
+  functions-before fo th se late = record { says = λ P same. sym (by same (empty-not (P .functions) (λ e. late (sym (same .functionCount) ∙ e))) (which kind) fo th se) }
     where
-      by : {types functions channels : List ℕ} {P : File} → Held types functions channels n P → isEmpty (P .functions) ≡ false → {k : ℕ} → Which k → (k ≡ 4 → ⊥) → (k ≡ 3 → ⊥) → (k ≡ 2 → ⊥) → ordered (decode 0x01 kinds k) P ≡ false
-      by held e first h j i = rw e
-      by held e second h j i = absurd (i refl)
-      by held e third h j i = absurd (j refl)
-      by held e fourth h j i = absurd (h refl)
-      by held e (unknown p) h j i = rw p
+      by : {P : File} → Counted n P → isEmpty (P .functions) ≡ false → {k : ℕ} → Which k → (k ≡ 4 → ⊥) → (k ≡ 3 → ⊥) → (k ≡ 2 → ⊥) → ordered (decode 0x01 kinds k) P ≡ false
+      by same e first h j i = rw e
+      by same e second h j i = absurd (i refl)
+      by same e third h j i = absurd (j refl)
+      by same e fourth h j i = absurd (h refl)
+      by same e (unknown p) h j i = rw p
 
   pub type-order : kind ≡ 1 → n .nodes ≡ 0 → n .inputs ≡ 0 → n .functions ≡ 0 → Ordered kind n (ltb (n .types) typesMost)
   unfolding ordered decode choose inOrder both
-  type-order e z z′ z″ = record { says = λ types functions channels P held. rw (e, empty-is (P .nodes) (held .nodeCount ∙ z), empty-is (P .inputs) (held .inputCount ∙ z′), empty-is (P .functions) (held .functionCount ∙ z″), held .typeCount) }
+  type-order e z z′ z″ = record { says = λ P same. rw (e, empty-is (P .nodes) (same .nodeCount ∙ z), empty-is (P .inputs) (same .inputCount ∙ z′), empty-is (P .functions) (same .functionCount ∙ z″), same .typeCount) }
 
   pub unknown-kind : (kind ≡ 4 → ⊥) → (kind ≡ 3 → ⊥) → (kind ≡ 2 → ⊥) → (kind ≡ 1 → ⊥) → Ordered kind n false
   unfolding ordered
-  unknown-kind fo th se fi = record { says = λ types functions channels P held. sym (by P (which kind) fo th se fi) }
+  unknown-kind fo th se fi = record { says = λ P same. sym (by P (which kind) fo th se fi) }
     where
       by : (P : File) {k : ℕ} → Which k → (k ≡ 4 → ⊥) → (k ≡ 3 → ⊥) → (k ≡ 2 → ⊥) → (k ≡ 1 → ⊥) → ordered (decode 0x01 kinds k) P ≡ false
       by P first h j i g = absurd (g refl)

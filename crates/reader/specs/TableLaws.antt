@@ -1,9 +1,9 @@
--- The four tables of the reader: cleared, zero before the first frame, and one frame's place more.
+-- The index before the first frame, and one frame's place more.
 use Prim.Native.Nat.{ℕ, zero, suc, _+_, _*_}
 use mathlib.Core.List.{List, [], _∷_, _++_}
 use mathlib.Core.Path.{_≡_, refl, sym, ap, _∙_}
 use native.Mathlib.Omega.{arith}
-use lib.ListN.{length, set, replicate, length-append}
+use lib.ListN.{length, set, length-append}
 use lib.Seq.{append-snoc}
 use Rattle.language.specs.Layout.{padded}
 use Rattle.language.specs.Within.{all-nil}
@@ -12,36 +12,17 @@ use Rattle.index.specs.Tables.{frameWords, placesFrom}
 use Rattle.index.specs.FrameTable.{placeBehind, frame-more, frames-so-far, no-channels}
 use Rattle.index.specs.TypeTable.{no-types}
 use Rattle.index.specs.FunctionTable.{no-functions}
-use Rattle.text.specs.declared.lines.Counts.{Counts as TextCounts}
 use Rattle.reader.specs.Held.{Held}
-use Rattle.reader.specs.Texts.{Clears, Ready}
+use Rattle.reader.specs.Texts.{Ready}
 use Rattle.index.specs.declared.Counts.{Counts}
 
--- ---- cleared tables
-zeros-of-length : {l′ : List ℕ} {n : ℕ} (l : List ℕ) → l′ ≡ replicate (length l) 0 → length l ≡ n → l′ ≡ replicate n 0
-zeros-of-length l e h = e ∙ ap (λ n. replicate n 0) h
-
-pub all-cleared : {frames types functions channels frames′ types′ functions′ channels′ : List ℕ} → frames′ ≡ replicate (length frames) 0 → types′ ≡ replicate (length types) 0 → functions′ ≡ replicate (length functions) 0 → channels′ ≡ replicate (length channels) 0 →
-    Clears frames types functions channels frames′ types′ functions′ channels′
-all-cleared {frames} {types} {functions} {channels} a b d e = record {
-  says = λ long. record {
-    framesZero = zeros-of-length frames a (long .framesLong);
-    typesZero = zeros-of-length types b (long .typesLong);
-    functionsZero = zeros-of-length functions d (long .functionsLong);
-    channelsZero = zeros-of-length channels e (long .channelsLong);
-  };
-}
-
--- tables of zeros hold the file without frames
-pub blank-held : {text frames types functions channels : List ℕ} {c : TextCounts} {n : Counts} → Ready text frames types functions channels c → n .types ≡ 0 → n .functions ≡ 0 → n .inputs ≡ 0 → n .nodes ≡ 0 → Held types functions channels n emptyFile
+-- sections of zeros hold the file without frames
+pub blank-held : {text index : List ℕ} {channels : ℕ} {n : Counts} → Ready text index channels → n .types ≡ 0 → n .functions ≡ 0 → n .inputs ≡ 0 → n .nodes ≡ 0 → Held index n emptyFile
 blank-held z a b d e = record {
   typesAre = z .typesZero ∙ sym no-types;
   functionsAre = z .functionsZero ∙ sym no-functions;
   channelsAre = z .channelsZero ∙ sym no-channels;
-  typeCount = sym a;
-  functionCount = sym b;
-  inputCount = sym d;
-  nodeCount = sym e;
+  counted = record { typeCount = sym a; functionCount = sym b; inputCount = sym d; nodeCount = sym e };
   fewTypes = omega arith;
   fewFunctions = omega arith;
   fewInputs = omega arith;
@@ -50,7 +31,7 @@ blank-held z a b d e = record {
   parameters = all-nil;
 }
 
--- ---- one frame's place more: beyond the table nothing is written, and nothing is asked for
+-- ---- one frame's place more: beyond the section nothing is written, and nothing is asked for
 padded-snoc : (n : ℕ) (ls : List ℕ) (v : ℕ) → set (padded n ls) (length ls) v ≡ padded n (ls ++ (v ∷ []))
 unfolding padded
 padded-snoc zero ls v = refl
@@ -63,10 +44,10 @@ padded-two n i j ls v w e f =
     ap (λ k. set (set (padded n ls) k v) j w) (sym e) ∙ ap (λ l. set l j w) (padded-snoc n ls v) ∙ ap (λ k. set (padded n (ls ++ (v ∷ []))) k w) next
     ∙ padded-snoc n (ls ++ (v ∷ [])) w ∙ ap (padded n) (append-snoc ls v (w ∷ []))
 
-pub place-entered : {frames frames₁ frames₂ : List ℕ} {at read size : ℕ} (n : ℕ) (fs : List (List ℕ)) (f : List ℕ) → frames ≡ padded n (placesFrom 0 fs) → length fs ≡ read → placeBehind 0 fs ≡ at → size ≡ 2 * length f →
-    frames₁ ≡ set frames (frameWords * read) at → frames₂ ≡ set frames₁ (frameWords * read + 1) size → frames₂ ≡ padded n (placesFrom 0 (fs ++ (f ∷ [])))
-place-entered {frames} {frames₁} {at = at} {read} {size} n fs f is count place long put₁ put₂ =
-    put₂ ∙ ap (λ l. set l (frameWords * read + 1) size) (put₁ ∙ ap (λ l. set l (frameWords * read) at) is)
+pub place-entered : {frames frames′ : List ℕ} {at read size : ℕ} (n : ℕ) (fs : List (List ℕ)) (f : List ℕ) → frames ≡ padded n (placesFrom 0 fs) → length fs ≡ read → placeBehind 0 fs ≡ at → size ≡ 2 * length f →
+    frames′ ≡ set (set frames (frameWords * read) at) (frameWords * read + 1) size → frames′ ≡ padded n (placesFrom 0 (fs ++ (f ∷ [])))
+place-entered {at = at} {read} {size} n fs f is count place long wrote =
+    wrote ∙ ap (λ l. set (set l (frameWords * read) at) (frameWords * read + 1) size) is
     ∙ padded-two n (frameWords * read) (frameWords * read + 1) (placesFrom 0 fs) at size (omega (arith, frames-so-far 0 fs)) refl
     ∙ ap (padded n) ((λ i. placesFrom 0 fs ++ (sym place i ∷ long i ∷ [])) ∙ sym (frame-more 0 fs f))
 

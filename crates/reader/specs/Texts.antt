@@ -1,71 +1,65 @@
--- What reading a text promises, in tables of the index's lengths: the file's counts and all its tables, or the refusal with its
--- frame and every table zero.
-use Prim.Native.Nat.{ℕ, _+_, _*_, _≤_}
+-- What reading a text promises: the index of its file, or the refusal with its frame and an index of zeros.
+use Prim.Native.Nat.{ℕ, _≤_}
 use mathlib.Core.List.{List}
 use mathlib.Core.Path.{_≡_}
-use lib.ListN.{length, getD, drop, replicate}
-use lib.Dec.{eqb}
-use Rattle.language.specs.Limits.{textMost, typesMost, functionsMost, channelsMost}
-use Rattle.language.specs.Result.{Result, ok, no, choose}
+use lib.ListN.{length, drop, replicate}
+use Rattle.language.specs.Result.{Result, ok, no}
 use Rattle.language.specs.Syntax.{File}
 use Rattle.language.specs.Layout.{padded}
-use Rattle.text.specs.declared.lines.Counts.{Counts as TextCounts}
 use Rattle.text.specs.declared.lines.Judged.{Judged}
-use Rattle.text.specs.declared.lines.Judged.the-variants.{Lines}
+use Rattle.text.specs.declared.lines.Judged.the-variants.{Channels, Refused as TextRefused}
 use Rattle.text.specs.Lines.{firstLine, framesFrom, judgement}
 use Rattle.text.specs.LinesJudge.{Accepted}
-use Rattle.index.specs.Tables.{typeWords, functionWords, channelWords, frameWords, framesMost, placesFrom, frameTable}
-use Rattle.reader.specs.Held.{Held}
+use Rattle.index.specs.Tables.{placesFrom}
+use Rattle.index.specs.Sections.{framesFrom as framesStart, frameTableWords, typeTableWords, functionTableWords, channelTableWords, indexWords, framesOf, typesOf, functionsOf, channelsOf}
+use Rattle.index.specs.SectionLaws.{Outside, CountsPut}
+use Rattle.index.specs.Whole.{indexOf}
+use Rattle.index.specs.Indexed.{frameLength}
 use Rattle.index.specs.declared.Counts.{Counts}
+use Rattle.reader.specs.declared.Frame.{Frame}
+use Rattle.reader.specs.declared.Frame.the-variants.{Taken, Refused}
 use Rattle.reader.specs.declared.Reading.{Reading}
 use Rattle.reader.specs.declared.Reading.the-variants.{Done, Fault}
 
--- tables as long as the index has them
-pub record Tables (frames types functions channels : List ℕ) : Type 0 where
-  pub framesLong : length frames ≡ framesMost * frameWords
-  pub typesLong : length types ≡ typesMost * typeWords
-  pub functionsLong : length functions ≡ functionsMost * functionWords
-  pub channelsLong : length channels ≡ channelsMost * channelWords
+-- the answer on a frame, and the one on the text as a whole, as that of the reading: a refusal stays one
+abbrev pub frameReading : Frame → ℕ → Reading
+frameReading (Taken n) frame = Done
+frameReading (Refused m) frame = Fault m frame
 
--- such tables, every word zero
-pub record Blank (frames types functions channels : List ℕ) : Type 0 where
-  pub framesZero : frames ≡ replicate (framesMost * frameWords) 0
-  pub typesZero : types ≡ replicate (typesMost * typeWords) 0
-  pub functionsZero : functions ≡ replicate (functionsMost * functionWords) 0
-  pub channelsZero : channels ≡ replicate (channelsMost * channelWords) 0
+abbrev pub textReading : Judged → Reading
+textReading (Channels n) = Done
+textReading (TextRefused m frame) = Fault m frame
 
-pub record Clears (frames types functions channels frames′ types′ functions′ channels′ : List ℕ) : Type 0 where
-  pub says : Tables frames types functions channels → Blank frames′ types′ functions′ channels′
+-- behind the last frame: "no node (frame: one after the last)", or the counts are written
+pub data Finished (n : Counts) (next : ℕ) (index : List ℕ) : Reading → List ℕ → Type 0 where
+  without-node : {index′ : List ℕ} → n .nodes ≡ 0 → Finished n next index (Fault 3 next) index′
+  with-node : {index′ : List ℕ} → (n .nodes ≡ 0 → ⊥) → CountsPut n index index′ → length index′ ≡ indexWords → Finished n next index Done index′
 
--- the answer after the last frame: "no node (frame: one after the last)"
-unfoldable pub finished : Counts → ℕ → Reading
-finished n next = choose (eqb (n .nodes) 0) (Fault 3 next) (Done n)
-
--- a text judged: its answer is the definition's, and where there is no refusal the table has the places of its lines
-pub record Judges (text : List ℕ) (r : Judged) (frames : List ℕ) : Type 0 where
+-- a text judged: its answer is the definition's, and where there is no refusal the index has the places of its lines
+pub record Judges (text index : List ℕ) (r : Judged) (index′ : List ℕ) : Type 0 where
   pub is : r ≡ judgement text
-  pub places : (c : TextCounts) → r ≡ Lines c → (fs : List (List ℕ)) → framesFrom 1 text ≡ ok fs → frames ≡ padded (framesMost * frameWords) (placesFrom 0 fs)
+  pub places : (channels : ℕ) → r ≡ Channels channels → (fs : List (List ℕ)) → framesFrom 1 text ≡ ok fs → framesOf index′ ≡ padded frameTableWords (placesFrom 0 fs)
+  pub outside : Outside framesStart frameTableWords index index′
 
--- so many lines come before a place: the table has the length of the line there, or ends before it
-pub record Listed (text frames : List ℕ) (at read : ℕ) : Type 0 where
+-- so many lines come before a place: the index has the length of the line there, or its frames end before it
+pub record Listed (text index : List ℕ) (at read : ℕ) : Type 0 where
   pub within : at ≤ length text
-  pub few : read ≤ textMost
-  pub says : (getD frames (frameWords * read + 1) 0 ≡ 0 → ⊥) → getD frames (frameWords * read + 1) 0 ≡ length (firstLine (drop at text))
+  pub says : (frameLength (framesOf index) read ≡ 0 → ⊥) → frameLength (framesOf index) read ≡ length (firstLine (drop at text))
 
--- a text that was judged, its lines in the table of frames, and the other tables zero
-pub record Ready (text frames types functions channels : List ℕ) (c : TextCounts) : Type 0 where
-  pub accepted : Accepted text c
-  pub places : frames ≡ padded (framesMost * frameWords) (placesFrom 0 (accepted .frames))
-  pub typesZero : types ≡ replicate (typesMost * typeWords) 0
-  pub functionsZero : functions ≡ replicate (functionsMost * functionWords) 0
-  pub channelsZero : channels ≡ replicate (channelsMost * channelWords) 0
+-- a text that was judged, with so many channels: its lines are in the index, and the other sections are zero
+pub record Ready (text index : List ℕ) (channels : ℕ) : Type 0 where
+  pub accepted : Accepted text channels
+  pub places : framesOf index ≡ padded frameTableWords (placesFrom 0 (accepted .frames))
+  pub typesZero : typesOf index ≡ replicate typeTableWords 0
+  pub functionsZero : functionsOf index ≡ replicate functionTableWords 0
+  pub channelsZero : channelsOf index ≡ replicate channelTableWords 0
 
--- a text read frame by frame: after a refusal the tables are free
-pub data LinesRead (r : Reading) (frames types functions channels : List ℕ) : Result File → Type 0 where
-  all-lines : {n : Counts} {P : File} → r ≡ Done n → Held types functions channels n P → frames ≡ frameTable P → LinesRead r frames types functions channels (ok P)
-  bad-line : {m frame : ℕ} → r ≡ Fault m frame → LinesRead r frames types functions channels (no m frame)
+-- a text read into an index of zeros: after a refusal the index is free
+pub data LinesRead (r : Reading) (index : List ℕ) : Result File → Type 0 where
+  all-lines : {P : File} → r ≡ Done → index ≡ indexOf P → LinesRead r index (ok P)
+  bad-line : {m frame : ℕ} → r ≡ Fault m frame → LinesRead r index (no m frame)
 
--- a text read: after a refusal every word is zero
-pub data TextRead (r : Reading) (frames types functions channels : List ℕ) : Result File → Type 0 where
-  done : {n : Counts} {P : File} → r ≡ Done n → Held types functions channels n P → frames ≡ frameTable P → TextRead r frames types functions channels (ok P)
-  fault : {m frame : ℕ} → r ≡ Fault m frame → Blank frames types functions channels → TextRead r frames types functions channels (no m frame)
+-- a text read: the index is the file's, or after a refusal every word is zero
+pub data TextRead (r : Reading) (index : List ℕ) : Result File → Type 0 where
+  done : {P : File} → r ≡ Done → index ≡ indexOf P → TextRead r index (ok P)
+  fault : {m frame : ℕ} → r ≡ Fault m frame → index ≡ replicate indexWords 0 → TextRead r index (no m frame)

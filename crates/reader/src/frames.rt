@@ -1,30 +1,29 @@
-// Frames behind their kind: what stands there is judged, and the entry of the table written.
+// Frames behind their kind: what stands there is judged, and the entry of the index written.
 ghost use mathlib.Core.Path.{_≡_};
-ghost use Prim.Native.Nat.{_+_, _^_, _≤_, _<_};
-ghost use lib.ListN.{set};
-ghost use Rattle.reader.specs.Held.{Fits, PlaceWord, ReadsFunction, ReadsInput, ReadsNode, ReadsFrame, TypeTaken};
-ghost use Rattle.language.specs.Limits.{typesMost, functionsMost, inputsMost, nodesMost};
+ghost use Prim.Native.Nat.{_≤_};
+ghost use Rattle.language.specs.Limits.{functionsMost};
+ghost use Rattle.reader.specs.Held.{Few, Fits, PlaceWord, ReadsFunction, ReadsInput, ReadsNode, ReadsFrame, TypeTaken};
 ghost use Rattle.reader.specs.Channels.{outsideNames};
-ghost use Rattle.reader.specs.Frames.{Ordered, endedAs, moreTypes, moreFunctions, moreInputs, moreNodes};
+ghost use Rattle.reader.specs.Frames.{Ordered, endedAs, oneMore};
 ghost use Rattle.reader.specs.Functions.{insideNames};
 use super::Frame;
 use expression_reader::Names;
 use expression_reader::expr;
-use index::CHANNEL_WORDS;
 use index::Counts;
-use index::FUNCTION_WORDS;
-use index::arity;
+use index::INDEX_WORDS;
+use index::channels::put_channel;
+use index::functions::arity;
 use index::functions::conditions;
 use index::functions::measure;
 use index::functions::named;
 use index::functions::parameters;
-use index::put;
+use index::functions::put_places;
+use index::one_if;
 use index::types::self_free;
 use index::types::type_def;
 use language::limits::FUNCTIONS_MOST;
 use language::limits::INPUTS_MOST;
 use language::limits::NODES_MOST;
-use language::limits::PARAMETERS_MOST;
 use language::limits::TEXT_MOST;
 use language::limits::TYPES_MOST;
 use text::Cursor;
@@ -71,26 +70,10 @@ fn inside(known: Counts, variables: u32, sizes: u32) -> Names
     }
 }
 
-// Writes the entry of a channel.
-fn channel_into(channels: &mut [u32], to: usize, word: u32, initial: u32, update: u32)
-    requires { ⌜ to < 2 ^ 62 ⌝ }
-    ensures { λ _. ⌜ now (channels .exit) ≡ set (set (set (now (channels .entry)) to word) (to + 1) initial) (to + 2) update ⌝ }
-{
-    put(channels, to, word);
-    put(channels, to + 1, initial);
-    put(channels, to + 2, update);
-}
-
 // An input: its declared type and its initial value, which names no channel.
-fn input_frame(
-    line: &[u8],
-    types: &[u32],
-    functions: &[u32],
-    channels: &mut [u32],
-    known: Counts,
-) -> Step
+fn input_frame(line: &[u8], index: &mut [u32; INDEX_WORDS], known: Counts) -> Step
     requires { ⌜ Fits (now line) known ⌝ }
-    ensures { λ r. ⌜ ReadsInput (now (line .entry)) (now (types .entry)) (now (functions .entry)) (now (channels .entry)) known r (now (channels .exit)) ⌝ }
+    ensures { λ r. ⌜ ReadsInput (now (line .entry)) (now (index .entry)) known r (now (index .exit)) ⌝ }
 {
     let start = Cursor { at: 1 };
     let x = start.declared(line, known.types);
@@ -100,24 +83,16 @@ fn input_frame(
     let word = f.value;
     let c = f.next;
     let s = outside(known, 0, 0);
-    let y = expr(line, types, functions, c, s);
-    let to = CHANNEL_WORDS * (known.inputs as usize);
+    let y = expr(line, index, c, s);
     let initial = place(c);
-    channel_into(channels, to, word, initial, 0);
+    put_channel(index, known.inputs, word, initial, 0);
     y
 }
 
 // A node among so many channels: its declared type, its initial value and its update.
-fn node_frame(
-    line: &[u8],
-    types: &[u32],
-    functions: &[u32],
-    channels: &mut [u32],
-    known: Counts,
-    all: u32,
-) -> Step
+fn node_frame(line: &[u8], index: &mut [u32; INDEX_WORDS], known: Counts, all: u32) -> Step
     requires { ⌜ Fits (now line) known ⌝ }
-    ensures { λ r. ⌜ ReadsNode (now (line .entry)) (now (types .entry)) (now (functions .entry)) (now (channels .entry)) known all r (now (channels .exit)) ⌝ }
+    ensures { λ r. ⌜ ReadsNode (now (line .entry)) (now (index .entry)) known all r (now (index .exit)) ⌝ }
 {
     let start = Cursor { at: 1 };
     let x = start.declared(line, known.types);
@@ -127,43 +102,31 @@ fn node_frame(
     let word = f.value;
     let c = f.next;
     let s = outside(known, 0, 0);
-    let y = expr(line, types, functions, c, s);
+    let y = expr(line, index, c, s);
     let Step::Next(d) = y else {
         return y;
     };
     let before = known.inputs + known.nodes;
     let u = outside(known, before, all);
-    let z = expr(line, types, functions, d, u);
-    let to = CHANNEL_WORDS * (before as usize);
+    let z = expr(line, index, d, u);
     let initial = place(c);
     let update = place(d);
-    channel_into(channels, to, word, initial, update);
+    put_channel(index, before, word, initial, update);
     z
 }
 
-// Writes four places.
-fn places_into(table: &mut [u32], to: usize, a: u32, b: u32, c: u32, d: u32)
-    requires { ⌜ to < 2 ^ 62 ⌝ }
-    ensures { λ _. ⌜ now (table .exit) ≡ set (set (set (set (now (table .entry)) to a) (to + 1) b) (to + 2) c) (to + 3) d ⌝ }
-{
-    put(table, to, a);
-    put(table, to + 1, b);
-    put(table, to + 2, c);
-    put(table, to + 3, d);
-}
-
 // A function: its parameters, result, conditions, measure and body.
-fn function_frame(line: &[u8], types: &[u32], functions: &mut [u32], known: Counts) -> Step
+fn function_frame(line: &[u8], index: &mut [u32; INDEX_WORDS], known: Counts) -> Step
     requires { ⌜ Fits (now line) known ⌝ }
-    ensures { λ r. ⌜ ReadsFunction (now (line .entry)) (now (types .entry)) (now (functions .entry)) known r (now (functions .exit)) ⌝ }
+    ensures { λ r. ⌜ ReadsFunction (now (line .entry)) (now (index .entry)) known r (now (index .exit)) ⌝ }
 {
     let start = Cursor { at: 1 };
     let f = known.functions;
-    let w = parameters(line, functions, start, known.types, f);
+    let w = parameters(line, index, start, known.types, f);
     let Step::Next(c) = w else {
         return w;
     };
-    let sizes = named(functions, f);
+    let sizes = named(index, f);
     let x = c.result(line, known.types, sizes);
     let Step::Next(d) = x else {
         return x;
@@ -176,10 +139,9 @@ fn function_frame(line: &[u8], types: &[u32], functions: &mut [u32], known: Coun
     let Step::Next(b) = z else {
         return z;
     };
-    let s = inside(known, arity(functions, f), sizes);
-    let e = expr(line, types, functions, b, s);
-    let to = FUNCTION_WORDS * (f as usize) + 1 + PARAMETERS_MOST;
-    places_into(functions, to, place(c), place(d), place(m), place(b));
+    let s = inside(known, arity(index, f), sizes);
+    let e = expr(line, index, b, s);
+    put_places(index, f, place(c), place(d), place(m), place(b));
     e
 }
 
@@ -226,85 +188,41 @@ fn ended(line: &[u8], r: Step, n: Counts) -> Frame
     }
 }
 
-// The counts with one frame more.
-fn more_types(n: Counts) -> Counts
-    requires { ⌜ n .types ≤ typesMost ⌝ }
-    ensures { λ r. ⌜ r ≡ moreTypes n ⌝ }
+// The counts with one frame of this kind more.
+fn one_more(n: Counts, kind: u32) -> Counts
+    requires { ⌜ Few n ⌝ }
+    ensures { λ r. ⌜ r ≡ oneMore kind n ⌝ }
 {
     Counts {
-        types: n.types + 1,
-        functions: n.functions,
-        inputs: n.inputs,
-        nodes: n.nodes,
-    }
-}
-
-fn more_functions(n: Counts) -> Counts
-    requires { ⌜ n .functions ≤ functionsMost ⌝ }
-    ensures { λ r. ⌜ r ≡ moreFunctions n ⌝ }
-{
-    Counts {
-        types: n.types,
-        functions: n.functions + 1,
-        inputs: n.inputs,
-        nodes: n.nodes,
-    }
-}
-
-fn more_inputs(n: Counts) -> Counts
-    requires { ⌜ n .inputs ≤ inputsMost ⌝ }
-    ensures { λ r. ⌜ r ≡ moreInputs n ⌝ }
-{
-    Counts {
-        types: n.types,
-        functions: n.functions,
-        inputs: n.inputs + 1,
-        nodes: n.nodes,
-    }
-}
-
-fn more_nodes(n: Counts) -> Counts
-    requires { ⌜ n .nodes ≤ nodesMost ⌝ }
-    ensures { λ r. ⌜ r ≡ moreNodes n ⌝ }
-{
-    Counts {
-        types: n.types,
-        functions: n.functions,
-        inputs: n.inputs,
-        nodes: n.nodes + 1,
+        types: n.types + one_if(kind == 1),
+        functions: n.functions + one_if(kind == 2),
+        inputs: n.inputs + one_if(kind == 3),
+        nodes: n.nodes + one_if(kind == 4),
     }
 }
 
 // A type: 8 where every constructor has a field of the type itself.
-fn type_frame(line: &[u8], types: &mut [u32], known: Counts) -> Frame
+fn type_frame(line: &[u8], index: &mut [u32; INDEX_WORDS], known: Counts) -> Frame
     requires { ⌜ Fits (now line) known ⌝ }
-    ensures { λ r. ⌜ TypeTaken (now (line .entry)) (now (types .entry)) known r (now (types .exit)) ⌝ }
+    ensures { λ r. ⌜ TypeTaken (now (line .entry)) (now (index .entry)) known r (now (index .exit)) ⌝ }
 {
     let start = Cursor { at: 1 };
     let t = known.types;
-    let r = type_def(line, types, start, t);
-    let n = more_types(known);
-    let x = ended(line, r, n);
+    let r = type_def(line, index, start, t);
+    let x = ended(line, r, one_more(known, 1));
     let Frame::Taken(_) = x else {
         return x;
     };
-    if self_free(types, t) {
+    if self_free(index, t) {
         return x;
     }
     Frame::Refused(8)
 }
 
 // One frame.
-pub fn frame(
-    line: &[u8],
-    types: &mut [u32],
-    functions: &mut [u32],
-    channels: &mut [u32],
-    known: Counts,
-    all: u32,
-) -> Frame
+pub fn frame(line: &[u8], index: &mut [u32; INDEX_WORDS], known: Counts, all: u32) -> Frame
     requires { ⌜ Fits (now line) known ⌝ }
-    ensures { λ r. ⌜ ReadsFrame (now (line .entry)) (now (types .entry)) (now (functions .entry)) (now (channels .entry)) known all r (now (types .exit)) (now (functions .exit)) (now (channels .exit)) ⌝ }
+    ensures { λ r. ⌜ ReadsFrame (now (line .entry)) (now (index .entry)) known all r (now (index .exit)) ⌝ }
 {
     let start = Cursor { at: 0 };
     let x = start.byte(line);
@@ -316,16 +234,14 @@ pub fn frame(
         return Frame::Refused(3);
     }
     if kind == 1 {
-        return type_frame(line, types, known);
+        return type_frame(line, index, known);
     }
+    let n = one_more(known, kind);
     if kind == 2 {
-        let r = function_frame(line, types, functions, known);
-        return ended(line, r, more_functions(known));
+        return ended(line, function_frame(line, index, known), n);
     }
     if kind == 3 {
-        let r = input_frame(line, types, functions, channels, known);
-        return ended(line, r, more_inputs(known));
+        return ended(line, input_frame(line, index, known), n);
     }
-    let r = node_frame(line, types, functions, channels, known, all);
-    ended(line, r, more_nodes(known))
+    ended(line, node_frame(line, index, known, all), n)
 }

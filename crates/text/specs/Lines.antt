@@ -13,7 +13,7 @@ use Rattle.language.specs.Reader.{digit, lineBytes, linesOf, framesOf, isChanne
 use Rattle.text.specs.declared.lines.LineEnd.{LineEnd}
 use Rattle.text.specs.declared.lines.LineEnd.the-variants.{At, Bad}
 use Rattle.text.specs.declared.lines.Judged.{Judged}
-use Rattle.text.specs.declared.lines.Judged.the-variants.{Lines, Refused}
+use Rattle.text.specs.declared.lines.Judged.the-variants.{Channels, Refused}
 
 -- the characters before the first LF
 unfoldable pub firstLine : List ℕ → List ℕ
@@ -61,9 +61,9 @@ channelsOf bs = choose (isChannel bs) 1 0
 abbrev pub framesFrom : ℕ → List ℕ → Result (List (List ℕ))
 framesFrom k t = framesOf k (linesOf t .ended) (linesOf t .rest)
 
--- "Text is judged as a whole": its frames counted, or its refusal
+-- "Text is judged as a whole": how many of its frames are channels, or its refusal
 unfoldable pub judged : Result (List (List ℕ)) → Judged
-judged (ok fs) = Lines (record { lines = length fs; channels = channelCount fs })
+judged (ok fs) = Channels (channelCount fs)
 judged (no number frame) = Refused number frame
 
 unfoldable pub judgement : List ℕ → Judged

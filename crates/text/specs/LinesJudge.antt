@@ -18,10 +18,9 @@ use Rattle.language.specs.Reader.{lineBytes, isChannel, channelCount, readFile,
 use Rattle.text.specs.declared.Found.{Found}
 use Rattle.text.specs.declared.Number.{Number}
 use Rattle.text.specs.declared.Number.the-variants.{Is, Refused as NumberRefused}
-use Rattle.text.specs.declared.lines.Counts.{Counts}
 use Rattle.text.specs.declared.lines.LineEnd.{LineEnd}
 use Rattle.text.specs.declared.lines.LineEnd.the-variants.{At, Bad}
-use Rattle.text.specs.declared.lines.Judged.the-variants.{Lines, Refused}
+use Rattle.text.specs.declared.lines.Judged.the-variants.{Channels, Refused}
 use Rattle.text.specs.Bytes.{bytesOf, bytesFrom, given, ReadsNumber, Below}
 use Rattle.text.specs.Lines.{firstLine, nextLine, isSome, lineEnd, channelsOf, framesFrom, judged, judgement}
 use Rattle.text.specs.LinesEnd.{behind}
@@ -175,31 +174,29 @@ module _ {t : List ℕ} {at lines channels : ℕ} {earlier : List (List ℕ)} (c
   unfolding bind
   frames-are h = c .split ∙ ap (λ l. bind (framesFrom (suc lines) l) (λ fs. ok (earlier ++ fs))) (drop-of-length-le t {i = at} h) ∙ rw (frames-none (suc lines)) (ap ok (append-nil earlier))
 
-  pub judged-end : length t ≤ textMost → length t ≤ at → Lines (record { lines = lines; channels = channels }) ≡ judgement t
+  pub judged-end : length t ≤ textMost → length t ≤ at → Channels channels ≡ judgement t
   unfolding judged
-  judged-end fits h = sym (whole-judged t fits ∙ ap judged (frames-are h) ∙ (λ i. Lines (record { lines = c .count i; channels = c .kinds i })))
+  judged-end fits h = sym (whole-judged t fits ∙ ap judged (frames-are h) ∙ ap Channels (c .kinds))
 
 pub judged-too-long : (t : List ℕ) → textMost < length t → Refused 1 0 ≡ judgement t
 unfolding judgement judged need
 judged-too-long t h = rw (lt-leb (length t) textMost h)
 
 -- ---- what the answer says of the file
-pub record Accepted (t : List ℕ) (c : Counts) : Type 0 where
+pub record Accepted (t : List ℕ) (channels : ℕ) : Type 0 where
   pub frames : List (List ℕ)
   pub are : framesFrom 1 t ≡ ok frames
   pub fits : length t ≤ textMost
-  pub lines : c .lines ≡ length frames
-  pub channels : c .channels ≡ channelCount frames
-  pub file : readFile t ≡ readFrames (channelCount frames) 1 emptyFile frames
+  pub file : readFile t ≡ readFrames channels 1 emptyFile frames
 
-pub judged-lines : (t : List ℕ) (c : Counts) → judgement t ≡ Lines c → Accepted t c
+pub judged-accepted : (t : List ℕ) (channels : ℕ) → judgement t ≡ Channels channels → Accepted t channels
 unfolding judgement judged readFile need bind
-judged-lines t c e = go (leb (length t) textMost) (framesFrom 1 t) refl refl e
+judged-accepted t channels e = go (leb (length t) textMost) (framesFrom 1 t) refl refl e
   where
-    go : (b : Bool) (r : Result (List (List ℕ))) → leb (length t) textMost ≡ b → framesFrom 1 t ≡ r → judged (need b 1 0 r) ≡ Lines c → Accepted t c
+    go : (b : Bool) (r : Result (List (List ℕ))) → leb (length t) textMost ≡ b → framesFrom 1 t ≡ r → judged (need b 1 0 r) ≡ Channels channels → Accepted t channels
     go true (ok fs) q are e =
-        let same : record { lines = length fs; channels = channelCount fs } ≡ c = cc in
-        record { frames = fs; are = are; fits = leb-true (length t) textMost q; lines = sym (ap (λ x. x .lines) same); channels = sym (ap (λ x. x .channels) same); file = rw (q, are) }
+        let same : channelCount fs ≡ channels = cc in
+        record { frames = fs; are = are; fits = leb-true (length t) textMost q; file = rw (q, are) (ap (λ n. readFrames n 1 emptyFile fs) same) }
     go true (no n frame) q are e = absurd (let z : _≡_ {A = ℕ} 0 1 = cc in omega arith)
     go false r q are e = absurd (let z : _≡_ {A = ℕ} 0 1 = cc in omega arith)
 

@@ -9,15 +9,9 @@ use super::Cursor;
 use super::Number;
 use language::limits::BYTE_RANGE;
 
-// How many lines a text has, and how many of them are channels.
-pub struct Counts {
-    pub lines: u32,
-    pub channels: u32,
-}
-
-// A text judged as a whole: its lines counted, or a refusal with its number and frame.
+// A text judged as a whole: how many of its lines are channels, or a refusal with its number and frame.
 pub enum Judged {
-    Lines(Counts),
+    Channels(u32),
     Refused(u32, u32),
 }
 

@@ -34,9 +34,9 @@ use Rattle.expression_reader.proofs.+behind+binding+branches+case_of+fi
 use Rattle.expression_reader.proofs.nested.Reads as nested
 use Rattle.expression_reader.proofs.nested.Kinds as nested-kinds
 use Rattle.expression_reader.proofs.+behind+binding+branches+case_of+fit+head+nested.Lts-nested as nested-lts
-use Rattle.index.proofs.constructors.Reads as constructors-reads
-use Rattle.index.proofs.fields.Reads as fields-reads
-use Rattle.index.proofs.own_fields.Reads as own-fields-reads
+use Rattle.index.proofs.types.constructors.Reads as constructors-reads
+use Rattle.index.proofs.types.fields.Reads as fields-reads
+use Rattle.index.proofs.types.own_fields.Reads as own-fields-reads
 use Rattle.index.proofs.put.Reads as put-reads
 use Rattle.index.proofs.word_at.Reads as word-at-reads
 use Rattle.expression_reader.proofs.call.Reads as call-reads
@@ -55,71 +55,70 @@ use Rattle.text.proofs.step_of.Reads as step-of-reads
 use Rattle.expression_reader.proofs.+behind+binding+branches+case_of+fit+head+nested.{statement}
 use Rattle.expression_reader.proofs.+behind+binding+branches+case_of+fit+head+nested.Tie.{close}
 
-abbrev μ-behind : Measures 3 behind-kinds.ps ℕ
-μ-behind κs a = a .1 .1 .1 .1 .1 .0 * 1024 + 800
+abbrev μ-behind : Measures 2 behind-kinds.ps ℕ
+μ-behind κs a = a .1 .1 .1 .1 .0 * 1024 + 800
 
-abbrev μ-binding : Measures 3 binding-kinds.ps ℕ
-μ-binding κs a = a .1 .1 .1 .1 .1 .0 * 1024 + 700
+abbrev μ-binding : Measures 2 binding-kinds.ps ℕ
+μ-binding κs a = a .1 .1 .1 .1 .0 * 1024 + 700
 
-abbrev μ-branches : Measures 3 branches-kinds.ps ℕ
-μ-branches κs a = a .1 .1 .1 .1 .1 .0 * 1024 + (300 + (byteRange - a .1 .1 .1 .1 .1 .1 .1 .0))
+abbrev μ-branches : Measures 2 branches-kinds.ps ℕ
+μ-branches κs a = a .1 .1 .1 .1 .0 * 1024 + (300 + (byteRange - a .1 .1 .1 .1 .1 .1 .0))
 
-abbrev μ-case-of : Measures 3 case-of-kinds.ps ℕ
-μ-case-of κs a = a .1 .1 .1 .1 .1 .0 * 1024 + 700
+abbrev μ-case-of : Measures 2 case-of-kinds.ps ℕ
+μ-case-of κs a = a .1 .1 .1 .1 .0 * 1024 + 700
 
-abbrev μ-fit : Measures 3 fit-kinds.ps ℕ
-μ-fit κs a = a .1 .1 .1 .1 .1 .0 * 1024 + 700
+abbrev μ-fit : Measures 2 fit-kinds.ps ℕ
+μ-fit κs a = a .1 .1 .1 .1 .0 * 1024 + 700
 
-abbrev μ-head : Measures 3 head-kinds.ps ℕ
-μ-head κs a = a .1 .1 .1 .1 .1 .0 * 1024 + 1
+abbrev μ-head : Measures 2 head-kinds.ps ℕ
+μ-head κs a = a .1 .1 .1 .1 .0 * 1024 + 1
 
-abbrev μ-nested : Measures 3 nested-kinds.ps ℕ
-μ-nested κs a = a .1 .1 .1 .1 .1 .0 * 1024 + 2
+abbrev μ-nested : Measures 2 nested-kinds.ps ℕ
+μ-nested κs a = a .1 .1 .1 .1 .0 * 1024 + 2
 
-abbrev behind-at : ℕ → In 3 behind-kinds.ps
-behind-at t = and 3 behind-kinds.ps (is 3 behind-kinds.ps μ-behind t) behind.Pre
+abbrev behind-at : ℕ → In 2 behind-kinds.ps
+behind-at t = and 2 behind-kinds.ps (is 2 behind-kinds.ps μ-behind t) behind.Pre
 
-abbrev behind-below : ℕ → In 3 behind-kinds.ps
-behind-below t = and 3 behind-kinds.ps (falls 3 behind-kinds.ps _<_ μ-behind t) behind.Pre
+abbrev behind-below : ℕ → In 2 behind-kinds.ps
+behind-below t = and 2 behind-kinds.ps (falls 2 behind-kinds.ps _<_ μ-behind t) behind.Pre
 
-abbrev binding-at : ℕ → In 3 binding-kinds.ps
-binding-at t = and 3 binding-kinds.ps (is 3 binding-kinds.ps μ-binding t) binding.Pre
+abbrev binding-at : ℕ → In 2 binding-kinds.ps
+binding-at t = and 2 binding-kinds.ps (is 2 binding-kinds.ps μ-binding t) binding.Pre
 
-abbrev binding-below : ℕ → In 3 binding-kinds.ps
-binding-below t = and 3 binding-kinds.ps (falls 3 binding-kinds.ps _<_ μ-binding t) binding.Pre
+abbrev binding-below : ℕ → In 2 binding-kinds.ps
+binding-below t = and 2 binding-kinds.ps (falls 2 binding-kinds.ps _<_ μ-binding t) binding.Pre
 
-abbrev branches-at : ℕ → In 3 branches-kinds.ps
-branches-at t = and 3 branches-kinds.ps (is 3 branches-kinds.ps μ-branches t) branches.Pre
+abbrev branches-at : ℕ → In 2 branches-kinds.ps
+branches-at t = and 2 branches-kinds.ps (is 2 branches-kinds.ps μ-branches t) branches.Pre
 
-abbrev branches-below : ℕ → In 3 branches-kinds.ps
+abbrev branches-below : ℕ → In 2 branches-kinds.ps
 branches-below t =
-    and 3 branches-kinds.ps (falls 3 branches-kinds.ps _<_ μ-branches t) branches.Pre
+    and 2 branches-kinds.ps (falls 2 branches-kinds.ps _<_ μ-branches t) branches.Pre
 
-abbrev case-of-at : ℕ → In 3 case-of-kinds.ps
-case-of-at t = and 3 case-of-kinds.ps (is 3 case-of-kinds.ps μ-case-of t) case-of.Pre
+abbrev case-of-at : ℕ → In 2 case-of-kinds.ps
+case-of-at t = and 2 case-of-kinds.ps (is 2 case-of-kinds.ps μ-case-of t) case-of.Pre
 
-abbrev case-of-below : ℕ → In 3 case-of-kinds.ps
-case-of-below t = and 3 case-of-kinds.ps (falls 3 case-of-kinds.ps _<_ μ-case-of t) case-of.Pre
+abbrev case-of-below : ℕ → In 2 case-of-kinds.ps
+case-of-below t = and 2 case-of-kinds.ps (falls 2 case-of-kinds.ps _<_ μ-case-of t) case-of.Pre
 
-abbrev fit-at : ℕ → In 3 fit-kinds.ps
-fit-at t = and 3 fit-kinds.ps (is 3 fit-kinds.ps μ-fit t) fit.Pre
+abbrev fit-at : ℕ → In 2 fit-kinds.ps
+fit-at t = and 2 fit-kinds.ps (is 2 fit-kinds.ps μ-fit t) fit.Pre
 
-abbrev fit-below : ℕ → In 3 fit-kinds.ps
-fit-below t = and 3 fit-kinds.ps (falls 3 fit-kinds.ps _<_ μ-fit t) fit.Pre
+abbrev fit-below : ℕ → In 2 fit-kinds.ps
+fit-below t = and 2 fit-kinds.ps (falls 2 fit-kinds.ps _<_ μ-fit t) fit.Pre
 
-abbrev head-at : ℕ → In 3 head-kinds.ps
-head-at t = and 3 head-kinds.ps (is 3 head-kinds.ps μ-head t) head.Pre
+abbrev head-at : ℕ → In 2 head-kinds.ps
+head-at t = and 2 head-kinds.ps (is 2 head-kinds.ps μ-head t) head.Pre
 
-abbrev head-below : ℕ → In 3 head-kinds.ps
-head-below t = and 3 head-kinds.ps (falls 3 head-kinds.ps _<_ μ-head t) head.Pre
+abbrev head-below : ℕ → In 2 head-kinds.ps
+head-below t = and 2 head-kinds.ps (falls 2 head-kinds.ps _<_ μ-head t) head.Pre
 
-abbrev nested-at : ℕ → In 3 nested-kinds.ps
-nested-at t = and 3 nested-kinds.ps (is 3 nested-kinds.ps μ-nested t) nested.Pre
+abbrev nested-at : ℕ → In 2 nested-kinds.ps
+nested-at t = and 2 nested-kinds.ps (is 2 nested-kinds.ps μ-nested t) nested.Pre
 
-abbrev nested-below : ℕ → In 3 nested-kinds.ps
-nested-below t = and 3 nested-kinds.ps (falls 3 nested-kinds.ps _<_ μ-nested t) nested.Pre
+abbrev nested-below : ℕ → In 2 nested-kinds.ps
+nested-below t = and 2 nested-kinds.ps (falls 2 nested-kinds.ps _<_ μ-nested t) nested.Pre
 
--- src/lib.rt:184:29
 behind-code-requires : (t : ℕ) → behind-lts.Need-code-requires (
   code-reads.Asked,
   code-reads.Learnt,
@@ -146,7 +145,6 @@ behind-code-requires : (t : ℕ) → behind-lts.Need-code-requires (
 ) (behind-at t) behind.Post
 behind-code-requires t c κs = tt
 
--- src/lib.rt:184:21
 behind-step-of-requires : (t : ℕ) → behind-lts.Need-step-of-requires (
   code-reads.Asked,
   code-reads.Learnt,
@@ -173,7 +171,6 @@ behind-step-of-requires : (t : ℕ) → behind-lts.Need-step-of-requires (
 ) (behind-at t) behind.Post
 behind-step-of-requires t c κs = tt
 
--- src/lib.rt:184:14
 behind-opened-requires : (t : ℕ) → behind-lts.Need-opened-requires (
   code-reads.Asked,
   code-reads.Learnt,
@@ -200,7 +197,6 @@ behind-opened-requires : (t : ℕ) → behind-lts.Need-opened-requires (
 ) (behind-at t) behind.Post
 behind-opened-requires t c κs = tt
 
--- src/lib.rt:185:21
 behind-past-int-requires : (t : ℕ) → behind-lts.Need-past-int-requires (
   code-reads.Asked,
   code-reads.Learnt,
@@ -227,7 +223,6 @@ behind-past-int-requires : (t : ℕ) → behind-lts.Need-past-int-requires (
 ) (behind-at t) behind.Post
 behind-past-int-requires t c κs = tt
 
--- src/lib.rt:185:14
 behind-opened-requires-2 : (t : ℕ) → behind-lts.Need-opened-requires-2 (
   code-reads.Asked,
   code-reads.Learnt,
@@ -254,7 +249,6 @@ behind-opened-requires-2 : (t : ℕ) → behind-lts.Need-opened-requires-2 (
 ) (behind-at t) behind.Post
 behind-opened-requires-2 t c κs = tt
 
--- src/lib.rt:186:29
 behind-index-requires : (t : ℕ) → behind-lts.Need-index-requires (
   code-reads.Asked,
   code-reads.Learnt,
@@ -281,7 +275,6 @@ behind-index-requires : (t : ℕ) → behind-lts.Need-index-requires (
 ) (behind-at t) behind.Post
 behind-index-requires t c κs = tt
 
--- src/lib.rt:186:21
 behind-step-of-requires-2 : (t : ℕ) → behind-lts.Need-step-of-requires-2 (
   code-reads.Asked,
   code-reads.Learnt,
@@ -308,7 +301,6 @@ behind-step-of-requires-2 : (t : ℕ) → behind-lts.Need-step-of-requires-2 (
 ) (behind-at t) behind.Post
 behind-step-of-requires-2 t c κs = tt
 
--- src/lib.rt:186:14
 behind-opened-requires-3 : (t : ℕ) → behind-lts.Need-opened-requires-3 (
   code-reads.Asked,
   code-reads.Learnt,
@@ -335,7 +327,6 @@ behind-opened-requires-3 : (t : ℕ) → behind-lts.Need-opened-requires-3 (
 ) (behind-at t) behind.Post
 behind-opened-requires-3 t c κs = tt
 
--- src/lib.rt:187:29
 behind-index-requires-2 : (t : ℕ) → behind-lts.Need-index-requires-2 (
   code-reads.Asked,
   code-reads.Learnt,
@@ -362,7 +353,6 @@ behind-index-requires-2 : (t : ℕ) → behind-lts.Need-index-requires-2 (
 ) (behind-at t) behind.Post
 behind-index-requires-2 t c κs = tt
 
--- src/lib.rt:187:21
 behind-step-of-requires-3 : (t : ℕ) → behind-lts.Need-step-of-requires-3 (
   code-reads.Asked,
   code-reads.Learnt,
@@ -389,7 +379,6 @@ behind-step-of-requires-3 : (t : ℕ) → behind-lts.Need-step-of-requires-3 (
 ) (behind-at t) behind.Post
 behind-step-of-requires-3 t c κs = tt
 
--- src/lib.rt:187:14
 behind-opened-requires-4 : (t : ℕ) → behind-lts.Need-opened-requires-4 (
   code-reads.Asked,
   code-reads.Learnt,
@@ -416,7 +405,6 @@ behind-opened-requires-4 : (t : ℕ) → behind-lts.Need-opened-requires-4 (
 ) (behind-at t) behind.Post
 behind-opened-requires-4 t c κs = tt
 
--- src/lib.rt:188:29
 behind-index-requires-3 : (t : ℕ) → behind-lts.Need-index-requires-3 (
   code-reads.Asked,
   code-reads.Learnt,
@@ -443,7 +431,6 @@ behind-index-requires-3 : (t : ℕ) → behind-lts.Need-index-requires-3 (
 ) (behind-at t) behind.Post
 behind-index-requires-3 t c κs = tt
 
--- src/lib.rt:188:21
 behind-step-of-requires-4 : (t : ℕ) → behind-lts.Need-step-of-requires-4 (
   code-reads.Asked,
   code-reads.Learnt,
@@ -470,7 +457,6 @@ behind-step-of-requires-4 : (t : ℕ) → behind-lts.Need-step-of-requires-4 (
 ) (behind-at t) behind.Post
 behind-step-of-requires-4 t c κs = tt
 
--- src/lib.rt:188:14
 behind-opened-requires-5 : (t : ℕ) → behind-lts.Need-opened-requires-5 (
   code-reads.Asked,
   code-reads.Learnt,
@@ -497,7 +483,6 @@ behind-opened-requires-5 : (t : ℕ) → behind-lts.Need-opened-requires-5 (
 ) (behind-at t) behind.Post
 behind-opened-requires-5 t c κs = tt
 
--- src/lib.rt:189:21
 behind-binding-requires : (t : ℕ) → behind-lts.Need-binding-requires (
   code-reads.Asked,
   code-reads.Learnt,
@@ -522,9 +507,8 @@ behind-binding-requires : (t : ℕ) → behind-lts.Need-binding-requires (
   fit-below t,
   fit.Post,
 ) (behind-at t) behind.Post
-behind-binding-requires t c κs = (omega (arith, (c .before .before .before .before .pre .0)), ((c .before .before .before .before .pre .1 .0), (c .before .before .before .before .pre .1 .1 .0)))
+behind-binding-requires t c κs = (omega (arith, (c .before .before .pre .0)), ((c .before .before .pre .1 .0), (c .before .before .pre .1 .1 .0)))
 
--- src/lib.rt:189:14
 behind-opened-requires-6 : (t : ℕ) → behind-lts.Need-opened-requires-6 (
   code-reads.Asked,
   code-reads.Learnt,
@@ -551,7 +535,6 @@ behind-opened-requires-6 : (t : ℕ) → behind-lts.Need-opened-requires-6 (
 ) (behind-at t) behind.Post
 behind-opened-requires-6 t c κs = tt
 
--- src/lib.rt:190:14
 behind-opened-requires-7 : (t : ℕ) → behind-lts.Need-opened-requires-7 (
   code-reads.Asked,
   code-reads.Learnt,
@@ -578,7 +561,6 @@ behind-opened-requires-7 : (t : ℕ) → behind-lts.Need-opened-requires-7 (
 ) (behind-at t) behind.Post
 behind-opened-requires-7 t c κs = tt
 
--- src/lib.rt:191:29
 behind-code-requires-2 : (t : ℕ) → behind-lts.Need-code-requires-2 (
   code-reads.Asked,
   code-reads.Learnt,
@@ -605,7 +587,6 @@ behind-code-requires-2 : (t : ℕ) → behind-lts.Need-code-requires-2 (
 ) (behind-at t) behind.Post
 behind-code-requires-2 t c κs = tt
 
--- src/lib.rt:191:21
 behind-step-of-requires-5 : (t : ℕ) → behind-lts.Need-step-of-requires-5 (
   code-reads.Asked,
   code-reads.Learnt,
@@ -632,7 +613,6 @@ behind-step-of-requires-5 : (t : ℕ) → behind-lts.Need-step-of-requires-5 (
 ) (behind-at t) behind.Post
 behind-step-of-requires-5 t c κs = tt
 
--- src/lib.rt:191:14
 behind-opened-requires-8 : (t : ℕ) → behind-lts.Need-opened-requires-8 (
   code-reads.Asked,
   code-reads.Learnt,
@@ -659,7 +639,6 @@ behind-opened-requires-8 : (t : ℕ) → behind-lts.Need-opened-requires-8 (
 ) (behind-at t) behind.Post
 behind-opened-requires-8 t c κs = tt
 
--- src/lib.rt:192:14
 behind-call-requires : (t : ℕ) → behind-lts.Need-call-requires (
   code-reads.Asked,
   code-reads.Learnt,
@@ -686,7 +665,6 @@ behind-call-requires : (t : ℕ) → behind-lts.Need-call-requires (
 ) (behind-at t) behind.Post
 behind-call-requires t c κs = tt
 
--- src/lib.rt:193:14
 behind-construct-requires : (t : ℕ) → behind-lts.Need-construct-requires (
   code-reads.Asked,
   code-reads.Learnt,
@@ -713,7 +691,6 @@ behind-construct-requires : (t : ℕ) → behind-lts.Need-construct-requires (
 ) (behind-at t) behind.Post
 behind-construct-requires t c κs = tt
 
--- src/lib.rt:194:22
 behind-case-of-requires : (t : ℕ) → behind-lts.Need-case-of-requires (
   code-reads.Asked,
   code-reads.Learnt,
@@ -738,9 +715,8 @@ behind-case-of-requires : (t : ℕ) → behind-lts.Need-case-of-requires (
   fit-below t,
   fit.Post,
 ) (behind-at t) behind.Post
-behind-case-of-requires t c κs = (omega (arith, (c .before .before .before .before .pre .0)), ((c .before .before .before .before .pre .1 .0), (c .before .before .before .before .pre .1 .1 .0)))
+behind-case-of-requires t c κs = (omega (arith, (c .before .before .pre .0)), ((c .before .before .pre .1 .0), (c .before .before .pre .1 .1 .0)))
 
--- src/lib.rt:194:15
 behind-opened-requires-9 : (t : ℕ) → behind-lts.Need-opened-requires-9 (
   code-reads.Asked,
   code-reads.Learnt,
@@ -767,7 +743,6 @@ behind-opened-requires-9 : (t : ℕ) → behind-lts.Need-opened-requires-9 (
 ) (behind-at t) behind.Post
 behind-opened-requires-9 t c κs = tt
 
--- src/lib.rt:195:22
 behind-size-requires : (t : ℕ) → behind-lts.Need-size-requires (
   code-reads.Asked,
   code-reads.Learnt,
@@ -794,7 +769,6 @@ behind-size-requires : (t : ℕ) → behind-lts.Need-size-requires (
 ) (behind-at t) behind.Post
 behind-size-requires t c κs = tt
 
--- src/lib.rt:195:15
 behind-opened-requires-10 : (t : ℕ) → behind-lts.Need-opened-requires-10 (
   code-reads.Asked,
   code-reads.Learnt,
@@ -821,7 +795,6 @@ behind-opened-requires-10 : (t : ℕ) → behind-lts.Need-opened-requires-10 (
 ) (behind-at t) behind.Post
 behind-opened-requires-10 t c κs = tt
 
--- src/lib.rt:196:21
 behind-fit-requires : (t : ℕ) → behind-lts.Need-fit-requires (
   code-reads.Asked,
   code-reads.Learnt,
@@ -846,9 +819,8 @@ behind-fit-requires : (t : ℕ) → behind-lts.Need-fit-requires (
   fit-below t,
   fit.Post,
 ) (behind-at t) behind.Post
-behind-fit-requires t c κs = (omega (arith, (c .before .before .before .before .pre .0)), ((c .before .before .before .before .pre .1 .0), (c .before .before .before .before .pre .1 .1 .0)))
+behind-fit-requires t c κs = (omega (arith, (c .before .before .pre .0)), ((c .before .before .pre .1 .0), (c .before .before .pre .1 .1 .0)))
 
--- src/lib.rt:196:14
 behind-opened-requires-11 : (t : ℕ) → behind-lts.Need-opened-requires-11 (
   code-reads.Asked,
   code-reads.Learnt,
@@ -875,7 +847,6 @@ behind-opened-requires-11 : (t : ℕ) → behind-lts.Need-opened-requires-11 (
 ) (behind-at t) behind.Post
 behind-opened-requires-11 t c κs = tt
 
--- src/lib.rt:169:1
 behind-returns : (t : ℕ) → behind-lts.Need-returns (
   code-reads.Asked,
   code-reads.Learnt,
@@ -900,9 +871,8 @@ behind-returns : (t : ℕ) → behind-lts.Need-returns (
   fit-below t,
   fit.Post,
 ) (behind-at t) behind.Post
-behind-returns t c = opens-whole _ _ _ _ _ _ (c .before .before .before .before .before .before .before .args .form) (ap formAt (c .before .before .before .match .keys1)) bool-whole (leaf-bool _ _ _ _ _ _ (c .before .before .code .ensures) (c .before .step-of .ensures)) (c .opened .ensures)
+behind-returns t c = opens-whole _ _ _ _ _ (c .before .before .before .before .before .args .form) (ap formAt (c .before .before .before .match .keys1)) bool-whole (leaf-bool _ _ _ _ _ (c .before .before .code .ensures) (c .before .step-of .ensures)) (c .opened .ensures)
 
--- src/lib.rt:169:1
 behind-returns-2 : (t : ℕ) → behind-lts.Need-returns-2 (
   code-reads.Asked,
   code-reads.Learnt,
@@ -927,9 +897,8 @@ behind-returns-2 : (t : ℕ) → behind-lts.Need-returns-2 (
   fit-below t,
   fit.Post,
 ) (behind-at t) behind.Post
-behind-returns-2 t c = opens-whole _ _ _ _ _ _ (c .before .before .before .before .before .before .args .form) (ap formAt (c .before .before .match .keys2)) int-whole (leaf-int _ _ _ _ _ _ (c .before .past-int .ensures)) (c .opened2 .ensures)
+behind-returns-2 t c = opens-whole _ _ _ _ _ (c .before .before .before .before .args .form) (ap formAt (c .before .before .match .keys2)) int-whole (leaf-int _ _ _ _ _ (c .before .past-int .ensures)) (c .opened2 .ensures)
 
--- src/lib.rt:169:1
 behind-returns-3 : (t : ℕ) → behind-lts.Need-returns-3 (
   code-reads.Asked,
   code-reads.Learnt,
@@ -954,9 +923,8 @@ behind-returns-3 : (t : ℕ) → behind-lts.Need-returns-3 (
   fit-below t,
   fit.Post,
 ) (behind-at t) behind.Post
-behind-returns-3 t c = opens-whole _ _ _ _ _ _ (c .before .before .before .before .before .before .before .args .form) (ap formAt (c .before .before .before .match .keys3)) variable-whole (leaf-variable _ _ _ _ _ _ (c .before .before .index .ensures) (c .before .step-of2 .ensures)) (c .opened3 .ensures)
+behind-returns-3 t c = opens-whole _ _ _ _ _ (c .before .before .before .before .before .args .form) (ap formAt (c .before .before .before .match .keys3)) variable-whole (leaf-variable _ _ _ _ _ (c .before .before .index .ensures) (c .before .step-of2 .ensures)) (c .opened3 .ensures)
 
--- src/lib.rt:169:1
 behind-returns-4 : (t : ℕ) → behind-lts.Need-returns-4 (
   code-reads.Asked,
   code-reads.Learnt,
@@ -981,9 +949,8 @@ behind-returns-4 : (t : ℕ) → behind-lts.Need-returns-4 (
   fit-below t,
   fit.Post,
 ) (behind-at t) behind.Post
-behind-returns-4 t c = opens-whole _ _ _ _ _ _ (c .before .before .before .before .before .before .before .args .form) (ap formAt (c .before .before .before .match .keys4)) now-whole (leaf-now _ _ _ _ _ _ (c .before .before .index2 .ensures) (c .before .step-of3 .ensures)) (c .opened4 .ensures)
+behind-returns-4 t c = opens-whole _ _ _ _ _ (c .before .before .before .before .before .args .form) (ap formAt (c .before .before .before .match .keys4)) now-whole (leaf-now _ _ _ _ _ (c .before .before .index2 .ensures) (c .before .step-of3 .ensures)) (c .opened4 .ensures)
 
--- src/lib.rt:169:1
 behind-returns-5 : (t : ℕ) → behind-lts.Need-returns-5 (
   code-reads.Asked,
   code-reads.Learnt,
@@ -1008,9 +975,8 @@ behind-returns-5 : (t : ℕ) → behind-lts.Need-returns-5 (
   fit-below t,
   fit.Post,
 ) (behind-at t) behind.Post
-behind-returns-5 t c = opens-whole _ _ _ _ _ _ (c .before .before .before .before .before .before .before .args .form) (ap formAt (c .before .before .before .match .keys5)) last-whole (leaf-last _ _ _ _ _ _ (c .before .before .index3 .ensures) (c .before .step-of4 .ensures)) (c .opened5 .ensures)
+behind-returns-5 t c = opens-whole _ _ _ _ _ (c .before .before .before .before .before .args .form) (ap formAt (c .before .before .before .match .keys5)) last-whole (leaf-last _ _ _ _ _ (c .before .before .index3 .ensures) (c .before .step-of4 .ensures)) (c .opened5 .ensures)
 
--- src/lib.rt:169:1
 behind-returns-6 : (t : ℕ) → behind-lts.Need-returns-6 (
   code-reads.Asked,
   code-reads.Learnt,
@@ -1035,9 +1001,8 @@ behind-returns-6 : (t : ℕ) → behind-lts.Need-returns-6 (
   fit-below t,
   fit.Post,
 ) (behind-at t) behind.Post
-behind-returns-6 t c = opens-whole _ _ _ _ _ _ (c .before .before .before .before .before .before .args .form) (ap formAt (c .before .before .match .keys6)) let-whole (c .before .binding .ensures) (c .opened6 .ensures)
+behind-returns-6 t c = opens-whole _ _ _ _ _ (c .before .before .before .before .args .form) (ap formAt (c .before .before .match .keys6)) let-whole (c .before .binding .ensures) (c .opened6 .ensures)
 
--- src/lib.rt:169:1
 behind-returns-7 : (t : ℕ) → behind-lts.Need-returns-7 (
   code-reads.Asked,
   code-reads.Learnt,
@@ -1062,9 +1027,8 @@ behind-returns-7 : (t : ℕ) → behind-lts.Need-returns-7 (
   fit-below t,
   fit.Post,
 ) (behind-at t) behind.Post
-behind-returns-7 t c = opens-if _ _ _ _ _ _ (c .before .before .before .before .before .args .form) (c .before .match .keys7) (c .opened7 .ensures)
+behind-returns-7 t c = opens-if _ _ _ _ _ (c .before .before .before .args .form) (c .before .match .keys7) (c .opened7 .ensures)
 
--- src/lib.rt:169:1
 behind-returns-8 : (t : ℕ) → behind-lts.Need-returns-8 (
   code-reads.Asked,
   code-reads.Learnt,
@@ -1089,9 +1053,8 @@ behind-returns-8 : (t : ℕ) → behind-lts.Need-returns-8 (
   fit-below t,
   fit.Post,
 ) (behind-at t) behind.Post
-behind-returns-8 t c = opens-operator _ _ _ _ _ _ (c .before .before .before .before .before .before .before .args .form) (c .before .before .before .match .keys8) (c .before .before .code2 .ensures) (c .before .step-of5 .ensures) (c .opened8 .ensures)
+behind-returns-8 t c = opens-operator _ _ _ _ _ (c .before .before .before .before .before .args .form) (c .before .before .before .match .keys8) (c .before .before .code2 .ensures) (c .before .step-of5 .ensures) (c .opened8 .ensures)
 
--- src/lib.rt:169:1
 behind-returns-9 : (t : ℕ) → behind-lts.Need-returns-9 (
   code-reads.Asked,
   code-reads.Learnt,
@@ -1116,9 +1079,8 @@ behind-returns-9 : (t : ℕ) → behind-lts.Need-returns-9 (
   fit-below t,
   fit.Post,
 ) (behind-at t) behind.Post
-behind-returns-9 t c = opens-call _ _ _ _ _ _ (c .before .before .before .before .before .args .form) (c .before .match .keys9) (c .call .ensures)
+behind-returns-9 t c = opens-call _ _ _ _ _ (c .before .before .before .args .form) (c .before .match .keys9) (c .call .ensures)
 
--- src/lib.rt:169:1
 behind-returns-10 : (t : ℕ) → behind-lts.Need-returns-10 (
   code-reads.Asked,
   code-reads.Learnt,
@@ -1143,9 +1105,8 @@ behind-returns-10 : (t : ℕ) → behind-lts.Need-returns-10 (
   fit-below t,
   fit.Post,
 ) (behind-at t) behind.Post
-behind-returns-10 t c = opens-construct _ _ _ _ _ _ (c .before .before .before .before .before .args .form) (c .before .match .keys10) (c .construct .ensures)
+behind-returns-10 t c = opens-construct _ _ _ _ _ (c .before .before .before .args .form) (c .before .match .keys10) (c .construct .ensures)
 
--- src/lib.rt:169:1
 behind-returns-11 : (t : ℕ) → behind-lts.Need-returns-11 (
   code-reads.Asked,
   code-reads.Learnt,
@@ -1170,9 +1131,8 @@ behind-returns-11 : (t : ℕ) → behind-lts.Need-returns-11 (
   fit-below t,
   fit.Post,
 ) (behind-at t) behind.Post
-behind-returns-11 t c = opens-whole _ _ _ _ _ _ (c .before .before .before .before .before .before .args .form) (ap formAt (c .before .before .match .keys11)) case-whole (c .before .case-of .ensures) (c .opened9 .ensures)
+behind-returns-11 t c = opens-whole _ _ _ _ _ (c .before .before .before .before .args .form) (ap formAt (c .before .before .match .keys11)) case-whole (c .before .case-of .ensures) (c .opened9 .ensures)
 
--- src/lib.rt:169:1
 behind-returns-12 : (t : ℕ) → behind-lts.Need-returns-12 (
   code-reads.Asked,
   code-reads.Learnt,
@@ -1197,9 +1157,8 @@ behind-returns-12 : (t : ℕ) → behind-lts.Need-returns-12 (
   fit-below t,
   fit.Post,
 ) (behind-at t) behind.Post
-behind-returns-12 t c = opens-size _ _ _ _ _ _ (c .before .before .before .before .before .before .args .form) (c .before .before .match .keys12) (c .before .size .ensures) (c .opened10 .ensures)
+behind-returns-12 t c = opens-size _ _ _ _ _ (c .before .before .before .before .args .form) (c .before .before .match .keys12) (c .before .size .ensures) (c .opened10 .ensures)
 
--- src/lib.rt:169:1
 behind-returns-13 : (t : ℕ) → behind-lts.Need-returns-13 (
   code-reads.Asked,
   code-reads.Learnt,
@@ -1224,18 +1183,16 @@ behind-returns-13 : (t : ℕ) → behind-lts.Need-returns-13 (
   fit-below t,
   fit.Post,
 ) (behind-at t) behind.Post
-behind-returns-13 t c = opens-whole _ _ _ _ _ _ (c .before .before .before .before .before .before .args .form) (ap formAt (last-form (c .before .before .before .before .before .before .args .form) (c .before .before .before .before .before .before .pre .1 .1 .1) (c .before .before .match .rest))) fit-whole (c .before .fit .ensures) (c .opened11 .ensures)
+behind-returns-13 t c = opens-whole _ _ _ _ _ (c .before .before .before .before .args .form) (ap formAt (last-form (c .before .before .before .before .args .form) (c .before .before .before .before .pre .1 .1 .1) (c .before .before .match .rest))) fit-whole (c .before .fit .ensures) (c .opened11 .ensures)
 
--- src/lib.rt:206:9
 binding-nested-requires : (t : ℕ) → binding-lts.Need-nested-requires (
   nested-below t,
   nested.Post,
   wider-reads.Asked,
   wider-reads.Learnt,
 ) (binding-at t) binding.Post
-binding-nested-requires t c κs = (omega (arith, (c .before .before .before .pre .0)), (c .before .before .before .pre .1 .0))
+binding-nested-requires t c κs = (omega (arith, (c .before .pre .0)), (c .before .pre .1 .0))
 
--- src/lib.rt:207:20
 binding-enum-known-x : (t : ℕ) → binding-lts.Need-enum-known-x (
   nested-below t,
   nested.Post,
@@ -1244,7 +1201,6 @@ binding-enum-known-x : (t : ℕ) → binding-lts.Need-enum-known-x (
 ) (binding-at t) binding.Post
 binding-enum-known-x t c = (c .match .keys1)
 
--- src/lib.rt:208:9
 binding-enum-told : (t : ℕ) → binding-lts.Need-enum-told (
   nested-below t,
   nested.Post,
@@ -1253,43 +1209,38 @@ binding-enum-told : (t : ℕ) → binding-lts.Need-enum-told (
 ) (binding-at t) binding.Post
 binding-enum-told t c = (c .match .keys2)
 
--- src/lib.rt:208:9
 binding-returns : (t : ℕ) → binding-lts.Need-returns (
   nested-below t,
   nested.Post,
   wider-reads.Asked,
   wider-reads.Learnt,
 ) (binding-at t) binding.Post
-binding-returns t c = binding-stops _ _ _ _ _ _ (c .before .before .nested .ensures) (c .enum-told .given .1)
+binding-returns t c = binding-stops _ _ _ _ _ (c .before .before .nested .ensures) (c .enum-told .given .1)
 
--- src/lib.rt:210:9
 binding-wider-requires : (t : ℕ) → binding-lts.Need-wider-requires (
   nested-below t,
   nested.Post,
   wider-reads.Asked,
   wider-reads.Learnt,
 ) (binding-at t) binding.Post
-binding-wider-requires t c κs = ((c .before .before .before .before .before .before .before .pre .1 .1), (omega arith, omega arith))
+binding-wider-requires t c κs = ((c .before .before .before .before .before .pre .1 .1), (omega arith, omega arith))
 
--- src/lib.rt:211:5
 binding-nested-requires-2 : (t : ℕ) → binding-lts.Need-nested-requires-2 (
   nested-below t,
   nested.Post,
   wider-reads.Asked,
   wider-reads.Learnt,
 ) (binding-at t) binding.Post
-binding-nested-requires-2 t c κs = (omega (arith, (c .before .before .before .before .before .before .before .before .pre .0)), (c .before .before .before .before .before .before .before .before .pre .1 .0))
+binding-nested-requires-2 t c κs = (omega (arith, (c .before .before .before .before .before .before .pre .0)), (c .before .before .before .before .before .before .pre .1 .0))
 
--- src/lib.rt:201:1
 binding-returns-2 : (t : ℕ) → binding-lts.Need-returns-2 (
   nested-below t,
   nested.Post,
   wider-reads.Asked,
   wider-reads.Learnt,
 ) (binding-at t) binding.Post
-binding-returns-2 t c = binding-done _ _ _ _ _ _ (c .before .before .before .before .before .nested .ensures) (c .before .before .before .x .given .1) (c .before .wider .ensures) (c .nested2 .ensures)
+binding-returns-2 t c = binding-done _ _ _ _ _ (c .before .before .before .before .before .nested .ensures) (c .before .before .before .x .given .1) (c .before .wider .ensures) (c .nested2 .ensures)
 
--- src/lib.rt:255:9
 branches-constructors-requires : (t : ℕ) → branches-lts.Need-constructors-requires (
   constructors-reads.Asked,
   constructors-reads.Learnt,
@@ -1306,7 +1257,6 @@ branches-constructors-requires : (t : ℕ) → branches-lts.Need-constructors-re
 ) (branches-at t) branches.Post
 branches-constructors-requires t c κs = tt
 
--- src/lib.rt:257:9
 branches-returns : (t : ℕ) → branches-lts.Need-returns (
   constructors-reads.Asked,
   constructors-reads.Learnt,
@@ -1321,9 +1271,8 @@ branches-returns : (t : ℕ) → branches-lts.Need-returns (
   branches-below t,
   branches.Post,
 ) (branches-at t) branches.Post
-branches-returns t c = branches-none _ _ _ _ _ _ _ _ (c .before .constructors .ensures) (c .before .before .before .before .before .pre .1 .1 .1 .0) (c .if1 .taken)
+branches-returns t c = branches-none _ _ _ _ _ _ _ (c .before .constructors .ensures) (c .before .before .before .pre .1 .1 .1 .0) (c .if1 .taken)
 
--- src/lib.rt:259:9
 branches-fields-requires : (t : ℕ) → branches-lts.Need-fields-requires (
   constructors-reads.Asked,
   constructors-reads.Learnt,
@@ -1340,7 +1289,6 @@ branches-fields-requires : (t : ℕ) → branches-lts.Need-fields-requires (
 ) (branches-at t) branches.Post
 branches-fields-requires t c κs = tt
 
--- src/lib.rt:260:9
 branches-own-fields-requires : (t : ℕ) → branches-lts.Need-own-fields-requires (
   constructors-reads.Asked,
   constructors-reads.Learnt,
@@ -1357,7 +1305,6 @@ branches-own-fields-requires : (t : ℕ) → branches-lts.Need-own-fields-requir
 ) (branches-at t) branches.Post
 branches-own-fields-requires t c κs = tt
 
--- src/lib.rt:261:9
 branches-wider-requires : (t : ℕ) → branches-lts.Need-wider-requires (
   constructors-reads.Asked,
   constructors-reads.Learnt,
@@ -1372,9 +1319,8 @@ branches-wider-requires : (t : ℕ) → branches-lts.Need-wider-requires (
   branches-below t,
   branches.Post,
 ) (branches-at t) branches.Post
-branches-wider-requires t c κs = ((c .before .before .before .before .before .before .before .pre .1 .1 .0), (omega (arith, (c .before .fields .ensures .1), (c .own-fields .ensures .1)), omega (arith, (c .before .fields .ensures .1), (c .own-fields .ensures .1))))
+branches-wider-requires t c κs = ((c .before .before .before .before .before .pre .1 .1 .0), (omega (arith, (c .before .fields .ensures .1), (c .own-fields .ensures .1)), omega (arith, (c .before .fields .ensures .1), (c .own-fields .ensures .1))))
 
--- src/lib.rt:262:9
 branches-nested-requires : (t : ℕ) → branches-lts.Need-nested-requires (
   constructors-reads.Asked,
   constructors-reads.Learnt,
@@ -1389,9 +1335,8 @@ branches-nested-requires : (t : ℕ) → branches-lts.Need-nested-requires (
   branches-below t,
   branches.Post,
 ) (branches-at t) branches.Post
-branches-nested-requires t c κs = (omega (arith, (c .before .before .before .before .before .before .before .before .pre .0)), (c .before .before .before .before .before .before .before .before .pre .1 .0))
+branches-nested-requires t c κs = (omega (arith, (c .before .before .before .before .before .before .pre .0)), (c .before .before .before .before .before .before .pre .1 .0))
 
--- src/lib.rt:263:20
 branches-enum-known-x : (t : ℕ) → branches-lts.Need-enum-known-x (
   constructors-reads.Asked,
   constructors-reads.Learnt,
@@ -1408,7 +1353,6 @@ branches-enum-known-x : (t : ℕ) → branches-lts.Need-enum-known-x (
 ) (branches-at t) branches.Post
 branches-enum-known-x t c = (c .match .keys1)
 
--- src/lib.rt:264:9
 branches-enum-told : (t : ℕ) → branches-lts.Need-enum-told (
   constructors-reads.Asked,
   constructors-reads.Learnt,
@@ -1425,7 +1369,6 @@ branches-enum-told : (t : ℕ) → branches-lts.Need-enum-told (
 ) (branches-at t) branches.Post
 branches-enum-told t c = (c .match .keys2)
 
--- src/lib.rt:264:9
 branches-returns-2 : (t : ℕ) → branches-lts.Need-returns-2 (
   constructors-reads.Asked,
   constructors-reads.Learnt,
@@ -1440,9 +1383,8 @@ branches-returns-2 : (t : ℕ) → branches-lts.Need-returns-2 (
   branches-below t,
   branches.Post,
 ) (branches-at t) branches.Post
-branches-returns-2 t c = branches-stop _ _ _ _ _ _ _ _ (c .before .before .before .before .before .before .before .constructors .ensures) (c .before .before .before .before .before .before .before .before .before .before .before .pre .1 .1 .1 .0) (c .before .before .before .before .before .before .if1 .left) (c .before .before .before .before .before .fields .ensures) (c .before .before .before .before .own-fields .ensures) (c .before .before .before .wider .ensures) (c .before .before .nested .ensures) (c .enum-told .given .1)
+branches-returns-2 t c = branches-stop _ _ _ _ _ _ _ (c .before .before .before .before .before .before .before .constructors .ensures) (c .before .before .before .before .before .before .before .before .before .pre .1 .1 .1 .0) (c .before .before .before .before .before .before .if1 .left) (c .before .before .before .before .before .fields .ensures) (c .before .before .before .before .own-fields .ensures) (c .before .before .before .wider .ensures) (c .before .before .nested .ensures) (c .enum-told .given .1)
 
--- src/lib.rt:266:58
 branches-add-branches : (t : ℕ) → branches-lts.Need-add-branches (
   constructors-reads.Asked,
   constructors-reads.Learnt,
@@ -1459,7 +1401,6 @@ branches-add-branches : (t : ℕ) → branches-lts.Need-add-branches (
 ) (branches-at t) branches.Post
 branches-add-branches t c = omega (arith, (c .before .before .before .before .before .before .before .before .constructors .ensures .1), (c .before .before .before .before .before .before .before .if1 .left))
 
--- src/lib.rt:266:5
 branches-branches-requires : (t : ℕ) → branches-lts.Need-branches-requires (
   constructors-reads.Asked,
   constructors-reads.Learnt,
@@ -1474,9 +1415,8 @@ branches-branches-requires : (t : ℕ) → branches-lts.Need-branches-requires (
   branches-below t,
   branches.Post,
 ) (branches-at t) branches.Post
-branches-branches-requires t c κs = (omega (arith, (c .before .before .before .before .before .before .before .before .before .before .before .before .pre .0), (c .before .before .before .before .before .before .before .before .constructors .ensures .1), (c .before .before .before .before .before .before .before .if1 .left)), ((c .before .before .before .before .before .before .before .before .before .before .before .before .pre .1 .0), ((c .before .before .before .before .before .before .before .before .before .before .before .before .pre .1 .1 .0), ((c .before .before .before .before .before .before .before .before .before .before .before .before .pre .1 .1 .1 .0), omega (arith, (c .before .before .before .before .before .before .before .before .constructors .ensures .1), (c .before .before .before .before .before .before .before .if1 .left))))))
+branches-branches-requires t c κs = (omega (arith, (c .before .before .before .before .before .before .before .before .before .before .pre .0), (c .before .before .before .before .before .before .before .before .constructors .ensures .1), (c .before .before .before .before .before .before .before .if1 .left)), ((c .before .before .before .before .before .before .before .before .before .before .pre .1 .0), ((c .before .before .before .before .before .before .before .before .before .before .pre .1 .1 .0), ((c .before .before .before .before .before .before .before .before .before .before .pre .1 .1 .1 .0), omega (arith, (c .before .before .before .before .before .before .before .before .constructors .ensures .1), (c .before .before .before .before .before .before .before .if1 .left))))))
 
--- src/lib.rt:240:1
 branches-returns-3 : (t : ℕ) → branches-lts.Need-returns-3 (
   constructors-reads.Asked,
   constructors-reads.Learnt,
@@ -1491,9 +1431,8 @@ branches-returns-3 : (t : ℕ) → branches-lts.Need-returns-3 (
   branches-below t,
   branches.Post,
 ) (branches-at t) branches.Post
-branches-returns-3 t c = branches-done _ _ _ _ _ _ _ _ (c .before .before .before .before .before .before .before .before .before .constructors .ensures) (c .before .before .before .before .before .before .before .before .before .before .before .before .before .pre .1 .1 .1 .0) (c .before .before .before .before .before .before .before .before .if1 .left) (c .before .before .before .before .before .before .before .fields .ensures) (c .before .before .before .before .before .before .own-fields .ensures) (c .before .before .before .before .before .wider .ensures) (c .before .before .before .before .nested .ensures) (c .before .before .x .given .1) (c .branches .ensures)
+branches-returns-3 t c = branches-done _ _ _ _ _ _ _ (c .before .before .before .before .before .before .before .before .before .constructors .ensures) (c .before .before .before .before .before .before .before .before .before .before .before .pre .1 .1 .1 .0) (c .before .before .before .before .before .before .before .before .if1 .left) (c .before .before .before .before .before .before .before .fields .ensures) (c .before .before .before .before .before .before .own-fields .ensures) (c .before .before .before .before .before .wider .ensures) (c .before .before .before .before .nested .ensures) (c .before .before .x .given .1) (c .branches .ensures)
 
--- src/lib.rt:222:9
 case-of-index-requires : (t : ℕ) → case-of-lts.Need-index-requires (
   index-reads.Asked,
   index-reads.Learnt,
@@ -1508,7 +1447,6 @@ case-of-index-requires : (t : ℕ) → case-of-lts.Need-index-requires (
 ) (case-of-at t) case-of.Post
 case-of-index-requires t c κs = tt
 
--- src/lib.rt:223:20
 case-of-enum-known-x : (t : ℕ) → case-of-lts.Need-enum-known-x (
   index-reads.Asked,
   index-reads.Learnt,
@@ -1523,7 +1461,6 @@ case-of-enum-known-x : (t : ℕ) → case-of-lts.Need-enum-known-x (
 ) (case-of-at t) case-of.Post
 case-of-enum-known-x t c = (c .match .keys1)
 
--- src/lib.rt:224:9
 case-of-enum-told : (t : ℕ) → case-of-lts.Need-enum-told (
   index-reads.Asked,
   index-reads.Learnt,
@@ -1538,7 +1475,6 @@ case-of-enum-told : (t : ℕ) → case-of-lts.Need-enum-told (
 ) (case-of-at t) case-of.Post
 case-of-enum-told t c = (c .match .keys2)
 
--- src/lib.rt:224:9
 case-of-step-of-requires : (t : ℕ) → case-of-lts.Need-step-of-requires (
   index-reads.Asked,
   index-reads.Learnt,
@@ -1553,7 +1489,6 @@ case-of-step-of-requires : (t : ℕ) → case-of-lts.Need-step-of-requires (
 ) (case-of-at t) case-of.Post
 case-of-step-of-requires t c κs = tt
 
--- src/lib.rt:224:9
 case-of-returns : (t : ℕ) → case-of-lts.Need-returns (
   index-reads.Asked,
   index-reads.Learnt,
@@ -1566,9 +1501,8 @@ case-of-returns : (t : ℕ) → case-of-lts.Need-returns (
   branches-below t,
   branches.Post,
 ) (case-of-at t) case-of.Post
-case-of-returns t c = case-stops _ _ _ _ _ _ (c .before .before .before .index .ensures) (c .before .enum-told .given .1) (c .step-of .ensures)
+case-of-returns t c = case-stops _ _ _ _ _ (c .before .before .before .index .ensures) (c .before .enum-told .given .1) (c .step-of .ensures)
 
--- src/lib.rt:228:9
 case-of-nested-requires : (t : ℕ) → case-of-lts.Need-nested-requires (
   index-reads.Asked,
   index-reads.Learnt,
@@ -1581,9 +1515,8 @@ case-of-nested-requires : (t : ℕ) → case-of-lts.Need-nested-requires (
   branches-below t,
   branches.Post,
 ) (case-of-at t) case-of.Post
-case-of-nested-requires t c κs = (omega (arith, (c .before .before .before .before .before .before .before .before .pre .0)), (c .before .before .before .before .before .before .before .before .pre .1 .0))
+case-of-nested-requires t c κs = (omega (arith, (c .before .before .before .before .before .before .pre .0)), (c .before .before .before .before .before .before .pre .1 .0))
 
--- src/lib.rt:229:20
 case-of-enum-known-y : (t : ℕ) → case-of-lts.Need-enum-known-y (
   index-reads.Asked,
   index-reads.Learnt,
@@ -1598,7 +1531,6 @@ case-of-enum-known-y : (t : ℕ) → case-of-lts.Need-enum-known-y (
 ) (case-of-at t) case-of.Post
 case-of-enum-known-y t c = (c .match2 .keys1)
 
--- src/lib.rt:230:9
 case-of-enum-told-2 : (t : ℕ) → case-of-lts.Need-enum-told-2 (
   index-reads.Asked,
   index-reads.Learnt,
@@ -1613,7 +1545,6 @@ case-of-enum-told-2 : (t : ℕ) → case-of-lts.Need-enum-told-2 (
 ) (case-of-at t) case-of.Post
 case-of-enum-told-2 t c = (c .match2 .keys2)
 
--- src/lib.rt:230:9
 case-of-returns-2 : (t : ℕ) → case-of-lts.Need-returns-2 (
   index-reads.Asked,
   index-reads.Learnt,
@@ -1626,9 +1557,8 @@ case-of-returns-2 : (t : ℕ) → case-of-lts.Need-returns-2 (
   branches-below t,
   branches.Post,
 ) (case-of-at t) case-of.Post
-case-of-returns-2 t c = case-subject _ _ _ _ _ _ (c .before .before .before .before .before .before .before .index .ensures) (c .before .before .before .before .before .x .given .1) (c .before .before .nested .ensures) (c .enum-told2 .given .1)
+case-of-returns-2 t c = case-subject _ _ _ _ _ (c .before .before .before .before .before .before .before .index .ensures) (c .before .before .before .before .before .x .given .1) (c .before .before .nested .ensures) (c .enum-told2 .given .1)
 
--- src/lib.rt:232:9
 case-of-result-requires : (t : ℕ) → case-of-lts.Need-result-requires (
   index-reads.Asked,
   index-reads.Learnt,
@@ -1643,7 +1573,6 @@ case-of-result-requires : (t : ℕ) → case-of-lts.Need-result-requires (
 ) (case-of-at t) case-of.Post
 case-of-result-requires t c κs = tt
 
--- src/lib.rt:233:20
 case-of-enum-known-z : (t : ℕ) → case-of-lts.Need-enum-known-z (
   index-reads.Asked,
   index-reads.Learnt,
@@ -1658,7 +1587,6 @@ case-of-enum-known-z : (t : ℕ) → case-of-lts.Need-enum-known-z (
 ) (case-of-at t) case-of.Post
 case-of-enum-known-z t c = (c .match3 .keys1)
 
--- src/lib.rt:234:9
 case-of-enum-told-3 : (t : ℕ) → case-of-lts.Need-enum-told-3 (
   index-reads.Asked,
   index-reads.Learnt,
@@ -1673,7 +1601,6 @@ case-of-enum-told-3 : (t : ℕ) → case-of-lts.Need-enum-told-3 (
 ) (case-of-at t) case-of.Post
 case-of-enum-told-3 t c = (c .match3 .keys2)
 
--- src/lib.rt:234:9
 case-of-returns-3 : (t : ℕ) → case-of-lts.Need-returns-3 (
   index-reads.Asked,
   index-reads.Learnt,
@@ -1686,9 +1613,8 @@ case-of-returns-3 : (t : ℕ) → case-of-lts.Need-returns-3 (
   branches-below t,
   branches.Post,
 ) (case-of-at t) case-of.Post
-case-of-returns-3 t c = case-type _ _ _ _ _ _ (c .before .before .before .before .before .before .before .before .before .before .before .index .ensures) (c .before .before .before .before .before .before .before .before .before .x .given .1) (c .before .before .before .before .before .before .nested .ensures) (c .before .before .before .before .y .given .1) (c .before .before .result .ensures) (c .enum-told3 .given .1)
+case-of-returns-3 t c = case-type _ _ _ _ _ (c .before .before .before .before .before .before .before .before .before .before .before .index .ensures) (c .before .before .before .before .before .before .before .before .before .x .given .1) (c .before .before .before .before .before .before .nested .ensures) (c .before .before .before .before .y .given .1) (c .before .before .result .ensures) (c .enum-told3 .given .1)
 
--- src/lib.rt:236:5
 case-of-branches-requires : (t : ℕ) → case-of-lts.Need-branches-requires (
   index-reads.Asked,
   index-reads.Learnt,
@@ -1701,9 +1627,8 @@ case-of-branches-requires : (t : ℕ) → case-of-lts.Need-branches-requires (
   branches-below t,
   branches.Post,
 ) (case-of-at t) case-of.Post
-case-of-branches-requires t c κs = (omega (arith, (c .before .before .before .before .before .before .before .before .before .before .before .before .before .before .before .before .pre .0)), ((c .before .before .before .before .before .before .before .before .before .before .before .before .before .before .before .before .pre .1 .0), ((c .before .before .before .before .before .before .before .before .before .before .before .before .before .before .before .before .pre .1 .1), (index-less ((c .before .before .before .before .before .before .before .before .before .before .before .before .index .ensures) .0) (c .before .before .before .before .before .before .before .before .before .before .x .given .1), omega arith))))
+case-of-branches-requires t c κs = (omega (arith, (c .before .before .before .before .before .before .before .before .before .before .before .before .before .before .pre .0)), ((c .before .before .before .before .before .before .before .before .before .before .before .before .before .before .pre .1 .0), ((c .before .before .before .before .before .before .before .before .before .before .before .before .before .before .pre .1 .1), (index-less ((c .before .before .before .before .before .before .before .before .before .before .before .before .index .ensures) .0) (c .before .before .before .before .before .before .before .before .before .before .x .given .1), omega arith))))
 
--- src/lib.rt:215:1
 case-of-returns-4 : (t : ℕ) → case-of-lts.Need-returns-4 (
   index-reads.Asked,
   index-reads.Learnt,
@@ -1716,9 +1641,8 @@ case-of-returns-4 : (t : ℕ) → case-of-lts.Need-returns-4 (
   branches-below t,
   branches.Post,
 ) (case-of-at t) case-of.Post
-case-of-returns-4 t c = case-done _ _ _ _ _ _ (c .before .before .before .before .before .before .before .before .before .before .before .before .before .index .ensures) (c .before .before .before .before .before .before .before .before .before .before .before .x .given .1) (c .before .before .before .before .before .before .before .before .nested .ensures) (c .before .before .before .before .before .before .y .given .1) (c .before .before .before .before .result .ensures) (c .before .before .z .given .1) (c .branches .ensures)
+case-of-returns-4 t c = case-done _ _ _ _ _ (c .before .before .before .before .before .before .before .before .before .before .before .before .before .index .ensures) (c .before .before .before .before .before .before .before .before .before .before .before .x .given .1) (c .before .before .before .before .before .before .before .before .nested .ensures) (c .before .before .before .before .before .before .y .given .1) (c .before .before .before .before .result .ensures) (c .before .before .z .given .1) (c .branches .ensures)
 
--- src/lib.rt:275:9
 fit-count-requires : (t : ℕ) → fit-lts.Need-count-requires (
   count-reads.Asked,
   count-reads.Learnt,
@@ -1731,7 +1655,6 @@ fit-count-requires : (t : ℕ) → fit-lts.Need-count-requires (
 ) (fit-at t) fit.Post
 fit-count-requires t c κs = tt
 
--- src/lib.rt:276:20
 fit-enum-known-x : (t : ℕ) → fit-lts.Need-enum-known-x (
   count-reads.Asked,
   count-reads.Learnt,
@@ -1744,7 +1667,6 @@ fit-enum-known-x : (t : ℕ) → fit-lts.Need-enum-known-x (
 ) (fit-at t) fit.Post
 fit-enum-known-x t c = (c .match .keys1)
 
--- src/lib.rt:277:9
 fit-enum-told : (t : ℕ) → fit-lts.Need-enum-told (
   count-reads.Asked,
   count-reads.Learnt,
@@ -1757,7 +1679,6 @@ fit-enum-told : (t : ℕ) → fit-lts.Need-enum-told (
 ) (fit-at t) fit.Post
 fit-enum-told t c = (c .match .keys2)
 
--- src/lib.rt:277:9
 fit-step-of-requires : (t : ℕ) → fit-lts.Need-step-of-requires (
   count-reads.Asked,
   count-reads.Learnt,
@@ -1770,7 +1691,6 @@ fit-step-of-requires : (t : ℕ) → fit-lts.Need-step-of-requires (
 ) (fit-at t) fit.Post
 fit-step-of-requires t c κs = tt
 
--- src/lib.rt:277:9
 fit-returns : (t : ℕ) → fit-lts.Need-returns (
   count-reads.Asked,
   count-reads.Learnt,
@@ -1781,9 +1701,8 @@ fit-returns : (t : ℕ) → fit-lts.Need-returns (
   wider-reads.Asked,
   wider-reads.Learnt,
 ) (fit-at t) fit.Post
-fit-returns t c = fit-stops _ _ _ _ _ _ (c .before .before .before .count .ensures) (c .before .enum-told .given .1) (c .step-of .ensures)
+fit-returns t c = fit-stops _ _ _ _ _ (c .before .before .before .count .ensures) (c .before .enum-told .given .1) (c .step-of .ensures)
 
--- src/lib.rt:280:9
 fit-nested-requires : (t : ℕ) → fit-lts.Need-nested-requires (
   count-reads.Asked,
   count-reads.Learnt,
@@ -1794,9 +1713,8 @@ fit-nested-requires : (t : ℕ) → fit-lts.Need-nested-requires (
   wider-reads.Asked,
   wider-reads.Learnt,
 ) (fit-at t) fit.Post
-fit-nested-requires t c κs = (omega (arith, (c .before .before .before .before .before .before .before .before .pre .0)), (c .before .before .before .before .before .before .before .before .pre .1 .0))
+fit-nested-requires t c κs = (omega (arith, (c .before .before .before .before .before .before .pre .0)), (c .before .before .before .before .before .before .pre .1 .0))
 
--- src/lib.rt:281:20
 fit-enum-known-y : (t : ℕ) → fit-lts.Need-enum-known-y (
   count-reads.Asked,
   count-reads.Learnt,
@@ -1809,7 +1727,6 @@ fit-enum-known-y : (t : ℕ) → fit-lts.Need-enum-known-y (
 ) (fit-at t) fit.Post
 fit-enum-known-y t c = (c .match2 .keys1)
 
--- src/lib.rt:282:9
 fit-enum-told-2 : (t : ℕ) → fit-lts.Need-enum-told-2 (
   count-reads.Asked,
   count-reads.Learnt,
@@ -1822,7 +1739,6 @@ fit-enum-told-2 : (t : ℕ) → fit-lts.Need-enum-told-2 (
 ) (fit-at t) fit.Post
 fit-enum-told-2 t c = (c .match2 .keys2)
 
--- src/lib.rt:282:9
 fit-returns-2 : (t : ℕ) → fit-lts.Need-returns-2 (
   count-reads.Asked,
   count-reads.Learnt,
@@ -1833,9 +1749,8 @@ fit-returns-2 : (t : ℕ) → fit-lts.Need-returns-2 (
   wider-reads.Asked,
   wider-reads.Learnt,
 ) (fit-at t) fit.Post
-fit-returns-2 t c = fit-subject _ _ _ _ _ _ (c .before .before .before .before .before .before .before .count .ensures) (c .before .before .before .before .before .x .given .1) (c .before .before .nested .ensures) (c .enum-told2 .given .1)
+fit-returns-2 t c = fit-subject _ _ _ _ _ (c .before .before .before .before .before .before .before .count .ensures) (c .before .before .before .before .before .x .given .1) (c .before .before .nested .ensures) (c .enum-told2 .given .1)
 
--- src/lib.rt:284:9
 fit-wider-requires : (t : ℕ) → fit-lts.Need-wider-requires (
   count-reads.Asked,
   count-reads.Learnt,
@@ -1846,9 +1761,8 @@ fit-wider-requires : (t : ℕ) → fit-lts.Need-wider-requires (
   wider-reads.Asked,
   wider-reads.Learnt,
 ) (fit-at t) fit.Post
-fit-wider-requires t c κs = ((c .before .before .before .before .before .before .before .before .before .before .before .before .pre .1 .1), (omega arith, omega arith))
+fit-wider-requires t c κs = ((c .before .before .before .before .before .before .before .before .before .before .pre .1 .1), (omega arith, omega arith))
 
--- src/lib.rt:285:9
 fit-nested-requires-2 : (t : ℕ) → fit-lts.Need-nested-requires-2 (
   count-reads.Asked,
   count-reads.Learnt,
@@ -1859,9 +1773,8 @@ fit-nested-requires-2 : (t : ℕ) → fit-lts.Need-nested-requires-2 (
   wider-reads.Asked,
   wider-reads.Learnt,
 ) (fit-at t) fit.Post
-fit-nested-requires-2 t c κs = (omega (arith, (c .before .before .before .before .before .before .before .before .before .before .before .before .before .pre .0)), (c .before .before .before .before .before .before .before .before .before .before .before .before .before .pre .1 .0))
+fit-nested-requires-2 t c κs = (omega (arith, (c .before .before .before .before .before .before .before .before .before .before .before .pre .0)), (c .before .before .before .before .before .before .before .before .before .before .before .pre .1 .0))
 
--- src/lib.rt:286:20
 fit-enum-known-z : (t : ℕ) → fit-lts.Need-enum-known-z (
   count-reads.Asked,
   count-reads.Learnt,
@@ -1874,7 +1787,6 @@ fit-enum-known-z : (t : ℕ) → fit-lts.Need-enum-known-z (
 ) (fit-at t) fit.Post
 fit-enum-known-z t c = (c .match3 .keys1)
 
--- src/lib.rt:287:9
 fit-enum-told-3 : (t : ℕ) → fit-lts.Need-enum-told-3 (
   count-reads.Asked,
   count-reads.Learnt,
@@ -1887,7 +1799,6 @@ fit-enum-told-3 : (t : ℕ) → fit-lts.Need-enum-told-3 (
 ) (fit-at t) fit.Post
 fit-enum-told-3 t c = (c .match3 .keys2)
 
--- src/lib.rt:287:9
 fit-returns-3 : (t : ℕ) → fit-lts.Need-returns-3 (
   count-reads.Asked,
   count-reads.Learnt,
@@ -1898,9 +1809,8 @@ fit-returns-3 : (t : ℕ) → fit-lts.Need-returns-3 (
   wider-reads.Asked,
   wider-reads.Learnt,
 ) (fit-at t) fit.Post
-fit-returns-3 t c = fit-arm _ _ _ _ _ _ (c .before .before .before .before .before .before .before .before .before .before .before .before .count .ensures) (c .before .before .before .before .before .before .before .before .before .before .x .given .1) (c .before .before .before .before .before .before .before .nested .ensures) (c .before .before .before .before .before .y .given .1) (c .before .before .before .wider .ensures) (c .before .before .nested2 .ensures) (c .enum-told3 .given .1)
+fit-returns-3 t c = fit-arm _ _ _ _ _ (c .before .before .before .before .before .before .before .before .before .before .before .before .count .ensures) (c .before .before .before .before .before .before .before .before .before .before .x .given .1) (c .before .before .before .before .before .before .before .nested .ensures) (c .before .before .before .before .before .y .given .1) (c .before .before .before .wider .ensures) (c .before .before .nested2 .ensures) (c .enum-told3 .given .1)
 
--- src/lib.rt:289:5
 fit-nested-requires-3 : (t : ℕ) → fit-lts.Need-nested-requires-3 (
   count-reads.Asked,
   count-reads.Learnt,
@@ -1911,9 +1821,8 @@ fit-nested-requires-3 : (t : ℕ) → fit-lts.Need-nested-requires-3 (
   wider-reads.Asked,
   wider-reads.Learnt,
 ) (fit-at t) fit.Post
-fit-nested-requires-3 t c κs = (omega (arith, (c .before .before .before .before .before .before .before .before .before .before .before .before .before .before .before .before .before .pre .0)), (c .before .before .before .before .before .before .before .before .before .before .before .before .before .before .before .before .before .pre .1 .0))
+fit-nested-requires-3 t c κs = (omega (arith, (c .before .before .before .before .before .before .before .before .before .before .before .before .before .before .before .pre .0)), (c .before .before .before .before .before .before .before .before .before .before .before .before .before .before .before .pre .1 .0))
 
--- src/lib.rt:270:1
 fit-returns-4 : (t : ℕ) → fit-lts.Need-returns-4 (
   count-reads.Asked,
   count-reads.Learnt,
@@ -1924,9 +1833,8 @@ fit-returns-4 : (t : ℕ) → fit-lts.Need-returns-4 (
   wider-reads.Asked,
   wider-reads.Learnt,
 ) (fit-at t) fit.Post
-fit-returns-4 t c = fit-done _ _ _ _ _ _ (c .before .before .before .before .before .before .before .before .before .before .before .before .before .before .count .ensures) (c .before .before .before .before .before .before .before .before .before .before .before .before .x .given .1) (c .before .before .before .before .before .before .before .before .before .nested .ensures) (c .before .before .before .before .before .before .before .y .given .1) (c .before .before .before .before .before .wider .ensures) (c .before .before .before .before .nested2 .ensures) (c .before .before .z .given .1) (c .nested3 .ensures)
+fit-returns-4 t c = fit-done _ _ _ _ _ (c .before .before .before .before .before .before .before .before .before .before .before .before .before .before .count .ensures) (c .before .before .before .before .before .before .before .before .before .before .before .before .x .given .1) (c .before .before .before .before .before .before .before .before .before .nested .ensures) (c .before .before .before .before .before .before .before .y .given .1) (c .before .before .before .before .before .wider .ensures) (c .before .before .before .before .nested2 .ensures) (c .before .before .z .given .1) (c .nested3 .ensures)
 
--- src/lib.rt:160:9
 head-code-in-requires : (t : ℕ) → head-lts.Need-code-in-requires (
   code-in-reads.Asked,
   code-in-reads.Learnt,
@@ -1935,7 +1843,6 @@ head-code-in-requires : (t : ℕ) → head-lts.Need-code-in-requires (
 ) (head-at t) head.Post
 head-code-in-requires t c κs = tt
 
--- src/lib.rt:161:20
 head-enum-known-x : (t : ℕ) → head-lts.Need-enum-known-x (
   code-in-reads.Asked,
   code-in-reads.Learnt,
@@ -1944,7 +1851,6 @@ head-enum-known-x : (t : ℕ) → head-lts.Need-enum-known-x (
 ) (head-at t) head.Post
 head-enum-known-x t c = (c .match .keys1)
 
--- src/lib.rt:162:9
 head-enum-told : (t : ℕ) → head-lts.Need-enum-told (
   code-in-reads.Asked,
   code-in-reads.Learnt,
@@ -1953,16 +1859,14 @@ head-enum-told : (t : ℕ) → head-lts.Need-enum-told (
 ) (head-at t) head.Post
 head-enum-told t c = (c .match .keys2)
 
--- src/lib.rt:162:9
 head-returns : (t : ℕ) → head-lts.Need-returns (
   code-in-reads.Asked,
   code-in-reads.Learnt,
   behind-below t,
   behind.Post,
 ) (head-at t) head.Post
-head-returns t c = head-none _ _ _ _ _ _ (c .before .before .code-in .ensures) (c .before .before .before .before .before .before .pre .1 .1) (c .enum-told .given .1)
+head-returns t c = head-none _ _ _ _ _ (c .before .before .code-in .ensures) (c .before .before .before .before .pre .1 .1) (c .enum-told .given .1)
 
--- src/lib.rt:165:45
 head-sub-behind : (t : ℕ) → head-lts.Need-sub-behind (
   code-in-reads.Asked,
   code-in-reads.Learnt,
@@ -1971,31 +1875,28 @@ head-sub-behind : (t : ℕ) → head-lts.Need-sub-behind (
 ) (head-at t) head.Post
 head-sub-behind t c = code-level _ _ _ (c .before .before .before .before .code-in .ensures) (c .before .before .x .given .1)
 
--- src/lib.rt:165:5
 head-behind-requires : (t : ℕ) → head-lts.Need-behind-requires (
   code-in-reads.Asked,
   code-in-reads.Learnt,
   behind-below t,
   behind.Post,
 ) (head-at t) head.Post
-head-behind-requires t c κs = (fewer-levels (c .before .before .before .before .before .before .before .before .pre .0) (code-level _ _ (c .before .before .before .before .before .before .before .before .args .levels) (c .before .before .before .before .code-in .ensures) (c .before .before .x .given .1)), (omega (arith, (c .before .before .before .before .before .before .before .before .pre .1 .0)), ((c .before .before .before .before .before .before .before .before .pre .1 .1) (code-level _ _ (c .before .before .before .before .before .before .before .before .args .levels) (c .before .before .before .before .code-in .ensures) (c .before .before .x .given .1)), code-form _ _ (c .before .before .before .before .before .before .before .before .args .levels) (c .before .before .before .before .code-in .ensures) (c .before .before .x .given .1))))
+head-behind-requires t c κs = (fewer-levels (c .before .before .before .before .before .before .pre .0) (code-level _ _ (c .before .before .before .before .before .before .args .levels) (c .before .before .before .before .code-in .ensures) (c .before .before .x .given .1)), (omega (arith, (c .before .before .before .before .before .before .pre .1 .0)), ((c .before .before .before .before .before .before .pre .1 .1) (code-level _ _ (c .before .before .before .before .before .before .args .levels) (c .before .before .before .before .code-in .ensures) (c .before .before .x .given .1)), code-form _ _ (c .before .before .before .before .before .before .args .levels) (c .before .before .before .before .code-in .ensures) (c .before .before .x .given .1))))
 
--- src/lib.rt:155:1
 head-returns-2 : (t : ℕ) → head-lts.Need-returns-2 (
   code-in-reads.Asked,
   code-in-reads.Learnt,
   behind-below t,
   behind.Post,
 ) (head-at t) head.Post
-head-returns-2 t c = head-done _ _ _ _ _ _ (c .before .before .before .before .before .code-in .ensures) (c .before .before .before .before .before .before .before .before .before .pre .1 .1) (c .before .before .before .x .given .1) (c .behind .ensures)
+head-returns-2 t c = head-done _ _ _ _ _ (c .before .before .before .before .before .code-in .ensures) (c .before .before .before .before .before .before .before .pre .1 .1) (c .before .before .before .x .given .1) (c .behind .ensures)
 
 abbrev nested-Inv-loop : nested-lts.InvT-loop
-nested-Inv-loop line types functions s levels most waiting₀ next₀ depth₀ left₀ waiting next depth left = NestedTo line types functions next₀ s levels most next waiting depth left
+nested-Inv-loop line index s levels most waiting₀ next₀ depth₀ left₀ waiting next depth left = NestedTo line index next₀ s levels most next waiting depth left
 
 abbrev nested-μ-loop : nested-lts.MeasureT-loop
-nested-μ-loop line types functions s levels most waiting₀ next₀ depth₀ left₀ waiting next depth left = bytesLeft line (next .at) * 2 + depth
+nested-μ-loop line index s levels most waiting₀ next₀ depth₀ left₀ waiting next depth left = bytesLeft line (next .at) * 2 + depth
 
--- src/lib.rt:126:9
 nested-levels-in-requires : (t : ℕ) → nested-lts.Need-levels-in-requires (
   levels-in-reads.Asked,
   levels-in-reads.Learnt,
@@ -2010,7 +1911,6 @@ nested-levels-in-requires : (t : ℕ) → nested-lts.Need-levels-in-requires (
 ) (nested-at t) nested.Post nested-Inv-loop nested-μ-loop
 nested-levels-in-requires t c κs = tt
 
--- src/lib.rt:131:5
 nested-loop-holds : (t : ℕ) → nested-lts.Need-loop-holds (
   levels-in-reads.Asked,
   levels-in-reads.Learnt,
@@ -2023,9 +1923,8 @@ nested-loop-holds : (t : ℕ) → nested-lts.Need-loop-holds (
   put-reads.Asked,
   put-reads.Learnt,
 ) (nested-at t) nested.Post nested-Inv-loop nested-μ-loop
-nested-loop-holds t c = nested-start _ _ _ _ _ _ (c .levels-in .ensures) refl
+nested-loop-holds t c = nested-start _ _ _ _ _ (c .levels-in .ensures) refl
 
--- src/lib.rt:134:17
 nested-returns : (t : ℕ) → nested-lts.Need-returns (
   levels-in-reads.Asked,
   levels-in-reads.Learnt,
@@ -2038,9 +1937,8 @@ nested-returns : (t : ℕ) → nested-lts.Need-returns (
   put-reads.Asked,
   put-reads.Learnt,
 ) (nested-at t) nested.Post nested-Inv-loop nested-μ-loop
-nested-returns t c = nested-end _ _ _ _ _ _ (c .before .before .loop .inv) (c .before .if1 .taken) (c .if2 .taken)
+nested-returns t c = nested-end _ _ _ _ _ (c .before .before .loop .inv) (c .before .if1 .taken) (c .if2 .taken)
 
--- src/lib.rt:136:13
 nested-sub-depth : (t : ℕ) → nested-lts.Need-sub-depth (
   levels-in-reads.Asked,
   levels-in-reads.Learnt,
@@ -2055,7 +1953,6 @@ nested-sub-depth : (t : ℕ) → nested-lts.Need-sub-depth (
 ) (nested-at t) nested.Post nested-Inv-loop nested-μ-loop
 nested-sub-depth t c = omega (arith, (c .if2 .left))
 
--- src/lib.rt:137:28
 nested-slice-aggregate-word-at : (t : ℕ) → nested-lts.Need-slice-aggregate-word-at (
   levels-in-reads.Asked,
   levels-in-reads.Learnt,
@@ -2070,7 +1967,6 @@ nested-slice-aggregate-word-at : (t : ℕ) → nested-lts.Need-slice-aggregate-w
 ) (nested-at t) nested.Post nested-Inv-loop nested-μ-loop
 nested-slice-aggregate-word-at t c = search needs
 
--- src/lib.rt:137:38
 nested-cast-word-at : (t : ℕ) → nested-lts.Need-cast-word-at (
   levels-in-reads.Asked,
   levels-in-reads.Learnt,
@@ -2085,7 +1981,6 @@ nested-cast-word-at : (t : ℕ) → nested-lts.Need-cast-word-at (
 ) (nested-at t) nested.Post nested-Inv-loop nested-μ-loop
 nested-cast-word-at t c = search needs
 
--- src/lib.rt:137:13
 nested-word-at-requires : (t : ℕ) → nested-lts.Need-word-at-requires (
   levels-in-reads.Asked,
   levels-in-reads.Learnt,
@@ -2100,7 +1995,6 @@ nested-word-at-requires : (t : ℕ) → nested-lts.Need-word-at-requires (
 ) (nested-at t) nested.Post nested-Inv-loop nested-μ-loop
 nested-word-at-requires t c κs = tt
 
--- src/lib.rt:131:5
 nested-loop-less : (t : ℕ) → nested-lts.Need-loop-less (
   levels-in-reads.Asked,
   levels-in-reads.Learnt,
@@ -2115,7 +2009,6 @@ nested-loop-less : (t : ℕ) → nested-lts.Need-loop-less (
 ) (nested-at t) nested.Post nested-Inv-loop nested-μ-loop
 nested-loop-less t c = omega (arith, (c .before .before .if2 .left))
 
--- src/lib.rt:131:5
 nested-loop-again : (t : ℕ) → nested-lts.Need-loop-again (
   levels-in-reads.Asked,
   levels-in-reads.Learnt,
@@ -2128,9 +2021,8 @@ nested-loop-again : (t : ℕ) → nested-lts.Need-loop-again (
   put-reads.Asked,
   put-reads.Learnt,
 ) (nested-at t) nested.Post nested-Inv-loop nested-μ-loop
-nested-loop-again t c = nested-resumed _ _ _ _ _ _ (c .before .before .before .before .loop .inv) (c .before .before .before .if1 .taken) (c .before .before .if2 .left) (c .word-at .ensures)
+nested-loop-again t c = nested-resumed _ _ _ _ _ (c .before .before .before .before .loop .inv) (c .before .before .before .if1 .taken) (c .before .before .if2 .left) (c .word-at .ensures)
 
--- src/lib.rt:139:59
 nested-sub-head : (t : ℕ) → nested-lts.Need-sub-head (
   levels-in-reads.Asked,
   levels-in-reads.Learnt,
@@ -2145,7 +2037,6 @@ nested-sub-head : (t : ℕ) → nested-lts.Need-sub-head (
 ) (nested-at t) nested.Post nested-Inv-loop nested-μ-loop
 nested-sub-head t c = (c .before .loop .inv .deep)
 
--- src/lib.rt:139:17
 nested-head-requires : (t : ℕ) → nested-lts.Need-head-requires (
   levels-in-reads.Asked,
   levels-in-reads.Learnt,
@@ -2158,9 +2049,8 @@ nested-head-requires : (t : ℕ) → nested-lts.Need-head-requires (
   put-reads.Asked,
   put-reads.Learnt,
 ) (nested-at t) nested.Post nested-Inv-loop nested-μ-loop
-nested-head-requires t c κs = (omega (arith, (c .before .before .before .before .before .before .pre .0), levels-most (levels-in (c .before .before .before .before .before .before .args .s) (c .before .before .before .before .before .before .args .levels) (c .before .before .levels-in .ensures))), (omega (arith, (c .before .before .before .before .before .before .pre .1), levels-most (levels-in (c .before .before .before .before .before .before .args .s) (c .before .before .before .before .before .before .args .levels) (c .before .before .levels-in .ensures))), λ h. levels-roomy (levels-in (c .before .before .before .before .before .before .args .s) (c .before .before .before .before .before .before .args .levels) (c .before .before .levels-in .ensures)) (omega (arith, h))))
+nested-head-requires t c κs = (omega (arith, (c .before .before .before .before .pre .0), levels-most (levels-in (c .before .before .before .before .args .s) (c .before .before .before .before .args .levels) (c .before .before .levels-in .ensures))), (omega (arith, (c .before .before .before .before .pre .1), levels-most (levels-in (c .before .before .before .before .args .s) (c .before .before .before .before .args .levels) (c .before .before .levels-in .ensures))), λ h. levels-roomy (levels-in (c .before .before .before .before .args .s) (c .before .before .before .before .args .levels) (c .before .before .levels-in .ensures)) (omega (arith, h))))
 
--- src/lib.rt:140:28
 nested-enum-known-x : (t : ℕ) → nested-lts.Need-enum-known-x (
   levels-in-reads.Asked,
   levels-in-reads.Learnt,
@@ -2175,7 +2065,6 @@ nested-enum-known-x : (t : ℕ) → nested-lts.Need-enum-known-x (
 ) (nested-at t) nested.Post nested-Inv-loop nested-μ-loop
 nested-enum-known-x t c = (c .match .keys1)
 
--- src/lib.rt:141:17
 nested-enum-told : (t : ℕ) → nested-lts.Need-enum-told (
   levels-in-reads.Asked,
   levels-in-reads.Learnt,
@@ -2190,7 +2079,6 @@ nested-enum-told : (t : ℕ) → nested-lts.Need-enum-told (
 ) (nested-at t) nested.Post nested-Inv-loop nested-μ-loop
 nested-enum-told t c = (c .match .keys2)
 
--- src/lib.rt:141:17
 nested-step-of-requires : (t : ℕ) → nested-lts.Need-step-of-requires (
   levels-in-reads.Asked,
   levels-in-reads.Learnt,
@@ -2205,7 +2093,6 @@ nested-step-of-requires : (t : ℕ) → nested-lts.Need-step-of-requires (
 ) (nested-at t) nested.Post nested-Inv-loop nested-μ-loop
 nested-step-of-requires t c κs = tt
 
--- src/lib.rt:141:17
 nested-returns-2 : (t : ℕ) → nested-lts.Need-returns-2 (
   levels-in-reads.Asked,
   levels-in-reads.Learnt,
@@ -2218,9 +2105,8 @@ nested-returns-2 : (t : ℕ) → nested-lts.Need-returns-2 (
   put-reads.Asked,
   put-reads.Learnt,
 ) (nested-at t) nested.Post nested-Inv-loop nested-μ-loop
-nested-returns-2 t c = nested-refused _ _ _ _ _ _ (c .before .before .before .before .before .loop .inv) (c .before .before .before .before .if1 .left) (c .before .before .before .head .ensures) (c .before .enum-told .given .1) (c .step-of .ensures)
+nested-returns-2 t c = nested-refused _ _ _ _ _ (c .before .before .before .before .before .loop .inv) (c .before .before .before .before .if1 .left) (c .before .before .before .head .ensures) (c .before .enum-told .given .1) (c .step-of .ensures)
 
--- src/lib.rt:144:13
 nested-sub-left : (t : ℕ) → nested-lts.Need-sub-left (
   levels-in-reads.Asked,
   levels-in-reads.Learnt,
@@ -2235,7 +2121,6 @@ nested-sub-left : (t : ℕ) → nested-lts.Need-sub-left (
 ) (nested-at t) nested.Post nested-Inv-loop nested-μ-loop
 nested-sub-left t c = omega (arith, (c .before .before .before .before .before .if1 .left))
 
--- src/lib.rt:146:21
 nested-slice-aggregate-put : (t : ℕ) → nested-lts.Need-slice-aggregate-put (
   levels-in-reads.Asked,
   levels-in-reads.Learnt,
@@ -2250,7 +2135,6 @@ nested-slice-aggregate-put : (t : ℕ) → nested-lts.Need-slice-aggregate-put (
 ) (nested-at t) nested.Post nested-Inv-loop nested-μ-loop
 nested-slice-aggregate-put t c = search needs
 
--- src/lib.rt:146:35
 nested-cast-put : (t : ℕ) → nested-lts.Need-cast-put (
   levels-in-reads.Asked,
   levels-in-reads.Learnt,
@@ -2265,7 +2149,6 @@ nested-cast-put : (t : ℕ) → nested-lts.Need-cast-put (
 ) (nested-at t) nested.Post nested-Inv-loop nested-μ-loop
 nested-cast-put t c = search needs
 
--- src/lib.rt:146:17
 nested-put-requires : (t : ℕ) → nested-lts.Need-put-requires (
   levels-in-reads.Asked,
   levels-in-reads.Learnt,
@@ -2280,7 +2163,6 @@ nested-put-requires : (t : ℕ) → nested-lts.Need-put-requires (
 ) (nested-at t) nested.Post nested-Inv-loop nested-μ-loop
 nested-put-requires t c κs = tt
 
--- src/lib.rt:147:17
 nested-add-depth : (t : ℕ) → nested-lts.Need-add-depth (
   levels-in-reads.Asked,
   levels-in-reads.Learnt,
@@ -2293,9 +2175,8 @@ nested-add-depth : (t : ℕ) → nested-lts.Need-add-depth (
   put-reads.Asked,
   put-reads.Learnt,
 ) (nested-at t) nested.Post nested-Inv-loop nested-μ-loop
-nested-add-depth t c = omega (arith, (c .before .before .before .before .before .before .before .before .before .head .ensures .level) (c .before .before .before .before .before .before .before .x .given .1), (c .before .before .before .before .before .before .before .before .before .before .before .before .before .before .before .before .pre .1), levels-most (levels-in (c .before .before .before .before .before .before .before .before .before .before .before .before .before .before .before .before .args .s) (c .before .before .before .before .before .before .before .before .before .before .before .before .before .before .before .before .args .levels) (c .before .before .before .before .before .before .before .before .before .before .before .before .levels-in .ensures)))
+nested-add-depth t c = omega (arith, (c .before .before .before .before .before .before .before .before .before .head .ensures .level) (c .before .before .before .before .before .before .before .x .given .1), (c .before .before .before .before .before .before .before .before .before .before .before .before .before .before .pre .1), levels-most (levels-in (c .before .before .before .before .before .before .before .before .before .before .before .before .before .before .args .s) (c .before .before .before .before .before .before .before .before .before .before .before .before .before .before .args .levels) (c .before .before .before .before .before .before .before .before .before .before .before .before .levels-in .ensures)))
 
--- src/lib.rt:131:5
 nested-loop-less-2 : (t : ℕ) → nested-lts.Need-loop-less-2 (
   levels-in-reads.Asked,
   levels-in-reads.Learnt,
@@ -2310,7 +2191,6 @@ nested-loop-less-2 : (t : ℕ) → nested-lts.Need-loop-less-2 (
 ) (nested-at t) nested.Post nested-Inv-loop nested-μ-loop
 nested-loop-less-2 t c = fewer-left (c .before .before .before .before .before .before .before .before .before .before .before .loop .depth) ((c .before .before .before .before .before .before .before .before .before .before .before .loop .depth) + 1) (omega arith) (c .before .before .before .before .before .before .before .before .before .head .ensures) (c .before .before .before .before .before .before .before .x .given .1) refl
 
--- src/lib.rt:131:5
 nested-loop-again-2 : (t : ℕ) → nested-lts.Need-loop-again-2 (
   levels-in-reads.Asked,
   levels-in-reads.Learnt,
@@ -2323,9 +2203,8 @@ nested-loop-again-2 : (t : ℕ) → nested-lts.Need-loop-again-2 (
   put-reads.Asked,
   put-reads.Learnt,
 ) (nested-at t) nested.Post nested-Inv-loop nested-μ-loop
-nested-loop-again-2 t c = nested-inside _ _ _ _ _ _ (c .before .before .before .before .before .before .before .before .before .before .before .loop .inv) (c .before .before .before .before .before .before .before .before .before .before .if1 .left) (c .before .before .before .before .before .before .before .before .before .head .ensures) (c .before .before .before .before .before .before .before .x .given .1) (omega (arith, (c .before .before .before .before .before .before .before .before .before .before .before .before .before .before .before .before .pre .1), levels-most (levels-in (c .before .before .before .before .before .before .before .before .before .before .before .before .before .before .before .before .args .s) (c .before .before .before .before .before .before .before .before .before .before .before .before .before .before .before .before .args .levels) (c .before .before .before .before .before .before .before .before .before .before .before .before .levels-in .ensures)))) refl (c .before .put .ensures)
+nested-loop-again-2 t c = nested-inside _ _ _ _ _ (c .before .before .before .before .before .before .before .before .before .before .before .loop .inv) (c .before .before .before .before .before .before .before .before .before .before .if1 .left) (c .before .before .before .before .before .before .before .before .before .head .ensures) (c .before .before .before .before .before .before .before .x .given .1) (omega (arith, (c .before .before .before .before .before .before .before .before .before .before .before .before .before .before .pre .1), levels-most (levels-in (c .before .before .before .before .before .before .before .before .before .before .before .before .before .before .args .s) (c .before .before .before .before .before .before .before .before .before .before .before .before .before .before .args .levels) (c .before .before .before .before .before .before .before .before .before .before .before .before .levels-in .ensures)))) refl (c .before .put .ensures)
 
--- src/lib.rt:131:5
 nested-loop-less-3 : (t : ℕ) → nested-lts.Need-loop-less-3 (
   levels-in-reads.Asked,
   levels-in-reads.Learnt,
@@ -2340,7 +2219,6 @@ nested-loop-less-3 : (t : ℕ) → nested-lts.Need-loop-less-3 (
 ) (nested-at t) nested.Post nested-Inv-loop nested-μ-loop
 nested-loop-less-3 t c = fewer-left (c .before .before .before .before .before .before .before .before .loop .depth) (c .before .before .before .before .before .before .before .before .loop .depth) (omega arith) (c .before .before .before .before .before .before .head .ensures) (c .before .before .before .before .x .given .1) refl
 
--- src/lib.rt:131:5
 nested-loop-again-3 : (t : ℕ) → nested-lts.Need-loop-again-3 (
   levels-in-reads.Asked,
   levels-in-reads.Learnt,
@@ -2353,7 +2231,7 @@ nested-loop-again-3 : (t : ℕ) → nested-lts.Need-loop-again-3 (
   put-reads.Asked,
   put-reads.Learnt,
 ) (nested-at t) nested.Post nested-Inv-loop nested-μ-loop
-nested-loop-again-3 t c = nested-passed _ _ _ _ _ _ (c .before .before .before .before .before .before .before .before .loop .inv) (c .before .before .before .before .before .before .before .if1 .left) (c .before .before .before .before .before .before .head .ensures) (c .before .before .before .before .x .given .1) (c .if3 .left) refl
+nested-loop-again-3 t c = nested-passed _ _ _ _ _ (c .before .before .before .before .before .before .before .before .loop .inv) (c .before .before .before .before .before .before .before .if1 .left) (c .before .before .before .before .before .before .head .ensures) (c .before .before .before .before .x .given .1) (c .if3 .left) refl
 
 pub +behind+binding+branches+case-of+fit+head+nested-spec : {M : Type 1} → statement M
 +behind+binding+branches+case-of+fit+head+nested-spec =

@@ -5,42 +5,34 @@ use Rattle.expression_reader.proofs.call.Statement.{statement}
 use Rattle.expression_reader.proofs.call.Tie as tie
 use Rattle.expression_reader.proofs.call.Reads as reads
 use Rattle.expression_reader.proofs.call.Lts as lts
-use Rattle.index.proofs.arity.Reads as arity-reads
+use Rattle.index.proofs.functions.arity.Reads as arity-reads
 use Rattle.expression_reader.proofs.opened.Reads as opened-reads
 use Rattle.text.proofs.Cursor.index.Reads as index-reads
 use Rattle.text.proofs.step_of.Reads as step-of-reads
 
--- src/lib.rt:85:9
 index-requires : tie.Need-index-requires
 index-requires c κs = search needs
 
--- src/lib.rt:86:20
 enum-known-x : tie.Need-enum-known-x
 enum-known-x c = search needs
 
--- src/lib.rt:87:9
 enum-told : tie.Need-enum-told
 enum-told c = search needs
 
--- src/lib.rt:87:9
 returns : tie.Need-returns
-returns c = call-none _ _ _ _ _ (c .before .before .index .ensures) (c .enum-told .given .1)
+returns c = call-none _ _ _ _ (c .before .before .index .ensures) (c .enum-told .given .1)
 
--- src/lib.rt:89:9
 arity-requires : tie.Need-arity-requires
 arity-requires c κs = search needs
 
--- src/lib.rt:90:12
 step-of-requires : tie.Need-step-of-requires
 step-of-requires c κs = search needs
 
--- src/lib.rt:90:5
 opened-requires : tie.Need-opened-requires
 opened-requires c κs = search needs
 
--- src/lib.rt:81:1
 returns-2 : tie.Need-returns-2
-returns-2 c = call-some _ _ _ _ _ (c .before .before .before .before .before .before .index .ensures) (c .before .before .before .before .x .given .1) (c .before .before .arity .ensures) (c .before .step-of .ensures) (c .opened .ensures)
+returns-2 c = call-some _ _ _ _ (c .before .before .before .before .before .before .index .ensures) (c .before .before .before .before .x .given .1) (c .before .before .arity .ensures) (c .before .step-of .ensures) (c .opened .ensures)
 
 pub call-spec : {M : Type 1} → statement M
 call-spec =

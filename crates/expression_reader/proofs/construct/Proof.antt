@@ -5,63 +5,50 @@ use Rattle.expression_reader.proofs.construct.Statement.{statement}
 use Rattle.expression_reader.proofs.construct.Tie as tie
 use Rattle.expression_reader.proofs.construct.Reads as reads
 use Rattle.expression_reader.proofs.construct.Lts as lts
-use Rattle.index.proofs.constructors.Reads as constructors-reads
-use Rattle.index.proofs.fields.Reads as fields-reads
+use Rattle.index.proofs.types.constructors.Reads as constructors-reads
+use Rattle.index.proofs.types.fields.Reads as fields-reads
 use Rattle.expression_reader.proofs.opened.Reads as opened-reads
 use Rattle.text.proofs.Cursor.index.Reads as index-reads
 use Rattle.text.proofs.step_of.Reads as step-of-reads
 
--- src/lib.rt:98:9
 index-requires : tie.Need-index-requires
 index-requires c κs = search needs
 
--- src/lib.rt:99:20
 enum-known-x : tie.Need-enum-known-x
 enum-known-x c = search needs
 
--- src/lib.rt:100:9
 enum-told : tie.Need-enum-told
 enum-told c = search needs
 
--- src/lib.rt:100:9
 returns : tie.Need-returns
-returns c = construct-none _ _ _ _ _ (c .before .before .index .ensures) (c .enum-told .given .1)
+returns c = construct-none _ _ _ _ (c .before .before .index .ensures) (c .enum-told .given .1)
 
--- src/lib.rt:104:9
 constructors-requires : tie.Need-constructors-requires
 constructors-requires c κs = search needs
 
--- src/lib.rt:105:9
 index-requires-2 : tie.Need-index-requires-2
 index-requires-2 c κs = search needs
 
--- src/lib.rt:106:20
 enum-known-y : tie.Need-enum-known-y
 enum-known-y c = search needs
 
--- src/lib.rt:107:9
 enum-told-2 : tie.Need-enum-told-2
 enum-told-2 c = search needs
 
--- src/lib.rt:107:9
 returns-2 : tie.Need-returns-2
-returns-2 c = construct-no _ _ _ _ _ (c .before .before .before .before .before .before .before .before .index .ensures) (c .before .before .before .before .before .before .x .given .1) (c .before .before .before .constructors .ensures) (c .before .before .index2 .ensures) (c .enum-told2 .given .1)
+returns-2 c = construct-no _ _ _ _ (c .before .before .before .before .before .before .before .before .index .ensures) (c .before .before .before .before .before .before .x .given .1) (c .before .before .before .constructors .ensures) (c .before .before .index2 .ensures) (c .enum-told2 .given .1)
 
--- src/lib.rt:109:9
 fields-requires : tie.Need-fields-requires
 fields-requires c κs = search needs
 
--- src/lib.rt:110:12
 step-of-requires : tie.Need-step-of-requires
 step-of-requires c κs = search needs
 
--- src/lib.rt:110:5
 opened-requires : tie.Need-opened-requires
 opened-requires c κs = search needs
 
--- src/lib.rt:94:1
 returns-3 : tie.Need-returns-3
-returns-3 c = construct-some _ _ _ _ _ (c .before .before .before .before .before .before .before .before .before .before .before .before .index .ensures) (c .before .before .before .before .before .before .before .before .before .before .x .given .1) (c .before .before .before .before .before .before .before .constructors .ensures) (c .before .before .before .before .before .before .index2 .ensures) (c .before .before .before .before .y .given .1) (c .before .before .fields .ensures) (c .before .step-of .ensures) (c .opened .ensures)
+returns-3 c = construct-some _ _ _ _ (c .before .before .before .before .before .before .before .before .before .before .before .before .index .ensures) (c .before .before .before .before .before .before .before .before .before .before .x .given .1) (c .before .before .before .before .before .before .before .constructors .ensures) (c .before .before .before .before .before .before .index2 .ensures) (c .before .before .before .before .y .given .1) (c .before .before .fields .ensures) (c .before .step-of .ensures) (c .opened .ensures)
 
 pub construct-spec : {M : Type 1} → statement M
 construct-spec =

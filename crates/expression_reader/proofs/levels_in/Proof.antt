@@ -5,15 +5,12 @@ use Rattle.expression_reader.proofs.levels_in.Tie as tie
 use Rattle.expression_reader.proofs.levels_in.Reads as reads
 use Rattle.expression_reader.proofs.levels_in.Lts as lts
 
--- src/lib.rt:43:9
 returns : tie.Need-returns
 returns c = wide-variables (c .before .before .args .s) (c .before .before .args .levels) (c .if1 .taken)
 
--- src/lib.rt:46:9
 returns-2 : tie.Need-returns-2
 returns-2 c = wide-sizes (c .before .before .before .before .args .s) (c .before .before .before .before .args .levels) (c .before .before .if1 .left) (c .if2 .taken)
 
--- src/lib.rt:39:1
 returns-3 : tie.Need-returns-3
 returns-3 c = all-levels (c .before .before .before .before .args .s) (c .before .before .before .before .args .levels) (c .before .before .if1 .left) (c .if2 .left)
 

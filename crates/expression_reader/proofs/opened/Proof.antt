@@ -4,19 +4,15 @@ use Rattle.expression_reader.proofs.opened.Tie as tie
 use Rattle.expression_reader.proofs.opened.Reads as reads
 use Rattle.expression_reader.proofs.opened.Lts as lts
 
--- src/lib.rt:72:20
 enum-known-x : tie.Need-enum-known-x
 enum-known-x c = search needs
 
--- src/lib.rt:76:20
 enum-known-x-2 : tie.Need-enum-known-x-2
 enum-known-x-2 c = search needs
 
--- src/lib.rt:68:1
 returns : tie.Need-returns
 returns c = rw (c .before .x .given .1)
 
--- src/lib.rt:68:1
 returns-2 : tie.Need-returns-2
 returns-2 c = rw (c .before .x2 .given .1)
 

@@ -1,36 +1,46 @@
--- Two words, one after the other.
-use mathlib.Core.Path.{refl}
+-- The section of frames is lent, and one entry of it written.
+use Prim.Native.Nat.{_+_, _*_}
+use mathlib.Core.Path.{_≡_}
+use native.Mathlib.Omega.{arith}
+use lib.ListN.{set}
+use Rattle.index.specs.Tables.{frameWords}
+use Rattle.index.specs.Sections.{framesFrom, frameTableWords}
+use Rattle.index.specs.SectionLaws.{section-lent}
 use borrow.Author.Needs.{needs}
 use Rattle.index.proofs.frames.put_frame.Statement.{statement}
 use Rattle.index.proofs.frames.put_frame.Tie as tie
-use Rattle.index.proofs.frames.put_frame.Reads as reads
-use Rattle.index.proofs.frames.put_frame.Lts as lts
-use Rattle.index.proofs.put.Reads as put-reads
 
--- src/frames.rt:47:17
-mul-entry : tie.Need-mul-entry
-mul-entry c = search needs
+mul-to : tie.Need-mul-to
+mul-to c = search needs
 
--- src/frames.rt:48:5
-put-requires : tie.Need-put-requires
-put-requires c κs = search needs
+sub-frame-into : tie.Need-sub-frame-into
+sub-frame-into c = search needs
 
--- src/frames.rt:49:17
-add-put : tie.Need-add-put
-add-put c = search needs
+part-frame-into-start : tie.Need-part-frame-into-start
+part-frame-into-start c = search needs
 
--- src/frames.rt:49:5
-put-requires-2 : tie.Need-put-requires-2
-put-requires-2 c κs = search needs
+part-frame-into-end : tie.Need-part-frame-into-end
+part-frame-into-end c = search needs
 
--- src/frames.rt:44:1
+frame-into-requires : tie.Need-frame-into-requires
+frame-into-requires c κs = search needs
+
 same-length : tie.Need-same-length
 same-length c = search needs
 
--- src/frames.rt:44:1
 returns : tie.Need-returns
-returns c = rw ((c .before .before .put2 .ensures), (c .before .before .before .before .before .before .put .ensures)) refl
+returns c =
+    section-lent (λ a b. b ≡ set (set a (frameWords * (c .before .before .before .before .before .args .i)) (c .before .before .before .before .before .args .place)) (frameWords * (c .before .before .before .before .before .args .i) + 1) (c .before .before .before .before .before .args .size))
+    framesFrom frameTableWords _ _ (omega (arith, c .before .before .before .before .before .pre)) (c .before .before .frame-into .kept .0) (c .before .before .frame-into .ensures)
 
 pub put-frame-spec : {M : Type 1} → statement M
 put-frame-spec =
-    tie.close (tie.spec mul-entry put-requires add-put put-requires-2 same-length returns)
+    tie.close
+    (tie.spec
+    mul-to
+    sub-frame-into
+    part-frame-into-start
+    part-frame-into-end
+    frame-into-requires
+    same-length
+    returns)

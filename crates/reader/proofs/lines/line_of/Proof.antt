@@ -1,21 +1,11 @@
--- The line at a place, by its entry in the table.
+-- The line at a place, by its entry in the index.
 use native.Mathlib.Omega.{arith}
 use Rattle.reader.specs.JudgeLaws.{listed-within, listed-line}
-use borrow.Author.Needs.{needs}
 use Rattle.reader.proofs.lines.line_of.Statement.{statement}
 use Rattle.reader.proofs.lines.line_of.Tie as tie
 
-mul-word-at : tie.Need-mul-word-at
-mul-word-at c = omega (arith, (c .before .before .pre .few))
-
-add-word-at : tie.Need-add-word-at
-add-word-at c = omega (arith, (c .before .before .pre .few))
-
-word-at-requires : tie.Need-word-at-requires
-word-at-requires c κs = tt
-
-cast-size : tie.Need-cast-size
-cast-size c = search needs
+frame-length-requires : tie.Need-frame-length-requires
+frame-length-requires c κs = tt
 
 line-at-requires : tie.Need-line-at-requires
 line-at-requires c κs = tt
@@ -24,7 +14,7 @@ returns : tie.Need-returns
 returns c = (c .line-at .ensures)
 
 add-result : tie.Need-add-result
-add-result c = omega (arith, listed-within (c .before .before .before .before .pre) (c .before .word-at .ensures) (c .if1 .left))
+add-result c = omega (arith, listed-within (c .before .before .before .pre) (c .before .frame-length .ensures) (c .if1 .left))
 
 sub-result : tie.Need-sub-result
 sub-result c = omega arith
@@ -33,19 +23,16 @@ part-result-start : tie.Need-part-result-start
 part-result-start c = omega arith
 
 part-result-end : tie.Need-part-result-end
-part-result-end c = omega (arith, listed-within (c .before .before .before .before .pre) (c .before .word-at .ensures) (c .if1 .left))
+part-result-end c = omega (arith, listed-within (c .before .before .before .pre) (c .before .frame-length .ensures) (c .if1 .left))
 
 returns-2 : tie.Need-returns-2
-returns-2 c = listed-line (c .before .before .before .before .before .pre) (c .before .before .word-at .ensures) (c .before .if1 .left)
+returns-2 c = listed-line (c .before .before .before .before .pre) (c .before .before .frame-length .ensures) (c .before .if1 .left)
 
 pub line-of-spec : {M : Type 1} → statement M
 line-of-spec =
     tie.close
     (tie.spec
-    mul-word-at
-    add-word-at
-    word-at-requires
-    cast-size
+    frame-length-requires
     line-at-requires
     returns
     add-result
