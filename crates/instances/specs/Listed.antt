@@ -5,12 +5,14 @@ use mathlib.Core.Option.{Option, none, some}
 use mathlib.Core.Path.{_≡_}
 use lib.ListN.{length, take, drop, set, getElem? as look}
 use lib.Seq.{sets}
-use Rattle.language.specs.Limits.{parametersMost}
+use Rattle.language.specs.Limits.{parametersMost, instancesMost}
 use Rattle.language.specs.Format.{spellAll}
 use Rattle.language.specs.Layout.{padded}
 use Rattle.language.specs.Estimate.{Estimate as Exact, nothing, stop}
 use Rattle.language.specs.Checker.{Instance, find}
 use Rattle.language.specs.Within.{All}
+use Rattle.theory.specs.Different.{Distinct}
+use Rattle.theory.specs.Instances.{keysOf}
 use Rattle.estimate.specs.declared.Estimate.{Estimate as Held}
 use Rattle.estimate.specs.Stands.{Stands}
 use Rattle.instances.specs.declared.Search.{Search}
@@ -23,6 +25,10 @@ instanceWordsCount = 1 + parametersMost + 3
 -- where its numbers start
 abbrev pub numbersFrom : ℕ
 numbersFrom = 1 + parametersMost
+
+-- how many hints there are
+abbrev pub hintWords : ℕ
+hintWords = instancesMost
 
 abbrev pub keyWords : ℕ → List ℕ → List ℕ
 keyWords f ks = f ∷ padded parametersMost ks
@@ -55,8 +61,9 @@ pub data Agrees : Search → Option Exact → Type 0 where
   found : {a : Held} {x : Exact} → Stands a x → Agrees (Found a) (some x)
   absent : Agrees Absent none
 
+-- in a list where no instance stands twice, so that it does not matter which record is looked at first
 pub record Finds (words : List ℕ) (used f : ℕ) (sizes : List ℕ) (r : Search) : Type 0 where
-  pub says : (L : List Instance) (ks : List ℕ) → Listed words L → used ≡ length L → SizesAre sizes ks → All (SameArity f ks) L → Agrees r (find L f ks)
+  pub says : (L : List Instance) (ks : List ℕ) → Listed words L → used ≡ length L → Distinct (keysOf L) → SizesAre sizes ks → All (SameArity f ks) L → Agrees r (find L f ks)
 
 -- ---- writing: ws from a place on, if they fit; all other words are kept
 pub record Writes (words : List ℕ) (from : ℕ) (ws words′ : List ℕ) : Type 0 where
