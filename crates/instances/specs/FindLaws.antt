@@ -1,9 +1,9 @@
--- Looking an instance up: comparing sizes, comparing a record, one record after the other.
-use Prim.Native.Nat.{ℕ, zero, suc, _+_, _*_, _≤_, _<_}
-use mathlib.Core.List.{List, _∷_}
+-- Looking an instance up: comparing sizes, comparing a record, one record after the other, the record that a hint names first.
+use Prim.Native.Nat.{ℕ, zero, suc, _+_, _-_, _*_, _≤_, _<_}
+use mathlib.Core.List.{List, [], _∷_, List·Memᴰ as In}
 use mathlib.Core.Bool.{Bool, true, false}
 use mathlib.Core.Option.{some}
-use mathlib.Core.Path.{_≡_, refl, sym, ap, _∙_}
+use mathlib.Core.Path.{_≡_, refl, sym, ap, ap₂, _∙_}
 use native.Mathlib.Numerals.{add-one}
 use native.Mathlib.Omega.{arith}
 use lib.ListN.{length, getD, take, drop, drop-of-length-le}
@@ -15,8 +15,13 @@ use Rattle.language.specs.Result.{both}
 use Rattle.language.specs.Sizes.{sameSizes}
 use Rattle.language.specs.Layout.{padded}
 use Rattle.language.specs.Checker.{Instance, find}
-use Rattle.language.specs.Within.{All, all-nil, all-cons}
+use Rattle.language.specs.Within.{All}
+use Rattle.theory.specs.Lists.{both-left, both-right}
+use Rattle.theory.specs.Alls.{all-getD, all-in}
 use Rattle.theory.specs.SameTests.{same-sizes, sizes-same}
+use Rattle.theory.specs.Different.{Distinct, distinct-cons}
+use Rattle.theory.specs.Instances.{key, keyOf, keysOf}
+use Rattle.theory.specs.InstanceList.{key-stands}
 use Rattle.theory.specs.Padding.{padded-length, padded-front}
 use Rattle.index.specs.Padded.{padded-at}
 use Rattle.estimate.specs.declared.Estimate.{Estimate as Held}
@@ -33,18 +38,18 @@ module _ {words : List ℕ} {from : ℕ} {sizes : List ℕ} where
   pub same-start : SameBefore words from sizes 0
   same-start = record { says = λ k h. absurd (omega arith) }
 
-  pub same-on : {j word size : ℕ} → SameBefore words from sizes j → word ≡ getD words (from + j) 0 → size ≡ getD sizes j 0 → word ≡ size → SameBefore words from sizes (j + 1)
-  same-on {j} v p q e = record { says = λ k h. go k h (eqb k j) refl }
+  pub same-on : {j size : ℕ} → SameBefore words from sizes j → size ≡ getD sizes j 0 → getD words (from + j) 0 ≡ size → SameBefore words from sizes (j + 1)
+  same-on {j} v q e = record { says = λ k h. go k h (eqb k j) refl }
     where
       go : (k : ℕ) → k < j + 1 → (b : Bool) → eqb k j ≡ b → getD words (from + k) 0 ≡ getD sizes k 0
-      go k h true t = let same : k ≡ j = eqb-true k j t in rw same (sym p ∙ e ∙ q)
+      go k h true t = let same : k ≡ j = eqb-true k j t in rw same (e ∙ q)
       go k h false t = let other : k ≡ j → ⊥ = eqb-false k j t in v .says k (omega arith)
 
   pub same-end : {j : ℕ} → SameBefore words from sizes j → parametersMost ≤ j → Compared words from sizes true
   same-end v h = all-same (λ k less. v .says k (omega arith))
 
-  pub same-not : {j word size : ℕ} → j < parametersMost → word ≡ getD words (from + j) 0 → size ≡ getD sizes j 0 → (word ≡ size → ⊥) → Compared words from sizes false
-  same-not {j} h p q other = one-other j h (λ e. other (p ∙ e ∙ sym q))
+  pub same-not : {j size : ℕ} → j < parametersMost → size ≡ getD sizes j 0 → (getD words (from + j) 0 ≡ size → ⊥) → Compared words from sizes false
+  same-not {j} h q other = one-other j h (λ e. other (e ∙ sym q))
 
 -- ---- comparing a record
 -- as many sizes, filled up the same, are the same
@@ -74,15 +79,19 @@ module _ {words : List ℕ} {i : ℕ} {sizes : List ℕ} (L : List Instance) (ks
       false-of _ (λ t. other (size-here j less ∙ ap (λ (l : List ℕ). getD (padded parametersMost l) j 0) (same-sizes (at L i .sizes) ks t) ∙ sym (size-asked j less)))
 
 module _ {words : List ℕ} {i f : ℕ} {sizes : List ℕ} where
-  pub other-function : {g : ℕ} → g ≡ getD words (instanceWordsCount * i) 0 → (g ≡ f → ⊥) → Matches words i f sizes false
-  unfolding both
-  other-function q other = record { says = λ L ks v h s a. rw (ne-eqb (at L i .function) f (λ e. other (q ∙ function-word L v i h ∙ e))) }
+  -- a record of the list is within its words
+  pub beyond-words : length words < instanceWordsCount * i + instanceWordsCount → Matches words i f sizes false
+  beyond-words short = record { says = λ L ks v h s a. absurd (omega (arith, v .room)) }
 
-  pub same-function : {g : ℕ} {r : Bool} → g ≡ getD words (instanceWordsCount * i) 0 → g ≡ f → Compared words (instanceWordsCount * i + 1) sizes r → Matches words i f sizes r
+  pub other-function : (getD words (instanceWordsCount * i) 0 ≡ f → ⊥) → Matches words i f sizes false
   unfolding both
-  same-function q e u = record {
+  other-function other = record { says = λ L ks v h s a. rw (ne-eqb (at L i .function) f (λ e. other (function-word L v i h ∙ e))) }
+
+  pub same-function : {r : Bool} → getD words (instanceWordsCount * i) 0 ≡ f → Compared words (instanceWordsCount * i + 1) sizes r → Matches words i f sizes r
+  unfolding both
+  same-function e u = record {
     says = λ L ks v h s a.
-        let same : at L i .function ≡ f = sym (function-word L v i h) ∙ sym q ∙ e in
+        let same : at L i .function ≡ f = sym (function-word L v i h) ∙ e in
         rw (eq-eqb (at L i .function) f same) (sizes-compared L ks v h s (a same) u);
   }
 
@@ -96,11 +105,6 @@ numbers-read {words} {i} p q o = record {
 -- ---- one record after the other: those before i are not it
 pub record Passed (words : List ℕ) (used f : ℕ) (sizes : List ℕ) (i : ℕ) : Type 0 where
   pub says : (L : List Instance) (ks : List ℕ) → Listed words L → used ≡ length L → SizesAre sizes ks → All (SameArity f ks) L → find L f ks ≡ find (drop i L) f ks
-
-all-got : {Q : Instance → Type 0} {L : List Instance} → All Q L → (i : ℕ) → i < length L → Q (at L i)
-all-got all-nil i h = absurd (omega arith)
-all-got (all-cons q qs) zero h = q
-all-got (all-cons q qs) (suc i) h = all-got qs i (omega arith)
 
 find-here : (f : ℕ) (ks : List ℕ) (q : Instance) (L : List Instance) → both (eqb (q .function) f) (sameSizes (q .sizes) ks) ≡ true → find (q ∷ L) f ks ≡ some (q .numbers)
 unfolding find
@@ -117,9 +121,9 @@ module _ {words : List ℕ} {used f : ℕ} {sizes : List ℕ} where
   module _ {i : ℕ} (p : Passed words used f sizes i) where
     pub passed-found : {r : Bool} {x : Held} → i < used → Matches words i f sizes r → r ≡ true → Numbers words i x → Finds words used f sizes (Found x)
     passed-found less m e n = record {
-      says = λ L ks v u once s a.
+      says = λ L ks v u d s a.
           let h : i < length L = omega (arith, u) in
-          let is = p .says L ks v u s a ∙ ap (λ M. find M f ks) (drop-cons L i noInstance h) ∙ find-here f ks (at L i) (drop (suc i) L) (sym (m .says L ks v h s (all-got a i h)) ∙ e) in
+          let is = p .says L ks v u s a ∙ ap (λ M. find M f ks) (drop-cons L i noInstance h) ∙ find-here f ks (at L i) (drop (suc i) L) (sym (m .says L ks v h s (all-getD a i noInstance h)) ∙ e) in
           rw is (found (n .says L v h));
     }
 
@@ -127,11 +131,34 @@ module _ {words : List ℕ} {used f : ℕ} {sizes : List ℕ} where
     passed-on less m e = record {
       says = λ L ks v u s a.
           let h : i < length L = omega (arith, u) in
-          p .says L ks v u s a ∙ ap (λ M. find M f ks) (drop-cons L i noInstance h) ∙ find-later f ks (at L i) (drop (suc i) L) (sym (m .says L ks v h s (all-got a i h)) ∙ e) ∙ rw add-one;
+          p .says L ks v u s a ∙ ap (λ M. find M f ks) (drop-cons L i noInstance h) ∙ find-later f ks (at L i) (drop (suc i) L) (sym (m .says L ks v h s (all-getD a i noInstance h)) ∙ e) ∙ rw add-one;
     }
 
     pub passed-end : used ≤ i → Finds words used f sizes Absent
     unfolding find
     passed-end le = record {
-      says = λ L ks v u once s a. rw (p .says L ks v u s a, drop-of-length-le L {i = i} (omega (arith, u))) absent;
+      says = λ L ks v u d s a. rw (p .says L ks v u s a, drop-of-length-le L {i = i} (omega (arith, u))) absent;
     }
+
+-- ---- the record that a hint names: where no instance stands twice, the one that is found
+key-asked : (f : ℕ) (ks : List ℕ) (q : Instance) → both (eqb (q .function) f) (sameSizes (q .sizes) ks) ≡ true → keyOf q ≡ key f ks
+key-asked f ks q e = ap₂ key (eqb-true (q .function) f (both-left _ _ e)) (same-sizes (q .sizes) ks (both-right _ _ e))
+
+at-stands : (L : List Instance) (i : ℕ) → i < length L → In (at L i) L
+at-stands L i h = all-getD (all-in L (λ q s. s)) i noInstance h
+
+find-only : (f : ℕ) (ks : List ℕ) (L : List Instance) → Distinct (keysOf L) → (i : ℕ) → i < length L → both (eqb (at L i .function) f) (sameSizes (at L i .sizes) ks) ≡ true → find L f ks ≡ some (at L i .numbers)
+find-only f ks [] d i h e = absurd (omega arith)
+find-only f ks (q ∷ L) d zero h e = find-here f ks q L e
+find-only f ks (q ∷ L) (distinct-cons new d) (suc i) h e = let less : i < length L = omega arith in go (find-only f ks L d i less e) less (both (eqb (q .function) f) (sameSizes (q .sizes) ks)) refl
+  where
+    go : find L f ks ≡ some (at L i .numbers) → i < length L → (b : Bool) → both (eqb (q .function) f) (sameSizes (q .sizes) ks) ≡ b → find (q ∷ L) f ks ≡ some (at L i .numbers)
+    go rest less true t = absurd (new (rw (key-asked f ks q t ∙ sym (key-asked f ks (at L i) e)) (key-stands (at-stands L i less))))
+    go rest less false t = find-later f ks q L t ∙ rest
+
+pub hint-found : {words sizes : List ℕ} {used f k : ℕ} {r : Bool} {x : Held} → 0 < k → k ≤ used → Matches words (k - 1) f sizes r → r ≡ true → Numbers words (k - 1) x → Finds words used f sizes (Found x)
+hint-found {f} {k} some-hint low m e n = record {
+  says = λ L ks v u d s a.
+      let h : k - 1 < length L = omega (arith, u) in
+      rw (find-only f ks L d (k - 1) h (sym (m .says L ks v h s (all-getD a (k - 1) noInstance h)) ∙ e)) (found (n .says L v h));
+}

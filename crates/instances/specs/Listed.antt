@@ -5,7 +5,7 @@ use mathlib.Core.Option.{Option, none, some}
 use mathlib.Core.Path.{_≡_}
 use lib.ListN.{length, take, drop, set, getElem? as look}
 use lib.Seq.{sets}
-use Rattle.language.specs.Limits.{parametersMost}
+use Rattle.language.specs.Limits.{parametersMost, instancesMost}
 use Rattle.language.specs.Format.{spellAll}
 use Rattle.language.specs.Layout.{padded}
 use Rattle.language.specs.Estimate.{Estimate as Exact, nothing, stop}
@@ -25,6 +25,10 @@ instanceWordsCount = 1 + parametersMost + 3
 -- where its numbers start
 abbrev pub numbersFrom : ℕ
 numbersFrom = 1 + parametersMost
+
+-- how many hints there are
+abbrev pub hintWords : ℕ
+hintWords = instancesMost
 
 abbrev pub keyWords : ℕ → List ℕ → List ℕ
 keyWords f ks = f ∷ padded parametersMost ks

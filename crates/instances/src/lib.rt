@@ -1,11 +1,11 @@
 // The lent list of instances, as words: a record is the function, its sizes and its three numbers.
 ghost use mathlib.Core.Path.{_≡_};
-ghost use Prim.Native.Nat.{_^_, _<_};
+ghost use Prim.Native.Nat.{_+_, _^_, _<_, _≤_};
 ghost use lib.ListN.{length, getD, replicate};
 ghost use lib.Seq.{sets};
 ghost use Rattle.language.specs.Limits.{parametersMost};
 ghost use Rattle.language.specs.Layout.{padded};
-ghost use Rattle.instances.specs.Listed.{Finds, Adds, Finishes, numberWords};
+ghost use Rattle.instances.specs.Listed.{hintWords, Finds, Adds, Finishes, numberWords};
 ghost use Rattle.instances.specs.Matches.{Compared, Matches, Numbers};
 use estimate::Estimate;
 use estimate::nothing;
@@ -21,9 +21,12 @@ pub const INSTANCE_WORDS: usize = 1 + PARAMETERS_MOST + 3;
 // Where its numbers start.
 const NUMBERS_FROM: usize = 1 + PARAMETERS_MOST;
 
-// How many hints there are: for instances with the same remainder of a sum over function and sizes, the number and one of the record
-// that was added last. A hint never changes an answer: the record that it names is compared.
+// How many hints there are. A hint is one more than the number of the record that was added last among those with the same place
+// for it, or 0. It never changes an answer: the record that it names is compared.
 pub const HINT_WORDS: usize = INSTANCES_MOST;
+
+// Odd, so that instances that differ in one size only have different places.
+const HINT_FACTOR: usize = 149;
 
 pub enum Search {
     Found(Estimate),
@@ -40,16 +43,14 @@ fn size_at(sizes: &[u8], j: usize) -> u32
     0
 }
 
-// Whether the words from a place on are these sizes.
+// Whether the words from a place on are these sizes; the list has them.
 fn same_sizes(list: &[u32], from: usize, sizes: &[u8]) -> bool
-    requires { ⌜ from < 2 ^ 62 ⌝ }
+    requires { ⌜ from + parametersMost ≤ length (now list) ⌝ }
     ensures { λ r. ⌜ Compared (now (list .entry)) from (now (sizes .entry)) r ⌝ }
 {
     let mut j: usize = 0;
     while j < PARAMETERS_MOST {
-        let word = word_at(list, from + j);
-        let size = size_at(sizes, j);
-        if word != size {
+        if list[from + j] != size_at(sizes, j) {
             return false;
         }
         j += 1;
@@ -62,8 +63,10 @@ fn is_instance(list: &[u32], i: u32, f: u32, sizes: &[u8]) -> bool
     ensures { λ r. ⌜ Matches (now (list .entry)) i f (now (sizes .entry)) r ⌝ }
 {
     let at = INSTANCE_WORDS * (i as usize);
-    let g = word_at(list, at);
-    if g != f {
+    if list.len() < at + INSTANCE_WORDS {
+        return false;
+    }
+    if list[at] != f {
         return false;
     }
     same_sizes(list, at + 1, sizes)
@@ -84,8 +87,21 @@ fn numbers(list: &[u32], i: u32) -> Estimate
     }
 }
 
-// The record in use that is the instance of f at these sizes: the hint is tried before the walk through all of them.
-pub fn find(list: &[u32], hints: &[u32; HINT_WORDS], used: u32, f: u32, sizes: &[u8]) -> Search
+// Where the hint of an instance stands.
+fn hint_place(f: u32, sizes: &[u8]) -> usize
+    ensures { λ r. ⌜ r < hintWords ⌝ }
+{
+    let mut h: usize = (f as usize) % HINT_WORDS;
+    let mut j: usize = 0;
+    while j < PARAMETERS_MOST {
+        h = (h * HINT_FACTOR + size_at(sizes, j) as usize) % HINT_WORDS;
+        j += 1;
+    }
+    h
+}
+
+// The first of the records in use that is the instance of f at these sizes.
+fn walk(list: &[u32], used: u32, f: u32, sizes: &[u8]) -> Search
     ensures { λ r. ⌜ Finds (now (list .entry)) used f (now (sizes .entry)) r ⌝ }
 {
     let mut i: u32 = 0;
@@ -96,6 +112,22 @@ pub fn find(list: &[u32], hints: &[u32; HINT_WORDS], used: u32, f: u32, sizes: &
         i += 1;
     }
     Search::Absent
+}
+
+// The record in use that is the instance of f at these sizes: the one that the hint names is tried before the walk through all of
+// them.
+pub fn find(list: &[u32], hints: &[u32; HINT_WORDS], used: u32, f: u32, sizes: &[u8]) -> Search
+    ensures { λ r. ⌜ Finds (now (list .entry)) used f (now (sizes .entry)) r ⌝ }
+{
+    let k = hints[hint_place(f, sizes)];
+    if 0 < k {
+        if k <= used {
+            if is_instance(list, k - 1, f, sizes) {
+                return Search::Found(numbers(list, k - 1));
+            }
+        }
+    }
+    walk(list, used, f, sizes)
 }
 
 // Writes the sizes from a place on.
@@ -121,6 +153,14 @@ fn put_numbers(list: &mut [u32], from: usize, x: Estimate)
     put(list, from + 2, x.stack);
 }
 
+// Notes the record behind those in use as the one to look at first for f at these sizes.
+fn note(hints: &mut [u32; HINT_WORDS], used: u32, f: u32, sizes: &[u8]) {
+    let place = hint_place(f, sizes);
+    if (used as usize) < INSTANCES_MOST {
+        hints[place] = used + 1;
+    }
+}
+
 // Writes the record behind those in use, f at these sizes, its numbers 0, and the hint to it. Where it does not fit no record is
 // written.
 pub fn add(list: &mut [u32], hints: &mut [u32; HINT_WORDS], used: u32, f: u32, sizes: &[u8])
@@ -134,6 +174,7 @@ pub fn add(list: &mut [u32], hints: &mut [u32; HINT_WORDS], used: u32, f: u32, s
     put_sizes(list, at + 1, sizes);
     let none = nothing();
     put_numbers(list, at + NUMBERS_FROM, none);
+    note(hints, used, f, sizes);
 }
 
 // Writes the numbers of record i. Where it is not there nothing is written.

@@ -1,4 +1,4 @@
--- The record behind those in use: the function, its sizes, and zeros.
+-- The record behind those in use: the function, its sizes, and zeros; what is noted changes no word of the list.
 use mathlib.Core.Path.{_∙_}
 use native.Mathlib.Omega.{arith}
 use Rattle.instances.specs.WriteLaws.{added-not, added}
@@ -32,11 +32,14 @@ add-put-numbers c = omega arith
 put-numbers-requires : tie.Need-put-numbers-requires
 put-numbers-requires c κs = omega arith
 
+note-requires : tie.Need-note-requires
+note-requires c κs = tt
+
 same-length : tie.Need-same-length
-same-length c = (c .before .before .put-numbers .kept .0) ∙ (c .before .before .before .before .before .before .before .put-sizes .kept .0) ∙ (c .before .before .before .before .before .before .before .before .before .before .before .put .kept .0)
+same-length c = (c .before .before .before .before .put-numbers .kept .0) ∙ (c .before .before .before .before .before .before .before .before .before .put-sizes .kept .0) ∙ (c .before .before .before .before .before .before .before .before .before .before .before .before .before .put .kept .0)
 
 returns-2 : tie.Need-returns-2
-returns-2 c = added _ _ _ _ (c .before .before .before .before .before .before .before .before .before .before .before .before .before .if1 .left) (c .before .before .before .before .before .before .before .before .before .before .before .put .ensures) (c .before .before .before .before .before .before .before .put-sizes .ensures) (c .before .before .before .before .nothing .ensures) (c .before .before .put-numbers .ensures)
+returns-2 c = added _ _ _ _ (c .before .before .before .before .before .before .before .before .before .before .before .before .before .before .before .if1 .left) (c .before .before .before .before .before .before .before .before .before .before .before .before .before .put .ensures) (c .before .before .before .before .before .before .before .before .before .put-sizes .ensures) (c .before .before .before .before .before .before .nothing .ensures) (c .before .before .before .before .put-numbers .ensures)
 
 pub add-spec : {M : Type 1} → statement M
 add-spec =
@@ -51,5 +54,6 @@ add-spec =
     nothing-requires
     add-put-numbers
     put-numbers-requires
+    note-requires
     same-length
     returns-2)

@@ -1,51 +1,50 @@
--- The first record that is the instance, looked for one by one.
-use Prim.Native.Nat.{_-_}
+-- The record that the hint names, if it is the instance; else what the walk gives.
 use native.Mathlib.Omega.{arith}
-use Rattle.instances.specs.FindLaws.{Passed, passed-start, passed-found, passed-on, passed-end}
+use Rattle.instances.specs.FindLaws.{hint-found}
 use Rattle.instances.proofs.find.Statement.{statement}
 use Rattle.instances.proofs.find.Tie as tie
 
-abbrev Inv-loop : tie.InvT-loop
-Inv-loop list hints used f sizes i₀ i = Passed list used f sizes i
+hint-place-requires : tie.Need-hint-place-requires
+hint-place-requires c κs = tt
 
-abbrev μ-loop : tie.MeasureT-loop
-μ-loop list hints used f sizes i₀ i = used - i
+mul-k : tie.Need-mul-k
+mul-k c = omega (arith, (c .hint-place .ensures))
 
-loop-holds : tie.Need-loop-holds Inv-loop μ-loop
-loop-holds c = passed-start
+element-copy-out-k : tie.Need-element-copy-out-k
+element-copy-out-k c = (c .hint-place .ensures)
 
-is-instance-requires : tie.Need-is-instance-requires Inv-loop μ-loop
+sub-is-instance : tie.Need-sub-is-instance
+sub-is-instance c = omega (arith, (c .before .if1 .taken))
+
+is-instance-requires : tie.Need-is-instance-requires
 is-instance-requires c κs = tt
 
-numbers-requires : tie.Need-numbers-requires Inv-loop μ-loop
+sub-numbers : tie.Need-sub-numbers
+sub-numbers c = omega (arith, (c .before .before .before .if1 .taken))
+
+numbers-requires : tie.Need-numbers-requires
 numbers-requires c κs = tt
 
-returns : tie.Need-returns Inv-loop μ-loop
-returns c = passed-found (c .before .before .before .before .loop .inv) (c .before .before .before .loop-test .taken) (c .before .before .is-instance .ensures) (c .before .if1 .taken) (c .numbers .ensures)
+returns : tie.Need-returns
+returns c = hint-found (c .before .before .before .before .if1 .taken) (c .before .before .before .if2 .taken) (c .before .before .is-instance .ensures) (c .before .if3 .taken) (c .numbers .ensures)
 
-add-i : tie.Need-add-i Inv-loop μ-loop
-add-i c = omega arith
+walk-requires : tie.Need-walk-requires
+walk-requires c κs = tt
 
-loop-less : tie.Need-loop-less Inv-loop μ-loop
-loop-less c = omega arith
-
-loop-again : tie.Need-loop-again Inv-loop μ-loop
-loop-again c = passed-on (c .before .before .before .loop .inv) (c .before .before .loop-test .taken) (c .before .is-instance .ensures) (c .if1 .left)
-
-returns-2 : tie.Need-returns-2 Inv-loop μ-loop
-returns-2 c = passed-end (c .before .loop .inv) (c .loop-test .left)
+returns-2 : tie.Need-returns-2
+returns-2 c = (c .walk .ensures)
 
 pub find-spec : {M : Type 1} → statement M
 find-spec =
     tie.close
     (tie.spec
-    Inv-loop
-    μ-loop
-    loop-holds
+    hint-place-requires
+    mul-k
+    element-copy-out-k
+    sub-is-instance
     is-instance-requires
+    sub-numbers
     numbers-requires
     returns
-    add-i
-    loop-less
-    loop-again
+    walk-requires
     returns-2)

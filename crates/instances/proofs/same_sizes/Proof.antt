@@ -15,17 +15,20 @@ abbrev μ-loop : tie.MeasureT-loop
 loop-holds : tie.Need-loop-holds Inv-loop μ-loop
 loop-holds c = same-start
 
-add-word-at : tie.Need-add-word-at Inv-loop μ-loop
-add-word-at c = omega (arith, (c .before .before .before .before .pre))
+add-if1 : tie.Need-add-if1 Inv-loop μ-loop
+add-if1 c = omega (arith, (c .before .before .before .before .pre))
 
-word-at-requires : tie.Need-word-at-requires Inv-loop μ-loop
-word-at-requires c κs = tt
+mul-if1 : tie.Need-mul-if1 Inv-loop μ-loop
+mul-if1 c = omega (arith, (c .before .before .before .before .pre))
+
+shared-slice-read-if1 : tie.Need-shared-slice-read-if1 Inv-loop μ-loop
+shared-slice-read-if1 c = omega (arith, (c .before .before .before .before .before .pre))
 
 size-at-requires : tie.Need-size-at-requires Inv-loop μ-loop
 size-at-requires c κs = tt
 
 returns : tie.Need-returns Inv-loop μ-loop
-returns c = same-not (c .before .before .before .loop-test .taken) (c .before .before .word-at .ensures) (c .before .size-at .ensures) (c .if1 .taken)
+returns c = same-not (c .before .before .before .loop-test .taken) (c .before .size-at .ensures) (c .if1 .taken)
 
 add-j : tie.Need-add-j Inv-loop μ-loop
 add-j c = omega arith
@@ -34,7 +37,7 @@ loop-less : tie.Need-loop-less Inv-loop μ-loop
 loop-less c = omega arith
 
 loop-again : tie.Need-loop-again Inv-loop μ-loop
-loop-again c = same-on (c .before .before .before .before .loop .inv) (c .before .before .word-at .ensures) (c .before .size-at .ensures) (c .if1 .left)
+loop-again c = same-on (c .before .before .before .before .loop .inv) (c .before .size-at .ensures) (c .if1 .left)
 
 returns-2 : tie.Need-returns-2 Inv-loop μ-loop
 returns-2 c = same-end (c .before .loop .inv) (c .loop-test .left)
@@ -46,8 +49,9 @@ same-sizes-spec =
     Inv-loop
     μ-loop
     loop-holds
-    add-word-at
-    word-at-requires
+    add-if1
+    mul-if1
+    shared-slice-read-if1
     size-at-requires
     returns
     add-j
