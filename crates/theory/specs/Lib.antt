@@ -1,5 +1,6 @@
 pub mod Opened
 pub mod Tins
+pub mod Operators
 pub mod Lists
 pub mod Alls
 pub mod Tests
