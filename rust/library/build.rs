@@ -25,7 +25,9 @@ fn main() {
 }
 
 fn bring_up_to_date(root: &Path) {
-    let built = Command::new(root.join("tools/build")).arg("library").status();
+    let built = Command::new(root.join("tools/build"))
+        .arg("library")
+        .status();
     let built = built.expect("tools/build starts");
     assert!(built.success(), "tools/build library failed");
 }
@@ -33,5 +35,8 @@ fn bring_up_to_date(root: &Path) {
 /// The sums of the sources and of the archive, on one line.
 fn built_from(root: &Path) -> String {
     let record = fs::read_to_string(root.join("target/built-from/paugmeln"));
-    record.expect("tools/build leaves a record").lines().collect()
+    record
+        .expect("tools/build leaves a record")
+        .lines()
+        .collect()
 }

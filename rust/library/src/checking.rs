@@ -51,9 +51,8 @@ pub fn check(text: &[u8], board: Board, list: &mut [u32]) -> Verdict {
     thread::scope(|scope| {
         let deep = thread::Builder::new().stack_size(STACK_NEEDED);
         // SAFETY: the thread has the stack that is asked for, and nothing else runs on it.
-        let checking = deep.spawn_scoped(scope, || unsafe {
-            check_on_this_stack(text, board, list)
-        });
+        let checking =
+            deep.spawn_scoped(scope, || unsafe { check_on_this_stack(text, board, list) });
         let verdict = checking.expect("room for a deep stack").join();
         verdict.expect("the checker returns")
     })
