@@ -1,6 +1,7 @@
 /* Checks the rule file on standard input against the largest board, as `./check` does, and lists its instances on
  * standard error.
  *
+ *     tools/build library
  *     cc -I include examples/c/check.c target/staticlib/libpaugmeln.a -lpthread -o check-rules
  *     ./check-rules < examples/listing3.rules
  */
