@@ -1,7 +1,13 @@
 /* The proved library, target/staticlib/libpaugmeln.a (written by `rt staticlib paugmeln`).
  *
  * Every buffer is the caller's, lent for the time of the call; nothing is allocated, and nothing is kept between calls, so
- * that several threads may call at the same time. The buffers of one call must not overlap.
+ * that several threads may call at the same time. The buffers of one call must not overlap, and no other thread writes to
+ * them during the call.
+ *
+ * A buffer is a pointer and a length in elements, and nothing beyond it is read or written. The pointer must be aligned as C
+ * asks for its type: a text may start at any address, a list at one that is right for a uint32_t. Where the length is 0,
+ * nothing is read or written through the pointer, which may then be NULL; with any other length it must not be. The proofs
+ * speak of the elements that are there and know no pointers, so this much is tried and not proved (tools/lent-buffers.c).
  */
 #ifndef PAUGMELN_H
 #define PAUGMELN_H
@@ -30,9 +36,10 @@ extern "C" {
 #define PAUGMELN_LIST_RECORDS 1024
 #define PAUGMELN_LIST_WORDS (PAUGMELN_LIST_RECORDS * PAUGMELN_RECORD_WORDS)
 
-/* The stack, in bytes, of a thread on which paugmeln_check may be given any rule file: the checker goes as deep as 1,024
- * bodies, each nested 32. Set by measurement (tools/measure-checking). A file that is not so deep needs far less;
- * paugmeln_read needs no more than a thread usually has. */
+/* The stack, in bytes, that a thread is to have on which paugmeln_check is given any rule file: the checker goes as deep as
+ * 1,024 bodies, each nested 32. Set by measurement (tools/measure-checking): the deepest files that were tried took 52 MiB.
+ * Nothing is proved of the real stack, and the checker does not look how much of it is left. A file that is not so deep needs
+ * far less; paugmeln_read needs no more than a thread usually has. */
 #define PAUGMELN_STACK_BYTES 268435456
 
 /* Number and frame of an answer: 0 where all is well, else why and in which line of the rule file it is refused. Lines
@@ -71,15 +78,17 @@ struct paugmeln_verdict {
     uint32_t stack;
 };
 
-/* Reads a rule file. The text is lent for reading: its start and its length in bytes. */
+/* Reads a rule file. The text is lent for reading: its start and its length in bytes. An empty one, NULL with length 0 too,
+ * is refused with 3 in frame 1: it has no node. */
 struct paugmeln_answer paugmeln_read(const uint8_t *text, size_t length);
 
 /* Checks a rule file against a board of so many heap cells, environment slots and calls.
  *
  * The text is lent as above. The list is lent for writing: its start and its length in words, at least
  * PAUGMELN_LIST_WORDS; what it holds before is not looked at. On acceptance it holds a record for each instance, in order
- * of entry, and its rest is 0; on refusal it is 0 in its whole length. One record in use may be 0 throughout: that of
- * function 0 without sizes, where its three numbers are 0. At the end of the list it looks like an unused one. */
+ * of entry, and its rest is 0; on refusal it is 0 in its whole length, however short. One record in use may be 0
+ * throughout: that of function 0 without sizes, where its three numbers are 0. At the end of the list it looks like an
+ * unused one. */
 struct paugmeln_verdict paugmeln_check(const uint8_t *text, size_t length, uint32_t cells, uint32_t slots, uint32_t calls,
                                        uint32_t *list, size_t words);
 

@@ -1,13 +1,18 @@
 /* Checks the rule file on standard input against the largest board, as `./check` does, and lists its instances on
  * standard error.
  *
+ *     tools/build library
  *     cc -I include examples/c/check.c target/staticlib/libpaugmeln.a -lpthread -o check-rules
  *     ./check-rules < examples/listing3.rules
  */
+#include <errno.h>
 #include <paugmeln.h>
 #include <pthread.h>
 #include <stdio.h>
 #include <string.h>
+
+/* Exit statuses. */
+enum { ACCEPTED = 0, REFUSED = 1, NO_ANSWER = 2 };
 
 /* What one check is lent, and its verdict. The text has room for one character too many, so that a file that is too long
  * is seen to be. */
@@ -68,16 +73,40 @@ static void print_instances(const uint32_t *list)
         print_instance(list + at);
 }
 
+/* Reads standard input; other than 0 where that fails. A text that was cut short is no answer's text. */
+static int read_text(struct checking *of)
+{
+    errno = 0;
+    of->length = fread(of->text, 1, sizeof of->text, stdin);
+    return ferror(stdin) ? errno : 0;
+}
+
+/* Other than 0 where something printed was not written. */
+static int write_out(void)
+{
+    errno = 0;
+    return fflush(stdout) != 0 || ferror(stdout) ? errno : 0;
+}
+
+static int no_answer(const char *what, int why)
+{
+    fprintf(stderr, "check: %s: %s\n", what, strerror(why));
+    return NO_ANSWER;
+}
+
 int main(void)
 {
     static struct checking of;
-    of.length = fread(of.text, 1, sizeof of.text, stdin);
-    int failed = check_on_deep_stack(&of);
-    if (failed) {
-        fprintf(stderr, "check: no thread with a deep stack: %s\n", strerror(failed));
-        return 2;
-    }
+    int failed = read_text(&of);
+    if (failed)
+        return no_answer("standard input", failed);
+    failed = check_on_deep_stack(&of);
+    if (failed)
+        return no_answer("no thread with a deep stack", failed);
     print_verdict(&of.verdict);
+    failed = write_out();
+    if (failed)
+        return no_answer("standard output", failed);
     print_instances(of.list);
-    return of.verdict.number == 0 ? 0 : 1;
+    return of.verdict.number == 0 ? ACCEPTED : REFUSED;
 }

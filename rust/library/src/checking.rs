@@ -50,21 +50,33 @@ extern "C" {
 pub fn check(text: &[u8], board: Board, list: &mut [u32]) -> Verdict {
     thread::scope(|scope| {
         let deep = thread::Builder::new().stack_size(STACK_NEEDED);
-        let checking = deep.spawn_scoped(scope, || check_on_this_stack(text, board, list));
+        // SAFETY: the thread has the stack that is asked for, and nothing else runs on it.
+        let checking =
+            deep.spawn_scoped(scope, || unsafe { check_on_this_stack(text, board, list) });
         let verdict = checking.expect("room for a deep stack").join();
         verdict.expect("the checker returns")
     })
 }
 
-/// The same on the stack of the caller, who has seen to it that [`STACK_NEEDED`] bytes of it are free.
-pub fn check_on_this_stack(text: &[u8], board: Board, list: &mut [u32]) -> Verdict {
+/// The same on the stack of the caller.
+///
+/// # Safety
+///
+/// [`STACK_NEEDED`] bytes of this stack are free. The checker does not look how much is left: on a smaller stack a file
+/// nested deep writes beyond its end. So it is not called without `unsafe`:
+///
+/// ```compile_fail,E0133
+/// let board = library::Board { cells: 1, slots: 1, calls: 1 };
+/// library::check_on_this_stack(b"", board, &mut []);
+/// ```
+pub unsafe fn check_on_this_stack(text: &[u8], board: Board, list: &mut [u32]) -> Verdict {
     let Board {
         cells,
         slots,
         calls,
     } = board;
     // SAFETY: the text is lent for reading and the list for reading and writing, each with its length. The two cannot
-    // overlap, and neither is kept.
+    // overlap, and neither is kept. The caller has seen to the stack.
     unsafe {
         paugmeln_check(
             text.as_ptr(),

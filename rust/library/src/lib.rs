@@ -1,4 +1,4 @@
-//! The proved library under safe names.
+//! The proved library under Rust names: safe ones, but for [`check_on_this_stack`], whose caller sees to the stack.
 
 pub mod checking;
 pub mod instances;

@@ -4,20 +4,22 @@ use evaluator::answer::{Answer, Board};
 use evaluator::instances::Instance;
 use evaluator::limits::INSTANCES;
 use evaluator::machine;
-use evaluator::stack::with_deep_stack;
-use library::{check_on_this_stack, LIST_WORDS};
+use evaluator::stack::{with_deep_stack, STACK_BYTES};
+use library::{check_on_this_stack, LIST_WORDS, STACK_NEEDED};
 use replay::checking::{answer, lent};
 use replay::report;
 use std::hint::black_box;
 
+const _: () = assert!(STACK_BYTES > STACK_NEEDED + (1 << 20));
+
+/// # Safety
+///
+/// `STACK_NEEDED` bytes of this stack are free.
 #[inline(never)]
 #[no_mangle]
-fn counted_library(text: &[u8], list: &mut [u32]) -> Answer {
-    answer(check_on_this_stack(
-        black_box(text),
-        lent(Board::LARGEST),
-        list,
-    ))
+unsafe fn counted_library(text: &[u8], list: &mut [u32]) -> Answer {
+    // SAFETY: the caller has seen to the stack.
+    answer(unsafe { check_on_this_stack(black_box(text), lent(Board::LARGEST), list) })
 }
 
 #[inline(never)]
@@ -26,17 +28,22 @@ fn counted_reference(text: &[u8], records: &mut [Instance]) -> Answer {
     machine::check(black_box(text), Board::LARGEST, records)
 }
 
-fn both(text: &[u8]) -> (Answer, Answer) {
-    let mut list = vec![0; LIST_WORDS];
-    let mut records = vec![Instance::default(); INSTANCES];
-    let proved = counted_library(text, &mut list);
-    (proved, counted_reference(text, &mut records))
+/// Both answers, given on a stack deep enough for either.
+fn both(text: Vec<u8>) -> (Answer, Answer) {
+    let answers = with_deep_stack(move || {
+        let mut list = vec![0; LIST_WORDS];
+        let mut records = vec![Instance::default(); INSTANCES];
+        // SAFETY: this thread has more stack than is needed, by the assertion above.
+        let proved = unsafe { counted_library(&text, &mut list) };
+        (proved, counted_reference(&text, &mut records))
+    });
+    answers.expect("both answer")
 }
 
 fn main() {
     let name = std::env::args().nth(1).expect("the name of a rule file");
     let text = std::fs::read(name).expect("a readable file");
-    let (proved, reference) = with_deep_stack(move || both(&text)).expect("both answer");
+    let (proved, reference) = both(text);
     assert_eq!(proved, reference);
     println!("{}", report::answer(&proved));
 }

@@ -38,10 +38,16 @@ fn the_sample_of_this_repository_agrees() {
 }
 
 #[test]
-fn the_shared_cases_agree_where_they_are_present() {
-    let Some(folder) = shared_folder() else {
-        return;
-    };
+fn the_copied_shared_cases_agree() {
+    let count = agree(&own_folder(), "shared");
+    say(&format!("{count} shared cases agree, of those copied here"));
+    assert!(count >= 150);
+}
+
+#[test]
+#[ignore = "needs the shared cases, which run-tests looks for: cargo test -- --ignored"]
+fn all_shared_cases_agree() {
+    let folder = shared_folder();
     for name in ["edges", "run"] {
         let count = agree(&folder, name);
         say(&format!("{count} shared cases of {name} agree"));

@@ -108,4 +108,6 @@ fn the_numbers_of_the_header_and_of_the_script_are_those_of_rust() {
     let script = fs::read_to_string(root().join("check")).expect("the script");
     let kibibytes = format!("readonly stack_needed={}\n", STACK_NEEDED / 1024);
     assert!(script.contains(&kibibytes));
+    let characters = format!("readonly characters_read={}\n", TEXT_CHARACTERS + 1);
+    assert!(script.contains(&characters));
 }

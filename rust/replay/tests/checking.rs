@@ -87,13 +87,13 @@ fn agree(folder: &Path, name: &str) {
 fn the_cases_of_this_repository_agree() {
     agree(&own_folder(), "sample");
     agree(&own_folder(), "instances");
+    agree(&own_folder(), "shared");
 }
 
 #[test]
-fn the_shared_cases_agree_where_they_are_present() {
-    let Some(folder) = shared_folder() else {
-        return;
-    };
+#[ignore = "needs the shared cases, which run-tests looks for: cargo test -- --ignored"]
+fn all_shared_cases_agree() {
+    let folder = shared_folder();
     for name in ["edges", "run"] {
         agree(&folder, name);
     }

@@ -52,15 +52,15 @@ fn agree(folder: &Path, name: &str) {
 }
 
 #[test]
-fn the_sample_of_this_repository_agrees() {
+fn the_cases_of_this_repository_agree() {
     agree(&own_folder(), "sample.txt");
+    agree(&own_folder(), "shared.txt");
 }
 
 #[test]
-fn the_shared_cases_agree_where_they_are_present() {
-    let Some(folder) = shared_folder() else {
-        return;
-    };
+#[ignore = "needs the shared cases, which run-tests looks for: cargo test -- --ignored"]
+fn all_shared_cases_agree() {
+    let folder = shared_folder();
     for name in ["edges.txt", "run.txt"] {
         agree(&folder, name);
     }

@@ -11,21 +11,22 @@ pub fn own_folder() -> PathBuf {
     Path::new(env!("CARGO_MANIFEST_DIR")).join("../cases")
 }
 
-/// The shared cases, or a message where they are absent.
-pub fn shared_folder() -> Option<PathBuf> {
+/// The shared cases, of which this repository has a part. Tests that ask for them are ignored unless they are asked for.
+///
+/// # Panics
+///
+/// Where they are absent: nothing is passed that was not compared.
+pub fn shared_folder() -> PathBuf {
     let folder = match std::env::var_os(FOLDER_VARIABLE) {
         Some(folder) => PathBuf::from(folder),
         None => Path::new(env!("CARGO_MANIFEST_DIR")).join("../../../shared/cases"),
     };
-    if !folder.is_dir() {
-        let shown = folder.display();
-        say(&format!(
-            "SHARED CASES ABSENT: no folder {shown} (set {FOLDER_VARIABLE} to name it); \
-             only the sample of this repository is compared."
-        ));
-        return None;
-    }
-    Some(folder)
+    let shown = folder.display();
+    assert!(
+        folder.is_dir(),
+        "no shared cases: {shown} is no folder (set {FOLDER_VARIABLE} to name it)"
+    );
+    folder
 }
 
 /// Writes past the capture of passing tests, so that it is always seen.
