@@ -1,4 +1,4 @@
--- The tables of an indexed text tell every scope of the file: what skipping an expression asks for.
+-- The index of a text that was read tells every scope of the file: what skipping an expression asks for.
 use Prim.Native.Nat.{ℕ}
 use mathlib.Core.List.{List}
 use mathlib.Core.Path.{sym, ap, _∙_}
@@ -8,9 +8,10 @@ use Rattle.language.specs.Syntax.{File}
 use Rattle.language.specs.Scope.{Scope}
 use Rattle.encoding.specs.Known.{Known}
 use Rattle.heads.specs.Skips.{Shapes}
+use Rattle.index.specs.Sections.{typesOf, functionsOf}
 use Rattle.index.specs.Indexed.{Indexed}
 
-pub known-shapes : {text frames types functions channels : List ℕ} {P : File} {S : Scope} → Indexed text frames types functions channels P → Known P S → Shapes types functions S
+pub known-shapes : {text index : List ℕ} {P : File} {S : Scope} → Indexed text index P → Known P S → Shapes (typesOf index) (functionsOf index) S
 known-shapes i k = record {
   each = λ u less. rw (k .types) (i .eachType u (omega (arith, less, ap length (k .types))) .tells);
   arities = λ f less. let g = k .functions f less in i .eachFunction f (g .is) .tells .count ∙ sym (g .arity);

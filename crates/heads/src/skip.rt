@@ -4,11 +4,13 @@ ghost use mathlib.Core.Path.{_≡_};
 ghost use Prim.Native.Nat.{_+_, _≤_, _<_};
 ghost use lib.ListN.{length};
 ghost use Rattle.language.specs.Limits.{byteRange};
+ghost use Rattle.index.specs.Sections.{typesOf, functionsOf};
 ghost use Rattle.text.specs.Bytes.{bytesOf};
 ghost use Rattle.heads.specs.Skips.{Skips, SkipsAll, SkipsCase, Heads};
-use index::arity;
-use index::constructors;
-use index::fields;
+use index::INDEX_WORDS;
+use index::functions::arity;
+use index::types::constructors;
+use index::types::fields;
 use language::limits::NESTING_MOST;
 use language::limits::SIZE_VARIABLES_MOST;
 use language::limits::TYPES_MOST;
@@ -38,9 +40,9 @@ fn ahead(line: &[u8], c: Cursor, n: usize) -> Cursor
 }
 
 // The forms that have the same number of parts wherever they stand.
-fn fixed(line: &[u8], types: &[u32], functions: &[u32], c: Cursor, code: u32) -> Parts
+fn fixed(line: &[u8], index: &[u32; INDEX_WORDS], c: Cursor, code: u32) -> Parts
     requires { ⌜ (code ≡ 0x18 → ⊥) × ((code ≡ 0x19 → ⊥) × ((code ≡ 0x1A → ⊥) × (code ≡ 0x1B → ⊥))) ⌝ }
-    ensures { λ r. ⌜ Heads (now (line .entry)) (now (types .entry)) (now (functions .entry)) c code r × (r .count < byteRange) ⌝ }
+    ensures { λ r. ⌜ Heads (now (line .entry)) (typesOf (now (index .entry))) (functionsOf (now (index .entry))) c code r × (r .count < byteRange) ⌝ }
 {
     if code == 0x11 {
         let behind = ahead(line, c, 4);
@@ -75,14 +77,14 @@ fn fixed(line: &[u8], types: &[u32], functions: &[u32], c: Cursor, code: u32) ->
 }
 
 // `18`: a call has as many parts as the function has parameters.
-fn call(line: &[u8], types: &[u32], functions: &[u32], c: Cursor) -> Parts
-    ensures { λ r. ⌜ Heads (now (line .entry)) (now (types .entry)) (now (functions .entry)) c 0x18 r × (r .count < byteRange) ⌝ }
+fn call(line: &[u8], index: &[u32; INDEX_WORDS], c: Cursor) -> Parts
+    ensures { λ r. ⌜ Heads (now (line .entry)) (typesOf (now (index .entry))) (functionsOf (now (index .entry))) c 0x18 r × (r .count < byteRange) ⌝ }
 {
     let x = c.byte(line);
     let Number::Is(f) = x else {
         return Parts { next: c, count: 0 };
     };
-    let n = arity(functions, f.value);
+    let n = arity(index, f.value);
     let next = f.next;
     Parts {
         next: next,
@@ -91,8 +93,8 @@ fn call(line: &[u8], types: &[u32], functions: &[u32], c: Cursor) -> Parts
 }
 
 // `19`: a constructor has as many parts as fields.
-fn construct(line: &[u8], types: &[u32], functions: &[u32], c: Cursor) -> Parts
-    ensures { λ r. ⌜ Heads (now (line .entry)) (now (types .entry)) (now (functions .entry)) c 0x19 r × (r .count < byteRange) ⌝ }
+fn construct(line: &[u8], index: &[u32; INDEX_WORDS], c: Cursor) -> Parts
+    ensures { λ r. ⌜ Heads (now (line .entry)) (typesOf (now (index .entry))) (functionsOf (now (index .entry))) c 0x19 r × (r .count < byteRange) ⌝ }
 {
     let x = c.byte(line);
     let Number::Is(f) = x else {
@@ -103,7 +105,7 @@ fn construct(line: &[u8], types: &[u32], functions: &[u32], c: Cursor) -> Parts
     let Number::Is(g) = y else {
         return Parts { next: c, count: 0 };
     };
-    let n = fields(types, f.value, g.value);
+    let n = fields(index, f.value, g.value);
     let next = g.next;
     Parts {
         next: next,
@@ -112,8 +114,8 @@ fn construct(line: &[u8], types: &[u32], functions: &[u32], c: Cursor) -> Parts
 }
 
 // `1B`: behind the written size is one expression.
-fn adjust(line: &[u8], types: &[u32], functions: &[u32], c: Cursor) -> Parts
-    ensures { λ r. ⌜ Heads (now (line .entry)) (now (types .entry)) (now (functions .entry)) c 0x1B r × (r .count < byteRange) ⌝ }
+fn adjust(line: &[u8], index: &[u32; INDEX_WORDS], c: Cursor) -> Parts
+    ensures { λ r. ⌜ Heads (now (line .entry)) (typesOf (now (index .entry))) (functionsOf (now (index .entry))) c 0x1B r × (r .count < byteRange) ⌝ }
 {
     let x = c.size(line, SIZE_VARIABLES_MOST, NESTING_MOST);
     let Step::Next(next) = x else {
@@ -126,25 +128,25 @@ fn adjust(line: &[u8], types: &[u32], functions: &[u32], c: Cursor) -> Parts
 }
 
 // The parts of any form but a case; c stands behind the code.
-fn heading(line: &[u8], types: &[u32], functions: &[u32], c: Cursor, code: u32) -> Parts
+fn heading(line: &[u8], index: &[u32; INDEX_WORDS], c: Cursor, code: u32) -> Parts
     requires { ⌜ (code ≡ 0x1A → ⊥) ⌝ }
-    ensures { λ r. ⌜ Heads (now (line .entry)) (now (types .entry)) (now (functions .entry)) c code r × (r .count < byteRange) ⌝ }
+    ensures { λ r. ⌜ Heads (now (line .entry)) (typesOf (now (index .entry))) (functionsOf (now (index .entry))) c code r × (r .count < byteRange) ⌝ }
 {
     if code == 0x18 {
-        return call(line, types, functions, c);
+        return call(line, index, c);
     }
     if code == 0x19 {
-        return construct(line, types, functions, c);
+        return construct(line, index, c);
     }
     if code == 0x1B {
-        return adjust(line, types, functions, c);
+        return adjust(line, index, c);
     }
-    fixed(line, types, functions, c, code)
+    fixed(line, index, c, code)
 }
 
 // An expression with so many levels left.
-pub fn skip(line: &[u8], types: &[u32], functions: &[u32], c: Cursor, levels: u32) -> Cursor
-    ensures { λ r. ⌜ Skips (now (line .entry)) (now (types .entry)) (now (functions .entry)) c levels r ⌝ }
+pub fn skip(line: &[u8], index: &[u32; INDEX_WORDS], c: Cursor, levels: u32) -> Cursor
+    ensures { λ r. ⌜ Skips (now (line .entry)) (typesOf (now (index .entry))) (functionsOf (now (index .entry))) c levels r ⌝ }
 {
     if levels == 0 {
         return c;
@@ -156,35 +158,34 @@ pub fn skip(line: &[u8], types: &[u32], functions: &[u32], c: Cursor, levels: u3
     let code = f.value;
     let next = f.next;
     if code == 0x1A {
-        return skip_case(line, types, functions, next, levels - 1);
+        return skip_case(line, index, next, levels - 1);
     }
-    let parts = heading(line, types, functions, next, code);
+    let parts = heading(line, index, next, code);
     let first = parts.next;
     let n = parts.count;
-    skip_several(line, types, functions, first, levels - 1, n)
+    skip_several(line, index, first, levels - 1, n)
 }
 
 // So many expressions, one after the other.
 pub fn skip_several(
     line: &[u8],
-    types: &[u32],
-    functions: &[u32],
+    index: &[u32; INDEX_WORDS],
     c: Cursor,
     levels: u32,
     n: u32,
 ) -> Cursor
-    ensures { λ r. ⌜ SkipsAll (now (line .entry)) (now (types .entry)) (now (functions .entry)) c levels n r ⌝ }
+    ensures { λ r. ⌜ SkipsAll (now (line .entry)) (typesOf (now (index .entry))) (functionsOf (now (index .entry))) c levels n r ⌝ }
 {
     if n == 0 {
         return c;
     }
-    let next = skip(line, types, functions, c, levels);
-    skip_several(line, types, functions, next, levels, n - 1)
+    let next = skip(line, index, c, levels);
+    skip_several(line, index, next, levels, n - 1)
 }
 
 // `1A`: a case: its subject, its return type, a branch for each constructor; c stands behind the code.
-fn skip_case(line: &[u8], types: &[u32], functions: &[u32], c: Cursor, levels: u32) -> Cursor
-    ensures { λ r. ⌜ SkipsCase (now (line .entry)) (now (types .entry)) (now (functions .entry)) c levels r ⌝ }
+fn skip_case(line: &[u8], index: &[u32; INDEX_WORDS], c: Cursor, levels: u32) -> Cursor
+    ensures { λ r. ⌜ SkipsCase (now (line .entry)) (typesOf (now (index .entry))) (functionsOf (now (index .entry))) c levels r ⌝ }
 {
     let x = c.byte(line);
     let Number::Is(f) = x else {
@@ -192,11 +193,11 @@ fn skip_case(line: &[u8], types: &[u32], functions: &[u32], c: Cursor, levels: u
     };
     let t = f.value;
     let subject = f.next;
-    let written = skip(line, types, functions, subject, levels);
+    let written = skip(line, index, subject, levels);
     let y = written.result(line, TYPES_MOST as u32, SIZE_VARIABLES_MOST);
     let Step::Next(next) = y else {
         return c;
     };
-    let n = constructors(types, t);
-    skip_several(line, types, functions, next, levels, n)
+    let n = constructors(index, t);
+    skip_several(line, index, next, levels, n)
 }

@@ -14,7 +14,7 @@ use Rattle.heads.proofs.skip.+skip+skip_case+skip_several.Lts-skip_case
 use Rattle.heads.proofs.skip.skip_several.Reads as skip-several
 use Rattle.heads.proofs.skip.skip_several.Kinds as skip-several-kinds
 use Rattle.heads.proofs.skip.+skip+skip_case+skip_several.Lts-skip_several as skip-several-lts
-use Rattle.index.proofs.constructors.Reads as constructors-reads
+use Rattle.index.proofs.types.constructors.Reads as constructors-reads
 use Rattle.heads.proofs.skip.heading.Reads as heading-reads
 use Rattle.text.proofs.Cursor.byte.Reads as byte-reads
 use Rattle.text.proofs.Cursor.result.Reads as result-reads
@@ -23,38 +23,38 @@ use Rattle.heads.proofs.skip.+skip+skip_case+skip_several.Tie.{close}
 use Rattle.heads.specs.SkipLaws.{skip-none, skip-stops, skip-as-case, skip-parts, several-none, several-done, case-stops, case-none, case-done}
 
 -- levels first, then the place in the cycle; a list by what is left of it
-abbrev μ-skip : Measures 3 skip-kinds.ps ℕ
-μ-skip κs a = a .1 .1 .1 .1 .0 * 1024
+abbrev μ-skip : Measures 2 skip-kinds.ps ℕ
+μ-skip κs a = a .1 .1 .1 .0 * 1024
 
-abbrev μ-skip-case : Measures 3 skip-case-kinds.ps ℕ
-μ-skip-case κs a = a .1 .1 .1 .1 .0 * 1024 + 700
+abbrev μ-skip-case : Measures 2 skip-case-kinds.ps ℕ
+μ-skip-case κs a = a .1 .1 .1 .0 * 1024 + 700
 
-abbrev μ-skip-several : Measures 3 skip-several-kinds.ps ℕ
-μ-skip-several κs a = a .1 .1 .1 .1 .0 * 1024 + (1 + a .1 .1 .1 .1 .1 .0)
+abbrev μ-skip-several : Measures 2 skip-several-kinds.ps ℕ
+μ-skip-several κs a = a .1 .1 .1 .0 * 1024 + (1 + a .1 .1 .1 .1 .0)
 
-abbrev skip-at : ℕ → In 3 skip-kinds.ps
-skip-at t = and 3 skip-kinds.ps (is 3 skip-kinds.ps μ-skip t) skip.Pre
+abbrev skip-at : ℕ → In 2 skip-kinds.ps
+skip-at t = and 2 skip-kinds.ps (is 2 skip-kinds.ps μ-skip t) skip.Pre
 
-abbrev skip-below : ℕ → In 3 skip-kinds.ps
-skip-below t = and 3 skip-kinds.ps (falls 3 skip-kinds.ps _<_ μ-skip t) skip.Pre
+abbrev skip-below : ℕ → In 2 skip-kinds.ps
+skip-below t = and 2 skip-kinds.ps (falls 2 skip-kinds.ps _<_ μ-skip t) skip.Pre
 
-abbrev skip-case-at : ℕ → In 3 skip-case-kinds.ps
-skip-case-at t = and 3 skip-case-kinds.ps (is 3 skip-case-kinds.ps μ-skip-case t) skip-case.Pre
+abbrev skip-case-at : ℕ → In 2 skip-case-kinds.ps
+skip-case-at t = and 2 skip-case-kinds.ps (is 2 skip-case-kinds.ps μ-skip-case t) skip-case.Pre
 
-abbrev skip-case-below : ℕ → In 3 skip-case-kinds.ps
+abbrev skip-case-below : ℕ → In 2 skip-case-kinds.ps
 skip-case-below t =
-    and 3 skip-case-kinds.ps (falls 3 skip-case-kinds.ps _<_ μ-skip-case t) skip-case.Pre
+    and 2 skip-case-kinds.ps (falls 2 skip-case-kinds.ps _<_ μ-skip-case t) skip-case.Pre
 
-abbrev skip-several-at : ℕ → In 3 skip-several-kinds.ps
+abbrev skip-several-at : ℕ → In 2 skip-several-kinds.ps
 skip-several-at t =
-    and 3 skip-several-kinds.ps (is 3 skip-several-kinds.ps μ-skip-several t) skip-several.Pre
+    and 2 skip-several-kinds.ps (is 2 skip-several-kinds.ps μ-skip-several t) skip-several.Pre
 
-abbrev skip-several-below : ℕ → In 3 skip-several-kinds.ps
+abbrev skip-several-below : ℕ → In 2 skip-several-kinds.ps
 skip-several-below t =
     and
-    3
+    2
     skip-several-kinds.ps
-    (falls 3 skip-several-kinds.ps _<_ μ-skip-several t)
+    (falls 2 skip-several-kinds.ps _<_ μ-skip-several t)
     skip-several.Pre
 
 skip-returns : (t : ℕ) → skip-lts.Need-returns (
@@ -139,7 +139,7 @@ skip-skip-case-requires : (t : ℕ) → skip-lts.Need-skip-case-requires (
   skip-several-below t,
   skip-several.Post,
 ) (skip-at t) skip.Post
-skip-skip-case-requires t c κs = (omega (arith, (c .before .before .before .before .before .before .before .before .before .before .pre .0), (c .before .before .before .before .before .before .if1 .left)), tt)
+skip-skip-case-requires t c κs = (omega (arith, (c .before .before .before .before .before .before .before .before .pre .0), (c .before .before .before .before .before .before .if1 .left)), tt)
 
 skip-returns-3 : (t : ℕ) → skip-lts.Need-returns-3 (
   byte-reads.Asked,
@@ -187,7 +187,7 @@ skip-skip-several-requires : (t : ℕ) → skip-lts.Need-skip-several-requires (
   skip-several-below t,
   skip-several.Post,
 ) (skip-at t) skip.Post
-skip-skip-several-requires t c κs = (omega (arith, (c .before .before .before .before .before .before .before .before .before .before .before .before .pre .0), (c .before .before .before .before .before .before .before .before .if1 .left), (c .before .heading .ensures .1)), tt)
+skip-skip-several-requires t c κs = (omega (arith, (c .before .before .before .before .before .before .before .before .before .before .pre .0), (c .before .before .before .before .before .before .before .before .if1 .left), (c .before .heading .ensures .1)), tt)
 
 skip-returns-4 : (t : ℕ) → skip-lts.Need-returns-4 (
   byte-reads.Asked,
@@ -269,7 +269,7 @@ skip-case-skip-requires : (t : ℕ) → skip-case-lts.Need-skip-requires (
   skip-several-below t,
   skip-several.Post,
 ) (skip-case-at t) skip-case.Post
-skip-case-skip-requires t c κs = (omega (arith, (c .before .before .before .before .before .before .before .before .pre .0)), tt)
+skip-case-skip-requires t c κs = (omega (arith, (c .before .before .before .before .before .before .pre .0)), tt)
 
 skip-case-cast-result : (t : ℕ) → skip-case-lts.Need-cast-result (
   byte-reads.Asked,
@@ -367,7 +367,7 @@ skip-case-skip-several-requires : (t : ℕ) → skip-case-lts.Need-skip-several-
   skip-several-below t,
   skip-several.Post,
 ) (skip-case-at t) skip-case.Post
-skip-case-skip-several-requires t c κs = (omega (arith, (c .before .before .before .before .before .before .before .before .before .before .before .before .before .before .pre .0), (c .constructors .ensures .1)), tt)
+skip-case-skip-several-requires t c κs = (omega (arith, (c .before .before .before .before .before .before .before .before .before .before .before .before .pre .0), (c .constructors .ensures .1)), tt)
 
 skip-case-returns-3 : (t : ℕ) → skip-case-lts.Need-returns-3 (
   byte-reads.Asked,
@@ -397,7 +397,7 @@ skip-several-skip-requires : (t : ℕ) → skip-several-lts.Need-skip-requires (
   skip-several-below t,
   skip-several.Post,
 ) (skip-several-at t) skip-several.Post
-skip-several-skip-requires t c κs = (omega (arith, (c .before .before .before .before .pre .0)), tt)
+skip-several-skip-requires t c κs = (omega (arith, (c .before .before .pre .0)), tt)
 
 skip-several-sub-skip-several : (t : ℕ) → skip-several-lts.Need-sub-skip-several (
   skip-below t,
@@ -413,7 +413,7 @@ skip-several-skip-several-requires : (t : ℕ) → skip-several-lts.Need-skip-se
   skip-several-below t,
   skip-several.Post,
 ) (skip-several-at t) skip-several.Post
-skip-several-skip-several-requires t c κs = (omega (arith, (c .before .before .before .before .before .pre .0), (c .before .if1 .left)), tt)
+skip-several-skip-several-requires t c κs = (omega (arith, (c .before .before .before .pre .0), (c .before .if1 .left)), tt)
 
 skip-several-returns-2 : (t : ℕ) → skip-several-lts.Need-returns-2 (
   skip-below t,

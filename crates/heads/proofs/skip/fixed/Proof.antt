@@ -27,7 +27,7 @@ returns-5 : tie.Need-returns-5
 returns-5 c = (fixed-fit _ _ _ _ (c .before .before .ahead2 .ensures) (c .if5 .taken), omega arith)
 
 returns-6 : tie.Need-returns-6
-returns-6 c = (fixed-leaf _ _ _ _ (c .before .before .ahead2 .ensures) (c .before .before .before .before .before .if1 .left) (λ most. leaf-code _ most (c .before .before .before .before .if2 .left) (c .before .before .before .if3 .left) (c .before .if4 .left) (c .if5 .left) (c .before .before .before .before .before .before .before .before .before .pre)), omega arith)
+returns-6 c = (fixed-leaf _ _ _ _ (c .before .before .ahead2 .ensures) (c .before .before .before .before .before .if1 .left) (λ most. leaf-code _ most (c .before .before .before .before .if2 .left) (c .before .before .before .if3 .left) (c .before .if4 .left) (c .if5 .left) (c .before .before .before .before .before .before .before .pre)), omega arith)
 
 pub fixed-spec : {M : Type 1} → statement M
 fixed-spec =
