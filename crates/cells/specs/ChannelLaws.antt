@@ -16,12 +16,14 @@ use Rattle.language.specs.Cells.{cellsOf, channelCells, inputCells}
 use Rattle.theory.specs.Alls.{all-append, all-map, all-to-map, all-getD}
 use Rattle.text.specs.Bytes.{declaredWord}
 use Rattle.index.specs.Tables.{channelWords, inputEntry, nodeEntry, channelTable}
+use Rattle.index.specs.Sections.{channelsOf}
+use Rattle.index.specs.Indexed.{declaredAt}
 use Rattle.index.specs.Padded.{padded-at}
 use Rattle.cells.specs.Counts.{Right, Counts, CountsType, Channels, CountsChannels}
 use Rattle.cells.specs.MostLaws.{types-next}
 use Rattle.cells.specs.CountLaws.{counts-given, counts-as, counts-sum}
 
--- ---- the declared types are within the limits, and the table of channels has their words
+-- ---- the declared types are within the limits, and the index has their words
 nodes-declared : {P : File} {earlier : ℕ} {ns : List Node} → WithinNodes P earlier ns → All (WithinDeclared (length (P .types))) (map (λ (n : Node). n .declared) ns)
 nodes-declared wn-nil = all-nil
 nodes-declared (wn-cons w ws) = all-cons (w .declared) (nodes-declared ws)
@@ -45,14 +47,14 @@ channel-words [] ns i less = node-words ns i (omega arith)
 channel-words (j ∷ is) ns zero less = refl
 channel-words (j ∷ is) ns (suc i) less = let on : channelWords * suc i ≡ suc (suc (suc (channelWords * i))) = omega arith in rw on (channel-words is ns i (omega arith))
 
-module _ {types table channels : List ℕ} {P : File} {n : ℕ} (h : Right types table P) (a : Channels channels n P) (i : ℕ) (less : i < n) where
+module _ {index table : List ℕ} {P : File} {n : ℕ} (h : Right index table P) (a : Channels index n P) (i : ℕ) (less : i < n) where
   channel-there : i < length (declaredTypes P)
   channel-there = omega (arith, less, a .few)
 
   channel-within : WithinDeclared (length (P .types)) (getD (declaredTypes P) i tbool)
   channel-within = all-getD (types-declared (h .within)) i tbool channel-there
 
-  channel-told : getD channels (channelWords * i) 0 ≡ declaredWord (getD (declaredTypes P) i tbool)
+  channel-told : declaredAt (channelsOf index) i ≡ declaredWord (getD (declaredTypes P) i tbool)
   unfolding channelTable
   channel-told =
       let count = channel-count P in
@@ -61,28 +63,28 @@ module _ {types table channels : List ℕ} {P : File} {n : ℕ} (h : Right types
       ∙ channel-words (P .inputs) (P .nodes) i (omega (arith, channel-there, count))
 
 -- ---- the channels before i
-abbrev pub ChannelsTo : List ℕ → List ℕ → List ℕ → ℕ → ℕ → ℕ → List ℕ → Type 0
-ChannelsTo types channels table n i = Counts types table (Channels channels n) (λ P. sum (map (cellsOf P) (take i (declaredTypes P))))
+abbrev pub ChannelsTo : List ℕ → List ℕ → ℕ → ℕ → ℕ → List ℕ → Type 0
+ChannelsTo index table n i = Counts index table (Channels index n) (λ P. sum (map (cellsOf P) (take i (declaredTypes P))))
 
-pub channels-start : (types channels table : List ℕ) (n : ℕ) → ChannelsTo types channels table n 0 0 table
+pub channels-start : (index table : List ℕ) (n : ℕ) → ChannelsTo index table n 0 0 table
 unfolding sum
-channels-start types channels table n = counts-given (omega arith) (λ P h a. omega arith)
+channels-start index table n = counts-given (omega arith) (λ P h a. omega arith)
 
-pub channels-on : {types channels table table₁ table₂ : List ℕ} {n i sum word one r : ℕ} → ChannelsTo types channels table n i sum table₁ → i < n → word ≡ getD channels (channelWords * i) 0 → CountsType types table₁ word one table₂ → r ≡ stop (sum + one) →
-    ChannelsTo types channels table n (i + 1) r table₂
-channels-on {types} {channels} {table₁} {table₂} {n} {i} {one} v less e w f =
-    let u : Counts types table₁ (Channels channels n) (λ P. cellsOf P (getD (declaredTypes P) i tbool)) one table₂ = record {
+pub channels-on : {index table table₁ table₂ : List ℕ} {n i sum word one r : ℕ} → ChannelsTo index table n i sum table₁ → i < n → word ≡ declaredAt (channelsOf index) i → CountsType index table₁ word one table₂ → r ≡ stop (sum + one) →
+    ChannelsTo index table n (i + 1) r table₂
+channels-on {index} {table₁} {table₂} {n} {i} {one} v less e w f =
+    let u : Counts index table₁ (Channels index n) (λ P. cellsOf P (getD (declaredTypes P) i tbool)) one table₂ = record {
       small = w .small;
       is = λ P h a. w .is P (getD (declaredTypes P) i tbool) h (channel-within h a i less) (sym (e ∙ channel-told h a i less));
       right = λ P h a. w .right P (getD (declaredTypes P) i tbool) h (channel-within h a i less) (sym (e ∙ channel-told h a i less));
     } in
     counts-as (counts-sum v u (λ P h a. a) f) (λ P h a. rw add-one (sym (types-next P i (declaredTypes P) tbool (channel-there h a i less))))
 
-pub channels-end : {types channels table table₁ : List ℕ} {n i r : ℕ} → ChannelsTo types channels table n i r table₁ → i ≤ n → n ≤ i → CountsChannels types channels table n r table₁
+pub channels-end : {index table table₁ : List ℕ} {n i r : ℕ} → ChannelsTo index table n i r table₁ → i ≤ n → n ≤ i → CountsChannels index table n r table₁
 channels-end {n} {i} v low high = let all : i ≡ n = omega (arith, low, high) in counts-as v (λ P h a. ap (λ m. sum (map (cellsOf P) (take m (declaredTypes P)))) all)
 
 -- ---- all of them, and the inputs alone
-module _ {types channels table table′ : List ℕ} {n r : ℕ} (v : CountsChannels types channels table n r table′) (P : File) (h : Right types table P) (are : channels ≡ channelTable (P .inputs) (P .nodes)) where
+module _ {index table table′ : List ℕ} {n r : ℕ} (v : CountsChannels index table n r table′) (P : File) (h : Right index table P) (are : channelsOf index ≡ channelTable (P .inputs) (P .nodes)) where
   pub all-channels-counted : n ≡ length (P .inputs) + length (P .nodes) → r ≡ stop (channelCells P)
   unfolding channelCells
   all-channels-counted e =

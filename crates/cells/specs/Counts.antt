@@ -1,4 +1,4 @@
--- What the functions that count cells promise: the number, stopped, for every file within the limits whose types the table of types
+-- What the functions that count cells promise: the number, stopped, for every file within the limits whose types the index
 -- tells, where the lent table is right about that file; and that it is right afterwards.
 use Prim.Native.Nat.{ℕ, zero, suc, _+_, _*_, _≤_, _<_}
 use mathlib.Core.List.{List, map}
@@ -12,6 +12,7 @@ use Rattle.language.specs.Estimate.{stop}
 use Rattle.language.specs.Cells.{otherCells, cellsNamed, cellsOf}
 use Rattle.text.specs.Bytes.{declaredWord}
 use Rattle.index.specs.Tables.{typeTable, channelTable}
+use Rattle.index.specs.Sections.{typesOf, channelsOf}
 use Rattle.cells.specs.Most.{mostOwn, madeCells, fieldCells}
 
 -- ---- the lent table: a row for each type, in it for each r from 0 to 4 a word for each size from 0 to 64
@@ -35,17 +36,17 @@ standsFor P t (suc r) m = mostOwn P t (suc r) m
 pub record Remembers (P : File) (table : List ℕ) : Type 0 where
   pub word : (t r m : ℕ) → t < length (P .types) → r ≤ fieldsMost → m ≤ sizeMost → (getD table (place t r m) 0 ≡ 0 → ⊥) → getD table (place t r m) 0 ≡ 1 + stop (standsFor P t r m)
 
--- ---- the table of types tells the file's types, and what is remembered is right
-pub record Right (types table : List ℕ) (P : File) : Type 0 where
+-- ---- the index tells the file's types, and what is remembered is right
+pub record Right (index table : List ℕ) (P : File) : Type 0 where
   pub within : Within P
-  pub told : types ≡ typeTable (P .types)
+  pub told : typesOf index ≡ typeTable (P .types)
   pub remembers : Remembers P table
 
 -- ---- a number counted of each file for which it is asked
-pub record Counts (types table : List ℕ) (asked : File → Type 0) (value : File → ℕ) (r : ℕ) (table′ : List ℕ) : Type 0 where
+pub record Counts (index table : List ℕ) (asked : File → Type 0) (value : File → ℕ) (r : ℕ) (table′ : List ℕ) : Type 0 where
   pub small : r ≤ numberMost
-  pub is : (P : File) → Right types table P → asked P → r ≡ stop (value P)
-  pub right : (P : File) → Right types table P → asked P → Right types table′ P
+  pub is : (P : File) → Right index table P → asked P → r ≡ stop (value P)
+  pub right : (P : File) → Right index table P → asked P → Right index table′ P
 
 -- a type and a size of the file
 pub record Sized (t k : ℕ) (P : File) : Type 0 where
@@ -54,7 +55,7 @@ pub record Sized (t k : ℕ) (P : File) : Type 0 where
   pub few : k ≤ sizeMost
 
 abbrev pub CountsCells : List ℕ → List ℕ → ℕ → ℕ → ℕ → List ℕ → Type 0
-CountsCells types table t k = Counts types table (Sized t k) (λ P. cellsNamed P t k)
+CountsCells index table t k = Counts index table (Sized t k) (λ P. cellsNamed P t k)
 
 -- so many values of a type
 pub record Several (t r m : ℕ) (P : File) : Type 0 where
@@ -63,7 +64,7 @@ pub record Several (t r m : ℕ) (P : File) : Type 0 where
   pub low : m ≤ sizeMost
 
 abbrev pub CountsOwn : List ℕ → List ℕ → ℕ → ℕ → ℕ → ℕ → List ℕ → Type 0
-CountsOwn types table t r m = Counts types table (Several t r m) (λ P. mostOwn P t r m)
+CountsOwn index table t r m = Counts index table (Several t r m) (λ P. mostOwn P t r m)
 
 -- a constructor of a type, a field of it
 pub record Made (t c : ℕ) (P : File) : Type 0 where
@@ -79,24 +80,24 @@ pub record FieldOf (t c i : ℕ) (P : File) : Type 0 where
   pub field : i < length (fieldsOf P t c)
 
 abbrev pub CountsConstructor : List ℕ → List ℕ → ℕ → ℕ → ℕ → ℕ → List ℕ → Type 0
-CountsConstructor types table t k c = Counts types table (MadeSized t k c) (λ P. madeCells P t k (fieldsOf P t c))
+CountsConstructor index table t k c = Counts index table (MadeSized t k c) (λ P. madeCells P t k (fieldsOf P t c))
 
 abbrev pub CountsOthers : List ℕ → List ℕ → ℕ → ℕ → ℕ → List ℕ → Type 0
-CountsOthers types table t c = Counts types table (Made t c) (λ P. otherCells (cellsNamed P) (fieldsOf P t c))
+CountsOthers index table t c = Counts index table (Made t c) (λ P. otherCells (cellsNamed P) (fieldsOf P t c))
 
 abbrev pub CountsField : List ℕ → List ℕ → ℕ → ℕ → ℕ → ℕ → List ℕ → Type 0
-CountsField types table t c i = Counts types table (FieldOf t c i) (λ P. fieldCells P (getD (fieldsOf P t c) i fbool))
+CountsField index table t c i = Counts index table (FieldOf t c i) (λ P. fieldCells P (getD (fieldsOf P t c) i fbool))
 
 -- a type within the limits, given as a word
-pub record CountsType (types table : List ℕ) (word r : ℕ) (table′ : List ℕ) : Type 0 where
+pub record CountsType (index table : List ℕ) (word r : ℕ) (table′ : List ℕ) : Type 0 where
   pub small : r ≤ numberMost
-  pub is : (P : File) (τ : Ty) → Right types table P → WithinDeclared (length (P .types)) τ → declaredWord τ ≡ word → r ≡ stop (cellsOf P τ)
-  pub right : (P : File) (τ : Ty) → Right types table P → WithinDeclared (length (P .types)) τ → declaredWord τ ≡ word → Right types table′ P
+  pub is : (P : File) (τ : Ty) → Right index table P → WithinDeclared (length (P .types)) τ → declaredWord τ ≡ word → r ≡ stop (cellsOf P τ)
+  pub right : (P : File) (τ : Ty) → Right index table P → WithinDeclared (length (P .types)) τ → declaredWord τ ≡ word → Right index table′ P
 
 -- the first n channels
-pub record Channels (channels : List ℕ) (n : ℕ) (P : File) : Type 0 where
-  pub are : channels ≡ channelTable (P .inputs) (P .nodes)
+pub record Channels (index : List ℕ) (n : ℕ) (P : File) : Type 0 where
+  pub are : channelsOf index ≡ channelTable (P .inputs) (P .nodes)
   pub few : n ≤ length (declaredTypes P)
 
-abbrev pub CountsChannels : List ℕ → List ℕ → List ℕ → ℕ → ℕ → List ℕ → Type 0
-CountsChannels types channels table n = Counts types table (Channels channels n) (λ P. sum (map (cellsOf P) (take n (declaredTypes P))))
+abbrev pub CountsChannels : List ℕ → List ℕ → ℕ → ℕ → List ℕ → Type 0
+CountsChannels index table n = Counts index table (Channels index n) (λ P. sum (map (cellsOf P) (take n (declaredTypes P))))

@@ -14,6 +14,8 @@ use Rattle.language.specs.Estimate.{stop}
 use Rattle.language.specs.Cells.{otherCells, cellsNamed, cellsOf}
 use Rattle.text.specs.Bytes.{declaredWord, fieldWord}
 use Rattle.index.specs.Tables.{constructorWords, typeWords}
+use Rattle.index.specs.Sections.{typesOf}
+use Rattle.index.specs.Indexed.{fieldAt}
 use Rattle.cells.specs.Most.{fieldCells}
 use Rattle.cells.specs.Counts.{Right, Counts, Sized, CountsCells, Made, CountsOthers, FieldOf, CountsField, CountsType}
 use Rattle.cells.specs.MostLaws.{others-next}
@@ -22,19 +24,19 @@ use Rattle.cells.specs.CountLaws.{counts-given, counts-as, counts-sum}
 
 -- ---- the fields before i
 abbrev pub OthersTo : List ℕ → List ℕ → ℕ → ℕ → ℕ → ℕ → List ℕ → Type 0
-OthersTo types table t c i = Counts types table (Made t c) (λ P. otherCells (cellsNamed P) (take i (fieldsOf P t c)))
+OthersTo index table t c i = Counts index table (Made t c) (λ P. otherCells (cellsNamed P) (take i (fieldsOf P t c)))
 
-pub others-start : (types table : List ℕ) (t c : ℕ) → OthersTo types table t c 0 0 table
+pub others-start : (index table : List ℕ) (t c : ℕ) → OthersTo index table t c 0 0 table
 unfolding otherCells
-others-start types table t c = counts-given (omega arith) (λ P h a. omega arith)
+others-start index table t c = counts-given (omega arith) (λ P h a. omega arith)
 
-module _ {types table table₁ : List ℕ} {t c n i sum : ℕ} (q : (n ≡ getD types (typeWords * t + 1 + constructorWords * c) 0 % byteRange) × (n < byteRange)) (v : OthersTo types table t c i sum table₁) where
-  pub others-on : {one r : ℕ} {table₂ : List ℕ} → i < n → CountsField types table₁ t c i one table₂ → r ≡ stop (sum + one) → OthersTo types table t c (i + 1) r table₂
+module _ {index table table₁ : List ℕ} {t c n i sum : ℕ} (q : (n ≡ getD (typesOf index) (typeWords * t + 1 + constructorWords * c) 0 % byteRange) × (n < byteRange)) (v : OthersTo index table t c i sum table₁) where
+  pub others-on : {one r : ℕ} {table₂ : List ℕ} → i < n → CountsField index table₁ t c i one table₂ → r ≡ stop (sum + one) → OthersTo index table t c (i + 1) r table₂
   others-on less w e =
       counts-as (counts-sum v w (λ P h a. record { made = a; field = omega (arith, less, fields-told h a q) }) e)
       (λ P h a. rw add-one (sym (others-next P i (fieldsOf P t c) (omega (arith, less, fields-told h a q)))))
 
-  pub others-end : n ≤ i → CountsOthers types table t c sum table₁
+  pub others-end : n ≤ i → CountsOthers index table t c sum table₁
   others-end le = counts-as v (λ P h a. ap (otherCells (cellsNamed P)) (take-all i (fieldsOf P t c) (omega (arith, le, fields-told h a q))))
 
 -- ---- a field by its word
@@ -80,17 +82,17 @@ field-type-within w-fint less = w-tint
 field-type-within w-own less = w-tbool
 field-type-within (w-other {t = u} earlier bound) less = w-tnamed {t = u} (omega (arith, earlier, less)) bound
 
-module _ {types table : List ℕ} {t c i word : ℕ} (e : word ≡ getD types (typeWords * t + 3 + constructorWords * c + i) 0) where
-  word-is : (P : File) → Right types table P → FieldOf t c i P → fieldWord (getD (fieldsOf P t c) i fbool) ≡ word
+module _ {index table : List ℕ} {t c i word : ℕ} (e : word ≡ fieldAt (typesOf index) t c i) where
+  word-is : (P : File) → Right index table P → FieldOf t c i P → fieldWord (getD (fieldsOf P t c) i fbool) ≡ word
   word-is P h a = sym (e ∙ field-told h a)
 
-  pub field-own : word ≡ 2 → CountsField types table t c i 0 table
+  pub field-own : word ≡ 2 → CountsField index table t c i 0 table
   field-own two = counts-given (omega arith) (λ P h a. omega (arith, own-has-none P (getD (fieldsOf P t c) i fbool) (word-is P h a ∙ two)))
 
-  pub field-later : t < word / tagStep → CountsField types table t c i 0 table
+  pub field-later : t < word / tagStep → CountsField index table t c i 0 table
   field-later less = counts-given (omega arith) (λ P h a. absurd (omega (arith, less, ap (λ n. n / tagStep) (word-is P h a), earlier-type (field-within h a))))
 
-  pub field-type : {r : ℕ} {table′ : List ℕ} → (word ≡ 2 → ⊥) → CountsType types table word r table′ → CountsField types table t c i r table′
+  pub field-type : {r : ℕ} {table′ : List ℕ} → (word ≡ 2 → ⊥) → CountsType index table word r table′ → CountsField index table t c i r table′
   field-type some v = record {
     small = v .small;
     is = λ P h a.
@@ -109,7 +111,7 @@ plain-cells P w-tbool e less = refl
 plain-cells P w-tint e less = refl
 plain-cells P (w-tnamed u bound) e less = absurd (omega (arith, e, less))
 
-pub type-plain : {types table : List ℕ} {word : ℕ} → word < tagStep → CountsType types table word 1 table
+pub type-plain : {index table : List ℕ} {word : ℕ} → word < tagStep → CountsType index table word 1 table
 type-plain less = record { small = omega arith; is = λ P τ h w e. omega (arith, plain-cells P w e less); right = λ P τ h w e. h }
 
 -- a named type: its number and its size
@@ -129,5 +131,5 @@ module _ (P : File) {word : ℕ} (step : tagStep ≤ word) where
       let size : word % tagStep ≡ k = omega (arith, e, bound .1) in
       ap₂ (cellsNamed P) number size
 
-pub type-named : {types table table′ : List ℕ} {word r : ℕ} → tagStep ≤ word → CountsCells types table (word / tagStep - 1) (word % tagStep) r table′ → CountsType types table word r table′
+pub type-named : {index table table′ : List ℕ} {word r : ℕ} → tagStep ≤ word → CountsCells index table (word / tagStep - 1) (word % tagStep) r table′ → CountsType index table word r table′
 type-named step v = record { small = v .small; is = λ P τ h w e. v .is P h (word-sized P step w e) ∙ ap stop (word-cells P step w e); right = λ P τ h w e. v .right P h (word-sized P step w e) }

@@ -13,6 +13,7 @@ use Rattle.language.specs.Syntax.{File}
 use Rattle.language.specs.Within.{Within}
 use Rattle.language.specs.Estimate.{stop}
 use Rattle.index.specs.Tables.{typeTable}
+use Rattle.index.specs.Sections.{typesOf}
 use Rattle.cells.specs.Counts.{tableWords, place, standsFor, Remembers, Right, Counts, Several}
 
 -- every number has its word
@@ -28,7 +29,7 @@ same-at w (suc n) (suc i) = same-at w n i
 pub remembers-nothing : (P : File) (n : ℕ) → Remembers P (replicate n 0)
 remembers-nothing P n = record { word = λ t r m named few low some. absurd (some (same-at 0 n (place t r m))) }
 
-pub right-nothing : {types : List ℕ} {P : File} (n : ℕ) → Within P → types ≡ typeTable (P .types) → Right types (replicate n 0) P
+pub right-nothing : {index : List ℕ} {P : File} (n : ℕ) → Within P → typesOf index ≡ typeTable (P .types) → Right index (replicate n 0) P
 right-nothing {P} n w e = record { within = w; told = e; remembers = remembers-nothing P n }
 
 -- ---- a word stored: another stays as it was
@@ -64,18 +65,18 @@ remembers-noted {P} {table} {t} {r} {m} {number} v at is = record { word = word 
         new ∙ ap (λ x. 1 + x) is ∙ sym (ap (λ x. 1 + stop (standsFor P x s n)) a ∙ ap (λ x. 1 + stop (standsFor P t x n)) b ∙ ap (λ x. 1 + stop (standsFor P t r x)) d))
 
 -- ---- a number that is known, a number noted
-module _ {types table : List ℕ} {asked : File → Type 0} {value : File → ℕ} (t r m : ℕ) (several : (P : File) → Right types table P → asked P → Several t r m P)
-    (stands : (P : File) → Right types table P → asked P → value P ≡ standsFor P t r m) where
-  pub counts-known : {word q : ℕ} → word ≡ getD table (place t r m) 0 → (word ≡ 0 → ⊥) → q ≡ stop (word - 1 + 0) → Counts types table asked value q table
+module _ {index table : List ℕ} {asked : File → Type 0} {value : File → ℕ} (t r m : ℕ) (several : (P : File) → Right index table P → asked P → Several t r m P)
+    (stands : (P : File) → Right index table P → asked P → value P ≡ standsFor P t r m) where
+  pub counts-known : {word q : ℕ} → word ≡ getD table (place t r m) 0 → (word ≡ 0 → ⊥) → q ≡ stop (word - 1 + 0) → Counts index table asked value q table
   counts-known {word} {q} e some w = record { small = omega (arith, w); is = is; right = λ P h a. h }
     where
-      is : (P : File) → Right types table P → asked P → q ≡ stop (value P)
+      is : (P : File) → Right index table P → asked P → q ≡ stop (value P)
       is P h a =
           let at = several P h a in
           let found = e ∙ h .remembers .word t r m (at .named) (at .few) (at .low) (λ z. some (e ∙ z)) in
           omega (arith, w, found, stands P h a)
 
-  pub counts-noted : {a : ℕ} {table₁ table₂ : List ℕ} → Counts types table asked value a table₁ → table₂ ≡ set table₁ (place t r m) (1 + a) → Counts types table asked value a table₂
+  pub counts-noted : {a : ℕ} {table₁ table₂ : List ℕ} → Counts index table asked value a table₁ → table₂ ≡ set table₁ (place t r m) (1 + a) → Counts index table asked value a table₂
   counts-noted {table₁} v e = record {
     small = v .small;
     is = v .is;

@@ -1,4 +1,4 @@
--- What the table of types says of a file's constructors and fields, the fields' words among it; and which fields a file within the
+-- What the section of types says of a file's constructors and fields, the fields' words among it; and which fields a file within the
 -- limits has.
 use Prim.Native.Nat.{ℕ, zero, suc, _+_, _*_, _%_, _≤_, _<_}
 use mathlib.Core.List.{List, [], map}
@@ -11,6 +11,8 @@ use Rattle.language.specs.Within.{WithinField, WithinType, WithinTypes, wt-nil,
 use Rattle.theory.specs.Alls.{all-getD}
 use Rattle.text.specs.Bytes.{fieldWord}
 use Rattle.index.specs.Tables.{constructorWords, typeWords, constructorEntry, typeEntry, typeTable}
+use Rattle.index.specs.Sections.{typesOf}
+use Rattle.index.specs.Indexed.{fieldAt}
 use Rattle.index.specs.Padded.{padded-at}
 use Rattle.index.specs.Entries.{table-at}
 use Rattle.index.specs.Enters.{TellsType}
@@ -38,8 +40,8 @@ constructor-part d c j few less k =
     let on : 1 + (constructorWords * c + j) ≡ suc (constructorWords * c + j) = omega arith in
     rw on (table-at constructorWords constructorEntry constructor-wide (constructorsMost * constructorWords) d c j [] (omega (arith, few)) less k)
 
-module _ {types table : List ℕ} {P : File} (h : Right types table P) where
-  tells : (t : ℕ) → t < length (P .types) → TellsType types t (constructorsOf P t)
+module _ {index table : List ℕ} {P : File} (h : Right index table P) where
+  tells : (t : ℕ) → t < length (P .types) → TellsType (typesOf index) t (constructorsOf P t)
   tells t named = tells-type (P .types) t (h .told) (h .within .fewTypes) named (each-within-few (h .within .types) t named)
 
   pub few-types : length (P .types) ≤ typesMost
@@ -48,24 +50,24 @@ module _ {types table : List ℕ} {P : File} (h : Right types table P) where
   pub types-within : WithinTypes 0 (P .types)
   types-within = h .within .types
 
-  pub constructors-told : {t n : ℕ} → t < length (P .types) → (n ≡ getD types (typeWords * t) 0 % byteRange) × (n < byteRange) → n ≡ length (constructorsOf P t)
+  pub constructors-told : {t n : ℕ} → t < length (P .types) → (n ≡ getD (typesOf index) (typeWords * t) 0 % byteRange) × (n < byteRange) → n ≡ length (constructorsOf P t)
   constructors-told {t} named q = omega (arith, q .0, tells t named .constructors, tells t named .few)
 
   module _ {t c : ℕ} (a : Made t c P) where
     pub few-fields : length (fieldsOf P t c) ≤ fieldsMost
     few-fields = tells t (a .named) .fewFields c (a .there)
 
-    pub fields-told : {n : ℕ} → (n ≡ getD types (typeWords * t + 1 + constructorWords * c) 0 % byteRange) × (n < byteRange) → n ≡ length (fieldsOf P t c)
+    pub fields-told : {n : ℕ} → (n ≡ getD (typesOf index) (typeWords * t + 1 + constructorWords * c) 0 % byteRange) × (n < byteRange) → n ≡ length (fieldsOf P t c)
     fields-told q = omega (arith, q .0, tells t (a .named) .fields c (a .there), few-fields)
 
     pub few-owns : owns (fieldsOf P t c) ≤ fieldsMost
     few-owns = omega (arith, few-fields, owns-fewer (fieldsOf P t c))
 
-    pub owns-told : {n : ℕ} → (n ≡ getD types (typeWords * t + 2 + constructorWords * c) 0 % byteRange) × (n < byteRange) → n ≡ owns (fieldsOf P t c)
+    pub owns-told : {n : ℕ} → (n ≡ getD (typesOf index) (typeWords * t + 2 + constructorWords * c) 0 % byteRange) × (n < byteRange) → n ≡ owns (fieldsOf P t c)
     owns-told q = omega (arith, q .0, tells t (a .named) .owns c (a .there), few-owns)
 
   module _ {t c i : ℕ} (a : FieldOf t c i P) where
-    pub field-told : getD types (typeWords * t + 3 + constructorWords * c + i) 0 ≡ fieldWord (getD (fieldsOf P t c) i fbool)
+    pub field-told : fieldAt (typesOf index) t c i ≡ fieldWord (getD (fieldsOf P t c) i fbool)
     unfolding typeTable
     field-told =
         let parts = each-within-few (h .within .types) t (a .made .named) in

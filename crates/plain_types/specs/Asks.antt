@@ -18,6 +18,7 @@ use Rattle.text.specs.Bytes.{plainWord}
 use Rattle.encoding.specs.Spells.{Spells}
 use Rattle.encoding.specs.FrameSpells.{lineAt}
 use Rattle.encoding.specs.Known.{Known}
+use Rattle.index.specs.Sections.{channelsOf}
 use Rattle.index.specs.Indexed.{declaredAt, lineCount, Indexed}
 use Rattle.plain_types.specs.declared.words.Typing.{Typing}
 use Rattle.plain_types.specs.declared.places.Place.{Place}
@@ -28,13 +29,13 @@ use Rattle.plain_types.specs.Agrees.{Agrees}
 
 -- ---- places: the same with another cursor, with so many variables more, and with a level less
 abbrev pub movedTo : Place → Cursor → Place
-movedTo p c = record { at = c; levels = p .levels; line = p .line; types = p .types; variables = p .variables }
+movedTo p c = record { at = c; levels = p .levels; line = p .line; variables = p .variables }
 
 abbrev pub widerBy : ℕ → Place → Cursor → Place
-widerBy n p c = record { at = c; levels = p .levels; line = p .line; types = p .types; variables = p .variables + n }
+widerBy n p c = record { at = c; levels = p .levels; line = p .line; variables = p .variables + n }
 
 abbrev pub insideOf : Place → Cursor → Place
-insideOf p c = record { at = c; levels = p .levels - 1; line = p .line; types = p .types; variables = p .variables }
+insideOf p c = record { at = c; levels = p .levels - 1; line = p .line; variables = p .variables }
 
 -- no sum overflows: each level binds fewer variables than a byte can count
 abbrev pub Room : ℕ → Place → Type 0
@@ -46,12 +47,11 @@ pub record Kept (n : ℕ) (scope scope′ : List ℕ) : Type 0 where
   pub long : length scope′ ≡ length scope
 
 -- ---- a scope of a file that was read: Γ its types, as the first words of the slice; C the types of the channels it may name
-pub record Stage (text frames types functions channels scope : List ℕ) (count line variables : ℕ) (P : File) (C : List Plain) (S : Scope) (Γ : List Plain) : Type 0 where
-  pub indexed : Indexed text frames types functions channels P
-  pub typeCount : count ≡ length (P .types)
+pub record Stage (text index scope : List ℕ) (line variables : ℕ) (P : File) (C : List Plain) (S : Scope) (Γ : List Plain) : Type 0 where
+  pub indexed : Indexed text index P
   pub less : line < lineCount P
   pub known : Known P S
-  pub channel : (c : ℕ) → c < length C → withoutSize (declaredAt channels c) ≡ plainWord (getD C c pbool)
+  pub channel : (c : ℕ) → c < length C → withoutSize (declaredAt (channelsOf index) c) ≡ plainWord (getD C c pbool)
   pub now : S .now ≤ length C
   pub last : S .last ≤ length C
   pub words : take variables scope ≡ map plainWord Γ
@@ -69,8 +69,8 @@ pub record Part (line : List ℕ) (levels : ℕ) (S : Scope) (at : ℕ) (e : Exp
 abbrev pub Asked : Type 1
 Asked = File → List Plain → Scope → List Plain → Option Plain → ℕ → Type 0
 
-pub record Types (text frames types functions channels scope : List ℕ) (p : Place) (X : Asked) (r : Typing) (scope′ : List ℕ) : Type 0 where
-  pub says : {P : File} {C : List Plain} {S : Scope} {Γ : List Plain} {o : Option Plain} {end : ℕ} → Stage text frames types functions channels scope (p .types) (p .line) (p .variables) P C S Γ → X P C S Γ o end → Agrees r end o
+pub record Types (text index scope : List ℕ) (p : Place) (X : Asked) (r : Typing) (scope′ : List ℕ) : Type 0 where
+  pub says : {P : File} {C : List Plain} {S : Scope} {Γ : List Plain} {o : Option Plain} {end : ℕ} → Stage text index scope (p .line) (p .variables) P C S Γ → X P C S Γ o end → Agrees r end o
   pub kept : Kept (p .variables) scope scope′
 
 module _ (text : List ℕ) (p : Place) where
@@ -133,12 +133,12 @@ module _ (text : List ℕ) (p : Place) where
     pub is : o ≡ plainOf P C (econ t c list) Γ
 
   -- the types of those left are wanted from the series' first on
-  pub record AskSeveral (types functions : List ℕ) (s : Series) (P : File) (C : List Plain) (S : Scope) (Γ : List Plain) (o : Option Plain) (end : ℕ) : Type 0 where
+  pub record AskSeveral (index : List ℕ) (s : Series) (P : File) (C : List Plain) (S : Scope) (Γ : List Plain) (o : Option Plain) (end : ℕ) : Type 0 where
     pub list : Exprs
     pub wants : List Plain
     pub answer : Plain
     pub counted : s .count ≡ length wants
-    pub each : (j : ℕ) → j < length wants → wantedWord types functions (s .of) (s .first + j) ≡ getD (map plainWord wants) j 0
+    pub each : (j : ℕ) → j < length wants → wantedWord index (s .of) (s .first + j) ≡ getD (map plainWord wants) j 0
     pub answered : s .word ≡ plainWord answer
     pub within : WithinExprs (p .levels) S (length wants) list
     pub spelled : Spells exprsBytes (lineAt text (p .line)) (p .at .at) list
@@ -196,39 +196,39 @@ module _ (text : List ℕ) (p : Place) where
     pub is : o ≡ plainOf P C (efit size first second third) Γ
 
 -- ---- a name for each promise
-module _ (text frames types functions channels scope : List ℕ) (p : Place) where
+module _ (text index scope : List ℕ) (p : Place) where
   abbrev pub TypesExpr : Typing → List ℕ → Type 0
-  TypesExpr r scope′ = Types text frames types functions channels scope p (AskExpr text p) r scope′
+  TypesExpr r scope′ = Types text index scope p (AskExpr text p) r scope′
 
   abbrev pub TypesWant : ℕ → Typing → List ℕ → Type 0
-  TypesWant word r scope′ = Types text frames types functions channels scope p (AskWant text p word) r scope′
+  TypesWant word r scope′ = Types text index scope p (AskWant text p word) r scope′
 
   abbrev pub TypesLet : Typing → List ℕ → Type 0
-  TypesLet r scope′ = Types text frames types functions channels scope p (AskLet text p) r scope′
+  TypesLet r scope′ = Types text index scope p (AskLet text p) r scope′
 
   abbrev pub TypesIf : Typing → List ℕ → Type 0
-  TypesIf r scope′ = Types text frames types functions channels scope p (AskIf text p) r scope′
+  TypesIf r scope′ = Types text index scope p (AskIf text p) r scope′
 
   abbrev pub TypesOp : ℕ → Typing → List ℕ → Type 0
-  TypesOp code r scope′ = Types text frames types functions channels scope p (AskOp text p code) r scope′
+  TypesOp code r scope′ = Types text index scope p (AskOp text p code) r scope′
 
   abbrev pub TypesCall : ℕ → Typing → List ℕ → Type 0
-  TypesCall f r scope′ = Types text frames types functions channels scope p (AskCall text p f) r scope′
+  TypesCall f r scope′ = Types text index scope p (AskCall text p f) r scope′
 
   abbrev pub TypesCon : ℕ → ℕ → Typing → List ℕ → Type 0
-  TypesCon t c r scope′ = Types text frames types functions channels scope p (AskCon text p t c) r scope′
+  TypesCon t c r scope′ = Types text index scope p (AskCon text p t c) r scope′
 
   abbrev pub TypesSeveral : Series → Typing → List ℕ → Type 0
-  TypesSeveral s r scope′ = Types text frames types functions channels scope p (AskSeveral text p types functions s) r scope′
+  TypesSeveral s r scope′ = Types text index scope p (AskSeveral text p index s) r scope′
 
   abbrev pub TypesCase : ℕ → Typing → List ℕ → Type 0
-  TypesCase t r scope′ = Types text frames types functions channels scope p (AskCase text p t) r scope′
+  TypesCase t r scope′ = Types text index scope p (AskCase text p t) r scope′
 
   abbrev pub TypesBranches : BranchSeries → Typing → List ℕ → Type 0
-  TypesBranches s r scope′ = Types text frames types functions channels scope p (AskBranches text p s) r scope′
+  TypesBranches s r scope′ = Types text index scope p (AskBranches text p s) r scope′
 
   abbrev pub TypesAdj : Typing → List ℕ → Type 0
-  TypesAdj r scope′ = Types text frames types functions channels scope p (AskAdj text p) r scope′
+  TypesAdj r scope′ = Types text index scope p (AskAdj text p) r scope′
 
   abbrev pub TypesFit : Typing → List ℕ → Type 0
-  TypesFit r scope′ = Types text frames types functions channels scope p (AskFit text p) r scope′
+  TypesFit r scope′ = Types text index scope p (AskFit text p) r scope′

@@ -21,6 +21,7 @@ use Rattle.encoding.specs.ExprLists.{first-of-exprs}
 use Rattle.encoding.specs.FrameSpells.{lineAt}
 use Rattle.heads.specs.SkipHeads.{count-same}
 use Rattle.heads.specs.PartLaws.{none-long, more-long}
+use Rattle.index.specs.Sections.{framesOf, typesOf}
 use Rattle.index.specs.Indexed.{framePart}
 use Rattle.plain_types.specs.declared.words.Typed.{Typed}
 use Rattle.plain_types.specs.declared.words.Typing.{Typing}
@@ -67,8 +68,8 @@ dropped-less l i e = omega (arith, length-drop i l, ap length e)
 dropped-first : {A : Type 0} (l : List A) (i : ℕ) (d : A) {x : A} {xs : List A} → drop i l ≡ x ∷ xs → (getD l i d ≡ x) × (drop (i + 1) l ≡ xs)
 dropped-first l i d e = let same = sym (drop-cons l i d (dropped-less l i e)) ∙ e in (head-eq-of-cons-eq same, rw (add-one i) (tail-eq-of-cons-eq same))
 
-module _ (text frames types functions channels scope : List ℕ) (p : Place) (s : BranchSeries) where
-  pub branches-all : {r : Typing} → s .count ≡ 0 → r ≡ Is (record { word = s .word; next = p .at }) → TypesBranches text frames types functions channels scope p s r scope
+module _ (text index scope : List ℕ) (p : Place) (s : BranchSeries) where
+  pub branches-all : {r : Typing} → s .count ≡ 0 → r ≡ Is (record { word = s .word; next = p .at }) → TypesBranches text index scope p s r scope
   branches-all z q = record {
     says = λ {P} {C} {S} {Γ} st ask.
         let n = no-branch (ask .constructors) (ask .list) (ask .within) (sym (ask .counted) ∙ z) in
@@ -77,12 +78,12 @@ module _ (text frames types functions channels scope : List ℕ) (p : Place) (s 
     kept = kept-same;
   }
 
-  module _ (some-left : s .count ≡ 0 → ⊥) {n : ℕ} (k : (n ≡ getD types (typeWords * s .of + 1 + constructorWords * s .first) 0 % byteRange) × (n < byteRange)) {scope₁ : List ℕ} (enter : scope₁ ≡ entered types functions (Fields (s .of) (s .first)) scope (p .variables) n)
-      {x : Typing} {scope₂ : List ℕ} (v : TypesWant text frames types functions channels scope₁ (widerBy n p (p .at)) (s .word) x scope₂) where
+  module _ (some-left : s .count ≡ 0 → ⊥) {n : ℕ} (k : (n ≡ getD (typesOf index) (typeWords * s .of + 1 + constructorWords * s .first) 0 % byteRange) × (n < byteRange)) {scope₁ : List ℕ} (enter : scope₁ ≡ entered index (Fields (s .of) (s .first)) scope (p .variables) n)
+      {x : Typing} {scope₂ : List ℕ} (v : TypesWant text index scope₁ (widerBy n p (p .at)) (s .word) x scope₂) where
     branch-kept : Kept (p .variables) scope scope₂
-    branch-kept = kept-then (rw enter (entered-kept types functions (Fields (s .of) (s .first)) scope (p .variables) n)) (kept-below (p .variables) (omega arith) (v .kept))
+    branch-kept = kept-then (rw enter (entered-kept index (Fields (s .of) (s .first)) scope (p .variables) n)) (kept-below (p .variables) (omega arith) (v .kept))
 
-    module _ {P : File} {C : List Plain} {S : Scope} {Γ : List Plain} {o : Option Plain} {end : ℕ} (st : Stage text frames types functions channels scope (p .types) (p .line) (p .variables) P C S Γ) (ask : AskBranches text p s P C S Γ o end) where
+    module _ {P : File} {C : List Plain} {S : Scope} {Γ : List Plain} {o : Option Plain} {end : ℕ} (st : Stage text index scope (p .line) (p .variables) P C S Γ) (ask : AskBranches text p s P C S Γ o end) where
       abbrev b : MoreBranches (p .levels) S (ask .constructors) (ask .list)
       b = more-branches (ask .constructors) (ask .list) (ask .within) (λ z. some-left (ask .counted ∙ z))
 
@@ -101,10 +102,10 @@ module _ (text frames types functions channels scope : List ℕ) (p : Place) (s 
       branch-within : WithinExpr (p .levels) (wider n (owns (b .fields)) S) (b .branch)
       branch-within = subst (λ m. WithinExpr (p .levels) (wider m (owns (b .fields)) S) (b .branch)) (sym field-number) (b .within)
 
-      branch-stage : Stage text frames types functions channels scope₁ (p .types) (p .line) (p .variables + n) P C (wider n (owns (b .fields)) S) (Γ ++ plainFields (s .of) (b .fields))
+      branch-stage : Stage text index scope₁ (p .line) (p .variables + n) P C (wider n (owns (b .fields)) S) (Γ ++ plainFields (s .of) (b .fields))
       branch-stage = rw enter (stage-entered st (Fields (s .of) (s .first)) n (owns (b .fields)) (plainFields (s .of) (b .fields)) (length-map (b .fields) (plainField (s .of)) ∙ sym field-number) each (few-variables st n (owns (b .fields)) branch-within))
         where
-          each : (j : ℕ) → j < n → wantedWord types functions (Fields (s .of) (s .first)) j ≡ getD (map plainWord (plainFields (s .of) (b .fields))) j 0
+          each : (j : ℕ) → j < n → wantedWord index (Fields (s .of) (s .first)) j ≡ getD (map plainWord (plainFields (s .of) (b .fields))) j 0
           each j there =
               fields-wanted (st .indexed) (s .of) (s .first) (ask .less) less₂ j (omega (arith, there, field-number, ap length first-is))
               ∙ ap (λ (fs : Constructor). getD (map plainWord (plainFields (s .of) fs)) j 0) first-is
@@ -116,7 +117,7 @@ module _ (text frames types functions channels scope : List ℕ) (p : Place) (s 
           both (isPlain (ask .answer) (plainOf P C (b .branch) (Γ ++ plainFields (s .of) (b .fields)))) (plainBranches P C (b .branches) (b .constructors) (s .of) (ask .answer) Γ)
       all-branches = ap₂ (λ (bs : Exprs) (cs : List Constructor). plainBranches P C bs cs (s .of) (ask .answer) Γ) (b .list) (b .those) ∙ branches-more P C Γ (b .branch) (b .branches) (b .fields) (b .constructors) (s .of) (ask .answer)
 
-    pub branches-wrong : x ≡ Wrong → TypesBranches text frames types functions channels scope p s Wrong scope₂
+    pub branches-wrong : x ≡ Wrong → TypesBranches text index scope p s Wrong scope₂
     branches-wrong d = record {
       says = λ {P} {C} {S} {Γ} st ask.
           let m = b st ask in
@@ -125,8 +126,8 @@ module _ (text frames types functions channels scope : List ℕ) (p : Place) (s 
       kept = branch-kept;
     }
 
-    pub branches-next : {j : Typed} {r : Typing} {scope₃ : List ℕ} → x ≡ Is j → TypesBranches text frames types functions channels scope₂ (movedTo p (j .next)) (record { of = s .of; first = s .first + 1; count = s .count - 1; word = s .word }) r scope₃ →
-        TypesBranches text frames types functions channels scope p s r scope₃
+    pub branches-next : {j : Typed} {r : Typing} {scope₃ : List ℕ} → x ≡ Is j → TypesBranches text index scope₂ (movedTo p (j .next)) (record { of = s .of; first = s .first + 1; count = s .count - 1; word = s .word }) r scope₃ →
+        TypesBranches text index scope p s r scope₃
     branches-next {j} d u = record {
       says = λ {P} {C} {S} {Γ} st ask.
           let m = b st ask in
@@ -150,23 +151,23 @@ module _ (text frames types functions channels scope : List ℕ) (p : Place) (s 
     }
 
 -- ---- `1A`
-module _ (text frames types functions channels scope : List ℕ) (p : Place) {t subject : ℕ} (is : subject ≡ namedWord t) {x : Typing} {scope₁ : List ℕ} (v : TypesWant text frames types functions channels scope p subject x scope₁) where
-  module _ {P : File} {C : List Plain} {S : Scope} {Γ : List Plain} {o : Option Plain} {end : ℕ} (st : Stage text frames types functions channels scope (p .types) (p .line) (p .variables) P C S Γ) (ask : AskCase text p t P C S Γ o end) where
+module _ (text index scope : List ℕ) (p : Place) {t subject : ℕ} (is : subject ≡ namedWord t) {x : Typing} {scope₁ : List ℕ} (v : TypesWant text index scope p subject x scope₁) where
+  module _ {P : File} {C : List Plain} {S : Scope} {Γ : List Plain} {o : Option Plain} {end : ℕ} (st : Stage text index scope (p .line) (p .variables) P C S Γ) (ask : AskCase text p t P C S Γ o end) where
     case-less : t < length (P .types)
     case-less = rw (st .known .types) at (ask .less)
 
     subject-word : subject ≡ plainWord (pnamed t)
     subject-word = is ∙ named-is t (omega (arith, case-less, st .indexed .within .fewTypes))
 
-  pub case-wrong : x ≡ Wrong → TypesCase text frames types functions channels scope p t Wrong scope₁
+  pub case-wrong : x ≡ Wrong → TypesCase text index scope p t Wrong scope₁
   case-wrong d = record {
     says = λ {P} {C} {S} {Γ} st ask. wrong (ask .is ∙ plain-case P C Γ t (ask .first) (ask .result) (ask .branches)
         ∙ when-false (plainResult (ask .result)) (both-not (plainBranches P C (ask .branches) (constructorsOf P t) t (plainResult (ask .result)) Γ) (unmet v st (ask .part) (pnamed t) (subject-word st ask) d)));
     kept = v .kept;
   }
 
-  module _ {k : Typed} (d : x ≡ Is k) {line : List ℕ} (part : line ≡ framePart text frames (p .line)) {y : Typing} (w : ReadsResult line (k .next) y) where
-    result-read : {P : File} {C : List Plain} {S : Scope} {Γ : List Plain} {o : Option Plain} {end : ℕ} → Stage text frames types functions channels scope (p .types) (p .line) (p .variables) P C S Γ → (ask : AskCase text p t P C S Γ o end) →
+  module _ {k : Typed} (d : x ≡ Is k) {line : List ℕ} (part : line ≡ framePart text (framesOf index) (p .line)) {y : Typing} (w : ReadsResult line (k .next) y) where
+    result-read : {P : File} {C : List Plain} {S : Scope} {Γ : List Plain} {o : Option Plain} {end : ℕ} → Stage text index scope (p .line) (p .variables) P C S Γ → (ask : AskCase text p t P C S Γ o end) →
         Agrees y (k .next .at + length (resultBytes (ask .result))) (some (plainResult (ask .result)))
     result-read st ask =
         let h = met v st (ask .part) (pnamed t) (subject-word st ask) d in
@@ -174,11 +175,11 @@ module _ (text frames types functions channels scope : List ℕ) (p : Place) {t 
         w .says (omega (arith, st .indexed .within .fewTypes, ap length (st .known .types))) (ask .few) (ask .within)
         (subst (λ m. Spells resultBytes line m (ask .result)) (sym (h .place)) (subst (λ l. Spells resultBytes l (ask .middle) (ask .result)) (sym is) (ask .spelled)))
 
-    pub case-none : y ≡ Wrong → TypesCase text frames types functions channels scope p t Wrong scope₁
+    pub case-none : y ≡ Wrong → TypesCase text index scope p t Wrong scope₁
     case-none e = record { says = λ st ask. absurd (typed-there (result-read st ask) e); kept = v .kept }
 
-    pub case-done : {j : Typed} {n : ℕ} {r : Typing} {scope₂ : List ℕ} → y ≡ Is j → (n ≡ getD types (typeWords * t) 0 % byteRange) × (n < byteRange) →
-        TypesBranches text frames types functions channels scope₁ (movedTo p (j .next)) (record { of = t; first = 0; count = n; word = j .word }) r scope₂ → TypesCase text frames types functions channels scope p t r scope₂
+    pub case-done : {j : Typed} {n : ℕ} {r : Typing} {scope₂ : List ℕ} → y ≡ Is j → (n ≡ getD (typesOf index) (typeWords * t) 0 % byteRange) × (n < byteRange) →
+        TypesBranches text index scope₁ (movedTo p (j .next)) (record { of = t; first = 0; count = n; word = j .word }) r scope₂ → TypesCase text index scope p t r scope₂
     case-done {j} {n} e c u = record {
       says = λ {P} {C} {S} {Γ} st ask.
           let h = met v st (ask .part) (pnamed t) (subject-word st ask) d in

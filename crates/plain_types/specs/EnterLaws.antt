@@ -67,44 +67,40 @@ pub kept-put : (n : ℕ) (scope : List ℕ) (i a : ℕ) → n ≤ i → Kept n s
 kept-put n scope i a h = record { low = take-set-le n scope i a h; long = length-set scope i a }
 
 -- ---- words entered
-module _ (types functions : List ℕ) (want : Want) (scope : List ℕ) (to : ℕ) where
-  pub entered-none : scope ≡ entered types functions want scope to 0
+module _ (index : List ℕ) (want : Want) (scope : List ℕ) (to : ℕ) where
+  pub entered-none : scope ≡ entered index want scope to 0
   unfolding entered
   entered-none = refl
 
-  pub entered-more : {scope₁ scope₂ : List ℕ} {word : ℕ} (i : ℕ) → scope₁ ≡ entered types functions want scope to i → word ≡ wantedWord types functions want i → scope₂ ≡ set scope₁ (to + i) word → scope₂ ≡ entered types functions want scope to (i + 1)
+  pub entered-more : {scope₁ scope₂ : List ℕ} {word : ℕ} (i : ℕ) → scope₁ ≡ entered index want scope to i → word ≡ wantedWord index want i → scope₂ ≡ set scope₁ (to + i) word → scope₂ ≡ entered index want scope to (i + 1)
   unfolding entered
   entered-more i e w q = rw add-one (q ∙ ap₂ (λ (l : List ℕ) (a : ℕ). set l (to + i) a) e w)
 
-  pub entered-kept : (n : ℕ) → Kept to scope (entered types functions want scope to n)
+  pub entered-kept : (n : ℕ) → Kept to scope (entered index want scope to n)
   unfolding entered
   entered-kept zero = kept-same
-  entered-kept (suc n) = kept-then (entered-kept n) (kept-put to (entered types functions want scope to n) (to + n) (wantedWord types functions want n) (omega arith))
+  entered-kept (suc n) = kept-then (entered-kept n) (kept-put to (entered index want scope to n) (to + n) (wantedWord index want n) (omega arith))
 
-  pub entered-long : {scope₁ : List ℕ} (i : ℕ) → scope₁ ≡ entered types functions want scope to i → length scope₁ ≡ length scope
-  entered-long i e = ap length e ∙ entered-kept i .long
+  pub entered-all : {scope₁ : List ℕ} {i n : ℕ} → (i ≤ n) × (scope₁ ≡ entered index want scope to i) → n ≤ i → scope₁ ≡ entered index want scope to n
+  entered-all {i} {n} e h = let same : i ≡ n = omega (arith, e .0, h) in e .1 ∙ ap (entered index want scope to) same
 
-  pub entered-all : {scope₁ : List ℕ} {i n : ℕ} → (i ≤ n) × (scope₁ ≡ entered types functions want scope to i) → n ≤ i → scope₁ ≡ entered types functions want scope to n
-  entered-all {i} {n} e h = let same : i ≡ n = omega (arith, e .0, h) in e .1 ∙ ap (entered types functions want scope to) same
-
-  pub entered-words : (words : List ℕ) (n : ℕ) → n ≤ length words → ((j : ℕ) → j < n → wantedWord types functions want j ≡ getD words j 0) → to + n ≤ length scope → take (to + n) (entered types functions want scope to n) ≡ take to scope ++ take n words
+  pub entered-words : (words : List ℕ) (n : ℕ) → n ≤ length words → ((j : ℕ) → j < n → wantedWord index want j ≡ getD words j 0) → to + n ≤ length scope → take (to + n) (entered index want scope to n) ≡ take to scope ++ take n words
   unfolding entered
   entered-words words zero few each room = rw (add-zero to) (sym (append-nil (take to scope)))
   entered-words words (suc n) few each room =
-      let before : List ℕ = entered types functions want scope to n in
+      let before : List ℕ = entered index want scope to n in
       let long : length before ≡ length scope = entered-kept n .long in
       rw (add-suc to n)
-      (take-suc-set before (to + n) (wantedWord types functions want n) (omega (arith, long, room))
+      (take-suc-set before (to + n) (wantedWord index want n) (omega (arith, long, room))
       ∙ ap₂ (λ (l : List ℕ) (a : ℕ). l ++ (a ∷ [])) (entered-words words n (omega (arith, few)) (λ j less. each j (omega (arith, less))) (omega (arith, room))) (each n (omega arith))
       ∙ append-assoc (take to scope) (take n words) (getD words n 0 ∷ [])
       ∙ ap (λ (l : List ℕ). take to scope ++ l) (sym (take-suc words n 0 (omega (arith, few)))))
 
 -- ---- a scope of a file that was read
-module _ {text frames types functions channels scope : List ℕ} {count line variables : ℕ} {P : File} {C : List Plain} {S : Scope} {Γ : List Plain} (st : Stage text frames types functions channels scope count line variables P C S Γ) where
-  pub stage-kept : {scope′ : List ℕ} → Kept variables scope scope′ → Stage text frames types functions channels scope′ count line variables P C S Γ
+module _ {text index scope : List ℕ} {line variables : ℕ} {P : File} {C : List Plain} {S : Scope} {Γ : List Plain} (st : Stage text index scope line variables P C S Γ) where
+  pub stage-kept : {scope′ : List ℕ} → Kept variables scope scope′ → Stage text index scope′ line variables P C S Γ
   stage-kept k = record {
     indexed = st .indexed;
-    typeCount = st .typeCount;
     less = st .less;
     known = st .known;
     channel = st .channel;
@@ -117,11 +113,10 @@ module _ {text frames types functions channels scope : List ℕ} {count line var
   }
 
   stage-more : {scope′ : List ℕ} (n sizes : ℕ) (τs : List Plain) → length τs ≡ n → take (variables + n) scope′ ≡ take variables scope ++ map plainWord τs → length scope′ ≡ length scope →
-      Stage text frames types functions channels scope′ count line (variables + n) P C (wider n sizes S) (Γ ++ τs)
+      Stage text index scope′ line (variables + n) P C (wider n sizes S) (Γ ++ τs)
   unfolding wider
   stage-more n sizes τs same words long = record {
     indexed = st .indexed;
-    typeCount = st .typeCount;
     less = st .less;
     known = wider-known n sizes (st .known);
     channel = st .channel;
@@ -134,15 +129,15 @@ module _ {text frames types functions channels scope : List ℕ} {count line var
   }
 
   -- one more variable, whose word is written behind the scope
-  pub stage-bound : {word : ℕ} (σ : Plain) → word ≡ plainWord σ → variables + 1 ≤ variablesMost → Stage text frames types functions channels (set scope variables word) count line (variables + 1) P C (wider 1 0 S) (Γ ++ (σ ∷ []))
+  pub stage-bound : {word : ℕ} (σ : Plain) → word ≡ plainWord σ → variables + 1 ≤ variablesMost → Stage text index (set scope variables word) line (variables + 1) P C (wider 1 0 S) (Γ ++ (σ ∷ []))
   stage-bound {word} σ w h = stage-more 1 0 (σ ∷ []) refl
       (rw (add-one variables) (take-suc-set scope variables word (omega (arith, h, st .room))) ∙ ap (λ (a : ℕ). take variables scope ++ (a ∷ [])) w)
       (length-set scope variables word)
 
   -- and those of a list of types, entered
-  pub stage-entered : (want : Want) (n sizes : ℕ) (τs : List Plain) → length τs ≡ n → ((j : ℕ) → j < n → wantedWord types functions want j ≡ getD (map plainWord τs) j 0) → variables + n ≤ variablesMost →
-      Stage text frames types functions channels (entered types functions want scope variables n) count line (variables + n) P C (wider n sizes S) (Γ ++ τs)
+  pub stage-entered : (want : Want) (n sizes : ℕ) (τs : List Plain) → length τs ≡ n → ((j : ℕ) → j < n → wantedWord index want j ≡ getD (map plainWord τs) j 0) → variables + n ≤ variablesMost →
+      Stage text index (entered index want scope variables n) line (variables + n) P C (wider n sizes S) (Γ ++ τs)
   stage-entered want n sizes τs same each h = stage-more n sizes τs same
-      (entered-words types functions want scope variables (map plainWord τs) n (omega (arith, same, length-map τs plainWord)) each (omega (arith, h, st .room))
+      (entered-words index want scope variables (map plainWord τs) n (omega (arith, same, length-map τs plainWord)) each (omega (arith, h, st .room))
       ∙ ap (λ (l : List ℕ). take variables scope ++ l) (take-all n (map plainWord τs) (omega (arith, same, length-map τs plainWord))))
-      (entered-kept types functions want scope variables n .long)
+      (entered-kept index want scope variables n .long)

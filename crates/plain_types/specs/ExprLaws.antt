@@ -19,6 +19,7 @@ use Rattle.heads.specs.declared.Form.the-variants.{Bool as BoolForm, Int, Varia
 use Rattle.heads.specs.declared.Head.{Head}
 use Rattle.heads.specs.Heads.{Heads}
 use Rattle.heads.specs.HeadForms.{no-missing, bool-head, int-head, var-head, now-head, last-head, let-head, if-head, op-head, call-head, con-head, case-head, adj-head, fit-head}
+use Rattle.index.specs.Sections.{framesOf, channelsOf}
 use Rattle.index.specs.Indexed.{declaredAt, framePart}
 use Rattle.plain_types.specs.declared.words.Typing.{Typing}
 use Rattle.plain_types.specs.declared.words.Typing.the-variants.{Is}
@@ -34,12 +35,12 @@ scope-word : (scope : List ℕ) (variables : ℕ) (Γ : List Plain) (v : ℕ) �
 scope-word scope variables Γ v e less less₂ =
     sym (getD-take variables scope v 0 less) ∙ ap (λ (l : List ℕ). getD l v 0) e ∙ look-getD (map plainWord Γ) v 0 (look-map plainWord Γ v (look-at Γ v pbool less₂))
 
-module _ (text frames types functions channels scope : List ℕ) (p : Place) where
-  pub expr-cut : {r : Typing} → p .levels ≡ 0 → TypesExpr text frames types functions channels scope p r scope
+module _ (text index scope : List ℕ) (p : Place) where
+  pub expr-cut : {r : Typing} → p .levels ≡ 0 → TypesExpr text index scope p r scope
   expr-cut z = record { says = λ {P} {C} {S} st ask. absurd (no-level (subst (λ m. WithinExpr m S (ask .expr)) z (ask .part .within))); kept = kept-same }
 
-  module _ {line : List ℕ} (part : line ≡ framePart text frames (p .line)) {h : Head} (heads : Heads line (p .at .at) h) where
-    module _ {P : File} {C : List Plain} {S : Scope} {Γ : List Plain} (st : Stage text frames types functions channels scope (p .types) (p .line) (p .variables) P C S Γ) where
+  module _ {line : List ℕ} (part : line ≡ framePart text (framesOf index) (p .line)) {h : Head} (heads : Heads line (p .at .at) h) where
+    module _ {P : File} {C : List Plain} {S : Scope} {Γ : List Plain} (st : Stage text index scope (p .line) (p .variables) P C S Γ) where
       heads-in : Heads (lineAt text (p .line)) (p .at .at) h
       heads-in = subst (λ l. Heads l (p .at .at) h) (part ∙ st .indexed .eachFrame (p .line) (st .less) .line) heads
 
@@ -47,11 +48,11 @@ module _ (text frames types functions channels scope : List ℕ) (p : Place) whe
     part-of : {left at end : ℕ} {S : Scope} {e : Expr} → p .levels ≡ suc left → WithinExpr left S e → Spells exprBytes (lineAt text (p .line)) at e → at + length (exprBytes e) ≡ end → Part (lineAt text (p .line)) (p .levels - 1) S at e end
     part-of {S} {e} deep w s q = record { within = subst (λ m. WithinExpr m S e) (less-deep deep) w; spelled = s; ends = q }
 
-    pub expr-missing : {r : Typing} → h .form ≡ Missing → TypesExpr text frames types functions channels scope p r scope
+    pub expr-missing : {r : Typing} → h .form ≡ Missing → TypesExpr text index scope p r scope
     expr-missing q = record { says = λ st ask. absurd (no-missing (heads-in st) (ask .part .spelled) q); kept = kept-same }
 
     -- ---- leaves
-    pub expr-bool : {b : ℕ} {r : Typing} → h .form ≡ BoolForm b → r ≡ Is (record { word = 0; next = h .next }) → TypesExpr text frames types functions channels scope p r scope
+    pub expr-bool : {b : ℕ} {r : Typing} → h .form ≡ BoolForm b → r ≡ Is (record { word = 0; next = h .next }) → TypesExpr text index scope p r scope
     expr-bool q e = record {
       says = λ {P} {C} {S} {Γ} st ask.
           let i = bool-head (heads-in st) (ask .part .spelled) (ask .part .within) q in
@@ -59,7 +60,7 @@ module _ (text frames types functions channels scope : List ℕ) (p : Place) whe
       kept = kept-same;
     }
 
-    pub expr-int : {b : ℕ} {r : Typing} → h .form ≡ Int b → r ≡ Is (record { word = 1; next = h .next }) → TypesExpr text frames types functions channels scope p r scope
+    pub expr-int : {b : ℕ} {r : Typing} → h .form ≡ Int b → r ≡ Is (record { word = 1; next = h .next }) → TypesExpr text index scope p r scope
     expr-int {b} q e = record {
       says = λ {P} {C} {S} {Γ} st ask.
           let i = int-head (heads-in st) (ask .part .spelled) (ask .part .within) q in
@@ -67,7 +68,7 @@ module _ (text frames types functions channels scope : List ℕ) (p : Place) whe
       kept = kept-same;
     }
 
-    pub expr-var : {v word : ℕ} {r : Typing} → h .form ≡ Variable v → word ≡ getD scope v 0 → r ≡ Is (record { word = word; next = h .next }) → TypesExpr text frames types functions channels scope p r scope
+    pub expr-var : {v word : ℕ} {r : Typing} → h .form ≡ Variable v → word ≡ getD scope v 0 → r ≡ Is (record { word = word; next = h .next }) → TypesExpr text index scope p r scope
     expr-var {v} q w e = record {
       says = λ {P} {C} {S} {Γ} st ask.
           let i = var-head (heads-in st) (ask .part .spelled) (ask .part .within) q in
@@ -78,8 +79,8 @@ module _ (text frames types functions channels scope : List ℕ) (p : Place) whe
       kept = kept-same;
     }
 
-    module _ {c : ℕ} {r : Typing} (e : r ≡ Is (record { word = withoutSize (declaredAt channels c); next = h .next })) where
-      pub expr-now : h .form ≡ Now c → TypesExpr text frames types functions channels scope p r scope
+    module _ {c : ℕ} {r : Typing} (e : r ≡ Is (record { word = withoutSize (declaredAt (channelsOf index) c); next = h .next })) where
+      pub expr-now : h .form ≡ Now c → TypesExpr text index scope p r scope
       expr-now q = record {
         says = λ {P} {C} {S} {Γ} st ask.
             let i = now-head (heads-in st) (ask .part .spelled) (ask .part .within) q in
@@ -88,7 +89,7 @@ module _ (text frames types functions channels scope : List ℕ) (p : Place) whe
         kept = kept-same;
       }
 
-      pub expr-last : h .form ≡ Last c → TypesExpr text frames types functions channels scope p r scope
+      pub expr-last : h .form ≡ Last c → TypesExpr text index scope p r scope
       expr-last q = record {
         says = λ {P} {C} {S} {Γ} st ask.
             let i = last-head (heads-in st) (ask .part .spelled) (ask .part .within) q in
@@ -99,7 +100,7 @@ module _ (text frames types functions channels scope : List ℕ) (p : Place) whe
 
     -- ---- forms with parts
     module _ {r : Typing} {scope₁ : List ℕ} where
-      pub expr-let : h .form ≡ Let → TypesLet text frames types functions channels scope (insideOf p (h .next)) r scope₁ → TypesExpr text frames types functions channels scope p r scope₁
+      pub expr-let : h .form ≡ Let → TypesLet text index scope (insideOf p (h .next)) r scope₁ → TypesExpr text index scope p r scope₁
       expr-let q v = record {
         says = λ {P} {C} {S} {Γ} st ask.
             let i = let-head (heads-in st) (ask .part .spelled) (ask .part .within) q in
@@ -114,7 +115,7 @@ module _ (text frames types functions channels scope : List ℕ) (p : Place) whe
         kept = v .kept;
       }
 
-      pub expr-if : h .form ≡ If → TypesIf text frames types functions channels scope (insideOf p (h .next)) r scope₁ → TypesExpr text frames types functions channels scope p r scope₁
+      pub expr-if : h .form ≡ If → TypesIf text index scope (insideOf p (h .next)) r scope₁ → TypesExpr text index scope p r scope₁
       expr-if q v = record {
         says = λ {P} {C} {S} {Γ} st ask.
             let i = if-head (heads-in st) (ask .part .spelled) (ask .part .within) q in
@@ -132,7 +133,7 @@ module _ (text frames types functions channels scope : List ℕ) (p : Place) whe
         kept = v .kept;
       }
 
-      pub expr-op : {o : ℕ} → h .form ≡ Operator o → TypesOp text frames types functions channels scope (insideOf p (h .next)) o r scope₁ → TypesExpr text frames types functions channels scope p r scope₁
+      pub expr-op : {o : ℕ} → h .form ≡ Operator o → TypesOp text index scope (insideOf p (h .next)) o r scope₁ → TypesExpr text index scope p r scope₁
       expr-op q v = record {
         says = λ {P} {C} {S} {Γ} st ask.
             let i = op-head (heads-in st) (ask .part .spelled) (ask .part .within) q in
@@ -149,7 +150,7 @@ module _ (text frames types functions channels scope : List ℕ) (p : Place) whe
         kept = v .kept;
       }
 
-      pub expr-call : {f : ℕ} → h .form ≡ Call f → TypesCall text frames types functions channels scope (insideOf p (h .next)) f r scope₁ → TypesExpr text frames types functions channels scope p r scope₁
+      pub expr-call : {f : ℕ} → h .form ≡ Call f → TypesCall text index scope (insideOf p (h .next)) f r scope₁ → TypesExpr text index scope p r scope₁
       expr-call {f} q v = record {
         says = λ {P} {C} {S} {Γ} st ask.
             let i = call-head (heads-in st) (ask .part .spelled) (ask .part .within) q in
@@ -164,7 +165,7 @@ module _ (text frames types functions channels scope : List ℕ) (p : Place) whe
         kept = v .kept;
       }
 
-      pub expr-con : {t c : ℕ} → h .form ≡ Construct t c → TypesCon text frames types functions channels scope (insideOf p (h .next)) t c r scope₁ → TypesExpr text frames types functions channels scope p r scope₁
+      pub expr-con : {t c : ℕ} → h .form ≡ Construct t c → TypesCon text index scope (insideOf p (h .next)) t c r scope₁ → TypesExpr text index scope p r scope₁
       expr-con {t} {c} q v = record {
         says = λ {P} {C} {S} {Γ} st ask.
             let i = con-head (heads-in st) (ask .part .spelled) (ask .part .within) q in
@@ -180,7 +181,7 @@ module _ (text frames types functions channels scope : List ℕ) (p : Place) whe
         kept = v .kept;
       }
 
-      pub expr-case : {t : ℕ} → h .form ≡ Case t → TypesCase text frames types functions channels scope (insideOf p (h .next)) t r scope₁ → TypesExpr text frames types functions channels scope p r scope₁
+      pub expr-case : {t : ℕ} → h .form ≡ Case t → TypesCase text index scope (insideOf p (h .next)) t r scope₁ → TypesExpr text index scope p r scope₁
       expr-case {t} q v = record {
         says = λ {P} {C} {S} {Γ} st ask.
             let i = case-head (heads-in st) (ask .part .spelled) (ask .part .within) q in
@@ -202,7 +203,7 @@ module _ (text frames types functions channels scope : List ℕ) (p : Place) whe
         kept = v .kept;
       }
 
-      pub expr-adj : h .form ≡ Adjust → TypesAdj text frames types functions channels scope (insideOf p (h .next)) r scope₁ → TypesExpr text frames types functions channels scope p r scope₁
+      pub expr-adj : h .form ≡ Adjust → TypesAdj text index scope (insideOf p (h .next)) r scope₁ → TypesExpr text index scope p r scope₁
       expr-adj q v = record {
         says = λ {P} {C} {S} {Γ} st ask.
             let i = adj-head (heads-in st) (ask .part .spelled) (ask .part .within) q in
@@ -218,7 +219,7 @@ module _ (text frames types functions channels scope : List ℕ) (p : Place) whe
         kept = v .kept;
       }
 
-      pub expr-fit : {k : ℕ} → h .form ≡ Fit k → TypesFit text frames types functions channels scope (insideOf p (h .next)) r scope₁ → TypesExpr text frames types functions channels scope p r scope₁
+      pub expr-fit : {k : ℕ} → h .form ≡ Fit k → TypesFit text index scope (insideOf p (h .next)) r scope₁ → TypesExpr text index scope p r scope₁
       expr-fit {k} q v = record {
         says = λ {P} {C} {S} {Γ} st ask.
             let i = fit-head (heads-in st) (ask .part .spelled) (ask .part .within) q in

@@ -23,6 +23,7 @@ use Rattle.text.specs.Bytes.{bytesFrom, forget, plainWord, Passes}
 use Rattle.encoding.specs.Spells.{Spells}
 use Rattle.encoding.specs.FrameSpells.{lineAt}
 use Rattle.heads.specs.SkipHeads.{next-at, next-there}
+use Rattle.index.specs.Sections.{framesOf}
 use Rattle.index.specs.Indexed.{framePart}
 use Rattle.plain_types.specs.declared.words.Typed.{Typed}
 use Rattle.plain_types.specs.declared.words.Typing.{Typing}
@@ -44,7 +45,7 @@ unfolding wider
 wider-variables n s S = refl
 
 -- the variables of a part's scope are not too many
-pub few-variables : {text frames types functions channels scope : List ℕ} {count line variables : ℕ} {P : File} {C : List Plain} {S : Scope} {Γ : List Plain} → Stage text frames types functions channels scope count line variables P C S Γ →
+pub few-variables : {text index scope : List ℕ} {line variables : ℕ} {P : File} {C : List Plain} {S : Scope} {Γ : List Plain} → Stage text index scope line variables P C S Γ →
     (n s : ℕ) {levels : ℕ} {e : Expr} → WithinExpr levels (wider n s S) e → variables + n ≤ variablesMost
 few-variables {S} st n s w = omega (arith, room-variables w, wider-variables n s S, st .inScope)
 
@@ -56,55 +57,55 @@ module _ {text : List ℕ} {p : Place} {P : File} {C : List Plain} {S : Scope} {
   ask-want {e} τ w q = record { expr = e; part = q; type = τ; wanted = w; is = refl }
 
 -- ---- what a call found, at the place p
-module _ {text frames types functions channels scope scope₁ : List ℕ} {p : Place} {x : Typing} where
-  module _ (v : TypesExpr text frames types functions channels scope p x scope₁) {P : File} {C : List Plain} {S : Scope} {Γ : List Plain} {e : Expr} {end : ℕ}
-      (st : Stage text frames types functions channels scope (p .types) (p .line) (p .variables) P C S Γ) (q : Part (lineAt text (p .line)) (p .levels) S (p .at .at) e end) where
+module _ {text index scope scope₁ : List ℕ} {p : Place} {x : Typing} where
+  module _ (v : TypesExpr text index scope p x scope₁) {P : File} {C : List Plain} {S : Scope} {Γ : List Plain} {e : Expr} {end : ℕ}
+      (st : Stage text index scope (p .line) (p .variables) P C S Γ) (q : Part (lineAt text (p .line)) (p .levels) S (p .at .at) e end) where
     pub found : {k : Typed} → x ≡ Is k → TypeFound k end (plainOf P C e Γ)
     found d = typed (v .says st (ask-expr q)) d
 
     pub missed : x ≡ Wrong → plainOf P C e Γ ≡ none
     missed d = untyped (v .says st (ask-expr q)) d
 
-  module _ {word : ℕ} (v : TypesWant text frames types functions channels scope p word x scope₁) {P : File} {C : List Plain} {S : Scope} {Γ : List Plain} {e : Expr} {end : ℕ}
-      (st : Stage text frames types functions channels scope (p .types) (p .line) (p .variables) P C S Γ) (q : Part (lineAt text (p .line)) (p .levels) S (p .at .at) e end) (τ : Plain) (w : word ≡ plainWord τ) where
+  module _ {word : ℕ} (v : TypesWant text index scope p word x scope₁) {P : File} {C : List Plain} {S : Scope} {Γ : List Plain} {e : Expr} {end : ℕ}
+      (st : Stage text index scope (p .line) (p .variables) P C S Γ) (q : Part (lineAt text (p .line)) (p .levels) S (p .at .at) e end) (τ : Plain) (w : word ≡ plainWord τ) where
     pub met : {k : Typed} → x ≡ Is k → Holds k end (isPlain τ (plainOf P C e Γ)) τ
     met d = holds (isPlain τ (plainOf P C e Γ)) τ (v .says st (ask-want τ w q)) d
 
     pub unmet : x ≡ Wrong → isPlain τ (plainOf P C e Γ) ≡ false
     unmet d = fails (isPlain τ (plainOf P C e Γ)) τ (v .says st (ask-want τ w q)) d
 
-module _ (text frames types functions channels scope : List ℕ) (p : Place) where
+module _ (text index scope : List ℕ) (p : Place) where
   -- ---- an expression of the type wanted
-  module _ (word : ℕ) {x : Typing} {scope₁ : List ℕ} (v : TypesExpr text frames types functions channels scope p x scope₁) where
-    pub want-wrong : x ≡ Wrong → TypesWant text frames types functions channels scope p word Wrong scope₁
+  module _ (word : ℕ) {x : Typing} {scope₁ : List ℕ} (v : TypesExpr text index scope p x scope₁) where
+    pub want-wrong : x ≡ Wrong → TypesWant text index scope p word Wrong scope₁
     want-wrong d = record { says = λ st ask. wrong (ask .is ∙ when-false (ask .type) (none-wanted (ask .type) (missed v st (ask .part) d))); kept = v .kept }
 
-    pub want-other : {k : Typed} → x ≡ Is k → (k .word ≡ word → ⊥) → TypesWant text frames types functions channels scope p word Wrong scope₁
+    pub want-other : {k : Typed} → x ≡ Is k → (k .word ≡ word → ⊥) → TypesWant text index scope p word Wrong scope₁
     want-other d h = record {
       says = λ st ask. let t = found v st (ask .part) d in wrong (ask .is ∙ when-false (ask .type) (not-wanted (ask .type) (t .is) (λ e. h (t .word ∙ e ∙ sym (ask .wanted)))));
       kept = v .kept;
     }
 
-    pub want-done : {k : Typed} → x ≡ Is k → k .word ≡ word → TypesWant text frames types functions channels scope p word (Is k) scope₁
+    pub want-done : {k : Typed} → x ≡ Is k → k .word ≡ word → TypesWant text index scope p word (Is k) scope₁
     want-done d h = record {
       says = λ st ask. let t = found v st (ask .part) d in answered refl (h ∙ ask .wanted) (t .place) (ask .is ∙ when-true (ask .type) (is-wanted (ask .type) (t .is) (sym (t .word) ∙ h ∙ ask .wanted)));
       kept = v .kept;
     }
 
   -- ---- `15`
-  module _ {x : Typing} {scope₁ : List ℕ} (v : TypesExpr text frames types functions channels scope p x scope₁) where
-    pub let-wrong : x ≡ Wrong → TypesLet text frames types functions channels scope p Wrong scope₁
+  module _ {x : Typing} {scope₁ : List ℕ} (v : TypesExpr text index scope p x scope₁) where
+    pub let-wrong : x ≡ Wrong → TypesLet text index scope p Wrong scope₁
     let-wrong d = record { says = λ {P} {C} {S} {Γ} st ask. wrong (ask .is ∙ plain-let P C Γ (ask .first) (ask .second) ∙ chain-none _ (missed v st (ask .part) d)); kept = v .kept }
 
     module _ {k : Typed} (d : x ≡ Is k) {scope₂ : List ℕ} (put : scope₂ ≡ set scope₁ (p .variables) (k .word)) where
       bound-kept : {scope₃ : List ℕ} → Kept (p .variables + 1) scope₂ scope₃ → Kept (p .variables) scope scope₃
       bound-kept u = kept-then (v .kept) (kept-then (rw put (kept-put (p .variables) scope₁ (p .variables) (k .word) (omega arith))) (kept-below (p .variables) (omega arith) u))
 
-      bound-stage : {P : File} {C : List Plain} {S : Scope} {Γ : List Plain} → Stage text frames types functions channels scope (p .types) (p .line) (p .variables) P C S Γ → (σ : Plain) → k .word ≡ plainWord σ →
-          p .variables + 1 ≤ variablesMost → Stage text frames types functions channels scope₂ (p .types) (p .line) (p .variables + 1) P C (wider 1 0 S) (Γ ++ (σ ∷ []))
+      bound-stage : {P : File} {C : List Plain} {S : Scope} {Γ : List Plain} → Stage text index scope (p .line) (p .variables) P C S Γ → (σ : Plain) → k .word ≡ plainWord σ →
+          p .variables + 1 ≤ variablesMost → Stage text index scope₂ (p .line) (p .variables + 1) P C (wider 1 0 S) (Γ ++ (σ ∷ []))
       bound-stage st σ w few = rw put (stage-bound (stage-kept st (v .kept)) σ w few)
 
-      pub let-done : {r : Typing} {scope₃ : List ℕ} → TypesExpr text frames types functions channels scope₂ (widerBy 1 p (k .next)) r scope₃ → TypesLet text frames types functions channels scope p r scope₃
+      pub let-done : {r : Typing} {scope₃ : List ℕ} → TypesExpr text index scope₂ (widerBy 1 p (k .next)) r scope₃ → TypesLet text index scope p r scope₃
       let-done u = record {
         says = λ {P} {C} {S} {Γ} st ask.
             let t = found v st (ask .part) d in
@@ -114,8 +115,8 @@ module _ (text frames types functions channels scope : List ℕ) (p : Place) whe
       }
 
       -- ---- `1C`, behind its first part
-      module _ (large : tagStep ≤ k .word) {y : Typing} {scope₃ : List ℕ} (u : TypesExpr text frames types functions channels scope₂ (widerBy 1 p (k .next)) y scope₃) where
-        pub fit-none : y ≡ Wrong → TypesFit text frames types functions channels scope p Wrong scope₃
+      module _ (large : tagStep ≤ k .word) {y : Typing} {scope₃ : List ℕ} (u : TypesExpr text index scope₂ (widerBy 1 p (k .next)) y scope₃) where
+        pub fit-none : y ≡ Wrong → TypesFit text index scope p Wrong scope₃
         fit-none o = record {
           says = λ {P} {C} {S} {Γ} st ask.
               let t = found v st (ask .part) d in
@@ -124,7 +125,7 @@ module _ (text frames types functions channels scope : List ℕ) (p : Place) whe
           kept = bound-kept (u .kept);
         }
 
-        pub fit-done : {j : Typed} {r : Typing} {scope₄ : List ℕ} → y ≡ Is j → TypesWant text frames types functions channels scope₃ (movedTo p (j .next)) (j .word) r scope₄ → TypesFit text frames types functions channels scope p r scope₄
+        pub fit-done : {j : Typed} {r : Typing} {scope₄ : List ℕ} → y ≡ Is j → TypesWant text index scope₃ (movedTo p (j .next)) (j .word) r scope₄ → TypesFit text index scope p r scope₄
         fit-done {j} o w = record {
           says = λ {P} {C} {S} {Γ} st ask.
               let t = found v st (ask .part) d in
@@ -135,10 +136,10 @@ module _ (text frames types functions channels scope : List ℕ) (p : Place) whe
           kept = kept-then (bound-kept (u .kept)) (w .kept);
         }
 
-    pub fit-wrong : x ≡ Wrong → TypesFit text frames types functions channels scope p Wrong scope₁
+    pub fit-wrong : x ≡ Wrong → TypesFit text index scope p Wrong scope₁
     fit-wrong d = record { says = λ {P} {C} {S} {Γ} st ask. wrong (ask .is ∙ plain-fit P C Γ (ask .size) (ask .first) (ask .second) (ask .third) ∙ chain-none _ (missed v st (ask .part) d)); kept = v .kept }
 
-    pub fit-unnamed : {k : Typed} → x ≡ Is k → k .word < tagStep → TypesFit text frames types functions channels scope p Wrong scope₁
+    pub fit-unnamed : {k : Typed} → x ≡ Is k → k .word < tagStep → TypesFit text index scope p Wrong scope₁
     fit-unnamed d h = record {
       says = λ {P} {C} {S} {Γ} st ask.
           let t = found v st (ask .part) d in
@@ -149,16 +150,16 @@ module _ (text frames types functions channels scope : List ℕ) (p : Place) whe
     }
 
   -- ---- `16`
-  module _ {x : Typing} {scope₁ : List ℕ} (v : TypesWant text frames types functions channels scope p 0 x scope₁) where
-    pub if-wrong : x ≡ Wrong → TypesIf text frames types functions channels scope p Wrong scope₁
+  module _ {x : Typing} {scope₁ : List ℕ} (v : TypesWant text index scope p 0 x scope₁) where
+    pub if-wrong : x ≡ Wrong → TypesIf text index scope p Wrong scope₁
     if-wrong d = record {
       says = λ {P} {C} {S} {Γ} st ask. wrong (ask .is ∙ plain-if P C Γ (ask .first) (ask .second) (ask .third)
           ∙ chain-never _ _ (λ τ. when-false τ (both-not (isPlain τ (plainOf P C (ask .third) Γ)) (unmet v st (ask .part) pbool bool-word d))));
       kept = v .kept;
     }
 
-    module _ {k : Typed} (d : x ≡ Is k) {y : Typing} {scope₂ : List ℕ} (u : TypesExpr text frames types functions channels scope₁ (movedTo p (k .next)) y scope₂) where
-      pub if-none : y ≡ Wrong → TypesIf text frames types functions channels scope p Wrong scope₂
+    module _ {k : Typed} (d : x ≡ Is k) {y : Typing} {scope₂ : List ℕ} (u : TypesExpr text index scope₁ (movedTo p (k .next)) y scope₂) where
+      pub if-none : y ≡ Wrong → TypesIf text index scope p Wrong scope₂
       if-none o = record {
         says = λ {P} {C} {S} {Γ} st ask.
             let h = met v st (ask .part) pbool bool-word d in
@@ -166,7 +167,7 @@ module _ (text frames types functions channels scope : List ℕ) (p : Place) whe
         kept = kept-then (v .kept) (u .kept);
       }
 
-      pub if-done : {j : Typed} {r : Typing} {scope₃ : List ℕ} → y ≡ Is j → TypesWant text frames types functions channels scope₂ (movedTo p (j .next)) (j .word) r scope₃ → TypesIf text frames types functions channels scope p r scope₃
+      pub if-done : {j : Typed} {r : Typing} {scope₃ : List ℕ} → y ≡ Is j → TypesWant text index scope₂ (movedTo p (j .next)) (j .word) r scope₃ → TypesIf text index scope p r scope₃
       if-done {j} o w = record {
         says = λ {P} {C} {S} {Γ} st ask.
             let h = met v st (ask .part) pbool bool-word d in
@@ -177,19 +178,19 @@ module _ (text frames types functions channels scope : List ℕ) (p : Place) whe
       }
 
   -- ---- `17`
-  module _ {code word : ℕ} (is : word ≡ operandWord code) {x : Typing} {scope₁ : List ℕ} (v : TypesWant text frames types functions channels scope p word x scope₁) where
+  module _ {code word : ℕ} (is : word ≡ operandWord code) {x : Typing} {scope₁ : List ℕ} (v : TypesWant text index scope p word x scope₁) where
     operand-word : {P : File} {C : List Plain} {S : Scope} {Γ : List Plain} {o : Option Plain} {end : ℕ} (ask : AskOp text p code P C S Γ o end) → word ≡ plainWord (operandType (ask .op))
     operand-word ask = is ∙ ap operandWord (sym (ask .coded)) ∙ operand-is (ask .op)
 
-    pub op-wrong : x ≡ Wrong → TypesOp text frames types functions channels scope p code Wrong scope₁
+    pub op-wrong : x ≡ Wrong → TypesOp text index scope p code Wrong scope₁
     op-wrong d = record {
       says = λ {P} {C} {S} {Γ} st ask. wrong (ask .is ∙ plain-op P C Γ (ask .op) (ask .first) (ask .second)
           ∙ when-false (opType (ask .op)) (both-not (isPlain (operandType (ask .op)) (plainOf P C (ask .second) Γ)) (unmet v st (ask .part) (operandType (ask .op)) (operand-word ask) d)));
       kept = v .kept;
     }
 
-    module _ {k : Typed} (d : x ≡ Is k) {y : Typing} {scope₂ : List ℕ} (u : TypesWant text frames types functions channels scope₁ (movedTo p (k .next)) word y scope₂) where
-      pub op-none : y ≡ Wrong → TypesOp text frames types functions channels scope p code Wrong scope₂
+    module _ {k : Typed} (d : x ≡ Is k) {y : Typing} {scope₂ : List ℕ} (u : TypesWant text index scope₁ (movedTo p (k .next)) word y scope₂) where
+      pub op-none : y ≡ Wrong → TypesOp text index scope p code Wrong scope₂
       op-none e = record {
         says = λ {P} {C} {S} {Γ} st ask.
             let τ = operandType (ask .op) in
@@ -199,7 +200,7 @@ module _ (text frames types functions channels scope : List ℕ) (p : Place) whe
         kept = kept-then (v .kept) (u .kept);
       }
 
-      pub op-done : {j : Typed} {given : ℕ} {r : Typing} → y ≡ Is j → given ≡ outcomeWord code → r ≡ Is (record { word = given; next = j .next }) → TypesOp text frames types functions channels scope p code r scope₂
+      pub op-done : {j : Typed} {given : ℕ} {r : Typing} → y ≡ Is j → given ≡ outcomeWord code → r ≡ Is (record { word = given; next = j .next }) → TypesOp text index scope p code r scope₂
       op-done e g q = record {
         says = λ {P} {C} {S} {Γ} st ask.
             let τ = operandType (ask .op) in
@@ -211,24 +212,24 @@ module _ (text frames types functions channels scope : List ℕ) (p : Place) whe
       }
 
   -- ---- `1B`
-  module _ {line : List ℕ} (part : line ≡ framePart text frames (p .line)) {z : Step} (a : Passes line (p .at .at) z (forget (sizeAt nestingMost sizeVariablesMost (bytesFrom line (p .at .at))))) where
-    size-behind : {P : File} {C : List Plain} {S : Scope} {Γ : List Plain} {o : Option Plain} {end : ℕ} → Stage text frames types functions channels scope (p .types) (p .line) (p .variables) P C S Γ → (ask : AskAdj text p P C S Γ o end) →
+  module _ {line : List ℕ} (part : line ≡ framePart text (framesOf index) (p .line)) {z : Step} (a : Passes line (p .at .at) z (forget (sizeAt nestingMost sizeVariablesMost (bytesFrom line (p .at .at))))) where
+    size-behind : {P : File} {C : List Plain} {S : Scope} {Γ : List Plain} {o : Option Plain} {end : ℕ} → Stage text index scope (p .line) (p .variables) P C S Γ → (ask : AskAdj text p P C S Γ o end) →
         z ≡ Next (record { at = p .at .at + length (sizeBytes (ask .size)) })
     size-behind st ask =
         let is : line ≡ lineAt text (p .line) = part ∙ st .indexed .eachFrame (p .line) (st .less) .line in
         size-passed (ask .few) (ask .within) (subst (λ l. Spells sizeBytes l (p .at .at) (ask .size)) (sym is) (ask .spelled)) a
 
-    pub adj-stops : {m : ℕ} → z ≡ Stop m → TypesAdj text frames types functions channels scope p Wrong scope
+    pub adj-stops : {m : ℕ} → z ≡ Stop m → TypesAdj text index scope p Wrong scope
     adj-stops q = record { says = λ st ask. absurd (next-there (size-behind st ask) q); kept = kept-same }
 
-    module _ {c : Cursor} (q : z ≡ Next c) {x : Typing} {scope₁ : List ℕ} (v : TypesExpr text frames types functions channels scope (movedTo p c) x scope₁) where
-      pub adj-wrong : x ≡ Wrong → TypesAdj text frames types functions channels scope p Wrong scope₁
+    module _ {c : Cursor} (q : z ≡ Next c) {x : Typing} {scope₁ : List ℕ} (v : TypesExpr text index scope (movedTo p c) x scope₁) where
+      pub adj-wrong : x ≡ Wrong → TypesAdj text index scope p Wrong scope₁
       adj-wrong d = record {
         says = λ {P} {C} {S} {Γ} st ask. wrong (ask .is ∙ plain-adj P C Γ (ask .size) (ask .first) ∙ chain-none _ (missed v st (part-at (next-at (size-behind st ask) q) (ask .part)) d));
         kept = v .kept;
       }
 
-      pub adj-unnamed : {k : Typed} → x ≡ Is k → k .word < tagStep → TypesAdj text frames types functions channels scope p Wrong scope₁
+      pub adj-unnamed : {k : Typed} → x ≡ Is k → k .word < tagStep → TypesAdj text index scope p Wrong scope₁
       adj-unnamed d h = record {
         says = λ {P} {C} {S} {Γ} st ask.
             let t = found v st (part-at (next-at (size-behind st ask) q) (ask .part)) d in
@@ -236,7 +237,7 @@ module _ (text frames types functions channels scope : List ℕ) (p : Place) whe
         kept = v .kept;
       }
 
-      pub adj-done : {k : Typed} → x ≡ Is k → tagStep ≤ k .word → TypesAdj text frames types functions channels scope p (Is k) scope₁
+      pub adj-done : {k : Typed} → x ≡ Is k → tagStep ≤ k .word → TypesAdj text index scope p (Is k) scope₁
       adj-done d h = record {
         says = λ {P} {C} {S} {Γ} st ask.
             let t = found v st (part-at (next-at (size-behind st ask) q) (ask .part)) d in

@@ -18,15 +18,16 @@ use Rattle.language.specs.PlainTypes.{plainResult, plainDeclared, isPlain, isIn
 use Rattle.theory.specs.Lists.{look-getD, look-less, look-append, look-past, look-map}
 use Rattle.theory.specs.Places.{below-or-not}
 use Rattle.theory.specs.Alls.{all-at}
+use Rattle.text.specs.declared.Cursor.{Cursor}
 use Rattle.text.specs.Bytes.{plainWord, declaredWord}
 use Rattle.index.specs.Tables.{functionWords}
 use Rattle.index.specs.Enters.{TellsType}
-use Rattle.index.specs.FunctionTable.{headWords}
 use Rattle.encoding.specs.Spells.{Spells}
 use Rattle.encoding.specs.FrameSpells.{lineAt}
 use Rattle.heads.specs.SkipHeads.{count-same}
 use Rattle.encoding.specs.Known.{outer-known, body-known}
 use Rattle.encoding.specs.WithinParts.{node-within}
+use Rattle.index.specs.Sections.{framesOf, typesOf, functionsOf, channelsOf}
 use Rattle.index.specs.Indexed.{bodyAt, declaredAt, initialAt, updateAt, framePart, functionLine, channelLine, lineCount, Indexed}
 use Rattle.plain_types.specs.declared.words.Typed.{Typed}
 use Rattle.plain_types.specs.declared.words.Typing.{Typing}
@@ -72,22 +73,15 @@ part-named : (text : List ℕ) {line line′ at at′ levels end : ℕ} {S : Sco
 part-named text {levels} {end} {S} {e} p q part = subst₂ (λ i m. Part (lineAt text i) levels S m e end) (sym p) (sym q) part
 
 -- ---- a function
--- the word of its entry that says where its body is
-abbrev bodyWord : ℕ
-bodyWord = headWords + 3
-
-body-place : (functions : List ℕ) (f : ℕ) → getD functions (functionWords * f + bodyWord) 0 ≡ bodyAt functions f
-body-place functions f = ap (λ m. getD functions m 0) (let e : functionWords * f + bodyWord ≡ functionWords * f + headWords + 3 = omega arith in e)
-
-module _ (text frames types functions channels : List ℕ) (count f : ℕ) {n : ℕ} (k : (n ≡ getD functions (functionWords * f) 0 % byteRange) × (n < byteRange)) (scope : List ℕ) {scope₁ scope₂ : List ℕ}
-    (enter : scope₁ ≡ entered types functions (Parameters f) scope 0 n) (room : variablesMost ≤ length scope) {at line word : ℕ} (place : at ≡ getD functions (functionWords * f + bodyWord) 0) (number : line ≡ lineOf count f) (ret : Returns text frames functions count f word) {x : Typing}
-    (v : TypesWant text frames types functions channels scope₁ (record { at = record { at = at }; levels = nestingMost; line = line; types = count; variables = n }) word x scope₂) where
-  module _ {P : File} {F : Function} (h : Indexed text frames types functions channels P) (c : count ≡ length (P .types)) (e : look (P .functions) f ≡ some F) where
+module _ (text index : List ℕ) (f : ℕ) {n : ℕ} (k : (n ≡ getD (functionsOf index) (functionWords * f) 0 % byteRange) × (n < byteRange)) (scope : List ℕ) {scope₁ scope₂ : List ℕ}
+    (enter : scope₁ ≡ entered index (Parameters f) scope 0 n) (room : variablesMost ≤ length scope) {at : Cursor} {line word : ℕ} (place : at .at ≡ bodyAt (functionsOf index) f) (number : line ≡ lineOf index f) (ret : Returns text index f word) {x : Typing}
+    (v : TypesWant text index scope₁ (record { at = at; levels = nestingMost; line = line; variables = n }) word x scope₂) where
+  module _ {P : File} {F : Function} (h : Indexed text index P) (e : look (P .functions) f ≡ some F) where
     parameter-count : n ≡ length (F .parameters)
     parameter-count = let told = h .eachFunction f e .tells in count-same k (told .count) (omega (arith, told .few))
 
     line-is : line ≡ functionLine P f
-    line-is = omega (arith, number, c, look-less (P .functions) f e, h .within .fewTypes, h .within .fewFunctions)
+    line-is = omega (arith, number, h .counted .typeCount, look-less (P .functions) f e, h .within .fewFunctions)
 
     parameter-words : take n scope₁ ≡ map plainWord (F .parameters)
     unfolding wantedWord
@@ -96,16 +90,15 @@ module _ (text frames types functions channels : List ℕ) (count f : ℕ) {n : 
         let words : List ℕ = map plainWord (F .parameters) in
         let long : length words ≡ length (F .parameters) = length-map (F .parameters) plainWord in
         let few : n ≤ length words = omega (arith, parameter-count, long) in
-        ap (take n) enter ∙ ap (λ m. take m (entered types functions (Parameters f) scope 0 n)) (sym (zero-add n))
-        ∙ entered-words types functions (Parameters f) scope 0 words n few (λ j less. told .each j (omega (arith, less, parameter-count))) (omega (arith, room, parameter-count, told .few))
+        ap (take n) enter ∙ ap (λ m. take m (entered index (Parameters f) scope 0 n)) (sym (zero-add n))
+        ∙ entered-words index (Parameters f) scope 0 words n few (λ j less. told .each j (omega (arith, less, parameter-count))) (omega (arith, room, parameter-count, told .few))
         ∙ take-all n words (omega (arith, parameter-count, long))
 
-    body-stage : Stage text frames types functions channels scope₁ count line n P [] (body-known (h .within) f e .scope) (F .parameters)
+    body-stage : Stage text index scope₁ line n P [] (body-known (h .within) f e .scope) (F .parameters)
     body-stage =
         let b = body-known (h .within) f e in
         record {
           indexed = h;
-          typeCount = c;
           less = omega (arith, line-is, look-less (P .functions) f e);
           known = b .known;
           channel = λ i less. absurd (omega (arith, less));
@@ -114,25 +107,24 @@ module _ (text frames types functions channels : List ℕ) (count f : ℕ) {n : 
           words = parameter-words;
           long = sym parameter-count;
           inScope = b .variables ∙ sym parameter-count;
-          room = omega (arith, ap length enter, entered-kept types functions (Parameters f) scope 0 n .long, room);
+          room = omega (arith, ap length enter, entered-kept index (Parameters f) scope 0 n .long, room);
         }
 
-  pub function-fits : {r : Bool} → r ≡ fits x → FunctionFits text frames types functions channels count f r
+  pub function-fits : {r : Bool} → r ≡ fits x → FunctionFits text index f r
   unfolding plainFunction
   function-fits q = record {
-    says = λ {P} {F} h c e.
-        let part = part-named text (line-is h c e) (place ∙ body-place functions f) (record { within = body-known (h .within) f e .within; spelled = h .eachFunction f e .body; ends = refl }) in
-        q ∙ fits-when (isPlain (plainResult (F .result)) (plainOf P [] (F .body) (F .parameters))) (plainResult (F .result)) (v .says (body-stage h c e) (ask-want (plainResult (F .result)) (ret .says h c e) part));
+    says = λ {P} {F} h e.
+        let part = part-named text (line-is h e) place (record { within = body-known (h .within) f e .within; spelled = h .eachFunction f e .body; ends = refl }) in
+        q ∙ fits-when (isPlain (plainResult (F .result)) (plainOf P [] (F .body) (F .parameters))) (plainResult (F .result)) (v .says (body-stage h e) (ask-want (plainResult (F .result)) (ret .says h e) part));
   }
 
 -- ---- an expression outside all functions, of a channel's declared type
-pub value-fits : (text frames types functions channels : List ℕ) (p : Place) {c declared word : ℕ} {scope scope₁ : List ℕ} {x : Typing} {r : Bool} → declared ≡ declaredAt channels c → word ≡ withoutSize declared →
-    TypesWant text frames types functions channels scope p word x scope₁ → variablesMost ≤ length scope → r ≡ fits x → ValueFits text frames types functions channels p c r
-value-fits text frames types functions channels p {scope} d w v room q = record {
+pub value-fits : (text index : List ℕ) (p : Place) {c declared word : ℕ} {scope scope₁ : List ℕ} {x : Typing} {r : Bool} → declared ≡ declaredAt (channelsOf index) c → word ≡ withoutSize declared →
+    TypesWant text index scope p word x scope₁ → variablesMost ≤ length scope → r ≡ fits x → ValueFits text index p c r
+value-fits text index p {scope} d w v room q = record {
   says = λ {P} {C} {S} {e} τ z o part t.
-      let st : Stage text frames types functions channels scope (p .types) (p .line) (p .variables) P C S [] = record {
+      let st : Stage text index scope (p .line) (p .variables) P C S [] = record {
         indexed = o .indexed;
-        typeCount = o .typeCount;
         less = o .less;
         known = o .known;
         channel = o .channel;
@@ -147,10 +139,10 @@ value-fits text frames types functions channels p {scope} d w v room q = record 
 }
 
 -- ---- the scopes of initial values and updates
-outer-place : {text frames types functions channels : List ℕ} {count line : ℕ} {P : File} (C : List Plain) (now last : ℕ) → Indexed text frames types functions channels P → count ≡ length (P .types) → line < lineCount P →
-    ((c : ℕ) → c < length C → withoutSize (declaredAt channels c) ≡ plainWord (getD C c pbool)) → now ≤ length C → last ≤ length C → Outer text frames types functions channels count line P C (outerScope (P .types) (P .functions) now last)
+outer-place : {text index : List ℕ} {line : ℕ} {P : File} (C : List Plain) (now last : ℕ) → Indexed text index P → line < lineCount P →
+    ((c : ℕ) → c < length C → withoutSize (declaredAt (channelsOf index) c) ≡ plainWord (getD C c pbool)) → now ≤ length C → last ≤ length C → Outer text index line P C (outerScope (P .types) (P .functions) now last)
 unfolding outerScope
-outer-place {P} C now last h c less told n l = record { indexed = h; typeCount = c; less = less; known = outer-known P now last; channel = told; now = n; last = l; none = refl }
+outer-place {P} C now last h less told n l = record { indexed = h; less = less; known = outer-known P now last; channel = told; now = n; last = l; none = refl }
 
 outer-types : (P : File) (now last : ℕ) → outerScope (P .types) (P .functions) now last .types ≡ P .types
 unfolding outerScope
@@ -165,8 +157,8 @@ there [] i less = absurd (omega (arith, less))
 there (a ∷ l) zero less = record { of = a; at = refl }
 there (a ∷ l) (suc i) less = let r = there l i (omega (arith, less)) in record { of = r .of; at = r .at }
 
--- the plain types of the channels are the table's words without sizes
-module _ {text frames types functions channels : List ℕ} {P : File} (h : Indexed text frames types functions channels P) where
+-- the plain types of the channels are the index's words without sizes
+module _ {text index : List ℕ} {P : File} (h : Indexed text index P) where
   abbrev channelTypes : List Plain
   channelTypes = map plainDeclared (declaredTypes P)
 
@@ -179,10 +171,10 @@ module _ {text frames types functions channels : List ℕ} {P : File} (h : Index
     length-map (P .nodes) (λ (n : Node). n .declared),
   )
 
-  declared-told : (c : ℕ) {τ : Ty} → look (declaredTypes P) c ≡ some τ → declaredAt channels c ≡ declaredWord τ → WithinDeclared (length (P .types)) τ → withoutSize (declaredAt channels c) ≡ plainWord (getD channelTypes c pbool)
+  declared-told : (c : ℕ) {τ : Ty} → look (declaredTypes P) c ≡ some τ → declaredAt (channelsOf index) c ≡ declaredWord τ → WithinDeclared (length (P .types)) τ → withoutSize (declaredAt (channelsOf index) c) ≡ plainWord (getD channelTypes c pbool)
   declared-told c e q w = ap withoutSize q ∙ declared-without w ∙ ap plainWord (sym (look-getD channelTypes c pbool (look-map plainDeclared (declaredTypes P) c e)))
 
-  channel-told : (c : ℕ) → c < length channelTypes → withoutSize (declaredAt channels c) ≡ plainWord (getD channelTypes c pbool)
+  channel-told : (c : ℕ) → c < length channelTypes → withoutSize (declaredAt (channelsOf index) c) ≡ plainWord (getD channelTypes c pbool)
   channel-told c less = below-or-not c (length (P .inputs)) input node
     where
       ins : List Ty
@@ -191,70 +183,70 @@ module _ {text frames types functions channels : List ℕ} {P : File} (h : Index
       outs : List Ty
       outs = map (λ (n : Node). n .declared) (P .nodes)
 
-      input : c < length (P .inputs) → withoutSize (declaredAt channels c) ≡ plainWord (getD channelTypes c pbool)
+      input : c < length (P .inputs) → withoutSize (declaredAt (channelsOf index) c) ≡ plainWord (getD channelTypes c pbool)
       input there₁ =
           let i = there (P .inputs) c there₁ in
           declared-told c (look-append ins outs c (look-map (λ (i : Input). i .declared) (P .inputs) c (i .at))) (h .eachInput c (i .at) .declared) (all-at (h .within .inputs) c (i .at) .declared)
 
-      node : length (P .inputs) ≤ c → withoutSize (declaredAt channels c) ≡ plainWord (getD channelTypes c pbool)
+      node : length (P .inputs) ≤ c → withoutSize (declaredAt (channelsOf index) c) ≡ plainWord (getD channelTypes c pbool)
       node over =
           let m = c - length (P .inputs) in
           let n = there (P .nodes) m (omega (arith, less, over, channels-count)) in
           let same : length (P .inputs) + m ≡ c = omega (arith, over) in
           let same₂ : length ins + m ≡ c = omega (arith, over, length-map (P .inputs) (λ (i : Input). i .declared)) in
           declared-told c (subst (λ i. look (ins ++ outs) i ≡ some (n .of .declared)) same₂ (look-past ins outs m ∙ look-map (λ (k : Node). k .declared) (P .nodes) m (n .at)))
-          (subst (λ i. declaredAt channels i ≡ declaredWord (n .of .declared)) same (h .eachNode m (n .at) .channel .declared)) (node-within (h .within) m (n .at) .declared)
+          (subst (λ i. declaredAt (channelsOf index) i ≡ declaredWord (n .of .declared)) same (h .eachNode m (n .at) .channel .declared)) (node-within (h .within) m (n .at) .declared)
 
 -- ---- an initial value; channel c has the frame i behind the types
-module _ (text frames types functions channels : List ℕ) (count i c : ℕ) where
-  module _ {line : ℕ} (number : line ≡ lineOf count i) {P : File} (h : Indexed text frames types functions channels P) (e : count ≡ length (P .types)) (q : i ≡ length (P .functions) + c) (less : c < length (P .inputs) + length (P .nodes)) where
+module _ (text index : List ℕ) (i c : ℕ) where
+  module _ {line : ℕ} (number : line ≡ lineOf index i) {P : File} (h : Indexed text index P) (q : i ≡ length (P .functions) + c) (less : c < length (P .inputs) + length (P .nodes)) where
     channel-line : line ≡ channelLine P c
-    channel-line = let w = h .within in omega (arith, number, e, q, less, w .fewTypes, w .fewFunctions, w .fewInputs, w .fewNodes)
+    channel-line = let w = h .within in omega (arith, number, h .counted .typeCount, q, less, w .fewFunctions, w .fewInputs, w .fewNodes)
 
     channel-less : line < lineCount P
     channel-less = omega (arith, channel-line, less)
 
-  module _ {word line : ℕ} (place : word ≡ initialAt channels c) (number : line ≡ lineOf count i) {part : List ℕ} (taken : part ≡ framePart text frames line) {x : Typing} (u : TestsInitial part types (record { at = word }) nestingMost x) where
-    tested : {P : File} {e : Expr} → Indexed text frames types functions channels P → count ≡ length (P .types) → i ≡ length (P .functions) + c → c < length (P .inputs) + length (P .nodes) →
-        Spells exprBytes (lineAt text (channelLine P c)) (initialAt channels c) e → WithinExpr nestingMost (outerScope (P .types) (P .functions) 0 0) e → Agrees x (word + length (exprBytes e)) (when (isInitial e) pbool)
-    tested {P} {e} h m q less s w =
-        let is : part ≡ lineAt text (channelLine P c) = taken ∙ h .eachFrame line (channel-less number h m q less) .line ∙ ap (lineAt text) (channel-line number h m q less) in
-        u .says (subst (λ ds. (t : ℕ) → t < length ds → TellsType types t (getD ds t [])) (sym (outer-types P 0 0)) (λ t there. h .eachType t there .tells)) w
+  module _ {at : Cursor} {line : ℕ} (place : at .at ≡ initialAt (channelsOf index) c) (number : line ≡ lineOf index i) {part : List ℕ} (taken : part ≡ framePart text (framesOf index) line) {x : Typing} (u : TestsInitial part (typesOf index) at nestingMost x) where
+    tested : {P : File} {e : Expr} → Indexed text index P → i ≡ length (P .functions) + c → c < length (P .inputs) + length (P .nodes) →
+        Spells exprBytes (lineAt text (channelLine P c)) (initialAt (channelsOf index) c) e → WithinExpr nestingMost (outerScope (P .types) (P .functions) 0 0) e → Agrees x (at .at + length (exprBytes e)) (when (isInitial e) pbool)
+    tested {P} {e} h q less s w =
+        let is : part ≡ lineAt text (channelLine P c) = taken ∙ h .eachFrame line (channel-less number h q less) .line ∙ ap (lineAt text) (channel-line number h q less) in
+        u .says (subst (λ ds. (t : ℕ) → t < length ds → TellsType (typesOf index) t (getD ds t [])) (sym (outer-types P 0 0)) (λ t there. h .eachType t there .tells)) w
         (subst₂ (λ l a. Spells exprBytes l a e) (sym is) (sym place) s)
 
-    pub initial-unfit : x ≡ Wrong → InitialFits text frames types functions channels count i c false
+    pub initial-unfit : x ≡ Wrong → InitialFits text index i c false
     unfolding plainInitial
     initial-unfit d = record {
-      says = λ {P} {τ} {e} h m q less ci wd w. sym (both-not (isPlain (plainDeclared τ) (plainOf P [] e [])) (fails (isInitial e) pbool (tested h m q less (ci .initial) w) d));
+      says = λ {P} {τ} {e} h q less ci wd w. sym (both-not (isPlain (plainDeclared τ) (plainOf P [] e [])) (fails (isInitial e) pbool (tested h q less (ci .initial) w) d));
     }
 
-    pub initial-fits : {k : Typed} {r : Bool} → x ≡ Is k → ValueFits text frames types functions channels (record { at = record { at = word }; levels = nestingMost; line = line; types = count; variables = 0 }) c r → InitialFits text frames types functions channels count i c r
+    pub initial-fits : {k : Typed} {r : Bool} → x ≡ Is k → ValueFits text index (record { at = at; levels = nestingMost; line = line; variables = 0 }) c r → InitialFits text index i c r
     unfolding plainInitial
     initial-fits d v = record {
-      says = λ {P} {τ} {e} h m q less ci wd w.
-          let part₁ = part-named text (channel-line number h m q less) place (record { within = w; spelled = ci .initial; ends = refl }) in
-          v .says (plainDeclared τ) refl (outer-place [] 0 0 h m (channel-less number h m q less) (λ j there₁. absurd (omega (arith, there₁))) (omega arith) (omega arith)) part₁ (ap withoutSize (ci .declared) ∙ declared-without wd)
-          ∙ sym (both-first (holds (isInitial e) pbool (tested h m q less (ci .initial) w) d .is));
+      says = λ {P} {τ} {e} h q less ci wd w.
+          let part₁ = part-named text (channel-line number h q less) place (record { within = w; spelled = ci .initial; ends = refl }) in
+          v .says (plainDeclared τ) refl (outer-place [] 0 0 h (channel-less number h q less) (λ j there₁. absurd (omega (arith, there₁))) (omega arith) (omega arith)) part₁ (ap withoutSize (ci .declared) ∙ declared-without wd)
+          ∙ sym (both-first (holds (isInitial e) pbool (tested h q less (ci .initial) w) d .is));
     }
 
   -- ---- a node
-  module _ {b : Bool} (a : InitialFits text frames types functions channels count i c b) where
-    pub node-unfit : b ≡ false → NodeFits text frames types functions channels count i c false
+  module _ {b : Bool} (a : InitialFits text index i c b) where
+    pub node-unfit : b ≡ false → NodeFits text index i c false
     unfolding plainNode
     node-unfit z = record {
-      says = λ {P} {n} h m q less j k ni w.
-          sym (both-not (isPlain (plainDeclared (n .declared)) (plainOf P (channelTypes h) (n .update) [])) (sym (a .says h m q less (ni .channel) (w .declared) (w .initial)) ∙ z));
+      says = λ {P} {n} h q less j k ni w.
+          sym (both-not (isPlain (plainDeclared (n .declared)) (plainOf P (channelTypes h) (n .update) [])) (sym (a .says h q less (ni .channel) (w .declared) (w .initial)) ∙ z));
     }
 
-    pub node-fits : {word line : ℕ} {r : Bool} → b ≡ true → word ≡ updateAt channels c → line ≡ lineOf count i → ValueFits text frames types functions channels (record { at = record { at = word }; levels = nestingMost; line = line; types = count; variables = 0 }) c r →
-        NodeFits text frames types functions channels count i c r
+    pub node-fits : {at : Cursor} {line : ℕ} {r : Bool} → b ≡ true → at .at ≡ updateAt (channelsOf index) c → line ≡ lineOf index i → ValueFits text index (record { at = at; levels = nestingMost; line = line; variables = 0 }) c r →
+        NodeFits text index i c r
     unfolding plainNode
     node-fits z place number v = record {
-      says = λ {P} {n} h m q less j k ni w.
-          let part = part-named text (channel-line number h m q less) place (record { within = w .update; spelled = ni .update; ends = refl }) in
+      says = λ {P} {n} h q less j k ni w.
+          let part = part-named text (channel-line number h q less) place (record { within = w .update; spelled = ni .update; ends = refl }) in
           let C = channelTypes h in
           v .says (plainDeclared (n .declared)) refl
-          (outer-place C (length (P .inputs) + j) (length (P .inputs) + length (P .nodes)) h m (channel-less number h m q less) (channel-told h) (omega (arith, channels-count h, less, k)) (omega (arith, channels-count h)))
+          (outer-place C (length (P .inputs) + j) (length (P .inputs) + length (P .nodes)) h (channel-less number h q less) (channel-told h) (omega (arith, channels-count h, less, k)) (omega (arith, channels-count h)))
           part (ap withoutSize (ni .channel .declared) ∙ declared-without (w .declared))
-          ∙ sym (both-first (sym (a .says h m q less (ni .channel) (w .declared) (w .initial)) ∙ z));
+          ∙ sym (both-first (sym (a .says h q less (ni .channel) (w .declared) (w .initial)) ∙ z));
     }

@@ -14,7 +14,7 @@ use Rattle.encoding.specs.Spells.{Spells}
 use Rattle.plain_types.specs.declared.words.Typing.{Typing}
 use Rattle.plain_types.specs.Agrees.{Agrees}
 
--- the table tells the types
+-- the section tells the types
 abbrev pub TellsTypes : List ℕ → List TypeDef → Type 0
 TellsTypes types ds = (t : ℕ) → t < length ds → TellsType types t (getD ds t [])
 

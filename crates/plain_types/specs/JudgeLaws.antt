@@ -16,6 +16,7 @@ use Rattle.theory.specs.Alls.{all-at}
 use Rattle.encoding.specs.FrameSpells.{lineAt}
 use Rattle.index.specs.declared.Counts.{Counts}
 use Rattle.encoding.specs.WithinParts.{node-within}
+use Rattle.index.specs.Sections.{channelsOf, countsIn}
 use Rattle.index.specs.Indexed.{channelLine, NodeIndexed, Indexed, Counted}
 use Rattle.plain_types.specs.Words.{lineOf}
 use Rattle.plain_types.specs.Verdicts.{FunctionFits, InitialFits, NodeFits, frameTests, firstRefused, refusedFrame, verdict, FrameFits, JudgesAll}
@@ -63,43 +64,50 @@ unfolding plainInput
 input-is P I = refl
 
 -- ---- frame i behind the types
-module _ (text frames types functions channels : List ℕ) (counts : Counts) (i : ℕ) {r : Bool} where
-  pub frame-function : i < counts .functions → FunctionFits text frames types functions channels (counts .types) i r → FrameFits text frames types functions channels counts i r
+module _ (text index : List ℕ) (counts : Counts) (are : counts ≡ countsIn index) (i : ℕ) where
+  counted-are : {P : File} → Indexed text index P → Counted counts P
+  counted-are {P} h = subst (λ n. Counted n P) (sym are) (h .counted)
+
+  pub frame-function : {r : Bool} → i < counts .functions → FunctionFits text index i r → FrameFits text index i r
   frame-function less v = record {
-    says = λ {P} h c.
+    says = λ {P} h.
+        let c = counted-are h in
         let F = there (P .functions) i (omega (arith, less, c .functionCount)) in
-        v .says h (sym (c .typeCount)) (F .at) ∙ sym (function-test P i (F .at));
+        v .says h (F .at) ∙ sym (function-test P i (F .at));
   }
 
   module _ (over : counts .functions ≤ i) where
-    pub frame-input : i - counts .functions < counts .inputs → InitialFits text frames types functions channels (counts .types) i (i - counts .functions) r → FrameFits text frames types functions channels counts i r
+    pub frame-input : {r : Bool} → i - counts .functions < counts .inputs → InitialFits text index i (i - counts .functions) r → FrameFits text index i r
     frame-input less v = record {
-      says = λ {P} h c.
+      says = λ {P} h.
+          let c = counted-are h in
           let j = i - counts .functions in
           let q : i ≡ length (P .functions) + j = omega (arith, over, c .functionCount) in
           let I = there (P .inputs) j (omega (arith, less, c .inputCount)) in
           let w = all-at (h .within .inputs) j (I .at) in
-          v .says h (sym (c .typeCount)) q (omega (arith, less, c .inputCount)) (h .eachInput j (I .at)) (w .declared) (w .initial) ∙ sym (input-is P (I .of)) ∙ sym (input-test P j i q (I .at));
+          v .says h q (omega (arith, less, c .inputCount)) (h .eachInput j (I .at)) (w .declared) (w .initial) ∙ sym (input-is P (I .of)) ∙ sym (input-test P j i q (I .at));
     }
 
     module _ (over₂ : counts .inputs ≤ i - counts .functions) where
-      pub frame-node : i - counts .functions - counts .inputs < counts .nodes → NodeFits text frames types functions channels (counts .types) i (i - counts .functions) r → FrameFits text frames types functions channels counts i r
+      pub frame-node : {r : Bool} → i - counts .functions - counts .inputs < counts .nodes → NodeFits text index i (i - counts .functions) r → FrameFits text index i r
       frame-node less v = record {
-        says = λ {P} h c.
+        says = λ {P} h.
+            let c = counted-are h in
             let j = i - counts .functions in
             let m = i - counts .functions - counts .inputs in
             let q : i ≡ length (P .functions) + j = omega (arith, over, c .functionCount) in
             let k : j ≡ length (P .inputs) + m = omega (arith, over₂, c .inputCount) in
             let n = there (P .nodes) m (omega (arith, less, c .nodeCount)) in
-            v .says h (sym (c .typeCount)) q (omega (arith, less, k, c .nodeCount)) m k (subst (λ a. NodeIndexed (lineAt text (channelLine P a)) channels a (n .of)) (sym k) (h .eachNode m (n .at))) (node-within (h .within) m (n .at))
+            v .says h q (omega (arith, less, k, c .nodeCount)) m k (subst (λ a. NodeIndexed (lineAt text (channelLine P a)) (channelsOf index) a (n .of)) (sym k) (h .eachNode m (n .at))) (node-within (h .within) m (n .at))
             ∙ sym (node-test P m j i q k (n .at));
       }
 
-pub frame-none : (text frames types functions channels : List ℕ) (counts : Counts) (i : ℕ) → counts .functions ≤ i → counts .inputs ≤ i - counts .functions → counts .nodes ≤ i - counts .functions - counts .inputs →
-    FrameFits text frames types functions channels counts i true
-frame-none text frames types functions channels counts i over over₂ over₃ = record {
-  says = λ {P} h c. sym (List·getD-eq-default (frameTests P) true (omega (arith, tests-count P, over, over₂, over₃, c .functionCount, c .inputCount, c .nodeCount)));
-}
+      pub frame-none : counts .nodes ≤ i - counts .functions - counts .inputs → FrameFits text index i true
+      frame-none over₃ = record {
+        says = λ {P} h.
+            let c = counted-are h in
+            sym (List·getD-eq-default (frameTests P) true (omega (arith, tests-count P, over, over₂, over₃, c .functionCount, c .inputCount, c .nodeCount)));
+      }
 
 -- ---- the first that fails
 first-none : (frame : ℕ) (bs : List Bool) → ((j : ℕ) → j < length bs → getD bs j true ≡ true) → firstRefused frame bs ≡ 0
@@ -122,35 +130,35 @@ fails-less (b ∷ bs) (suc i) e = omega (arith, fails-less bs i e)
 abbrev pub bodiesMost : ℕ
 bodiesMost = functionsMost + channelsMost
 
-tests-few : (P : File) {text frames types functions channels : List ℕ} → Indexed text frames types functions channels P → length (frameTests P) ≤ bodiesMost
+tests-few : (P : File) {text index : List ℕ} → Indexed text index P → length (frameTests P) ≤ bodiesMost
 tests-few P h = let w = h .within in omega (arith, tests-count P, w .fewFunctions, w .fewInputs, w .fewNodes)
 
 -- the frames before i agree
-pub record AgreeBefore (text frames types functions channels : List ℕ) (counts : Counts) (i : ℕ) : Type 0 where
-  pub says : {P : File} → Indexed text frames types functions channels P → Counted counts P → (j : ℕ) → j < i → getD (frameTests P) j true ≡ true
+pub record AgreeBefore (text index : List ℕ) (i : ℕ) : Type 0 where
+  pub says : {P : File} → Indexed text index P → (j : ℕ) → j < i → getD (frameTests P) j true ≡ true
 
-module _ (text frames types functions channels : List ℕ) (counts : Counts) where
-  pub before-none : AgreeBefore text frames types functions channels counts 0
-  before-none = record { says = λ h c j less. absurd (omega (arith, less)) }
+module _ (text index : List ℕ) where
+  pub before-none : AgreeBefore text index 0
+  before-none = record { says = λ h j less. absurd (omega (arith, less)) }
 
-  module _ {i : ℕ} (a : AgreeBefore text frames types functions channels counts i) {b : Bool} (v : FrameFits text frames types functions channels counts i b) where
-    pub before-more : b ≡ true → AgreeBefore text frames types functions channels counts (i + 1)
+  module _ {i : ℕ} (a : AgreeBefore text index i) {b : Bool} (v : FrameFits text index i b) where
+    pub before-more : b ≡ true → AgreeBefore text index (i + 1)
     before-more z = record {
-      says = λ {P} h c j less. below-or-not j i (λ l. a .says h c j l) (λ over. let same : i ≡ j = omega (arith, less, over) in subst (λ m. getD (frameTests P) m true ≡ true) same (sym (v .says h c) ∙ z));
+      says = λ {P} h j less. below-or-not j i (λ l. a .says h j l) (λ over. let same : i ≡ j = omega (arith, less, over) in subst (λ m. getD (frameTests P) m true ≡ true) same (sym (v .says h) ∙ z));
     }
 
-    pub judged-refused : {line : ℕ} → b ≡ false → line ≡ lineOf (counts .types) i → JudgesAll text frames types functions channels counts (line + 1)
+    pub judged-refused : {line : ℕ} → b ≡ false → line ≡ lineOf index i → JudgesAll text index (line + 1)
     judged-refused {line} z q = record {
-      says = λ {P} h c.
-          let e : getD (frameTests P) i true ≡ false = sym (v .says h c) ∙ z in
+      says = λ {P} h.
+          let e : getD (frameTests P) i true ≡ false = sym (v .says h) ∙ z in
           let less : i < bodiesMost = omega (arith, fails-less (frameTests P) i e, tests-few P h) in
-          let number : line + 1 ≡ functionFrame P 0 + i = omega (arith, q, less, c .typeCount, h .within .fewTypes) in
-          number ∙ sym (first-at (functionFrame P 0) (frameTests P) i (a .says h c) e);
+          let number : line + 1 ≡ functionFrame P 0 + i = omega (arith, q, less, h .counted .typeCount) in
+          number ∙ sym (first-at (functionFrame P 0) (frameTests P) i (a .says h) e);
     }
 
-  pub judged-all : {i : ℕ} → bodiesMost ≤ i → AgreeBefore text frames types functions channels counts i → JudgesAll text frames types functions channels counts 0
+  pub judged-all : {i : ℕ} → bodiesMost ≤ i → AgreeBefore text index i → JudgesAll text index 0
   judged-all over a = record {
-    says = λ {P} h c. sym (first-none (functionFrame P 0) (frameTests P) (λ j less. a .says h c j (omega (arith, less, over, tests-few P h))));
+    says = λ {P} h. sym (first-none (functionFrame P 0) (frameTests P) (λ j less. a .says h j (omega (arith, less, over, tests-few P h))));
   }
 
 -- ---- the definition's refusal is the verdict on that frame
@@ -167,6 +175,6 @@ refused-verdict P x =
     subst (λ m. needEach 9 m (frameTests P) x ≡ verdict (firstRefused m (frameTests P)) x) (sym same) (needed (length (P .types)) (frameTests P) x)
 
 -- what the public function promises, as its caller uses it
-pub plain-types-verdict : {text frames types functions channels : List ℕ} {counts : Counts} {r : ℕ} {P : File} {A : Type 0} → JudgesAll text frames types functions channels counts r → Indexed text frames types functions channels P → Counted counts P → (x : Result A) →
+pub plain-types-verdict : {text index : List ℕ} {r : ℕ} {P : File} {A : Type 0} → JudgesAll text index r → Indexed text index P → (x : Result A) →
     plainTypes P x ≡ verdict r x
-plain-types-verdict {P} v h c x = refused-verdict P x ∙ ap (λ m. verdict m x) (sym (v .says h c))
+plain-types-verdict {P} v h x = refused-verdict P x ∙ ap (λ m. verdict m x) (sym (v .says h))

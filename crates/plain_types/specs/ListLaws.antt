@@ -24,6 +24,7 @@ use Rattle.encoding.specs.ExprLists.{first-of-exprs}
 use Rattle.encoding.specs.FrameSpells.{lineAt}
 use Rattle.heads.specs.SkipHeads.{count-same}
 use Rattle.heads.specs.PartLaws.{none-long, more-long}
+use Rattle.index.specs.Sections.{typesOf, functionsOf}
 use Rattle.index.specs.Indexed.{Indexed}
 use Rattle.plain_types.specs.declared.words.Typed.{Typed}
 use Rattle.plain_types.specs.declared.words.Typing.{Typing}
@@ -52,17 +53,17 @@ fields-words t small all-nil j less = absurd (omega (arith, less))
 fields-words t small (all-cons w ws) zero less = field-plain t small w
 fields-words t small (all-cons w ws) (suc j) less = fields-words t small ws j (omega (arith, less))
 
-module _ {text frames types functions channels : List ℕ} {P : File} (h : Indexed text frames types functions channels P) (t c : ℕ) (less : t < length (P .types)) (less₂ : c < length (constructorsOf P t)) where
+module _ {text index : List ℕ} {P : File} (h : Indexed text index P) (t c : ℕ) (less : t < length (P .types)) (less₂ : c < length (constructorsOf P t)) where
   abbrev pub fieldsAt : List Field
   fieldsAt = getD (constructorsOf P t) c []
 
   pub small-type : t < tagStep
   small-type = omega (arith, less, h .within .fewTypes)
 
-  pub field-count : {n : ℕ} → (n ≡ getD types (typeWords * t + 1 + constructorWords * c) 0 % byteRange) × (n < byteRange) → n ≡ length fieldsAt
+  pub field-count : {n : ℕ} → (n ≡ getD (typesOf index) (typeWords * t + 1 + constructorWords * c) 0 % byteRange) × (n < byteRange) → n ≡ length fieldsAt
   field-count k = let tells = h .eachType t less .tells in count-same k (tells .fields c less₂) (omega (arith, tells .fewFields c less₂))
 
-  pub fields-wanted : (j : ℕ) → j < length fieldsAt → wantedWord types functions (Fields t c) j ≡ getD (map plainWord (plainFields t fieldsAt)) j 0
+  pub fields-wanted : (j : ℕ) → j < length fieldsAt → wantedWord index (Fields t c) j ≡ getD (map plainWord (plainFields t fieldsAt)) j 0
   unfolding wantedWord
   fields-wanted j there =
       ap (ownOrOther t) (h .eachType t less .fields c less₂ j there)
@@ -91,8 +92,8 @@ none-of : {levels : ℕ} {S : Scope} (τs : List Plain) (es : Exprs) → WithinE
 none-of [] enil ws-nil e = record { wants = refl; list = refl }
 none-of (τ ∷ τs) es w e = absurd (omega (arith, e))
 
-module _ (text frames types functions channels scope : List ℕ) (p : Place) (s : Series) where
-  pub several-none : {r : Typing} → s .count ≡ 0 → r ≡ Is (record { word = s .word; next = p .at }) → TypesSeveral text frames types functions channels scope p s r scope
+module _ (text index scope : List ℕ) (p : Place) (s : Series) where
+  pub several-none : {r : Typing} → s .count ≡ 0 → r ≡ Is (record { word = s .word; next = p .at }) → TypesSeveral text index scope p s r scope
   several-none z q = record {
     says = λ {P} {C} {S} {Γ} st ask.
         let n = none-of (ask .wants) (ask .list) (ask .within) (sym (ask .counted) ∙ z) in
@@ -101,11 +102,11 @@ module _ (text frames types functions channels scope : List ℕ) (p : Place) (s 
     kept = kept-same;
   }
 
-  module _ (some-left : s .count ≡ 0 → ⊥) {one : ℕ} (wanted : one ≡ wantedWord types functions (s .of) (s .first)) {x : Typing} {scope₁ : List ℕ} (v : TypesWant text frames types functions channels scope p one x scope₁) where
-    first-of : {P : File} {C : List Plain} {S : Scope} {Γ : List Plain} {o : Option Plain} {end : ℕ} (ask : AskSeveral text p types functions s P C S Γ o end) → More (p .levels) S (ask .wants) (ask .list)
+  module _ (some-left : s .count ≡ 0 → ⊥) {one : ℕ} (wanted : one ≡ wantedWord index (s .of) (s .first)) {x : Typing} {scope₁ : List ℕ} (v : TypesWant text index scope p one x scope₁) where
+    first-of : {P : File} {C : List Plain} {S : Scope} {Γ : List Plain} {o : Option Plain} {end : ℕ} (ask : AskSeveral text p index s P C S Γ o end) → More (p .levels) S (ask .wants) (ask .list)
     first-of ask = more-of (ask .wants) (ask .list) (ask .within) (λ z. some-left (ask .counted ∙ z))
 
-    module _ {P : File} {C : List Plain} {S : Scope} {Γ : List Plain} {o : Option Plain} {end : ℕ} (ask : AskSeveral text p types functions s P C S Γ o end) where
+    module _ {P : File} {C : List Plain} {S : Scope} {Γ : List Plain} {o : Option Plain} {end : ℕ} (ask : AskSeveral text p index s P C S Γ o end) where
       abbrev m : More (p .levels) S (ask .wants) (ask .list)
       m = first-of ask
 
@@ -113,12 +114,12 @@ module _ (text frames types functions channels scope : List ℕ) (p : Place) (s 
       first-part = record { within = m .within; spelled = first-of-exprs (subst (Spells exprsBytes (lineAt text (p .line)) (p .at .at)) (m .list) (ask .spelled)) .spelled; ends = refl }
 
       first-word : one ≡ plainWord (m .type)
-      first-word = wanted ∙ sym (ap (wantedWord types functions (s .of)) (add-zero (s .first))) ∙ ask .each 0 (rw (m .wants) (omega arith)) ∙ ap (λ (τs : List Plain). getD (map plainWord τs) 0 0) (m .wants)
+      first-word = wanted ∙ sym (ap (wantedWord index (s .of)) (add-zero (s .first))) ∙ ask .each 0 (rw (m .wants) (omega arith)) ∙ ap (λ (τs : List Plain). getD (map plainWord τs) 0 0) (m .wants)
 
       all-fit : arePlain (ask .wants) (plainsOf P C (ask .list) Γ) ≡ both (isPlain (m .type) (plainOf P C (m .expr) Γ)) (arePlain (m .types) (plainsOf P C (m .exprs) Γ))
       all-fit = ap₂ (λ (τs : List Plain) (es : Exprs). arePlain τs (plainsOf P C es Γ)) (m .wants) (m .list) ∙ are-more P C Γ (m .type) (m .types) (m .expr) (m .exprs)
 
-    pub several-wrong : x ≡ Wrong → TypesSeveral text frames types functions channels scope p s Wrong scope₁
+    pub several-wrong : x ≡ Wrong → TypesSeveral text index scope p s Wrong scope₁
     several-wrong d = record {
       says = λ {P} {C} {S} {Γ} st ask.
           let f = first-of ask in
@@ -126,8 +127,8 @@ module _ (text frames types functions channels scope : List ℕ) (p : Place) (s 
       kept = v .kept;
     }
 
-    pub several-more : {k : Typed} {r : Typing} {scope₂ : List ℕ} → x ≡ Is k → TypesSeveral text frames types functions channels scope₁ (movedTo p (k .next)) (record { of = s .of; first = s .first + 1; count = s .count - 1; word = s .word }) r scope₂ →
-        TypesSeveral text frames types functions channels scope p s r scope₂
+    pub several-more : {k : Typed} {r : Typing} {scope₂ : List ℕ} → x ≡ Is k → TypesSeveral text index scope₁ (movedTo p (k .next)) (record { of = s .of; first = s .first + 1; count = s .count - 1; word = s .word }) r scope₂ →
+        TypesSeveral text index scope p s r scope₂
     several-more {k} d u = record {
       says = λ {P} {C} {S} {Γ} {o} {end} st ask.
           let f = first-of ask in
@@ -141,7 +142,7 @@ module _ (text frames types functions channels scope : List ℕ) (p : Place) (s 
             answer = ask .answer;
             counted = omega (arith, ask .counted, long);
             each = λ j less.
-                ap (wantedWord types functions (s .of)) (let e : s .first + 1 + j ≡ s .first + suc j = omega arith in e)
+                ap (wantedWord index (s .of)) (let e : s .first + 1 + j ≡ s .first + suc j = omega arith in e)
                 ∙ ask .each (suc j) (omega (arith, long, less)) ∙ ap (λ (τs : List Plain). getD (map plainWord τs) (suc j) 0) (f .wants);
             answered = ask .answered;
             within = f .others;
@@ -152,10 +153,10 @@ module _ (text frames types functions channels scope : List ℕ) (p : Place) (s 
       kept = kept-then (v .kept) (u .kept);
     }
 
-module _ (text frames types functions channels scope : List ℕ) (p : Place) where
+module _ (text index scope : List ℕ) (p : Place) where
   -- ---- `18`
-  pub call-done : {f n word : ℕ} {r : Typing} {scope₁ : List ℕ} → Returns text frames functions (p .types) f word → (n ≡ getD functions (functionWords * f) 0 % byteRange) × (n < byteRange) →
-      TypesSeveral text frames types functions channels scope p (record { of = Parameters f; first = 0; count = n; word = word }) r scope₁ → TypesCall text frames types functions channels scope p f r scope₁
+  pub call-done : {f n word : ℕ} {r : Typing} {scope₁ : List ℕ} → Returns text index f word → (n ≡ getD (functionsOf index) (functionWords * f) 0 % byteRange) × (n < byteRange) →
+      TypesSeveral text index scope p (record { of = Parameters f; first = 0; count = n; word = word }) r scope₁ → TypesCall text index scope p f r scope₁
   unfolding wantedWord
   call-done {f} {n} {word} ret k u = record {
     says = λ {P} {C} {S} {Γ} st ask.
@@ -169,7 +170,7 @@ module _ (text frames types functions channels scope : List ℕ) (p : Place) whe
           answer = plainResult (F .result);
           counted = count-same k (told .count) (omega (arith, told .few));
           each = λ j less. rw (zero-add j) (told .each j less);
-          answered = ret .says (st .indexed) (st .typeCount) (takes .is);
+          answered = ret .says (st .indexed) (takes .is);
           within = subst (λ m. WithinExprs (p .levels) S m (ask .list)) (takes .arity) (ask .within);
           spelled = ask .spelled;
           ends = ask .ends;
@@ -179,8 +180,8 @@ module _ (text frames types functions channels scope : List ℕ) (p : Place) whe
   }
 
   -- ---- `19`
-  pub con-done : {t c n word : ℕ} {r : Typing} {scope₁ : List ℕ} → word ≡ namedWord t → (n ≡ getD types (typeWords * t + 1 + constructorWords * c) 0 % byteRange) × (n < byteRange) →
-      TypesSeveral text frames types functions channels scope p (record { of = Fields t c; first = 0; count = n; word = word }) r scope₁ → TypesCon text frames types functions channels scope p t c r scope₁
+  pub con-done : {t c n word : ℕ} {r : Typing} {scope₁ : List ℕ} → word ≡ namedWord t → (n ≡ getD (typesOf index) (typeWords * t + 1 + constructorWords * c) 0 % byteRange) × (n < byteRange) →
+      TypesSeveral text index scope p (record { of = Fields t c; first = 0; count = n; word = word }) r scope₁ → TypesCon text index scope p t c r scope₁
   con-done {t} {c} {n} {word} w k u = record {
     says = λ {P} {C} {S} {Γ} st ask.
         let same = st .known .types in

@@ -1,8 +1,8 @@
--- Reading a result type and a size that are spelled at a place, return by return; what a parameter or a field wants.
-use Prim.Native.Nat.{ℕ, _+_, _*_, _≤_, _<_}
+-- Reading a result type and a size that are spelled at a place, return by return; the line of a frame, and what a parameter or a field wants.
+use Prim.Native.Nat.{ℕ, _+_, _*_, _%_, _≤_, _<_}
 use mathlib.Core.List.{List, [], _∷_}
 use mathlib.Core.Option.{some}
-use mathlib.Core.Path.{_≡_, refl, sym, ap, _∙_, subst}
+use mathlib.Core.Path.{_≡_, refl, sym, ap, _∙_, subst, subst₂}
 use native.Mathlib.Omega.{arith}
 use lib.ListN.{length, getD, getElem? as look}
 use Rattle.language.specs.Limits.{byteRange, sizeVariablesMost, nestingMost}
@@ -31,6 +31,8 @@ use Rattle.encoding.specs.CursorSpells.{passed-over}
 use Rattle.heads.specs.SkipHeads.{byte-found, byte-there, next-at, next-there}
 use Rattle.heads.specs.PartLaws.{size-wider}
 use Rattle.encoding.specs.WithinParts.{function-within}
+use Rattle.index.specs.declared.Counts.{Counts}
+use Rattle.index.specs.Sections.{framesOf, typesOf, functionsOf, countsIn}
 use Rattle.index.specs.Indexed.{fieldAt, resultAt, framePart, functionLine, Indexed}
 use Rattle.plain_types.specs.declared.words.Typed.{Typed}
 use Rattle.plain_types.specs.declared.words.Typing.{Typing}
@@ -41,17 +43,21 @@ use Rattle.plain_types.specs.Agrees.{Agrees, answered, typed-is, typed-t
 use Rattle.plain_types.specs.Words.{withoutSize, namedWord, lineOf, ownOrOther, wantedWord, ReadsResult, Returns}
 use Rattle.plain_types.specs.WordLaws.{named-is, own-is, other-is}
 
--- ---- what is wanted
-pub wanted-parameter : (types functions : List ℕ) (want : Want) (j : ℕ) {f r : ℕ} → want ≡ Parameters f → r ≡ getD functions (functionWords * f + 1 + j) 0 → r ≡ wantedWord types functions want j
-unfolding wantedWord
-wanted-parameter types functions want j e q = rw e q
+-- ---- the line of a frame
+pub line-is : (index : List ℕ) (i : ℕ) {n : Counts} → n ≡ countsIn index → n .types + i % tagStep ≡ lineOf index i
+line-is index i e = ap (λ (m : Counts). m .types + i % tagStep) e
 
-module _ (types functions : List ℕ) (want : Want) (j : ℕ) {t c word r : ℕ} (e : want ≡ Fields t c) (q : word ≡ fieldAt types t c j) where
-  pub wanted-own : word ≡ 2 → r ≡ namedWord t → r ≡ wantedWord types functions want j
+-- ---- what is wanted
+pub wanted-parameter : (index : List ℕ) (want : Want) (j : ℕ) {f r : ℕ} → want ≡ Parameters f → r ≡ getD (functionsOf index) (functionWords * f + 1 + j) 0 → r ≡ wantedWord index want j
+unfolding wantedWord
+wanted-parameter index want j e q = rw e q
+
+module _ (index : List ℕ) (want : Want) (j : ℕ) {t c word r : ℕ} (e : want ≡ Fields t c) (q : word ≡ fieldAt (typesOf index) t c j) where
+  pub wanted-own : word ≡ 2 → r ≡ namedWord t → r ≡ wantedWord index want j
   unfolding wantedWord
   wanted-own own p = rw e (p ∙ own-is t word own ∙ ap (ownOrOther t) q)
 
-  pub wanted-other : (word ≡ 2 → ⊥) → r ≡ withoutSize word → r ≡ wantedWord types functions want j
+  pub wanted-other : (word ≡ 2 → ⊥) → r ≡ withoutSize word → r ≡ wantedWord index want j
   unfolding wantedWord
   wanted-other other p = rw e (p ∙ other-is t word other ∙ ap (ownOrOther t) q)
 
@@ -138,25 +144,22 @@ named-few (pbool ∷ ps) = omega (arith, named-few ps)
 named-few (pint ∷ ps) = omega (arith, named-few ps)
 named-few (pnamed t ∷ ps) = omega (arith, named-few ps)
 
-module _ (text frames functions : List ℕ) (count f : ℕ) {line : List ℕ} {i : ℕ} {x : Typing} (number : i ≡ lineOf count f) (part : line ≡ framePart text frames i) (v : ReadsResult line (record { at = resultAt functions f }) x) where
-  read-result : {types channels : List ℕ} {P : File} {F : Function} → Indexed text frames types functions channels P → count ≡ length (P .types) → look (P .functions) f ≡ some F →
-      Agrees x (resultAt functions f + length (resultBytes (F .result))) (some (plainResult (F .result)))
-  read-result {P} {F} h c e =
+module _ (text index : List ℕ) (f : ℕ) {line : List ℕ} {i : ℕ} {c : Cursor} {x : Typing} (number : i ≡ lineOf index f) (part : line ≡ framePart text (framesOf index) i) (place : c .at ≡ resultAt (functionsOf index) f) (v : ReadsResult line c x) where
+  read-result : {P : File} {F : Function} → Indexed text index P → look (P .functions) f ≡ some F →
+      Agrees x (c .at + length (resultBytes (F .result))) (some (plainResult (F .result)))
+  read-result {P} {F} h e =
       let less = look-less (P .functions) f e in
       let w = h .within in
-      let number′ : i ≡ functionLine P f = omega (arith, number, c, less, w .fewTypes, w .fewFunctions) in
-      let is : line ≡ lineAt text (functionLine P f) = part ∙ ap (framePart text frames) number′ ∙ h .eachFrame (functionLine P f) (omega (arith, less)) .line in
+      let number′ : i ≡ functionLine P f = omega (arith, number, h .counted .typeCount, less, w .fewFunctions) in
+      let is : line ≡ lineAt text (functionLine P f) = part ∙ ap (framePart text (framesOf index)) number′ ∙ h .eachFrame (functionLine P f) (omega (arith, less)) .line in
       let r = function-within w f e in
-      v .says (omega (arith, w .fewTypes)) (omega (arith, r .fewParameters, named-few (F .parameters))) (r .result) (subst (λ l. Spells resultBytes l (resultAt functions f) (F .result)) (sym is) (h .eachFunction f e .result))
+      v .says (omega (arith, w .fewTypes)) (omega (arith, r .fewParameters, named-few (F .parameters))) (r .result) (subst₂ (λ l at. Spells resultBytes l at (F .result)) (sym is) (sym place) (h .eachFunction f e .result))
 
-  pub returned-none : {r : ℕ} → x ≡ Wrong → Returns text frames functions count f r
-  returned-none q = record { says = λ h c e. absurd (typed-there (read-result h c e) q) }
+  pub returned-none : {r : ℕ} → x ≡ Wrong → Returns text index f r
+  returned-none q = record { says = λ h e. absurd (typed-there (read-result h e) q) }
 
-  pub returned-is : {k : Typed} → x ≡ Is k → Returns text frames functions count f (k .word)
-  returned-is q = record { says = λ h c e. typed-is (read-result h c e) q .0 }
-
-pub at-word : {line : List ℕ} {r : Typing} {a b : ℕ} → a ≡ b → ReadsResult line (record { at = a }) r → ReadsResult line (record { at = b }) r
-at-word {line} {r} e v = subst (λ m. ReadsResult line (record { at = m }) r) e v
+  pub returned-is : {k : Typed} → x ≡ Is k → Returns text index f (k .word)
+  returned-is q = record { says = λ h e. typed-is (read-result h e) q .0 }
 
 -- ---- a channel's type
 pub channel-is : {word plain declared : ℕ} {next : Cursor} → word ≡ declared → plain ≡ withoutSize word → Is (record { word = plain; next = next }) ≡ Is (record { word = withoutSize declared; next = next })

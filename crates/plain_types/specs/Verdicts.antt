@@ -13,9 +13,9 @@ use Rattle.language.specs.Within.{WithinDeclared, WithinExpr, WithinNode}
 use Rattle.language.specs.PlainTypes.{isPlain, plainOf, plainFunction, plainInitial, plainInput, plainNode}
 use Rattle.text.specs.Bytes.{plainWord}
 use Rattle.encoding.specs.FrameSpells.{lineAt}
-use Rattle.index.specs.declared.Counts.{Counts}
 use Rattle.encoding.specs.Known.{Known}
-use Rattle.index.specs.Indexed.{declaredAt, channelLine, lineCount, ChannelIndexed, NodeIndexed, Indexed, Counted}
+use Rattle.index.specs.Sections.{channelsOf}
+use Rattle.index.specs.Indexed.{declaredAt, channelLine, lineCount, ChannelIndexed, NodeIndexed, Indexed}
 use Rattle.plain_types.specs.declared.words.Typing.{Typing}
 use Rattle.plain_types.specs.declared.words.Typing.the-variants.{Is, Wrong}
 use Rattle.plain_types.specs.declared.places.Place.{Place}
@@ -28,32 +28,31 @@ fits (Is k) = true
 fits Wrong = false
 
 -- ---- a place of a file that was read, outside all functions: no variable is in scope
-pub record Outer (text frames types functions channels : List ℕ) (count line : ℕ) (P : File) (C : List Plain) (S : Scope) : Type 0 where
-  pub indexed : Indexed text frames types functions channels P
-  pub typeCount : count ≡ length (P .types)
+pub record Outer (text index : List ℕ) (line : ℕ) (P : File) (C : List Plain) (S : Scope) : Type 0 where
+  pub indexed : Indexed text index P
   pub less : line < lineCount P
   pub known : Known P S
-  pub channel : (c : ℕ) → c < length C → withoutSize (declaredAt channels c) ≡ plainWord (getD C c pbool)
+  pub channel : (c : ℕ) → c < length C → withoutSize (declaredAt (channelsOf index) c) ≡ plainWord (getD C c pbool)
   pub now : S .now ≤ length C
   pub last : S .last ≤ length C
   pub none : S .variables ≡ 0
 
-module _ (text frames types functions channels : List ℕ) where
-  pub record FunctionFits (count f : ℕ) (r : Bool) : Type 0 where
-    pub says : {P : File} {F : Function} → Indexed text frames types functions channels P → count ≡ length (P .types) → look (P .functions) f ≡ some F → r ≡ plainFunction P F
+module _ (text index : List ℕ) where
+  pub record FunctionFits (f : ℕ) (r : Bool) : Type 0 where
+    pub says : {P : File} {F : Function} → Indexed text index P → look (P .functions) f ≡ some F → r ≡ plainFunction P F
 
   pub record ValueFits (p : Place) (c : ℕ) (r : Bool) : Type 0 where
-    pub says : {P : File} {C : List Plain} {S : Scope} {e : Expr} {end : ℕ} (τ : Plain) → p .variables ≡ 0 → Outer text frames types functions channels (p .types) (p .line) P C S →
-        Part (lineAt text (p .line)) (p .levels) S (p .at .at) e end → withoutSize (declaredAt channels c) ≡ plainWord τ → r ≡ isPlain τ (plainOf P C e [])
+    pub says : {P : File} {C : List Plain} {S : Scope} {e : Expr} {end : ℕ} (τ : Plain) → p .variables ≡ 0 → Outer text index (p .line) P C S →
+        Part (lineAt text (p .line)) (p .levels) S (p .at .at) e end → withoutSize (declaredAt (channelsOf index) c) ≡ plainWord τ → r ≡ isPlain τ (plainOf P C e [])
 
   -- channel c has the frame i behind the types
-  pub record InitialFits (count i c : ℕ) (r : Bool) : Type 0 where
-    pub says : {P : File} {τ : Ty} {e : Expr} → Indexed text frames types functions channels P → count ≡ length (P .types) → i ≡ length (P .functions) + c → c < length (P .inputs) + length (P .nodes) →
-        ChannelIndexed (lineAt text (channelLine P c)) channels c τ e → WithinDeclared (length (P .types)) τ → WithinExpr nestingMost (outerScope (P .types) (P .functions) 0 0) e → r ≡ plainInitial P τ e
+  pub record InitialFits (i c : ℕ) (r : Bool) : Type 0 where
+    pub says : {P : File} {τ : Ty} {e : Expr} → Indexed text index P → i ≡ length (P .functions) + c → c < length (P .inputs) + length (P .nodes) →
+        ChannelIndexed (lineAt text (channelLine P c)) (channelsOf index) c τ e → WithinDeclared (length (P .types)) τ → WithinExpr nestingMost (outerScope (P .types) (P .functions) 0 0) e → r ≡ plainInitial P τ e
 
-  pub record NodeFits (count i c : ℕ) (r : Bool) : Type 0 where
-    pub says : {P : File} {n : Node} → Indexed text frames types functions channels P → count ≡ length (P .types) → i ≡ length (P .functions) + c → c < length (P .inputs) + length (P .nodes) →
-        (m : ℕ) → c ≡ length (P .inputs) + m → NodeIndexed (lineAt text (channelLine P c)) channels c n → WithinNode P m n → r ≡ plainNode P n
+  pub record NodeFits (i c : ℕ) (r : Bool) : Type 0 where
+    pub says : {P : File} {n : Node} → Indexed text index P → i ≡ length (P .functions) + c → c < length (P .inputs) + length (P .nodes) →
+        (m : ℕ) → c ≡ length (P .inputs) + m → NodeIndexed (lineAt text (channelLine P c)) (channelsOf index) c n → WithinNode P m n → r ≡ plainNode P n
 
 -- ---- the definition's tests, in the order of the frames
 abbrev pub frameTests : File → List Bool
@@ -73,9 +72,9 @@ unfoldable pub verdict : {A : Type 0} → ℕ → Result A → Result A
 verdict zero x = x
 verdict (suc n) x = no 9 (suc n)
 
-module _ (text frames types functions channels : List ℕ) (counts : Counts) where
+module _ (text index : List ℕ) where
   pub record FrameFits (i : ℕ) (r : Bool) : Type 0 where
-    pub says : {P : File} → Indexed text frames types functions channels P → Counted counts P → r ≡ getD (frameTests P) i true
+    pub says : {P : File} → Indexed text index P → r ≡ getD (frameTests P) i true
 
   pub record JudgesAll (r : ℕ) : Type 0 where
-    pub says : {P : File} → Indexed text frames types functions channels P → Counted counts P → r ≡ refusedFrame P
+    pub says : {P : File} → Indexed text index P → r ≡ refusedFrame P

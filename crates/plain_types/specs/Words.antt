@@ -1,4 +1,4 @@
--- Plain types as words, as the code computes them: without sizes, by operators, by the tables; and what reading a result type promises.
+-- Plain types as words, as the code computes them: without sizes, by operators, by the index; and what reading a result type promises.
 use Prim.Native.Nat.{ℕ, zero, suc, _+_, _-_, _*_, _%_, _≤_}
 use mathlib.Core.List.{List}
 use mathlib.Core.Option.{some}
@@ -15,6 +15,7 @@ use Rattle.language.specs.PlainTypes.{plainResult}
 use Rattle.text.specs.declared.Cursor.{Cursor}
 use Rattle.text.specs.Bytes.{plainWord}
 use Rattle.index.specs.Tables.{functionWords}
+use Rattle.index.specs.Sections.{typesOf, functionsOf, countsIn}
 use Rattle.encoding.specs.Spells.{Spells}
 use Rattle.index.specs.Indexed.{fieldAt, Indexed}
 use Rattle.plain_types.specs.declared.words.Typing.{Typing}
@@ -29,8 +30,8 @@ abbrev pub namedWord : ℕ → ℕ
 namedWord t = tagStep * (t % tagStep + 1)
 
 -- the line of frame i behind the types
-abbrev pub lineOf : ℕ → ℕ → ℕ
-lineOf types i = types % tagStep + i % tagStep
+abbrev pub lineOf : List ℕ → ℕ → ℕ
+lineOf index i = countsIn index .types + i % tagStep
 
 -- ---- operators, by their codes
 abbrev pub operandWord : ℕ → ℕ
@@ -43,18 +44,18 @@ outcomeWord o = choose (ltb o 3) 1 0
 abbrev pub ownOrOther : ℕ → ℕ → ℕ
 ownOrOther t word = choose (eqb word 2) (namedWord t) (withoutSize word)
 
-unfoldable pub wantedWord : List ℕ → List ℕ → Want → ℕ → ℕ
-wantedWord types functions (Parameters f) j = getD functions (functionWords * f + 1 + j) 0
-wantedWord types functions (Fields t c) j = ownOrOther t (fieldAt types t c j)
+unfoldable pub wantedWord : List ℕ → Want → ℕ → ℕ
+wantedWord index (Parameters f) j = getD (functionsOf index) (functionWords * f + 1 + j) 0
+wantedWord index (Fields t c) j = ownOrOther t (fieldAt (typesOf index) t c j)
 
 -- the first n of these words in the scope, from a place on
-unfoldable pub entered : List ℕ → List ℕ → Want → List ℕ → ℕ → ℕ → List ℕ
-entered types functions want scope to zero = scope
-entered types functions want scope to (suc n) = set (entered types functions want scope to n) (to + n) (wantedWord types functions want n)
+unfoldable pub entered : List ℕ → Want → List ℕ → ℕ → ℕ → List ℕ
+entered index want scope to zero = scope
+entered index want scope to (suc n) = set (entered index want scope to n) (to + n) (wantedWord index want n)
 
 -- ---- result types
 pub record ReadsResult (line : List ℕ) (c : Cursor) (r : Typing) : Type 0 where
   pub says : {types vars : ℕ} {ρ : ResultType} → types ≤ tagStep → vars ≤ sizeVariablesMost → WithinResult types vars ρ → Spells resultBytes line (c .at) ρ → Agrees r (c .at + length (resultBytes ρ)) (some (plainResult ρ))
 
-pub record Returns (text frames functions : List ℕ) (count f r : ℕ) : Type 0 where
-  pub says : {types channels : List ℕ} {P : File} {F : Function} → Indexed text frames types functions channels P → count ≡ length (P .types) → look (P .functions) f ≡ some F → r ≡ plainWord (plainResult (F .result))
+pub record Returns (text index : List ℕ) (f r : ℕ) : Type 0 where
+  pub says : {P : File} {F : Function} → Indexed text index P → look (P .functions) f ≡ some F → r ≡ plainWord (plainResult (F .result))

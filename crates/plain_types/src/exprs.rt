@@ -1,4 +1,4 @@
-// The plain type of an expression, form by form, the scope's types as words in a lent slice.
+// The plain type of an expression, form by form, the scope's types as words in a lent array.
 ghost use Rattle.plain_types.specs.Asks.{Room, TypesExpr, TypesWant, TypesLet, TypesIf, TypesOp, TypesAdj, TypesFit};
 use super::lists::call;
 use super::lists::case_of;
@@ -10,12 +10,14 @@ use super::places::moved;
 use super::places::widened;
 use super::words::BOOL;
 use super::words::INT;
+use super::words::SCOPE_WORDS;
 use super::words::Typing;
 use super::words::answer;
 use super::words::operand;
 use super::words::outcome;
 use heads::Form;
 use heads::head_at;
+use index::INDEX_WORDS;
 use index::frames::frame_line;
 use index::put;
 use index::word_at;
@@ -27,20 +29,17 @@ use text::TYPE_STEP;
 // An expression with so many levels left.
 pub fn expr(
     text: &[u8],
-    frames: &[u32],
-    types: &[u32],
-    functions: &[u32],
-    channels: &[u32],
-    scope: &mut [u32],
+    index: &[u32; INDEX_WORDS],
+    scope: &mut [u32; SCOPE_WORDS],
     p: Place,
 ) -> Typing
     requires { ⌜ Room 0 p ⌝ }
-    ensures { λ r. ⌜ TypesExpr (now (text .entry)) (now (frames .entry)) (now (types .entry)) (now (functions .entry)) (now (channels .entry)) (now (scope .entry)) p r (now (scope .exit)) ⌝ }
+    ensures { λ r. ⌜ TypesExpr (now (text .entry)) (now (index .entry)) (now (scope .entry)) p r (now (scope .exit)) ⌝ }
 {
     if p.levels == 0 {
         return Typing::Wrong;
     }
-    let line = frame_line(text, frames, p.line);
+    let line = frame_line(text, index, p.line);
     let at = p.at;
     let head = head_at(line, at);
     let form = head.form;
@@ -50,16 +49,16 @@ pub fn expr(
         Form::Bool(_) => answer(BOOL, next),
         Form::Int(_) => answer(INT, next),
         Form::Variable(v) => answer(word_at(scope, v as usize), next),
-        Form::Now(c) => channel(channels, c, next),
-        Form::Last(c) => channel(channels, c, next),
-        Form::Let => binding(text, frames, types, functions, channels, scope, q),
-        Form::If => choice(text, frames, types, functions, channels, scope, q),
-        Form::Operator(o) => operation(text, frames, types, functions, channels, scope, q, o),
-        Form::Call(f) => call(text, frames, types, functions, channels, scope, q, f),
-        Form::Construct(t, c) => make(text, frames, types, functions, channels, scope, q, t, c),
-        Form::Case(t) => case_of(text, frames, types, functions, channels, scope, q, t),
-        Form::Adjust => adjust(text, frames, types, functions, channels, scope, q),
-        Form::Fit(_) => fit(text, frames, types, functions, channels, scope, q),
+        Form::Now(c) => channel(index, c, next),
+        Form::Last(c) => channel(index, c, next),
+        Form::Let => binding(text, index, scope, q),
+        Form::If => choice(text, index, scope, q),
+        Form::Operator(o) => operation(text, index, scope, q, o),
+        Form::Call(f) => call(text, index, scope, q, f),
+        Form::Construct(t, c) => make(text, index, scope, q, t, c),
+        Form::Case(t) => case_of(text, index, scope, q, t),
+        Form::Adjust => adjust(text, index, scope, q),
+        Form::Fit(_) => fit(text, index, scope, q),
         Form::Missing => Typing::Wrong,
     }
 }
@@ -67,18 +66,15 @@ pub fn expr(
 // An expression of the type that is wanted.
 pub fn expect(
     text: &[u8],
-    frames: &[u32],
-    types: &[u32],
-    functions: &[u32],
-    channels: &[u32],
-    scope: &mut [u32],
+    index: &[u32; INDEX_WORDS],
+    scope: &mut [u32; SCOPE_WORDS],
     p: Place,
     word: u32,
 ) -> Typing
     requires { ⌜ Room 0 p ⌝ }
-    ensures { λ r. ⌜ TypesWant (now (text .entry)) (now (frames .entry)) (now (types .entry)) (now (functions .entry)) (now (channels .entry)) (now (scope .entry)) p word r (now (scope .exit)) ⌝ }
+    ensures { λ r. ⌜ TypesWant (now (text .entry)) (now (index .entry)) (now (scope .entry)) p word r (now (scope .exit)) ⌝ }
 {
-    let x = expr(text, frames, types, functions, channels, scope, p);
+    let x = expr(text, index, scope, p);
     let Typing::Is(k) = x else {
         return Typing::Wrong;
     };
@@ -91,76 +87,67 @@ pub fn expect(
 // `15`: let.
 fn binding(
     text: &[u8],
-    frames: &[u32],
-    types: &[u32],
-    functions: &[u32],
-    channels: &[u32],
-    scope: &mut [u32],
+    index: &[u32; INDEX_WORDS],
+    scope: &mut [u32; SCOPE_WORDS],
     p: Place,
 ) -> Typing
     requires { ⌜ Room 1 p ⌝ }
-    ensures { λ r. ⌜ TypesLet (now (text .entry)) (now (frames .entry)) (now (types .entry)) (now (functions .entry)) (now (channels .entry)) (now (scope .entry)) p r (now (scope .exit)) ⌝ }
+    ensures { λ r. ⌜ TypesLet (now (text .entry)) (now (index .entry)) (now (scope .entry)) p r (now (scope .exit)) ⌝ }
 {
-    let x = expr(text, frames, types, functions, channels, scope, p);
+    let x = expr(text, index, scope, p);
     let Typing::Is(k) = x else {
         return Typing::Wrong;
     };
     put(scope, p.variables as usize, k.word);
     let next = k.next;
     let q = widened(p, next, 1);
-    expr(text, frames, types, functions, channels, scope, q)
+    expr(text, index, scope, q)
 }
 
 // `16`: if, whose arms have one type.
 fn choice(
     text: &[u8],
-    frames: &[u32],
-    types: &[u32],
-    functions: &[u32],
-    channels: &[u32],
-    scope: &mut [u32],
+    index: &[u32; INDEX_WORDS],
+    scope: &mut [u32; SCOPE_WORDS],
     p: Place,
 ) -> Typing
     requires { ⌜ Room 1 p ⌝ }
-    ensures { λ r. ⌜ TypesIf (now (text .entry)) (now (frames .entry)) (now (types .entry)) (now (functions .entry)) (now (channels .entry)) (now (scope .entry)) p r (now (scope .exit)) ⌝ }
+    ensures { λ r. ⌜ TypesIf (now (text .entry)) (now (index .entry)) (now (scope .entry)) p r (now (scope .exit)) ⌝ }
 {
-    let x = expect(text, frames, types, functions, channels, scope, p, BOOL);
+    let x = expect(text, index, scope, p, BOOL);
     let Typing::Is(a) = x else {
         return Typing::Wrong;
     };
     let second = a.next;
     let q = moved(p, second);
-    let y = expr(text, frames, types, functions, channels, scope, q);
+    let y = expr(text, index, scope, q);
     let Typing::Is(b) = y else {
         return Typing::Wrong;
     };
     let third = b.next;
     let s = moved(p, third);
-    expect(text, frames, types, functions, channels, scope, s, b.word)
+    expect(text, index, scope, s, b.word)
 }
 
 // `17`: an operator, its code o.
 fn operation(
     text: &[u8],
-    frames: &[u32],
-    types: &[u32],
-    functions: &[u32],
-    channels: &[u32],
-    scope: &mut [u32],
+    index: &[u32; INDEX_WORDS],
+    scope: &mut [u32; SCOPE_WORDS],
     p: Place,
     o: u32,
 ) -> Typing
     requires { ⌜ Room 1 p ⌝ }
-    ensures { λ r. ⌜ TypesOp (now (text .entry)) (now (frames .entry)) (now (types .entry)) (now (functions .entry)) (now (channels .entry)) (now (scope .entry)) p o r (now (scope .exit)) ⌝ }
+    ensures { λ r. ⌜ TypesOp (now (text .entry)) (now (index .entry)) (now (scope .entry)) p o r (now (scope .exit)) ⌝ }
 {
     let word = operand(o);
-    let x = expect(text, frames, types, functions, channels, scope, p, word);
+    let x = expect(text, index, scope, p, word);
     let Typing::Is(a) = x else {
         return Typing::Wrong;
     };
     let second = a.next;
     let q = moved(p, second);
-    let y = expect(text, frames, types, functions, channels, scope, q, word);
+    let y = expect(text, index, scope, q, word);
     let Typing::Is(b) = y else {
         return Typing::Wrong;
     };
@@ -172,24 +159,21 @@ fn operation(
 // `1B`: adj, whose subject is of a named type.
 fn adjust(
     text: &[u8],
-    frames: &[u32],
-    types: &[u32],
-    functions: &[u32],
-    channels: &[u32],
-    scope: &mut [u32],
+    index: &[u32; INDEX_WORDS],
+    scope: &mut [u32; SCOPE_WORDS],
     p: Place,
 ) -> Typing
     requires { ⌜ Room 1 p ⌝ }
-    ensures { λ r. ⌜ TypesAdj (now (text .entry)) (now (frames .entry)) (now (types .entry)) (now (functions .entry)) (now (channels .entry)) (now (scope .entry)) p r (now (scope .exit)) ⌝ }
+    ensures { λ r. ⌜ TypesAdj (now (text .entry)) (now (index .entry)) (now (scope .entry)) p r (now (scope .exit)) ⌝ }
 {
-    let line = frame_line(text, frames, p.line);
+    let line = frame_line(text, index, p.line);
     let at = p.at;
     let z = at.size(line, SIZE_VARIABLES_MOST, NESTING_MOST);
     let Step::Next(next) = z else {
         return Typing::Wrong;
     };
     let q = moved(p, next);
-    let x = expr(text, frames, types, functions, channels, scope, q);
+    let x = expr(text, index, scope, q);
     let Typing::Is(k) = x else {
         return Typing::Wrong;
     };
@@ -200,19 +184,11 @@ fn adjust(
 }
 
 // `1C`: fit, whose subject is of a named type and a variable of its first arm.
-fn fit(
-    text: &[u8],
-    frames: &[u32],
-    types: &[u32],
-    functions: &[u32],
-    channels: &[u32],
-    scope: &mut [u32],
-    p: Place,
-) -> Typing
+fn fit(text: &[u8], index: &[u32; INDEX_WORDS], scope: &mut [u32; SCOPE_WORDS], p: Place) -> Typing
     requires { ⌜ Room 1 p ⌝ }
-    ensures { λ r. ⌜ TypesFit (now (text .entry)) (now (frames .entry)) (now (types .entry)) (now (functions .entry)) (now (channels .entry)) (now (scope .entry)) p r (now (scope .exit)) ⌝ }
+    ensures { λ r. ⌜ TypesFit (now (text .entry)) (now (index .entry)) (now (scope .entry)) p r (now (scope .exit)) ⌝ }
 {
-    let x = expr(text, frames, types, functions, channels, scope, p);
+    let x = expr(text, index, scope, p);
     let Typing::Is(a) = x else {
         return Typing::Wrong;
     };
@@ -222,11 +198,11 @@ fn fit(
     put(scope, p.variables as usize, a.word);
     let second = a.next;
     let q = widened(p, second, 1);
-    let y = expr(text, frames, types, functions, channels, scope, q);
+    let y = expr(text, index, scope, q);
     let Typing::Is(b) = y else {
         return Typing::Wrong;
     };
     let third = b.next;
     let s = moved(p, third);
-    expect(text, frames, types, functions, channels, scope, s, b.word)
+    expect(text, index, scope, s, b.word)
 }

@@ -1,19 +1,21 @@
 // Initial values: document 01 allows them the forms `10`, `11`, `19` and `1B` only.
+ghost use Rattle.index.specs.Sections.{typesOf};
 ghost use Rattle.plain_types.specs.Initials.{TestsInitial, TestsInitials};
 use super::words::BOOL;
 use super::words::Typing;
 use super::words::answer;
 use heads::Form;
 use heads::head_at;
-use index::fields;
+use index::INDEX_WORDS;
+use index::types::fields;
 use language::limits::NESTING_MOST;
 use language::limits::SIZE_VARIABLES_MOST;
 use text::Cursor;
 use text::Step;
 
 // Whether an expression is an initial value, and the cursor behind it.
-pub fn initial(line: &[u8], types: &[u32], c: Cursor, levels: u32) -> Typing
-    ensures { λ r. ⌜ TestsInitial (now (line .entry)) (now (types .entry)) c levels r ⌝ }
+pub fn initial(line: &[u8], index: &[u32; INDEX_WORDS], c: Cursor, levels: u32) -> Typing
+    ensures { λ r. ⌜ TestsInitial (now (line .entry)) (typesOf (now (index .entry))) c levels r ⌝ }
 {
     if levels == 0 {
         return Typing::Wrong;
@@ -25,15 +27,15 @@ pub fn initial(line: &[u8], types: &[u32], c: Cursor, levels: u32) -> Typing
         Form::Bool(_) => answer(BOOL, next),
         Form::Int(_) => answer(BOOL, next),
         Form::Construct(t, k) => {
-            let n = fields(types, t, k);
-            initials(line, types, next, levels - 1, n)
+            let n = fields(index, t, k);
+            initials(line, index, next, levels - 1, n)
         }
         Form::Adjust => {
             let z = next.size(line, SIZE_VARIABLES_MOST, NESTING_MOST);
             let Step::Next(first) = z else {
                 return Typing::Wrong;
             };
-            initial(line, types, first, levels - 1)
+            initial(line, index, first, levels - 1)
         }
         Form::Variable(_) => Typing::Wrong,
         Form::Now(_) => Typing::Wrong,
@@ -49,16 +51,16 @@ pub fn initial(line: &[u8], types: &[u32], c: Cursor, levels: u32) -> Typing
 }
 
 // So many of them, one after the other.
-fn initials(line: &[u8], types: &[u32], c: Cursor, levels: u32, n: u32) -> Typing
-    ensures { λ r. ⌜ TestsInitials (now (line .entry)) (now (types .entry)) c levels n r ⌝ }
+fn initials(line: &[u8], index: &[u32; INDEX_WORDS], c: Cursor, levels: u32, n: u32) -> Typing
+    ensures { λ r. ⌜ TestsInitials (now (line .entry)) (typesOf (now (index .entry))) c levels n r ⌝ }
 {
     if n == 0 {
         return answer(BOOL, c);
     }
-    let x = initial(line, types, c, levels);
+    let x = initial(line, index, c, levels);
     let Typing::Is(k) = x else {
         return Typing::Wrong;
     };
     let next = k.next;
-    initials(line, types, next, levels, n - 1)
+    initials(line, index, next, levels, n - 1)
 }

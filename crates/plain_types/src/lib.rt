@@ -8,7 +8,7 @@ mod words;
 
 ghost use Rattle.plain_types.specs.Verdicts.{JudgesAll};
 use frames::frame_agrees;
-use index::Counts;
+use index::INDEX_WORDS;
 use language::limits::CHANNELS_MOST;
 use language::limits::FUNCTIONS_MOST;
 use words::line_of;
@@ -17,21 +17,14 @@ use words::line_of;
 const BODIES_MOST: usize = FUNCTIONS_MOST + CHANNELS_MOST;
 
 // 0 where the plain types of every frame agree, else the number of the first frame where they do not, from 1.
-pub fn plain_types(
-    text: &[u8],
-    frames: &[u32],
-    types: &[u32],
-    functions: &[u32],
-    channels: &[u32],
-    counts: Counts,
-) -> u32
-    ensures { λ r. ⌜ JudgesAll (now (text .entry)) (now (frames .entry)) (now (types .entry)) (now (functions .entry)) (now (channels .entry)) counts r ⌝ }
+pub fn plain_types(text: &[u8], index: &[u32; INDEX_WORDS]) -> u32
+    ensures { λ r. ⌜ JudgesAll (now (text .entry)) (now (index .entry)) r ⌝ }
 {
     let most = BODIES_MOST as u32;
     let mut i: u32 = 0;
     while i < most {
-        if !frame_agrees(text, frames, types, functions, channels, counts, i) {
-            return line_of(counts.types, i) + 1;
+        if !frame_agrees(text, index, i) {
+            return line_of(index, i) + 1;
         }
         i += 1;
     }

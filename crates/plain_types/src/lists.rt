@@ -7,6 +7,7 @@ use super::places::Place;
 use super::places::Series;
 use super::places::moved;
 use super::places::widened;
+use super::words::SCOPE_WORDS;
 use super::words::Typing;
 use super::words::Want;
 use super::words::answer;
@@ -15,75 +16,67 @@ use super::words::named_word;
 use super::words::result_type;
 use super::words::returned;
 use super::words::wanted;
-use index::arity;
-use index::constructors;
-use index::fields;
+use index::INDEX_WORDS;
 use index::frames::frame_line;
+use index::functions::arity;
+use index::types::constructors;
+use index::types::fields;
 
 // `18`: a call of function f.
 pub fn call(
     text: &[u8],
-    frames: &[u32],
-    types: &[u32],
-    functions: &[u32],
-    channels: &[u32],
-    scope: &mut [u32],
+    index: &[u32; INDEX_WORDS],
+    scope: &mut [u32; SCOPE_WORDS],
     p: Place,
     f: u32,
 ) -> Typing
     requires { ⌜ Room 1 p ⌝ }
-    ensures { λ r. ⌜ TypesCall (now (text .entry)) (now (frames .entry)) (now (types .entry)) (now (functions .entry)) (now (channels .entry)) (now (scope .entry)) p f r (now (scope .exit)) ⌝ }
+    ensures { λ r. ⌜ TypesCall (now (text .entry)) (now (index .entry)) (now (scope .entry)) p f r (now (scope .exit)) ⌝ }
 {
-    let word = returned(text, frames, functions, p.types, f);
-    let n = arity(functions, f);
+    let word = returned(text, index, f);
+    let n = arity(index, f);
     let series = Series {
         of: Want::Parameters(f),
         first: 0,
         count: n,
         word: word,
     };
-    several(text, frames, types, functions, channels, scope, p, series)
+    several(text, index, scope, p, series)
 }
 
 // `19`: constructor c of type t.
 pub fn make(
     text: &[u8],
-    frames: &[u32],
-    types: &[u32],
-    functions: &[u32],
-    channels: &[u32],
-    scope: &mut [u32],
+    index: &[u32; INDEX_WORDS],
+    scope: &mut [u32; SCOPE_WORDS],
     p: Place,
     t: u32,
     c: u32,
 ) -> Typing
     requires { ⌜ Room 1 p ⌝ }
-    ensures { λ r. ⌜ TypesCon (now (text .entry)) (now (frames .entry)) (now (types .entry)) (now (functions .entry)) (now (channels .entry)) (now (scope .entry)) p t c r (now (scope .exit)) ⌝ }
+    ensures { λ r. ⌜ TypesCon (now (text .entry)) (now (index .entry)) (now (scope .entry)) p t c r (now (scope .exit)) ⌝ }
 {
     let word = named_word(t);
-    let n = fields(types, t, c);
+    let n = fields(index, t, c);
     let series = Series {
         of: Want::Fields(t, c),
         first: 0,
         count: n,
         word: word,
     };
-    several(text, frames, types, functions, channels, scope, p, series)
+    several(text, index, scope, p, series)
 }
 
 // Expressions one after the other, each of the type that is wanted of it.
 fn several(
     text: &[u8],
-    frames: &[u32],
-    types: &[u32],
-    functions: &[u32],
-    channels: &[u32],
-    scope: &mut [u32],
+    index: &[u32; INDEX_WORDS],
+    scope: &mut [u32; SCOPE_WORDS],
     p: Place,
     series: Series,
 ) -> Typing
     requires { ⌜ Room 0 p × (series .first + series .count < 2 ^ 32) ⌝ }
-    ensures { λ r. ⌜ TypesSeveral (now (text .entry)) (now (frames .entry)) (now (types .entry)) (now (functions .entry)) (now (channels .entry)) (now (scope .entry)) p series r (now (scope .exit)) ⌝ }
+    ensures { λ r. ⌜ TypesSeveral (now (text .entry)) (now (index .entry)) (now (scope .entry)) p series r (now (scope .exit)) ⌝ }
 {
     let left = series.count;
     let word = series.word;
@@ -93,8 +86,8 @@ fn several(
     }
     let of = series.of;
     let first = series.first;
-    let one = wanted(types, functions, of, first);
-    let x = expect(text, frames, types, functions, channels, scope, p, one);
+    let one = wanted(index, of, first);
+    let x = expect(text, index, scope, p, one);
     let Typing::Is(k) = x else {
         return Typing::Wrong;
     };
@@ -106,29 +99,26 @@ fn several(
         count: left - 1,
         word: word,
     };
-    several(text, frames, types, functions, channels, scope, q, others)
+    several(text, index, scope, q, others)
 }
 
 // `1A`: a case over type t.
 pub fn case_of(
     text: &[u8],
-    frames: &[u32],
-    types: &[u32],
-    functions: &[u32],
-    channels: &[u32],
-    scope: &mut [u32],
+    index: &[u32; INDEX_WORDS],
+    scope: &mut [u32; SCOPE_WORDS],
     p: Place,
     t: u32,
 ) -> Typing
     requires { ⌜ Room 1 p ⌝ }
-    ensures { λ r. ⌜ TypesCase (now (text .entry)) (now (frames .entry)) (now (types .entry)) (now (functions .entry)) (now (channels .entry)) (now (scope .entry)) p t r (now (scope .exit)) ⌝ }
+    ensures { λ r. ⌜ TypesCase (now (text .entry)) (now (index .entry)) (now (scope .entry)) p t r (now (scope .exit)) ⌝ }
 {
     let subject = named_word(t);
-    let x = expect(text, frames, types, functions, channels, scope, p, subject);
+    let x = expect(text, index, scope, p, subject);
     let Typing::Is(k) = x else {
         return Typing::Wrong;
     };
-    let line = frame_line(text, frames, p.line);
+    let line = frame_line(text, index, p.line);
     let written = k.next;
     let y = result_type(line, written);
     let Typing::Is(result) = y else {
@@ -136,29 +126,26 @@ pub fn case_of(
     };
     let first = result.next;
     let q = moved(p, first);
-    let n = constructors(types, t);
+    let n = constructors(index, t);
     let series = BranchSeries {
         of: t,
         first: 0,
         count: n,
         word: result.word,
     };
-    branches(text, frames, types, functions, channels, scope, q, series)
+    branches(text, index, scope, q, series)
 }
 
 // Branches one after the other, each with the fields of its constructor in scope.
 fn branches(
     text: &[u8],
-    frames: &[u32],
-    types: &[u32],
-    functions: &[u32],
-    channels: &[u32],
-    scope: &mut [u32],
+    index: &[u32; INDEX_WORDS],
+    scope: &mut [u32; SCOPE_WORDS],
     p: Place,
     series: BranchSeries,
 ) -> Typing
     requires { ⌜ Room 1 p × (series .first + series .count < 2 ^ 32) ⌝ }
-    ensures { λ r. ⌜ TypesBranches (now (text .entry)) (now (frames .entry)) (now (types .entry)) (now (functions .entry)) (now (channels .entry)) (now (scope .entry)) p series r (now (scope .exit)) ⌝ }
+    ensures { λ r. ⌜ TypesBranches (now (text .entry)) (now (index .entry)) (now (scope .entry)) p series r (now (scope .exit)) ⌝ }
 {
     let left = series.count;
     let word = series.word;
@@ -168,11 +155,11 @@ fn branches(
     }
     let t = series.of;
     let c = series.first;
-    let n = fields(types, t, c);
-    enter(types, functions, scope, Want::Fields(t, c), p.variables, n);
+    let n = fields(index, t, c);
+    enter(index, scope, Want::Fields(t, c), p.variables, n);
     let at = p.at;
     let q = widened(p, at, n);
-    let x = expect(text, frames, types, functions, channels, scope, q, word);
+    let x = expect(text, index, scope, q, word);
     let Typing::Is(k) = x else {
         return Typing::Wrong;
     };
@@ -184,5 +171,5 @@ fn branches(
         count: left - 1,
         word: word,
     };
-    branches(text, frames, types, functions, channels, scope, s, others)
+    branches(text, index, scope, s, others)
 }

@@ -1,6 +1,7 @@
 // Places of expressions: where one stands, where its parts stand, and lists of them.
 ghost use mathlib.Core.Path.{_≡_};
 ghost use Prim.Native.Nat.{_+_, _^_, _<_};
+ghost use Rattle.index.specs.Sections.{channelsOf};
 ghost use Rattle.index.specs.Indexed.{declaredAt};
 ghost use Rattle.plain_types.specs.declared.words.Typing.the-variants.{Is};
 ghost use Rattle.plain_types.specs.Words.{withoutSize};
@@ -9,17 +10,15 @@ use super::words::Typing;
 use super::words::Want;
 use super::words::answer;
 use super::words::without_size;
-use index::CHANNEL_WORDS;
-use index::word_at;
+use index::INDEX_WORDS;
+use index::channels::declared_word;
 use text::Cursor;
 
-// Where an expression stands: its place in the line of that number, the levels left, how many types the file has, and how many
-// variables are in scope.
+// Where an expression stands: its place in the line of that number, the levels left, and how many variables are in scope.
 pub struct Place {
     pub at: Cursor,
     pub levels: u32,
     pub line: u32,
-    pub types: u32,
     pub variables: u32,
 }
 
@@ -47,7 +46,6 @@ pub fn moved(p: Place, next: Cursor) -> Place
         at: next,
         levels: p.levels,
         line: p.line,
-        types: p.types,
         variables: p.variables,
     }
 }
@@ -61,7 +59,6 @@ pub fn widened(p: Place, next: Cursor, n: u32) -> Place
         at: next,
         levels: p.levels,
         line: p.line,
-        types: p.types,
         variables: p.variables + n,
     }
 }
@@ -75,16 +72,15 @@ pub fn inside(p: Place, next: Cursor) -> Place
         at: next,
         levels: p.levels - 1,
         line: p.line,
-        types: p.types,
         variables: p.variables,
     }
 }
 
 // A channel: its declared type without the size.
-pub fn channel(channels: &[u32], c: u32, next: Cursor) -> Typing
-    ensures { λ r. ⌜ r ≡ Is (record { word = withoutSize (declaredAt (now (channels .entry)) c); next = next }) ⌝ }
+pub fn channel(index: &[u32; INDEX_WORDS], c: u32, next: Cursor) -> Typing
+    ensures { λ r. ⌜ r ≡ Is (record { word = withoutSize (declaredAt (channelsOf (now (index .entry))) c); next = next }) ⌝ }
 {
-    let word = word_at(channels, CHANNEL_WORDS * (c as usize));
+    let word = declared_word(index, c);
     let plain = without_size(word);
     answer(plain, next)
 }

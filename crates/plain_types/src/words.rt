@@ -2,16 +2,17 @@
 ghost use mathlib.Core.Path.{_≡_};
 ghost use Rattle.plain_types.specs.declared.words.Typing.the-variants.{Is};
 ghost use Rattle.plain_types.specs.Words.{withoutSize, namedWord, operandWord, outcomeWord, lineOf, wantedWord, entered, ReadsResult, Returns};
-use index::CONSTRUCTOR_WORDS;
-use index::FUNCTION_WORDS;
-use index::HEAD_WORDS;
-use index::TYPE_WORDS;
+use index::INDEX_WORDS;
+use index::frame_counts;
 use index::frames::frame_line;
+use index::functions::parameter_word;
+use index::functions::result_start;
 use index::put;
 use index::types::OWN_FIELD;
-use index::word_at;
+use index::types::field_word;
 use language::limits::NESTING_MOST;
 use language::limits::SIZE_VARIABLES_MOST;
+use language::limits::VARIABLES_MOST;
 use text::Cursor;
 use text::Number;
 use text::Step;
@@ -20,6 +21,9 @@ use text::TYPE_STEP;
 pub const BOOL: u32 = 0;
 
 pub const INT: u32 = 1;
+
+// The words of a scope.
+pub const SCOPE_WORDS: usize = VARIABLES_MOST as usize;
 
 // A plain type as a word, and the cursor behind what has it.
 pub struct Typed {
@@ -65,11 +69,12 @@ pub fn named_word(t: u32) -> u32
     TYPE_STEP * (t % TYPE_STEP + 1)
 }
 
-// The line of frame i behind the types, both numbers bytes.
-pub fn line_of(types: u32, i: u32) -> u32
-    ensures { λ r. ⌜ r ≡ lineOf types i ⌝ }
+// The line of frame i behind the types, its number a byte.
+pub fn line_of(index: &[u32; INDEX_WORDS], i: u32) -> u32
+    ensures { λ r. ⌜ r ≡ lineOf (now (index .entry)) i ⌝ }
 {
-    types % TYPE_STEP + i % TYPE_STEP
+    let counts = frame_counts(index);
+    counts.types + i % TYPE_STEP
 }
 
 // The type of both operands of an operator, by its code.
@@ -93,16 +98,13 @@ pub fn outcome(o: u32) -> u32
 }
 
 // The plain type of parameter or field j.
-pub fn wanted(types: &[u32], functions: &[u32], want: Want, j: u32) -> u32
-    ensures { λ r. ⌜ r ≡ wantedWord (now (types .entry)) (now (functions .entry)) want j ⌝ }
+pub fn wanted(index: &[u32; INDEX_WORDS], want: Want, j: u32) -> u32
+    ensures { λ r. ⌜ r ≡ wantedWord (now (index .entry)) want j ⌝ }
 {
     match want {
-        Want::Parameters(f) => {
-            word_at(functions, FUNCTION_WORDS * (f as usize) + 1 + (j as usize))
-        }
+        Want::Parameters(f) => parameter_word(index, f, j),
         Want::Fields(t, c) => {
-            let constructor = TYPE_WORDS * (t as usize) + 3 + CONSTRUCTOR_WORDS * (c as usize);
-            let word = word_at(types, constructor + (j as usize));
+            let word = field_word(index, t, c, j);
             if word == OWN_FIELD {
                 return named_word(t);
             }
@@ -112,12 +114,18 @@ pub fn wanted(types: &[u32], functions: &[u32], want: Want, j: u32) -> u32
 }
 
 // Writes the words of the first n parameters or fields into a scope, from a place on.
-pub fn enter(types: &[u32], functions: &[u32], scope: &mut [u32], want: Want, to: u32, n: u32)
-    ensures { λ _. ⌜ now (scope .exit) ≡ entered (now (types .entry)) (now (functions .entry)) want (now (scope .entry)) to n ⌝ }
+pub fn enter(
+    index: &[u32; INDEX_WORDS],
+    scope: &mut [u32; SCOPE_WORDS],
+    want: Want,
+    to: u32,
+    n: u32,
+)
+    ensures { λ _. ⌜ now (scope .exit) ≡ entered (now (index .entry)) want (now (scope .entry)) to n ⌝ }
 {
     let mut i: u32 = 0;
     while i < n {
-        let word = wanted(types, functions, want, i);
+        let word = wanted(index, want, i);
         put(scope, (to as usize) + (i as usize), word);
         i += 1;
     }
@@ -157,13 +165,13 @@ pub fn result_type(line: &[u8], c: Cursor) -> Typing
 }
 
 // The result type of function f, read in its line.
-pub fn returned(text: &[u8], frames: &[u32], functions: &[u32], types: u32, f: u32) -> u32
-    ensures { λ r. ⌜ Returns (now (text .entry)) (now (frames .entry)) (now (functions .entry)) types f r ⌝ }
+pub fn returned(text: &[u8], index: &[u32; INDEX_WORDS], f: u32) -> u32
+    ensures { λ r. ⌜ Returns (now (text .entry)) (now (index .entry)) f r ⌝ }
 {
-    let i = line_of(types, f);
-    let line = frame_line(text, frames, i);
-    let at = word_at(functions, FUNCTION_WORDS * (f as usize) + HEAD_WORDS) as usize;
-    let x = result_type(line, Cursor { at: at });
+    let i = line_of(index, f);
+    let line = frame_line(text, index, i);
+    let at = result_start(index, f);
+    let x = result_type(line, at);
     let Typing::Is(k) = x else {
         return BOOL;
     };

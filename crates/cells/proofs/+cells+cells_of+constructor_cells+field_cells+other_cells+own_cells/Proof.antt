@@ -1,11 +1,11 @@
 -- The cycle of functions that count the cells of a type meets its contracts: each need is answered by a law of CellLaws or
 -- FieldLaws. The measure is the type's number, then the size, then the place in the cycle.
-use Prim.Native.Nat.{ℕ, _+_, _-_, _*_, _/_, _<_, _≤_}
-use mathlib.Core.Path.{_≡_, refl, _∙_}
 use native.Mathlib.Omega.{arith}
 use native.Mathlib.Nat.{pos-of-ne-zero}
-use lib.ListN.{length}
 use Rattle.language.specs.Layout.{tagStep}
+use Rattle.cells.specs.CellLaws.{CellsTo, cells-no-type, cells-no-size, cells-known, cells-start, cells-on, cells-end, constructor-none, constructor-some, OwnTo, own-zero, own-short, own-over, own-known, own-start, own-on, own-end}
+use Rattle.cells.specs.FieldLaws.{OthersTo, others-start, others-on, others-end, field-own, field-later, field-type, type-plain, type-named}
+use Prim.Native.Nat.{ℕ, _+_, _-_, _*_, _/_, _<_, _≤_}
 use borrow.Fn.Kinds.{In}
 use borrow.Fn.PlainCycle.{Measures, is, falls, and}
 use Rattle.cells.proofs.cells.Reads as cells
@@ -27,22 +27,19 @@ use Rattle.cells.proofs.own_cells.Reads as own-cells
 use Rattle.cells.proofs.own_cells.Kinds as own-cells-kinds
 use Rattle.cells.proofs.+cells+cells_of+constructor_cells+field_cells+other_cells+own_cells.Lts-own_cells as own-cells-lts
 use Rattle.cells.proofs.known.Reads as known-reads
-use Rattle.cells.proofs.larger.Reads as larger-reads
 use Rattle.cells.proofs.note.Reads as note-reads
-use Rattle.cells.proofs.total.Reads as total-reads
-use Rattle.index.proofs.constructors.Reads as constructors-reads
-use Rattle.index.proofs.fields.Reads as fields-reads
-use Rattle.index.proofs.own_fields.Reads as own-fields-reads
-use Rattle.index.proofs.word_at.Reads as word-at-reads
+use Rattle.estimate.proofs.capped_larger.Reads as capped-larger-reads
+use Rattle.estimate.proofs.capped_sum.Reads as capped-sum-reads
+use Rattle.index.proofs.types.constructors.Reads as constructors-reads
+use Rattle.index.proofs.types.field_word.Reads as field-word-reads
+use Rattle.index.proofs.types.fields.Reads as fields-reads
+use Rattle.index.proofs.types.own_fields.Reads as own-fields-reads
 use Rattle.cells.proofs.+cells+cells_of+constructor_cells+field_cells+other_cells+own_cells.{
   statement,
 }
 use Rattle.cells.proofs.+cells+cells_of+constructor_cells+field_cells+other_cells+own_cells.Tie.{
   close,
 }
-use Rattle.cells.specs.CellLaws.{CellsTo, cells-no-type, cells-no-size, cells-known, cells-start, cells-on, cells-end, constructor-none, constructor-some}
-use Rattle.cells.specs.CellLaws.{OwnTo, own-zero, own-short, own-over, own-known, own-start, own-on, own-end}
-use Rattle.cells.specs.FieldLaws.{OthersTo, others-start, others-on, others-end, field-own, field-later, field-type, type-plain, type-named}
 
 abbrev μ-cells : Measures 2 cells-kinds.ps ℕ
 μ-cells κs a = a .1 .1 .0 * 4096 + (8 * a .1 .1 .1 .0 + 1)
@@ -115,22 +112,22 @@ own-cells-below t =
     and 2 own-cells-kinds.ps (falls 2 own-cells-kinds.ps _<_ μ-own-cells t) own-cells.Pre
 
 abbrev cells-Inv-loop : cells-lts.InvT-loop
-cells-Inv-loop types table₀ t k word n most₀ c₀ table most c = (length table ≡ length table₀) × CellsTo types table₀ t k c most table
+cells-Inv-loop index table₀ t k word n most₀ c₀ table most c = CellsTo index table₀ t k c most table
 
 abbrev cells-μ-loop : cells-lts.MeasureT-loop
-cells-μ-loop types table₀ t k word n most₀ c₀ table most c = n - c
+cells-μ-loop index table₀ t k word n most₀ c₀ table most c = n - c
 
 cells-cast-if1 : (t : ℕ) → cells-lts.Need-cast-if1 (
   known-reads.Asked,
   known-reads.Learnt,
-  total-reads.Asked,
-  total-reads.Learnt,
+  capped-sum-reads.Asked,
+  capped-sum-reads.Learnt,
   constructors-reads.Asked,
   constructors-reads.Learnt,
   constructor-cells-below t,
   constructor-cells.Post,
-  larger-reads.Asked,
-  larger-reads.Learnt,
+  capped-larger-reads.Asked,
+  capped-larger-reads.Learnt,
   note-reads.Asked,
   note-reads.Learnt,
 ) (cells-at t) cells.Post cells-Inv-loop cells-μ-loop
@@ -139,14 +136,14 @@ cells-cast-if1 t c = omega arith
 cells-returns : (t : ℕ) → cells-lts.Need-returns (
   known-reads.Asked,
   known-reads.Learnt,
-  total-reads.Asked,
-  total-reads.Learnt,
+  capped-sum-reads.Asked,
+  capped-sum-reads.Learnt,
   constructors-reads.Asked,
   constructors-reads.Learnt,
   constructor-cells-below t,
   constructor-cells.Post,
-  larger-reads.Asked,
-  larger-reads.Learnt,
+  capped-larger-reads.Asked,
+  capped-larger-reads.Learnt,
   note-reads.Asked,
   note-reads.Learnt,
 ) (cells-at t) cells.Post cells-Inv-loop cells-μ-loop
@@ -155,14 +152,14 @@ cells-returns t c = cells-no-type (c .if1 .taken)
 cells-returns-2 : (t : ℕ) → cells-lts.Need-returns-2 (
   known-reads.Asked,
   known-reads.Learnt,
-  total-reads.Asked,
-  total-reads.Learnt,
+  capped-sum-reads.Asked,
+  capped-sum-reads.Learnt,
   constructors-reads.Asked,
   constructors-reads.Learnt,
   constructor-cells-below t,
   constructor-cells.Post,
-  larger-reads.Asked,
-  larger-reads.Learnt,
+  capped-larger-reads.Asked,
+  capped-larger-reads.Learnt,
   note-reads.Asked,
   note-reads.Learnt,
 ) (cells-at t) cells.Post cells-Inv-loop cells-μ-loop
@@ -171,94 +168,78 @@ cells-returns-2 t c = cells-no-size (c .if2 .taken)
 cells-known-requires : (t : ℕ) → cells-lts.Need-known-requires (
   known-reads.Asked,
   known-reads.Learnt,
-  total-reads.Asked,
-  total-reads.Learnt,
+  capped-sum-reads.Asked,
+  capped-sum-reads.Learnt,
   constructors-reads.Asked,
   constructors-reads.Learnt,
   constructor-cells-below t,
   constructor-cells.Post,
-  larger-reads.Asked,
-  larger-reads.Learnt,
+  capped-larger-reads.Asked,
+  capped-larger-reads.Learnt,
   note-reads.Asked,
   note-reads.Learnt,
 ) (cells-at t) cells.Post cells-Inv-loop cells-μ-loop
 cells-known-requires t c κs = tt
 
-cells-sub-total : (t : ℕ) → cells-lts.Need-sub-total (
+cells-sub-capped-sum : (t : ℕ) → cells-lts.Need-sub-capped-sum (
   known-reads.Asked,
   known-reads.Learnt,
-  total-reads.Asked,
-  total-reads.Learnt,
+  capped-sum-reads.Asked,
+  capped-sum-reads.Learnt,
   constructors-reads.Asked,
   constructors-reads.Learnt,
   constructor-cells-below t,
   constructor-cells.Post,
-  larger-reads.Asked,
-  larger-reads.Learnt,
+  capped-larger-reads.Asked,
+  capped-larger-reads.Learnt,
   note-reads.Asked,
   note-reads.Learnt,
 ) (cells-at t) cells.Post cells-Inv-loop cells-μ-loop
-cells-sub-total t c = pos-of-ne-zero (c .if3 .taken)
+cells-sub-capped-sum t c = pos-of-ne-zero (c .if3 .taken)
 
-cells-total-requires : (t : ℕ) → cells-lts.Need-total-requires (
+cells-capped-sum-requires : (t : ℕ) → cells-lts.Need-capped-sum-requires (
   known-reads.Asked,
   known-reads.Learnt,
-  total-reads.Asked,
-  total-reads.Learnt,
+  capped-sum-reads.Asked,
+  capped-sum-reads.Learnt,
   constructors-reads.Asked,
   constructors-reads.Learnt,
   constructor-cells-below t,
   constructor-cells.Post,
-  larger-reads.Asked,
-  larger-reads.Learnt,
+  capped-larger-reads.Asked,
+  capped-larger-reads.Learnt,
   note-reads.Asked,
   note-reads.Learnt,
 ) (cells-at t) cells.Post cells-Inv-loop cells-μ-loop
-cells-total-requires t c κs = tt
-
-cells-same-length : (t : ℕ) → cells-lts.Need-same-length (
-  known-reads.Asked,
-  known-reads.Learnt,
-  total-reads.Asked,
-  total-reads.Learnt,
-  constructors-reads.Asked,
-  constructors-reads.Learnt,
-  constructor-cells-below t,
-  constructor-cells.Post,
-  larger-reads.Asked,
-  larger-reads.Learnt,
-  note-reads.Asked,
-  note-reads.Learnt,
-) (cells-at t) cells.Post cells-Inv-loop cells-μ-loop
-cells-same-length t c = refl
+cells-capped-sum-requires t c κs = tt
 
 cells-returns-3 : (t : ℕ) → cells-lts.Need-returns-3 (
   known-reads.Asked,
   known-reads.Learnt,
-  total-reads.Asked,
-  total-reads.Learnt,
+  capped-sum-reads.Asked,
+  capped-sum-reads.Learnt,
   constructors-reads.Asked,
   constructors-reads.Learnt,
   constructor-cells-below t,
   constructor-cells.Post,
-  larger-reads.Asked,
-  larger-reads.Learnt,
+  capped-larger-reads.Asked,
+  capped-larger-reads.Learnt,
   note-reads.Asked,
   note-reads.Learnt,
 ) (cells-at t) cells.Post cells-Inv-loop cells-μ-loop
-cells-returns-3 t c = cells-known (c .before .before .known .ensures) (c .before .if3 .taken) (c .total .ensures)
+cells-returns-3 t c = cells-known (c .before .before .known .ensures) (c .before .if3 .taken) (c .capped-sum .ensures)
 
 cells-constructors-requires : (t : ℕ) → cells-lts.Need-constructors-requires (
   known-reads.Asked,
   known-reads.Learnt,
-  total-reads.Asked,
-  total-reads.Learnt,
+  capped-sum-reads.Asked,
+  capped-sum-reads.Learnt,
   constructors-reads.Asked,
   constructors-reads.Learnt,
   constructor-cells-below t,
   constructor-cells.Post,
-  larger-reads.Asked,
-  larger-reads.Learnt,
+  capped-larger-reads.Asked,
+  capped-larger-reads.Learnt,
   note-reads.Asked,
   note-reads.Learnt,
 ) (cells-at t) cells.Post cells-Inv-loop cells-μ-loop
@@ -267,146 +248,130 @@ cells-constructors-requires t c κs = tt
 cells-loop-holds : (t : ℕ) → cells-lts.Need-loop-holds (
   known-reads.Asked,
   known-reads.Learnt,
-  total-reads.Asked,
-  total-reads.Learnt,
+  capped-sum-reads.Asked,
+  capped-sum-reads.Learnt,
   constructors-reads.Asked,
   constructors-reads.Learnt,
   constructor-cells-below t,
   constructor-cells.Post,
-  larger-reads.Asked,
-  larger-reads.Learnt,
+  capped-larger-reads.Asked,
+  capped-larger-reads.Learnt,
   note-reads.Asked,
   note-reads.Learnt,
 ) (cells-at t) cells.Post cells-Inv-loop cells-μ-loop
-cells-loop-holds t c = (refl, cells-start _ _ _ _)
+cells-loop-holds t c = cells-start _ _ _ _
 
 cells-constructor-cells-requires : (t : ℕ) → cells-lts.Need-constructor-cells-requires (
   known-reads.Asked,
   known-reads.Learnt,
-  total-reads.Asked,
-  total-reads.Learnt,
+  capped-sum-reads.Asked,
+  capped-sum-reads.Learnt,
   constructors-reads.Asked,
   constructors-reads.Learnt,
   constructor-cells-below t,
   constructor-cells.Post,
-  larger-reads.Asked,
-  larger-reads.Learnt,
+  capped-larger-reads.Asked,
+  capped-larger-reads.Learnt,
   note-reads.Asked,
   note-reads.Learnt,
 ) (cells-at t) cells.Post cells-Inv-loop cells-μ-loop
-cells-constructor-cells-requires t c κs = (omega (arith, (c .before .before .before .before .before .before .before .before .before .before .before .pre .0)), tt)
+cells-constructor-cells-requires t c κs = (omega (arith, (c .before .before .before .before .before .before .before .before .before .pre .0)), tt)
 
-cells-larger-requires : (t : ℕ) → cells-lts.Need-larger-requires (
+cells-capped-larger-requires : (t : ℕ) → cells-lts.Need-capped-larger-requires (
   known-reads.Asked,
   known-reads.Learnt,
-  total-reads.Asked,
-  total-reads.Learnt,
+  capped-sum-reads.Asked,
+  capped-sum-reads.Learnt,
   constructors-reads.Asked,
   constructors-reads.Learnt,
   constructor-cells-below t,
   constructor-cells.Post,
-  larger-reads.Asked,
-  larger-reads.Learnt,
+  capped-larger-reads.Asked,
+  capped-larger-reads.Learnt,
   note-reads.Asked,
   note-reads.Learnt,
 ) (cells-at t) cells.Post cells-Inv-loop cells-μ-loop
-cells-larger-requires t c κs = tt
+cells-capped-larger-requires t c κs = tt
 
 cells-add-c : (t : ℕ) → cells-lts.Need-add-c (
   known-reads.Asked,
   known-reads.Learnt,
-  total-reads.Asked,
-  total-reads.Learnt,
+  capped-sum-reads.Asked,
+  capped-sum-reads.Learnt,
   constructors-reads.Asked,
   constructors-reads.Learnt,
   constructor-cells-below t,
   constructor-cells.Post,
-  larger-reads.Asked,
-  larger-reads.Learnt,
+  capped-larger-reads.Asked,
+  capped-larger-reads.Learnt,
   note-reads.Asked,
   note-reads.Learnt,
 ) (cells-at t) cells.Post cells-Inv-loop cells-μ-loop
-cells-add-c t c = omega (arith, (c .before .before .before .before .before .before .before .constructors .ensures .1), (c .before .before .before .before .before .loop-test .taken))
+cells-add-c t c = omega (arith, (c .before .before .before .before .before .constructors .ensures .1), (c .before .before .before .loop-test .taken))
 
 cells-loop-less : (t : ℕ) → cells-lts.Need-loop-less (
   known-reads.Asked,
   known-reads.Learnt,
-  total-reads.Asked,
-  total-reads.Learnt,
+  capped-sum-reads.Asked,
+  capped-sum-reads.Learnt,
   constructors-reads.Asked,
   constructors-reads.Learnt,
   constructor-cells-below t,
   constructor-cells.Post,
-  larger-reads.Asked,
-  larger-reads.Learnt,
+  capped-larger-reads.Asked,
+  capped-larger-reads.Learnt,
   note-reads.Asked,
   note-reads.Learnt,
 ) (cells-at t) cells.Post cells-Inv-loop cells-μ-loop
-cells-loop-less t c = omega (arith, (c .before .before .before .before .before .loop-test .taken))
+cells-loop-less t c = omega (arith, (c .before .before .before .loop-test .taken))
 
 cells-loop-again : (t : ℕ) → cells-lts.Need-loop-again (
   known-reads.Asked,
   known-reads.Learnt,
-  total-reads.Asked,
-  total-reads.Learnt,
+  capped-sum-reads.Asked,
+  capped-sum-reads.Learnt,
   constructors-reads.Asked,
   constructors-reads.Learnt,
   constructor-cells-below t,
   constructor-cells.Post,
-  larger-reads.Asked,
-  larger-reads.Learnt,
+  capped-larger-reads.Asked,
+  capped-larger-reads.Learnt,
   note-reads.Asked,
   note-reads.Learnt,
 ) (cells-at t) cells.Post cells-Inv-loop cells-μ-loop
-cells-loop-again t c = ((c .before .before .before .constructor-cells .kept .1 .0) ∙ (c .before .before .before .before .before .before .loop .inv .0), cells-on (c .before .before .before .before .before .before .before .constructors .ensures) (c .before .before .before .before .before .before .loop .inv .1) (c .before .before .before .before .before .loop-test .taken) (c .before .before .before .constructor-cells .ensures) (c .larger .ensures))
+cells-loop-again t c = cells-on (c .before .before .before .before .before .constructors .ensures) (c .before .before .before .before .loop .inv) (c .before .before .before .loop-test .taken) (c .before .constructor-cells .ensures) (c .capped-larger .ensures)
 
 cells-note-requires : (t : ℕ) → cells-lts.Need-note-requires (
   known-reads.Asked,
   known-reads.Learnt,
-  total-reads.Asked,
-  total-reads.Learnt,
+  capped-sum-reads.Asked,
+  capped-sum-reads.Learnt,
   constructors-reads.Asked,
   constructors-reads.Learnt,
   constructor-cells-below t,
   constructor-cells.Post,
-  larger-reads.Asked,
-  larger-reads.Learnt,
+  capped-larger-reads.Asked,
+  capped-larger-reads.Learnt,
   note-reads.Asked,
   note-reads.Learnt,
 ) (cells-at t) cells.Post cells-Inv-loop cells-μ-loop
-cells-note-requires t c κs = (c .before .before .loop .inv .1 .small)
-
-cells-same-length-2 : (t : ℕ) → cells-lts.Need-same-length-2 (
-  known-reads.Asked,
-  known-reads.Learnt,
-  total-reads.Asked,
-  total-reads.Learnt,
-  constructors-reads.Asked,
-  constructors-reads.Learnt,
-  constructor-cells-below t,
-  constructor-cells.Post,
-  larger-reads.Asked,
-  larger-reads.Learnt,
-  note-reads.Asked,
-  note-reads.Learnt,
-) (cells-at t) cells.Post cells-Inv-loop cells-μ-loop
-cells-same-length-2 t c = (c .before .before .note .kept .0) ∙ (c .before .before .before .before .before .loop .inv .0)
+cells-note-requires t c κs = (c .before .before .loop .inv .small)
 
 cells-returns-4 : (t : ℕ) → cells-lts.Need-returns-4 (
   known-reads.Asked,
   known-reads.Learnt,
-  total-reads.Asked,
-  total-reads.Learnt,
+  capped-sum-reads.Asked,
+  capped-sum-reads.Learnt,
   constructors-reads.Asked,
   constructors-reads.Learnt,
   constructor-cells-below t,
   constructor-cells.Post,
-  larger-reads.Asked,
-  larger-reads.Learnt,
+  capped-larger-reads.Asked,
+  capped-larger-reads.Learnt,
   note-reads.Asked,
   note-reads.Learnt,
 ) (cells-at t) cells.Post cells-Inv-loop cells-μ-loop
-cells-returns-4 t c = cells-end (c .before .before .before .before .before .before .constructors .ensures) (c .before .before .before .before .before .loop .inv .1) (c .before .before .before .before .loop-test .left) (c .before .before .note .ensures)
+cells-returns-4 t c = cells-end (c .before .before .before .before .constructors .ensures) (c .before .before .before .loop .inv) (c .before .before .loop-test .left) (c .note .ensures)
 
 cells-of-returns :
     (t : ℕ) → cells-of-lts.Need-returns (cells-below t, cells.Post) (cells-of-at t) cells-of.Post
@@ -420,17 +385,12 @@ cells-of-sub-cells t c = omega (arith, (c .before .if1 .left))
 cells-of-cells-requires :
     (t : ℕ) →
     cells-of-lts.Need-cells-requires (cells-below t, cells.Post) (cells-of-at t) cells-of.Post
-cells-of-cells-requires t c κs = (omega (arith, (c .before .before .before .before .pre .0), (c .before .if1 .left)), tt)
-
-cells-of-same-length :
-    (t : ℕ) →
-    cells-of-lts.Need-same-length (cells-below t, cells.Post) (cells-of-at t) cells-of.Post
-cells-of-same-length t c = (c .before .before .cells .kept .1 .0)
+cells-of-cells-requires t c κs = (omega (arith, (c .before .before .pre .0), (c .before .if1 .left)), tt)
 
 cells-of-returns-2 :
     (t : ℕ) →
     cells-of-lts.Need-returns-2 (cells-below t, cells.Post) (cells-of-at t) cells-of.Post
-cells-of-returns-2 t c = type-named (c .before .before .before .before .if1 .left) (c .before .before .cells .ensures)
+cells-of-returns-2 t c = type-named (c .before .before .if1 .left) (c .cells .ensures)
 
 constructor-cells-own-fields-requires : (t : ℕ) → constructor-cells-lts.Need-own-fields-requires (
   own-fields-reads.Asked,
@@ -439,8 +399,8 @@ constructor-cells-own-fields-requires : (t : ℕ) → constructor-cells-lts.Need
   other-cells.Post,
   own-cells-below t,
   own-cells.Post,
-  total-reads.Asked,
-  total-reads.Learnt,
+  capped-sum-reads.Asked,
+  capped-sum-reads.Learnt,
 ) (constructor-cells-at t) constructor-cells.Post
 constructor-cells-own-fields-requires t c κs = tt
 
@@ -451,8 +411,8 @@ constructor-cells-returns : (t : ℕ) → constructor-cells-lts.Need-returns (
   other-cells.Post,
   own-cells-below t,
   own-cells.Post,
-  total-reads.Asked,
-  total-reads.Learnt,
+  capped-sum-reads.Asked,
+  capped-sum-reads.Learnt,
 ) (constructor-cells-at t) constructor-cells.Post
 constructor-cells-returns t c = constructor-none (c .before .own-fields .ensures) (c .if1 .taken)
 
@@ -463,10 +423,10 @@ constructor-cells-other-cells-requires : (t : ℕ) → constructor-cells-lts.Nee
   other-cells.Post,
   own-cells-below t,
   own-cells.Post,
-  total-reads.Asked,
-  total-reads.Learnt,
+  capped-sum-reads.Asked,
+  capped-sum-reads.Learnt,
 ) (constructor-cells-at t) constructor-cells.Post
-constructor-cells-other-cells-requires t c κs = (omega (arith, (c .before .before .before .before .before .pre .0), (c .before .if1 .left)), tt)
+constructor-cells-other-cells-requires t c κs = (omega (arith, (c .before .before .before .pre .0), (c .before .if1 .left)), tt)
 
 constructor-cells-sub-own-cells : (t : ℕ) → constructor-cells-lts.Need-sub-own-cells (
   own-fields-reads.Asked,
@@ -475,10 +435,10 @@ constructor-cells-sub-own-cells : (t : ℕ) → constructor-cells-lts.Need-sub-o
   other-cells.Post,
   own-cells-below t,
   own-cells.Post,
-  total-reads.Asked,
-  total-reads.Learnt,
+  capped-sum-reads.Asked,
+  capped-sum-reads.Learnt,
 ) (constructor-cells-at t) constructor-cells.Post
-constructor-cells-sub-own-cells t c = omega (arith, (c .before .before .before .before .before .if1 .left))
+constructor-cells-sub-own-cells t c = omega (arith, (c .before .before .before .if1 .left))
 
 constructor-cells-own-cells-requires : (t : ℕ) → constructor-cells-lts.Need-own-cells-requires (
   own-fields-reads.Asked,
@@ -487,46 +447,35 @@ constructor-cells-own-cells-requires : (t : ℕ) → constructor-cells-lts.Need-
   other-cells.Post,
   own-cells-below t,
   own-cells.Post,
-  total-reads.Asked,
-  total-reads.Learnt,
+  capped-sum-reads.Asked,
+  capped-sum-reads.Learnt,
 ) (constructor-cells-at t) constructor-cells.Post
-constructor-cells-own-cells-requires t c κs = (omega (arith, (c .before .before .before .before .before .before .before .before .before .pre .0), (c .before .before .before .before .before .if1 .left)), tt)
+constructor-cells-own-cells-requires t c κs = (omega (arith, (c .before .before .before .before .before .pre .0), (c .before .before .before .if1 .left)), tt)
 
-constructor-cells-total-requires : (t : ℕ) → constructor-cells-lts.Need-total-requires (
+constructor-cells-capped-sum-requires : (t : ℕ) → constructor-cells-lts.Need-capped-sum-requires (
   own-fields-reads.Asked,
   own-fields-reads.Learnt,
   other-cells-below t,
   other-cells.Post,
   own-cells-below t,
   own-cells.Post,
-  total-reads.Asked,
-  total-reads.Learnt,
+  capped-sum-reads.Asked,
+  capped-sum-reads.Learnt,
 ) (constructor-cells-at t) constructor-cells.Post
-constructor-cells-total-requires t c κs = tt
+constructor-cells-capped-sum-requires t c κs = tt
 
-constructor-cells-total-requires-2 : (t : ℕ) → constructor-cells-lts.Need-total-requires-2 (
-  own-fields-reads.Asked,
-  own-fields-reads.Learnt,
-  other-cells-below t,
-  other-cells.Post,
-  own-cells-below t,
-  own-cells.Post,
-  total-reads.Asked,
-  total-reads.Learnt,
-) (constructor-cells-at t) constructor-cells.Post
-constructor-cells-total-requires-2 t c κs = tt
-
-constructor-cells-same-length : (t : ℕ) → constructor-cells-lts.Need-same-length (
-  own-fields-reads.Asked,
-  own-fields-reads.Learnt,
-  other-cells-below t,
-  other-cells.Post,
-  own-cells-below t,
-  own-cells.Post,
-  total-reads.Asked,
-  total-reads.Learnt,
-) (constructor-cells-at t) constructor-cells.Post
-constructor-cells-same-length t c = (c .before .before .before .before .own-cells .kept .1 .0) ∙ (c .before .before .before .before .before .before .before .before .other-cells .kept .1 .0)
+constructor-cells-capped-sum-requires-2 :
+    (t : ℕ) → constructor-cells-lts.Need-capped-sum-requires-2 (
+      own-fields-reads.Asked,
+      own-fields-reads.Learnt,
+      other-cells-below t,
+      other-cells.Post,
+      own-cells-below t,
+      own-cells.Post,
+      capped-sum-reads.Asked,
+      capped-sum-reads.Learnt,
+    ) (constructor-cells-at t) constructor-cells.Post
+constructor-cells-capped-sum-requires-2 t c κs = tt
 
 constructor-cells-returns-2 : (t : ℕ) → constructor-cells-lts.Need-returns-2 (
   own-fields-reads.Asked,
@@ -535,112 +484,64 @@ constructor-cells-returns-2 : (t : ℕ) → constructor-cells-lts.Need-returns-2
   other-cells.Post,
   own-cells-below t,
   own-cells.Post,
-  total-reads.Asked,
-  total-reads.Learnt,
+  capped-sum-reads.Asked,
+  capped-sum-reads.Learnt,
 ) (constructor-cells-at t) constructor-cells.Post
-constructor-cells-returns-2 t c = constructor-some (c .before .before .before .before .before .before .before .before .before .before .before .own-fields .ensures) (c .before .before .before .before .before .before .before .before .before .before .if1 .left) (c .before .before .before .before .before .before .before .before .other-cells .ensures) (c .before .before .before .before .own-cells .ensures) (c .before .total .ensures) (c .total2 .ensures)
+constructor-cells-returns-2 t c = constructor-some (c .before .before .before .before .before .before .before .own-fields .ensures) (c .before .before .before .before .before .before .if1 .left) (c .before .before .before .before .other-cells .ensures) (c .before .before .own-cells .ensures) (c .before .capped-sum .ensures) (c .capped-sum2 .ensures)
 
-field-cells-mul-entry : (t : ℕ) → field-cells-lts.Need-mul-entry (
-  word-at-reads.Asked,
-  word-at-reads.Learnt,
+field-cells-field-word-requires : (t : ℕ) → field-cells-lts.Need-field-word-requires (
+  field-word-reads.Asked,
+  field-word-reads.Learnt,
   cells-of-below t,
   cells-of.Post,
 ) (field-cells-at t) field-cells.Post
-field-cells-mul-entry t c = omega arith
-
-field-cells-add-entry : (t : ℕ) → field-cells-lts.Need-add-entry (
-  word-at-reads.Asked,
-  word-at-reads.Learnt,
-  cells-of-below t,
-  cells-of.Post,
-) (field-cells-at t) field-cells.Post
-field-cells-add-entry t c = omega arith
-
-field-cells-mul-entry-2 : (t : ℕ) → field-cells-lts.Need-mul-entry-2 (
-  word-at-reads.Asked,
-  word-at-reads.Learnt,
-  cells-of-below t,
-  cells-of.Post,
-) (field-cells-at t) field-cells.Post
-field-cells-mul-entry-2 t c = omega arith
-
-field-cells-add-entry-2 : (t : ℕ) → field-cells-lts.Need-add-entry-2 (
-  word-at-reads.Asked,
-  word-at-reads.Learnt,
-  cells-of-below t,
-  cells-of.Post,
-) (field-cells-at t) field-cells.Post
-field-cells-add-entry-2 t c = omega arith
-
-field-cells-add-word-at : (t : ℕ) → field-cells-lts.Need-add-word-at (
-  word-at-reads.Asked,
-  word-at-reads.Learnt,
-  cells-of-below t,
-  cells-of.Post,
-) (field-cells-at t) field-cells.Post
-field-cells-add-word-at t c = omega arith
-
-field-cells-word-at-requires : (t : ℕ) → field-cells-lts.Need-word-at-requires (
-  word-at-reads.Asked,
-  word-at-reads.Learnt,
-  cells-of-below t,
-  cells-of.Post,
-) (field-cells-at t) field-cells.Post
-field-cells-word-at-requires t c κs = tt
+field-cells-field-word-requires t c κs = tt
 
 field-cells-returns : (t : ℕ) → field-cells-lts.Need-returns (
-  word-at-reads.Asked,
-  word-at-reads.Learnt,
+  field-word-reads.Asked,
+  field-word-reads.Learnt,
   cells-of-below t,
   cells-of.Post,
 ) (field-cells-at t) field-cells.Post
-field-cells-returns t c = field-own (c .before .word-at .ensures) (c .if1 .taken)
+field-cells-returns t c = field-own (c .before .field-word .ensures) (c .if1 .taken)
 
 field-cells-returns-2 : (t : ℕ) → field-cells-lts.Need-returns-2 (
-  word-at-reads.Asked,
-  word-at-reads.Learnt,
+  field-word-reads.Asked,
+  field-word-reads.Learnt,
   cells-of-below t,
   cells-of.Post,
 ) (field-cells-at t) field-cells.Post
-field-cells-returns-2 t c = field-later (c .before .before .word-at .ensures) (c .if2 .taken)
+field-cells-returns-2 t c = field-later (c .before .before .field-word .ensures) (c .if2 .taken)
 
 field-cells-cells-of-requires : (t : ℕ) → field-cells-lts.Need-cells-of-requires (
-  word-at-reads.Asked,
-  word-at-reads.Learnt,
+  field-word-reads.Asked,
+  field-word-reads.Learnt,
   cells-of-below t,
   cells-of.Post,
 ) (field-cells-at t) field-cells.Post
-field-cells-cells-of-requires t c κs = (omega (arith, (c .before .before .before .before .before .before .pre .0), (c .before .if2 .left)), tt)
-
-field-cells-same-length : (t : ℕ) → field-cells-lts.Need-same-length (
-  word-at-reads.Asked,
-  word-at-reads.Learnt,
-  cells-of-below t,
-  cells-of.Post,
-) (field-cells-at t) field-cells.Post
-field-cells-same-length t c = (c .before .before .cells-of .kept .1 .0)
+field-cells-cells-of-requires t c κs = (omega (arith, (c .before .before .before .before .pre .0), (c .before .if2 .left)), tt)
 
 field-cells-returns-3 : (t : ℕ) → field-cells-lts.Need-returns-3 (
-  word-at-reads.Asked,
-  word-at-reads.Learnt,
+  field-word-reads.Asked,
+  field-word-reads.Learnt,
   cells-of-below t,
   cells-of.Post,
 ) (field-cells-at t) field-cells.Post
-field-cells-returns-3 t c = field-type (c .before .before .before .before .before .before .word-at .ensures) (c .before .before .before .before .before .if1 .left) (c .before .before .cells-of .ensures)
+field-cells-returns-3 t c = field-type (c .before .before .before .before .field-word .ensures) (c .before .before .before .if1 .left) (c .cells-of .ensures)
 
 abbrev other-cells-Inv-loop : other-cells-lts.InvT-loop
-other-cells-Inv-loop types table₀ t c n sum₀ i₀ table sum i = (length table ≡ length table₀) × OthersTo types table₀ t c i sum table
+other-cells-Inv-loop index table₀ t c n sum₀ i₀ table sum i = OthersTo index table₀ t c i sum table
 
 abbrev other-cells-μ-loop : other-cells-lts.MeasureT-loop
-other-cells-μ-loop types table₀ t c n sum₀ i₀ table sum i = n - i
+other-cells-μ-loop index table₀ t c n sum₀ i₀ table sum i = n - i
 
 other-cells-fields-requires : (t : ℕ) → other-cells-lts.Need-fields-requires (
   fields-reads.Asked,
   fields-reads.Learnt,
   field-cells-below t,
   field-cells.Post,
-  total-reads.Asked,
-  total-reads.Learnt,
+  capped-sum-reads.Asked,
+  capped-sum-reads.Learnt,
 ) (other-cells-at t) other-cells.Post other-cells-Inv-loop other-cells-μ-loop
 other-cells-fields-requires t c κs = tt
 
@@ -649,98 +550,88 @@ other-cells-loop-holds : (t : ℕ) → other-cells-lts.Need-loop-holds (
   fields-reads.Learnt,
   field-cells-below t,
   field-cells.Post,
-  total-reads.Asked,
-  total-reads.Learnt,
+  capped-sum-reads.Asked,
+  capped-sum-reads.Learnt,
 ) (other-cells-at t) other-cells.Post other-cells-Inv-loop other-cells-μ-loop
-other-cells-loop-holds t c = (refl, others-start _ _ _ _)
+other-cells-loop-holds t c = others-start _ _ _ _
 
 other-cells-field-cells-requires : (t : ℕ) → other-cells-lts.Need-field-cells-requires (
   fields-reads.Asked,
   fields-reads.Learnt,
   field-cells-below t,
   field-cells.Post,
-  total-reads.Asked,
-  total-reads.Learnt,
+  capped-sum-reads.Asked,
+  capped-sum-reads.Learnt,
 ) (other-cells-at t) other-cells.Post other-cells-Inv-loop other-cells-μ-loop
-other-cells-field-cells-requires t c κs = (omega (arith, (c .before .before .before .before .before .before .pre .0)), tt)
+other-cells-field-cells-requires t c κs = (omega (arith, (c .before .before .before .before .pre .0)), tt)
 
-other-cells-total-requires : (t : ℕ) → other-cells-lts.Need-total-requires (
+other-cells-capped-sum-requires : (t : ℕ) → other-cells-lts.Need-capped-sum-requires (
   fields-reads.Asked,
   fields-reads.Learnt,
   field-cells-below t,
   field-cells.Post,
-  total-reads.Asked,
-  total-reads.Learnt,
+  capped-sum-reads.Asked,
+  capped-sum-reads.Learnt,
 ) (other-cells-at t) other-cells.Post other-cells-Inv-loop other-cells-μ-loop
-other-cells-total-requires t c κs = tt
+other-cells-capped-sum-requires t c κs = tt
 
 other-cells-add-i : (t : ℕ) → other-cells-lts.Need-add-i (
   fields-reads.Asked,
   fields-reads.Learnt,
   field-cells-below t,
   field-cells.Post,
-  total-reads.Asked,
-  total-reads.Learnt,
+  capped-sum-reads.Asked,
+  capped-sum-reads.Learnt,
 ) (other-cells-at t) other-cells.Post other-cells-Inv-loop other-cells-μ-loop
-other-cells-add-i t c = omega (arith, (c .before .before .before .before .before .before .before .fields .ensures .1), (c .before .before .before .before .before .loop-test .taken))
+other-cells-add-i t c = omega (arith, (c .before .before .before .before .before .fields .ensures .1), (c .before .before .before .loop-test .taken))
 
 other-cells-loop-less : (t : ℕ) → other-cells-lts.Need-loop-less (
   fields-reads.Asked,
   fields-reads.Learnt,
   field-cells-below t,
   field-cells.Post,
-  total-reads.Asked,
-  total-reads.Learnt,
+  capped-sum-reads.Asked,
+  capped-sum-reads.Learnt,
 ) (other-cells-at t) other-cells.Post other-cells-Inv-loop other-cells-μ-loop
-other-cells-loop-less t c = omega (arith, (c .before .before .before .before .before .loop-test .taken))
+other-cells-loop-less t c = omega (arith, (c .before .before .before .loop-test .taken))
 
 other-cells-loop-again : (t : ℕ) → other-cells-lts.Need-loop-again (
   fields-reads.Asked,
   fields-reads.Learnt,
   field-cells-below t,
   field-cells.Post,
-  total-reads.Asked,
-  total-reads.Learnt,
+  capped-sum-reads.Asked,
+  capped-sum-reads.Learnt,
 ) (other-cells-at t) other-cells.Post other-cells-Inv-loop other-cells-μ-loop
-other-cells-loop-again t c = ((c .before .before .before .field-cells .kept .1 .0) ∙ (c .before .before .before .before .before .before .loop .inv .0), others-on (c .before .before .before .before .before .before .before .fields .ensures) (c .before .before .before .before .before .before .loop .inv .1) (c .before .before .before .before .before .loop-test .taken) (c .before .before .before .field-cells .ensures) (c .total .ensures))
-
-other-cells-same-length : (t : ℕ) → other-cells-lts.Need-same-length (
-  fields-reads.Asked,
-  fields-reads.Learnt,
-  field-cells-below t,
-  field-cells.Post,
-  total-reads.Asked,
-  total-reads.Learnt,
-) (other-cells-at t) other-cells.Post other-cells-Inv-loop other-cells-μ-loop
-other-cells-same-length t c = (c .before .loop .inv .0)
+other-cells-loop-again t c = others-on (c .before .before .before .before .before .fields .ensures) (c .before .before .before .before .loop .inv) (c .before .before .before .loop-test .taken) (c .before .field-cells .ensures) (c .capped-sum .ensures)
 
 other-cells-returns : (t : ℕ) → other-cells-lts.Need-returns (
   fields-reads.Asked,
   fields-reads.Learnt,
   field-cells-below t,
   field-cells.Post,
-  total-reads.Asked,
-  total-reads.Learnt,
+  capped-sum-reads.Asked,
+  capped-sum-reads.Learnt,
 ) (other-cells-at t) other-cells.Post other-cells-Inv-loop other-cells-μ-loop
-other-cells-returns t c = others-end (c .before .before .fields .ensures) (c .before .loop .inv .1) (c .loop-test .left)
+other-cells-returns t c = others-end (c .before .before .fields .ensures) (c .before .loop .inv) (c .loop-test .left)
 
 abbrev own-cells-Inv-loop : own-cells-lts.InvT-loop
-own-cells-Inv-loop types table₀ t r m word last most₀ p₀ table most p = (p ≤ m - (r - 1)) × ((length table ≡ length table₀) × OwnTo types table₀ t r m p most table)
+own-cells-Inv-loop index table₀ t r m word last most₀ p₀ table most p = (p ≤ m - (r - 1)) × OwnTo index table₀ t r m p most table
 
 abbrev own-cells-μ-loop : own-cells-lts.MeasureT-loop
-own-cells-μ-loop types table₀ t r m word last most₀ p₀ table most p = last - p
+own-cells-μ-loop index table₀ t r m word last most₀ p₀ table most p = last - p
 
 own-cells-returns : (t : ℕ) → own-cells-lts.Need-returns (
   known-reads.Asked,
   known-reads.Learnt,
-  total-reads.Asked,
-  total-reads.Learnt,
+  capped-sum-reads.Asked,
+  capped-sum-reads.Learnt,
   cells-below t,
   cells.Post,
   own-cells-below t,
   own-cells.Post,
-  larger-reads.Asked,
-  larger-reads.Learnt,
+  capped-larger-reads.Asked,
+  capped-larger-reads.Learnt,
   note-reads.Asked,
   note-reads.Learnt,
 ) (own-cells-at t) own-cells.Post own-cells-Inv-loop own-cells-μ-loop
@@ -749,14 +640,14 @@ own-cells-returns t c = own-zero (c .if1 .taken)
 own-cells-returns-2 : (t : ℕ) → own-cells-lts.Need-returns-2 (
   known-reads.Asked,
   known-reads.Learnt,
-  total-reads.Asked,
-  total-reads.Learnt,
+  capped-sum-reads.Asked,
+  capped-sum-reads.Learnt,
   cells-below t,
   cells.Post,
   own-cells-below t,
   own-cells.Post,
-  larger-reads.Asked,
-  larger-reads.Learnt,
+  capped-larger-reads.Asked,
+  capped-larger-reads.Learnt,
   note-reads.Asked,
   note-reads.Learnt,
 ) (own-cells-at t) own-cells.Post own-cells-Inv-loop own-cells-μ-loop
@@ -765,14 +656,14 @@ own-cells-returns-2 t c = own-short (c .if2 .taken)
 own-cells-cast-if3 : (t : ℕ) → own-cells-lts.Need-cast-if3 (
   known-reads.Asked,
   known-reads.Learnt,
-  total-reads.Asked,
-  total-reads.Learnt,
+  capped-sum-reads.Asked,
+  capped-sum-reads.Learnt,
   cells-below t,
   cells.Post,
   own-cells-below t,
   own-cells.Post,
-  larger-reads.Asked,
-  larger-reads.Learnt,
+  capped-larger-reads.Asked,
+  capped-larger-reads.Learnt,
   note-reads.Asked,
   note-reads.Learnt,
 ) (own-cells-at t) own-cells.Post own-cells-Inv-loop own-cells-μ-loop
@@ -781,14 +672,14 @@ own-cells-cast-if3 t c = omega arith
 own-cells-returns-3 : (t : ℕ) → own-cells-lts.Need-returns-3 (
   known-reads.Asked,
   known-reads.Learnt,
-  total-reads.Asked,
-  total-reads.Learnt,
+  capped-sum-reads.Asked,
+  capped-sum-reads.Learnt,
   cells-below t,
   cells.Post,
   own-cells-below t,
   own-cells.Post,
-  larger-reads.Asked,
-  larger-reads.Learnt,
+  capped-larger-reads.Asked,
+  capped-larger-reads.Learnt,
   note-reads.Asked,
   note-reads.Learnt,
 ) (own-cells-at t) own-cells.Post own-cells-Inv-loop own-cells-μ-loop
@@ -797,94 +688,78 @@ own-cells-returns-3 t c = own-over (c .if3 .taken)
 own-cells-known-requires : (t : ℕ) → own-cells-lts.Need-known-requires (
   known-reads.Asked,
   known-reads.Learnt,
-  total-reads.Asked,
-  total-reads.Learnt,
+  capped-sum-reads.Asked,
+  capped-sum-reads.Learnt,
   cells-below t,
   cells.Post,
   own-cells-below t,
   own-cells.Post,
-  larger-reads.Asked,
-  larger-reads.Learnt,
+  capped-larger-reads.Asked,
+  capped-larger-reads.Learnt,
   note-reads.Asked,
   note-reads.Learnt,
 ) (own-cells-at t) own-cells.Post own-cells-Inv-loop own-cells-μ-loop
 own-cells-known-requires t c κs = tt
 
-own-cells-sub-total : (t : ℕ) → own-cells-lts.Need-sub-total (
+own-cells-sub-capped-sum : (t : ℕ) → own-cells-lts.Need-sub-capped-sum (
   known-reads.Asked,
   known-reads.Learnt,
-  total-reads.Asked,
-  total-reads.Learnt,
+  capped-sum-reads.Asked,
+  capped-sum-reads.Learnt,
   cells-below t,
   cells.Post,
   own-cells-below t,
   own-cells.Post,
-  larger-reads.Asked,
-  larger-reads.Learnt,
+  capped-larger-reads.Asked,
+  capped-larger-reads.Learnt,
   note-reads.Asked,
   note-reads.Learnt,
 ) (own-cells-at t) own-cells.Post own-cells-Inv-loop own-cells-μ-loop
-own-cells-sub-total t c = pos-of-ne-zero (c .if4 .taken)
+own-cells-sub-capped-sum t c = pos-of-ne-zero (c .if4 .taken)
 
-own-cells-total-requires : (t : ℕ) → own-cells-lts.Need-total-requires (
+own-cells-capped-sum-requires : (t : ℕ) → own-cells-lts.Need-capped-sum-requires (
   known-reads.Asked,
   known-reads.Learnt,
-  total-reads.Asked,
-  total-reads.Learnt,
+  capped-sum-reads.Asked,
+  capped-sum-reads.Learnt,
   cells-below t,
   cells.Post,
   own-cells-below t,
   own-cells.Post,
-  larger-reads.Asked,
-  larger-reads.Learnt,
+  capped-larger-reads.Asked,
+  capped-larger-reads.Learnt,
   note-reads.Asked,
   note-reads.Learnt,
 ) (own-cells-at t) own-cells.Post own-cells-Inv-loop own-cells-μ-loop
-own-cells-total-requires t c κs = tt
-
-own-cells-same-length : (t : ℕ) → own-cells-lts.Need-same-length (
-  known-reads.Asked,
-  known-reads.Learnt,
-  total-reads.Asked,
-  total-reads.Learnt,
-  cells-below t,
-  cells.Post,
-  own-cells-below t,
-  own-cells.Post,
-  larger-reads.Asked,
-  larger-reads.Learnt,
-  note-reads.Asked,
-  note-reads.Learnt,
-) (own-cells-at t) own-cells.Post own-cells-Inv-loop own-cells-μ-loop
-own-cells-same-length t c = refl
+own-cells-capped-sum-requires t c κs = tt
 
 own-cells-returns-4 : (t : ℕ) → own-cells-lts.Need-returns-4 (
   known-reads.Asked,
   known-reads.Learnt,
-  total-reads.Asked,
-  total-reads.Learnt,
+  capped-sum-reads.Asked,
+  capped-sum-reads.Learnt,
   cells-below t,
   cells.Post,
   own-cells-below t,
   own-cells.Post,
-  larger-reads.Asked,
-  larger-reads.Learnt,
+  capped-larger-reads.Asked,
+  capped-larger-reads.Learnt,
   note-reads.Asked,
   note-reads.Learnt,
 ) (own-cells-at t) own-cells.Post own-cells-Inv-loop own-cells-μ-loop
-own-cells-returns-4 t c = own-known (c .before .before .before .before .before .before .if1 .left) (c .before .before .known .ensures) (c .before .if4 .taken) (c .total .ensures)
+own-cells-returns-4 t c = own-known (c .before .before .before .before .before .before .if1 .left) (c .before .before .known .ensures) (c .before .if4 .taken) (c .capped-sum .ensures)
 
 own-cells-sub-last : (t : ℕ) → own-cells-lts.Need-sub-last (
   known-reads.Asked,
   known-reads.Learnt,
-  total-reads.Asked,
-  total-reads.Learnt,
+  capped-sum-reads.Asked,
+  capped-sum-reads.Learnt,
   cells-below t,
   cells.Post,
   own-cells-below t,
   own-cells.Post,
-  larger-reads.Asked,
-  larger-reads.Learnt,
+  capped-larger-reads.Asked,
+  capped-larger-reads.Learnt,
   note-reads.Asked,
   note-reads.Learnt,
 ) (own-cells-at t) own-cells.Post own-cells-Inv-loop own-cells-μ-loop
@@ -893,14 +768,14 @@ own-cells-sub-last t c = omega (arith, (c .before .before .before .before .befor
 own-cells-sub-last-2 : (t : ℕ) → own-cells-lts.Need-sub-last-2 (
   known-reads.Asked,
   known-reads.Learnt,
-  total-reads.Asked,
-  total-reads.Learnt,
+  capped-sum-reads.Asked,
+  capped-sum-reads.Learnt,
   cells-below t,
   cells.Post,
   own-cells-below t,
   own-cells.Post,
-  larger-reads.Asked,
-  larger-reads.Learnt,
+  capped-larger-reads.Asked,
+  capped-larger-reads.Learnt,
   note-reads.Asked,
   note-reads.Learnt,
 ) (own-cells-at t) own-cells.Post own-cells-Inv-loop own-cells-μ-loop
@@ -909,30 +784,30 @@ own-cells-sub-last-2 t c = omega (arith, (c .before .before .before .before .if2
 own-cells-loop-holds : (t : ℕ) → own-cells-lts.Need-loop-holds (
   known-reads.Asked,
   known-reads.Learnt,
-  total-reads.Asked,
-  total-reads.Learnt,
+  capped-sum-reads.Asked,
+  capped-sum-reads.Learnt,
   cells-below t,
   cells.Post,
   own-cells-below t,
   own-cells.Post,
-  larger-reads.Asked,
-  larger-reads.Learnt,
+  capped-larger-reads.Asked,
+  capped-larger-reads.Learnt,
   note-reads.Asked,
   note-reads.Learnt,
 ) (own-cells-at t) own-cells.Post own-cells-Inv-loop own-cells-μ-loop
-own-cells-loop-holds t c = (omega arith, (refl, own-start _ _ _ _ _))
+own-cells-loop-holds t c = (omega arith, own-start _ _ _ _ _)
 
 own-cells-add-cells : (t : ℕ) → own-cells-lts.Need-add-cells (
   known-reads.Asked,
   known-reads.Learnt,
-  total-reads.Asked,
-  total-reads.Learnt,
+  capped-sum-reads.Asked,
+  capped-sum-reads.Learnt,
   cells-below t,
   cells.Post,
   own-cells-below t,
   own-cells.Post,
-  larger-reads.Asked,
-  larger-reads.Learnt,
+  capped-larger-reads.Asked,
+  capped-larger-reads.Learnt,
   note-reads.Asked,
   note-reads.Learnt,
 ) (own-cells-at t) own-cells.Post own-cells-Inv-loop own-cells-μ-loop
@@ -941,210 +816,194 @@ own-cells-add-cells t c = omega (arith, (c .before .loop-test .taken))
 own-cells-cells-requires : (t : ℕ) → own-cells-lts.Need-cells-requires (
   known-reads.Asked,
   known-reads.Learnt,
-  total-reads.Asked,
-  total-reads.Learnt,
+  capped-sum-reads.Asked,
+  capped-sum-reads.Learnt,
   cells-below t,
   cells.Post,
   own-cells-below t,
   own-cells.Post,
-  larger-reads.Asked,
-  larger-reads.Learnt,
+  capped-larger-reads.Asked,
+  capped-larger-reads.Learnt,
   note-reads.Asked,
   note-reads.Learnt,
 ) (own-cells-at t) own-cells.Post own-cells-Inv-loop own-cells-μ-loop
-own-cells-cells-requires t c κs = (omega (arith, (c .before .before .before .before .before .before .before .before .before .before .before .pre .0), (c .before .before .before .before .before .before .before .before .if1 .left), (c .before .before .before .before .before .before .before .if2 .left), (c .before .loop-test .taken)), tt)
+own-cells-cells-requires t c κs = (omega (arith, (c .before .before .before .before .before .before .before .before .before .pre .0), (c .before .before .before .before .before .before .before .before .if1 .left), (c .before .before .before .before .before .before .before .if2 .left), (c .before .loop-test .taken)), tt)
 
 own-cells-sub-own-cells : (t : ℕ) → own-cells-lts.Need-sub-own-cells (
   known-reads.Asked,
   known-reads.Learnt,
-  total-reads.Asked,
-  total-reads.Learnt,
+  capped-sum-reads.Asked,
+  capped-sum-reads.Learnt,
   cells-below t,
   cells.Post,
   own-cells-below t,
   own-cells.Post,
-  larger-reads.Asked,
-  larger-reads.Learnt,
+  capped-larger-reads.Asked,
+  capped-larger-reads.Learnt,
   note-reads.Asked,
   note-reads.Learnt,
 ) (own-cells-at t) own-cells.Post own-cells-Inv-loop own-cells-μ-loop
-own-cells-sub-own-cells t c = pos-of-ne-zero (c .before .before .before .before .before .before .before .before .before .before .before .before .if1 .left)
+own-cells-sub-own-cells t c = pos-of-ne-zero (c .before .before .before .before .before .before .before .before .before .before .if1 .left)
 
 own-cells-add-own-cells : (t : ℕ) → own-cells-lts.Need-add-own-cells (
   known-reads.Asked,
   known-reads.Learnt,
-  total-reads.Asked,
-  total-reads.Learnt,
+  capped-sum-reads.Asked,
+  capped-sum-reads.Learnt,
   cells-below t,
   cells.Post,
   own-cells-below t,
   own-cells.Post,
-  larger-reads.Asked,
-  larger-reads.Learnt,
+  capped-larger-reads.Asked,
+  capped-larger-reads.Learnt,
   note-reads.Asked,
   note-reads.Learnt,
 ) (own-cells-at t) own-cells.Post own-cells-Inv-loop own-cells-μ-loop
-own-cells-add-own-cells t c = omega (arith, (c .before .before .before .before .before .loop-test .taken))
+own-cells-add-own-cells t c = omega (arith, (c .before .before .before .loop-test .taken))
 
 own-cells-sub-own-cells-2 : (t : ℕ) → own-cells-lts.Need-sub-own-cells-2 (
   known-reads.Asked,
   known-reads.Learnt,
-  total-reads.Asked,
-  total-reads.Learnt,
+  capped-sum-reads.Asked,
+  capped-sum-reads.Learnt,
   cells-below t,
   cells.Post,
   own-cells-below t,
   own-cells.Post,
-  larger-reads.Asked,
-  larger-reads.Learnt,
+  capped-larger-reads.Asked,
+  capped-larger-reads.Learnt,
   note-reads.Asked,
   note-reads.Learnt,
 ) (own-cells-at t) own-cells.Post own-cells-Inv-loop own-cells-μ-loop
-own-cells-sub-own-cells-2 t c = omega (arith, (c .before .before .before .before .before .before .before .before .before .before .before .before .if1 .left), (c .before .before .before .before .before .before .before .before .before .before .before .if2 .left), (c .before .before .before .before .before .loop-test .taken))
+own-cells-sub-own-cells-2 t c = omega (arith, (c .before .before .before .before .before .before .before .before .before .before .if1 .left), (c .before .before .before .before .before .before .before .before .before .if2 .left), (c .before .before .before .loop-test .taken))
 
 own-cells-own-cells-requires : (t : ℕ) → own-cells-lts.Need-own-cells-requires (
   known-reads.Asked,
   known-reads.Learnt,
-  total-reads.Asked,
-  total-reads.Learnt,
+  capped-sum-reads.Asked,
+  capped-sum-reads.Learnt,
   cells-below t,
   cells.Post,
   own-cells-below t,
   own-cells.Post,
-  larger-reads.Asked,
-  larger-reads.Learnt,
+  capped-larger-reads.Asked,
+  capped-larger-reads.Learnt,
   note-reads.Asked,
   note-reads.Learnt,
 ) (own-cells-at t) own-cells.Post own-cells-Inv-loop own-cells-μ-loop
-own-cells-own-cells-requires t c κs = (omega (arith, (c .before .before .before .before .before .before .before .before .before .before .before .before .before .before .before .pre .0), (c .before .before .before .before .before .before .before .before .before .before .before .before .if1 .left), (c .before .before .before .before .before .before .before .before .before .before .before .if2 .left), (c .before .before .before .before .before .loop-test .taken)), tt)
+own-cells-own-cells-requires t c κs = (omega (arith, (c .before .before .before .before .before .before .before .before .before .before .before .pre .0), (c .before .before .before .before .before .before .before .before .before .before .if1 .left), (c .before .before .before .before .before .before .before .before .before .if2 .left), (c .before .before .before .loop-test .taken)), tt)
 
-own-cells-total-requires-2 : (t : ℕ) → own-cells-lts.Need-total-requires-2 (
+own-cells-capped-sum-requires-2 : (t : ℕ) → own-cells-lts.Need-capped-sum-requires-2 (
   known-reads.Asked,
   known-reads.Learnt,
-  total-reads.Asked,
-  total-reads.Learnt,
+  capped-sum-reads.Asked,
+  capped-sum-reads.Learnt,
   cells-below t,
   cells.Post,
   own-cells-below t,
   own-cells.Post,
-  larger-reads.Asked,
-  larger-reads.Learnt,
+  capped-larger-reads.Asked,
+  capped-larger-reads.Learnt,
   note-reads.Asked,
   note-reads.Learnt,
 ) (own-cells-at t) own-cells.Post own-cells-Inv-loop own-cells-μ-loop
-own-cells-total-requires-2 t c κs = tt
+own-cells-capped-sum-requires-2 t c κs = tt
 
-own-cells-larger-requires : (t : ℕ) → own-cells-lts.Need-larger-requires (
+own-cells-capped-larger-requires : (t : ℕ) → own-cells-lts.Need-capped-larger-requires (
   known-reads.Asked,
   known-reads.Learnt,
-  total-reads.Asked,
-  total-reads.Learnt,
+  capped-sum-reads.Asked,
+  capped-sum-reads.Learnt,
   cells-below t,
   cells.Post,
   own-cells-below t,
   own-cells.Post,
-  larger-reads.Asked,
-  larger-reads.Learnt,
+  capped-larger-reads.Asked,
+  capped-larger-reads.Learnt,
   note-reads.Asked,
   note-reads.Learnt,
 ) (own-cells-at t) own-cells.Post own-cells-Inv-loop own-cells-μ-loop
-own-cells-larger-requires t c κs = tt
+own-cells-capped-larger-requires t c κs = tt
 
 own-cells-add-p : (t : ℕ) → own-cells-lts.Need-add-p (
   known-reads.Asked,
   known-reads.Learnt,
-  total-reads.Asked,
-  total-reads.Learnt,
+  capped-sum-reads.Asked,
+  capped-sum-reads.Learnt,
   cells-below t,
   cells.Post,
   own-cells-below t,
   own-cells.Post,
-  larger-reads.Asked,
-  larger-reads.Learnt,
+  capped-larger-reads.Asked,
+  capped-larger-reads.Learnt,
   note-reads.Asked,
   note-reads.Learnt,
 ) (own-cells-at t) own-cells.Post own-cells-Inv-loop own-cells-μ-loop
-own-cells-add-p t c = omega (arith, (c .before .before .before .before .before .before .before .before .before .before .loop-test .taken))
+own-cells-add-p t c = omega (arith, (c .before .before .before .before .before .before .loop-test .taken))
 
 own-cells-loop-less : (t : ℕ) → own-cells-lts.Need-loop-less (
   known-reads.Asked,
   known-reads.Learnt,
-  total-reads.Asked,
-  total-reads.Learnt,
+  capped-sum-reads.Asked,
+  capped-sum-reads.Learnt,
   cells-below t,
   cells.Post,
   own-cells-below t,
   own-cells.Post,
-  larger-reads.Asked,
-  larger-reads.Learnt,
+  capped-larger-reads.Asked,
+  capped-larger-reads.Learnt,
   note-reads.Asked,
   note-reads.Learnt,
 ) (own-cells-at t) own-cells.Post own-cells-Inv-loop own-cells-μ-loop
-own-cells-loop-less t c = omega (arith, (c .before .before .before .before .before .before .before .before .before .before .loop-test .taken))
+own-cells-loop-less t c = omega (arith, (c .before .before .before .before .before .before .loop-test .taken))
 
 own-cells-loop-again : (t : ℕ) → own-cells-lts.Need-loop-again (
   known-reads.Asked,
   known-reads.Learnt,
-  total-reads.Asked,
-  total-reads.Learnt,
+  capped-sum-reads.Asked,
+  capped-sum-reads.Learnt,
   cells-below t,
   cells.Post,
   own-cells-below t,
   own-cells.Post,
-  larger-reads.Asked,
-  larger-reads.Learnt,
+  capped-larger-reads.Asked,
+  capped-larger-reads.Learnt,
   note-reads.Asked,
   note-reads.Learnt,
 ) (own-cells-at t) own-cells.Post own-cells-Inv-loop own-cells-μ-loop
-own-cells-loop-again t c = (omega (arith, (c .before .before .before .before .before .before .before .before .before .before .loop-test .taken)), ((c .before .before .before .before .own-cells .kept .1 .0) ∙ (c .before .before .before .before .before .before .before .before .cells .kept .1 .0) ∙ (c .before .before .before .before .before .before .before .before .before .before .before .loop .inv .1 .0), own-on (c .before .before .before .before .before .before .before .before .before .before .before .before .before .before .before .before .before .if1 .left) (c .before .before .before .before .before .before .before .before .before .before .before .before .before .before .before .before .if2 .left) (c .before .before .before .before .before .before .before .before .before .before .before .loop .inv .1 .1) (omega (arith, (c .before .before .before .before .before .before .before .before .before .before .loop-test .taken))) (c .before .before .before .before .before .before .before .before .cells .ensures) (c .before .before .before .before .own-cells .ensures) (c .before .total2 .ensures) (c .larger .ensures)))
+own-cells-loop-again t c = (omega (arith, (c .before .before .before .before .before .before .loop-test .taken)), own-on (c .before .before .before .before .before .before .before .before .before .before .before .before .before .if1 .left) (c .before .before .before .before .before .before .before .before .before .before .before .before .if2 .left) (c .before .before .before .before .before .before .before .loop .inv .1) (omega (arith, (c .before .before .before .before .before .before .loop-test .taken))) (c .before .before .before .before .cells .ensures) (c .before .before .own-cells .ensures) (c .before .capped-sum2 .ensures) (c .capped-larger .ensures))
 
 own-cells-note-requires : (t : ℕ) → own-cells-lts.Need-note-requires (
   known-reads.Asked,
   known-reads.Learnt,
-  total-reads.Asked,
-  total-reads.Learnt,
+  capped-sum-reads.Asked,
+  capped-sum-reads.Learnt,
   cells-below t,
   cells.Post,
   own-cells-below t,
   own-cells.Post,
-  larger-reads.Asked,
-  larger-reads.Learnt,
+  capped-larger-reads.Asked,
+  capped-larger-reads.Learnt,
   note-reads.Asked,
   note-reads.Learnt,
 ) (own-cells-at t) own-cells.Post own-cells-Inv-loop own-cells-μ-loop
-own-cells-note-requires t c κs = (c .before .before .loop .inv .1 .1 .small)
-
-own-cells-same-length-2 : (t : ℕ) → own-cells-lts.Need-same-length-2 (
-  known-reads.Asked,
-  known-reads.Learnt,
-  total-reads.Asked,
-  total-reads.Learnt,
-  cells-below t,
-  cells.Post,
-  own-cells-below t,
-  own-cells.Post,
-  larger-reads.Asked,
-  larger-reads.Learnt,
-  note-reads.Asked,
-  note-reads.Learnt,
-) (own-cells-at t) own-cells.Post own-cells-Inv-loop own-cells-μ-loop
-own-cells-same-length-2 t c = (c .before .before .note .kept .0) ∙ (c .before .before .before .before .before .loop .inv .1 .0)
+own-cells-note-requires t c κs = (c .before .before .loop .inv .1 .small)
 
 own-cells-returns-5 : (t : ℕ) → own-cells-lts.Need-returns-5 (
   known-reads.Asked,
   known-reads.Learnt,
-  total-reads.Asked,
-  total-reads.Learnt,
+  capped-sum-reads.Asked,
+  capped-sum-reads.Learnt,
   cells-below t,
   cells.Post,
   own-cells-below t,
   own-cells.Post,
-  larger-reads.Asked,
-  larger-reads.Learnt,
+  capped-larger-reads.Asked,
+  capped-larger-reads.Learnt,
   note-reads.Asked,
   note-reads.Learnt,
 ) (own-cells-at t) own-cells.Post own-cells-Inv-loop own-cells-μ-loop
-own-cells-returns-5 t c = own-end (c .before .before .before .before .before .before .before .before .before .before .before .if1 .left) (c .before .before .before .before .before .before .before .before .before .before .if2 .left) (c .before .before .before .before .before .loop .inv .1 .1) (c .before .before .before .before .before .loop .inv .0) (c .before .before .before .before .loop-test .left) (c .before .before .note .ensures)
+own-cells-returns-5 t c = own-end (c .before .before .before .before .before .before .before .before .before .if1 .left) (c .before .before .before .before .before .before .before .before .if2 .left) (c .before .before .before .loop .inv .1) (c .before .before .before .loop .inv .0) (c .before .before .loop-test .left) (c .note .ensures)
 
 pub +cells+cells-of+constructor-cells+field-cells+other-cells+own-cells-spec :
     {M : Type 1} → statement M
@@ -1159,14 +1018,14 @@ pub +cells+cells-of+constructor-cells+field-cells+other-cells+own-cells-spec :
     (λ t. cells-lts.spec (
       known-reads.Asked,
       known-reads.Learnt,
-      total-reads.Asked,
-      total-reads.Learnt,
+      capped-sum-reads.Asked,
+      capped-sum-reads.Learnt,
       constructors-reads.Asked,
       constructors-reads.Learnt,
       constructor-cells-below t,
       constructor-cells.Post,
-      larger-reads.Asked,
-      larger-reads.Learnt,
+      capped-larger-reads.Asked,
+      capped-larger-reads.Learnt,
       note-reads.Asked,
       note-reads.Learnt,
     )
@@ -1178,19 +1037,17 @@ pub +cells+cells-of+constructor-cells+field-cells+other-cells+own-cells-spec :
     (cells-returns t)
     (cells-returns-2 t)
     (cells-known-requires t)
-    (cells-sub-total t)
-    (cells-total-requires t)
-    (cells-same-length t)
+    (cells-sub-capped-sum t)
+    (cells-capped-sum-requires t)
     (cells-returns-3 t)
     (cells-constructors-requires t)
     (cells-loop-holds t)
     (cells-constructor-cells-requires t)
-    (cells-larger-requires t)
+    (cells-capped-larger-requires t)
     (cells-add-c t)
     (cells-loop-less t)
     (cells-loop-again t)
     (cells-note-requires t)
-    (cells-same-length-2 t)
     (cells-returns-4 t))
     (λ t. cells-of-lts.spec
     (cells-below t, cells.Post)
@@ -1199,7 +1056,6 @@ pub +cells+cells-of+constructor-cells+field-cells+other-cells+own-cells-spec :
     (cells-of-returns t)
     (cells-of-sub-cells t)
     (cells-of-cells-requires t)
-    (cells-of-same-length t)
     (cells-of-returns-2 t))
     (λ t. constructor-cells-lts.spec (
       own-fields-reads.Asked,
@@ -1208,8 +1064,8 @@ pub +cells+cells-of+constructor-cells+field-cells+other-cells+own-cells-spec :
       other-cells.Post,
       own-cells-below t,
       own-cells.Post,
-      total-reads.Asked,
-      total-reads.Learnt,
+      capped-sum-reads.Asked,
+      capped-sum-reads.Learnt,
     )
     (constructor-cells-at t)
     constructor-cells.Post
@@ -1218,36 +1074,29 @@ pub +cells+cells-of+constructor-cells+field-cells+other-cells+own-cells-spec :
     (constructor-cells-other-cells-requires t)
     (constructor-cells-sub-own-cells t)
     (constructor-cells-own-cells-requires t)
-    (constructor-cells-total-requires t)
-    (constructor-cells-total-requires-2 t)
-    (constructor-cells-same-length t)
+    (constructor-cells-capped-sum-requires t)
+    (constructor-cells-capped-sum-requires-2 t)
     (constructor-cells-returns-2 t))
     (λ t. field-cells-lts.spec (
-      word-at-reads.Asked,
-      word-at-reads.Learnt,
+      field-word-reads.Asked,
+      field-word-reads.Learnt,
       cells-of-below t,
       cells-of.Post,
     )
     (field-cells-at t)
     field-cells.Post
-    (field-cells-mul-entry t)
-    (field-cells-add-entry t)
-    (field-cells-mul-entry-2 t)
-    (field-cells-add-entry-2 t)
-    (field-cells-add-word-at t)
-    (field-cells-word-at-requires t)
+    (field-cells-field-word-requires t)
     (field-cells-returns t)
     (field-cells-returns-2 t)
     (field-cells-cells-of-requires t)
-    (field-cells-same-length t)
     (field-cells-returns-3 t))
     (λ t. other-cells-lts.spec (
       fields-reads.Asked,
       fields-reads.Learnt,
       field-cells-below t,
       field-cells.Post,
-      total-reads.Asked,
-      total-reads.Learnt,
+      capped-sum-reads.Asked,
+      capped-sum-reads.Learnt,
     )
     (other-cells-at t)
     other-cells.Post
@@ -1256,23 +1105,22 @@ pub +cells+cells-of+constructor-cells+field-cells+other-cells+own-cells-spec :
     (other-cells-fields-requires t)
     (other-cells-loop-holds t)
     (other-cells-field-cells-requires t)
-    (other-cells-total-requires t)
+    (other-cells-capped-sum-requires t)
     (other-cells-add-i t)
     (other-cells-loop-less t)
     (other-cells-loop-again t)
-    (other-cells-same-length t)
     (other-cells-returns t))
     λ t. own-cells-lts.spec (
       known-reads.Asked,
       known-reads.Learnt,
-      total-reads.Asked,
-      total-reads.Learnt,
+      capped-sum-reads.Asked,
+      capped-sum-reads.Learnt,
       cells-below t,
       cells.Post,
       own-cells-below t,
       own-cells.Post,
-      larger-reads.Asked,
-      larger-reads.Learnt,
+      capped-larger-reads.Asked,
+      capped-larger-reads.Learnt,
       note-reads.Asked,
       note-reads.Learnt,
     )
@@ -1285,9 +1133,8 @@ pub +cells+cells-of+constructor-cells+field-cells+other-cells+own-cells-spec :
     (own-cells-cast-if3 t)
     (own-cells-returns-3 t)
     (own-cells-known-requires t)
-    (own-cells-sub-total t)
-    (own-cells-total-requires t)
-    (own-cells-same-length t)
+    (own-cells-sub-capped-sum t)
+    (own-cells-capped-sum-requires t)
     (own-cells-returns-4 t)
     (own-cells-sub-last t)
     (own-cells-sub-last-2 t)
@@ -1298,11 +1145,10 @@ pub +cells+cells-of+constructor-cells+field-cells+other-cells+own-cells-spec :
     (own-cells-add-own-cells t)
     (own-cells-sub-own-cells-2 t)
     (own-cells-own-cells-requires t)
-    (own-cells-total-requires-2 t)
-    (own-cells-larger-requires t)
+    (own-cells-capped-sum-requires-2 t)
+    (own-cells-capped-larger-requires t)
     (own-cells-add-p t)
     (own-cells-loop-less t)
     (own-cells-loop-again t)
     (own-cells-note-requires t)
-    (own-cells-same-length-2 t)
     (own-cells-returns-5 t)

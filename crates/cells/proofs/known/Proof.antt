@@ -12,7 +12,7 @@ word-at-requires : tie.Need-word-at-requires
 word-at-requires c κs = search needs
 
 returns : tie.Need-returns
-returns c = c .word-at .ensures ∙ ap (λ i. getD (c .before .before .before .args .table .now) i 0) (c .before .place-of .ensures)
+returns c = (c .word-at .ensures) ∙ ap (λ i. getD (c .before .before .before .args .table .now) i 0) (c .before .place-of .ensures)
 
 pub known-spec : {M : Type 1} → statement M
 known-spec = tie.close (tie.spec place-of-requires word-at-requires returns)

@@ -15,11 +15,8 @@ add-put c = search needs
 put-requires : tie.Need-put-requires
 put-requires c κs = search needs
 
-same-length : tie.Need-same-length
-same-length c = search needs
-
 returns : tie.Need-returns
-returns c = c .before .before .put .ensures ∙ ap (λ i. set (c .before .before .before .before .before .before .args .table .now) i (1 + c .before .before .before .before .before .before .args .number)) (c .before .before .before .place-of .ensures)
+returns c = (c .put .ensures) ∙ ap (λ i. set (c .before .before .before .args .table .now) i (1 + (c .before .before .before .args .number))) (c .before .place-of .ensures)
 
 pub note-spec : {M : Type 1} → statement M
-note-spec = tie.close (tie.spec place-of-requires add-put put-requires same-length returns)
+note-spec = tie.close (tie.spec place-of-requires add-put put-requires returns)

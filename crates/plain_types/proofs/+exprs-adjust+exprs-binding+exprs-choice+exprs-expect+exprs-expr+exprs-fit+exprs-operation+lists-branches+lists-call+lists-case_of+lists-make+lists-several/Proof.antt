@@ -1,16 +1,15 @@
 -- The cycle of functions that give an expression's plain type meets its contracts: each need is answered by a law of FormLaws, ListLaws,
 -- CaseLaws or ExprLaws; the measure is levels left, then the place in the cycle, a list by what is left of it.
-use Prim.Native.Nat.{ℕ, _+_, _*_, _<_}
-use mathlib.Core.Path.{refl, _∙_}
 use native.Mathlib.Omega.{arith}
 use native.Mathlib.Nat.{pos-of-ne-zero}
-use borrow.Fn.Kinds.{In}
-use borrow.Fn.PlainCycle.{Measures, is, falls, and}
 use Rattle.plain_types.specs.MadePlaces.{same-levels, same-variables, at-expr, at-want, at-let, at-if, at-op, at-call, at-con, at-several, at-case, at-branches, at-adj, at-fit}
 use Rattle.plain_types.specs.FormLaws.{want-wrong, want-other, want-done, let-wrong, let-done, fit-wrong, fit-unnamed, fit-none, fit-done, if-wrong, if-none, if-done, op-wrong, op-none, op-done, adj-stops, adj-wrong, adj-unnamed, adj-done}
 use Rattle.plain_types.specs.ListLaws.{several-none, several-wrong, several-more, call-done, con-done}
 use Rattle.plain_types.specs.CaseLaws.{branches-all, branches-wrong, branches-next, case-wrong, case-none, case-done}
 use Rattle.plain_types.specs.ExprLaws.{expr-cut, expr-missing, expr-bool, expr-int, expr-var, expr-now, expr-last, expr-let, expr-if, expr-op, expr-call, expr-con, expr-case, expr-adj, expr-fit}
+use Prim.Native.Nat.{ℕ, _+_, _*_, _<_}
+use borrow.Fn.Kinds.{In}
+use borrow.Fn.PlainCycle.{Measures, is, falls, and}
 use Rattle.plain_types.proofs.exprs.adjust.Reads as exprs·adjust
 use Rattle.plain_types.proofs.exprs.adjust.Kinds as exprs·adjust-kinds
 use Rattle.plain_types.proofs.+exprs-adjust+exprs-binding+exprs-choice+exprs-expect+exprs-expr+exprs-fit+exprs-operation+lists-branches+lists-call+lists-case_of+lists-make+lists-several.Lts-exprs-adjust as exprs·adjust-lts
@@ -48,13 +47,12 @@ use Rattle.plain_types.proofs.lists.several.Reads as lists·several
 use Rattle.plain_types.proofs.lists.several.Kinds as lists·several-kinds
 use Rattle.plain_types.proofs.+exprs-adjust+exprs-binding+exprs-choice+exprs-expect+exprs-expr+exprs-fit+exprs-operation+lists-branches+lists-call+lists-case_of+lists-make+lists-several.Lts-lists-several as lists·several-lts
 use Rattle.heads.proofs.head_at.Reads as head-at-reads
-use Rattle.index.proofs.arity.Reads as arity-reads
-use Rattle.index.proofs.constructors.Reads as constructors-reads
-use Rattle.index.proofs.fields.Reads as fields-reads
-use Rattle.index.proofs.put.Reads as put-reads
-use Rattle.index.proofs.word_at.Reads as word-at-reads
 use Rattle.index.proofs.frames.frame_line.Reads as frame-line-reads
-use Rattle.text.proofs.Cursor.size.Reads as size-reads
+use Rattle.index.proofs.functions.arity.Reads as arity-reads
+use Rattle.index.proofs.put.Reads as put-reads
+use Rattle.index.proofs.types.constructors.Reads as constructors-reads
+use Rattle.index.proofs.types.fields.Reads as fields-reads
+use Rattle.index.proofs.word_at.Reads as word-at-reads
 use Rattle.plain_types.proofs.places.channel.Reads as channel-reads
 use Rattle.plain_types.proofs.places.inside.Reads as inside-reads
 use Rattle.plain_types.proofs.places.moved.Reads as moved-reads
@@ -67,6 +65,7 @@ use Rattle.plain_types.proofs.words.outcome.Reads as outcome-reads
 use Rattle.plain_types.proofs.words.result_type.Reads as result-type-reads
 use Rattle.plain_types.proofs.words.returned.Reads as returned-reads
 use Rattle.plain_types.proofs.words.wanted.Reads as wanted-reads
+use Rattle.text.proofs.Cursor.size.Reads as size-reads
 use Rattle.plain_types.proofs.+exprs-adjust+exprs-binding+exprs-choice+exprs-expect+exprs-expr+exprs-fit+exprs-operation+lists-branches+lists-call+lists-case_of+lists-make+lists-several.{
   statement,
 }
@@ -74,175 +73,175 @@ use Rattle.plain_types.proofs.+exprs-adjust+exprs-binding+exprs-choice+
   close,
 }
 
-abbrev μ-exprs·adjust : Measures 6 exprs·adjust-kinds.ps ℕ
-μ-exprs·adjust κs a = a .1 .1 .1 .1 .1 .1 .0 .levels * 1024 + 700
+abbrev μ-exprs·adjust : Measures 3 exprs·adjust-kinds.ps ℕ
+μ-exprs·adjust κs a = a .1 .1 .1 .0 .levels * 1024 + 700
 
-abbrev μ-exprs·binding : Measures 6 exprs·binding-kinds.ps ℕ
-μ-exprs·binding κs a = a .1 .1 .1 .1 .1 .1 .0 .levels * 1024 + 700
+abbrev μ-exprs·binding : Measures 3 exprs·binding-kinds.ps ℕ
+μ-exprs·binding κs a = a .1 .1 .1 .0 .levels * 1024 + 700
 
-abbrev μ-exprs·choice : Measures 6 exprs·choice-kinds.ps ℕ
-μ-exprs·choice κs a = a .1 .1 .1 .1 .1 .1 .0 .levels * 1024 + 700
+abbrev μ-exprs·choice : Measures 3 exprs·choice-kinds.ps ℕ
+μ-exprs·choice κs a = a .1 .1 .1 .0 .levels * 1024 + 700
 
-abbrev μ-exprs·expect : Measures 6 exprs·expect-kinds.ps ℕ
-μ-exprs·expect κs a = a .1 .1 .1 .1 .1 .1 .0 .levels * 1024 + 1
+abbrev μ-exprs·expect : Measures 3 exprs·expect-kinds.ps ℕ
+μ-exprs·expect κs a = a .1 .1 .1 .0 .levels * 1024 + 1
 
-abbrev μ-exprs·expr : Measures 6 exprs·expr-kinds.ps ℕ
-μ-exprs·expr κs a = a .1 .1 .1 .1 .1 .1 .0 .levels * 1024
+abbrev μ-exprs·expr : Measures 3 exprs·expr-kinds.ps ℕ
+μ-exprs·expr κs a = a .1 .1 .1 .0 .levels * 1024
 
-abbrev μ-exprs·fit : Measures 6 exprs·fit-kinds.ps ℕ
-μ-exprs·fit κs a = a .1 .1 .1 .1 .1 .1 .0 .levels * 1024 + 700
+abbrev μ-exprs·fit : Measures 3 exprs·fit-kinds.ps ℕ
+μ-exprs·fit κs a = a .1 .1 .1 .0 .levels * 1024 + 700
 
-abbrev μ-exprs·operation : Measures 6 exprs·operation-kinds.ps ℕ
-μ-exprs·operation κs a = a .1 .1 .1 .1 .1 .1 .0 .levels * 1024 + 700
+abbrev μ-exprs·operation : Measures 3 exprs·operation-kinds.ps ℕ
+μ-exprs·operation κs a = a .1 .1 .1 .0 .levels * 1024 + 700
 
-abbrev μ-lists·branches : Measures 6 lists·branches-kinds.ps ℕ
-μ-lists·branches κs a = a .1 .1 .1 .1 .1 .1 .0 .levels * 1024 + (2 + a .1 .1 .1 .1 .1 .1 .1 .0 .count)
+abbrev μ-lists·branches : Measures 3 lists·branches-kinds.ps ℕ
+μ-lists·branches κs a = a .1 .1 .1 .0 .levels * 1024 + (2 + a .1 .1 .1 .1 .0 .count)
 
-abbrev μ-lists·call : Measures 6 lists·call-kinds.ps ℕ
-μ-lists·call κs a = a .1 .1 .1 .1 .1 .1 .0 .levels * 1024 + 700
+abbrev μ-lists·call : Measures 3 lists·call-kinds.ps ℕ
+μ-lists·call κs a = a .1 .1 .1 .0 .levels * 1024 + 700
 
-abbrev μ-lists·case-of : Measures 6 lists·case-of-kinds.ps ℕ
-μ-lists·case-of κs a = a .1 .1 .1 .1 .1 .1 .0 .levels * 1024 + 700
+abbrev μ-lists·case-of : Measures 3 lists·case-of-kinds.ps ℕ
+μ-lists·case-of κs a = a .1 .1 .1 .0 .levels * 1024 + 700
 
-abbrev μ-lists·make : Measures 6 lists·make-kinds.ps ℕ
-μ-lists·make κs a = a .1 .1 .1 .1 .1 .1 .0 .levels * 1024 + 700
+abbrev μ-lists·make : Measures 3 lists·make-kinds.ps ℕ
+μ-lists·make κs a = a .1 .1 .1 .0 .levels * 1024 + 700
 
-abbrev μ-lists·several : Measures 6 lists·several-kinds.ps ℕ
-μ-lists·several κs a = a .1 .1 .1 .1 .1 .1 .0 .levels * 1024 + (2 + a .1 .1 .1 .1 .1 .1 .1 .0 .count)
+abbrev μ-lists·several : Measures 3 lists·several-kinds.ps ℕ
+μ-lists·several κs a = a .1 .1 .1 .0 .levels * 1024 + (2 + a .1 .1 .1 .1 .0 .count)
 
-abbrev exprs·adjust-at : ℕ → In 6 exprs·adjust-kinds.ps
+abbrev exprs·adjust-at : ℕ → In 3 exprs·adjust-kinds.ps
 exprs·adjust-at t =
-    and 6 exprs·adjust-kinds.ps (is 6 exprs·adjust-kinds.ps μ-exprs·adjust t) exprs·adjust.Pre
+    and 3 exprs·adjust-kinds.ps (is 3 exprs·adjust-kinds.ps μ-exprs·adjust t) exprs·adjust.Pre
 
-abbrev exprs·adjust-below : ℕ → In 6 exprs·adjust-kinds.ps
+abbrev exprs·adjust-below : ℕ → In 3 exprs·adjust-kinds.ps
 exprs·adjust-below t =
     and
-    6
+    3
     exprs·adjust-kinds.ps
-    (falls 6 exprs·adjust-kinds.ps _<_ μ-exprs·adjust t)
+    (falls 3 exprs·adjust-kinds.ps _<_ μ-exprs·adjust t)
     exprs·adjust.Pre
 
-abbrev exprs·binding-at : ℕ → In 6 exprs·binding-kinds.ps
+abbrev exprs·binding-at : ℕ → In 3 exprs·binding-kinds.ps
 exprs·binding-at t =
-    and 6 exprs·binding-kinds.ps (is 6 exprs·binding-kinds.ps μ-exprs·binding t) exprs·binding.Pre
+    and 3 exprs·binding-kinds.ps (is 3 exprs·binding-kinds.ps μ-exprs·binding t) exprs·binding.Pre
 
-abbrev exprs·binding-below : ℕ → In 6 exprs·binding-kinds.ps
+abbrev exprs·binding-below : ℕ → In 3 exprs·binding-kinds.ps
 exprs·binding-below t =
     and
-    6
+    3
     exprs·binding-kinds.ps
-    (falls 6 exprs·binding-kinds.ps _<_ μ-exprs·binding t)
+    (falls 3 exprs·binding-kinds.ps _<_ μ-exprs·binding t)
     exprs·binding.Pre
 
-abbrev exprs·choice-at : ℕ → In 6 exprs·choice-kinds.ps
+abbrev exprs·choice-at : ℕ → In 3 exprs·choice-kinds.ps
 exprs·choice-at t =
-    and 6 exprs·choice-kinds.ps (is 6 exprs·choice-kinds.ps μ-exprs·choice t) exprs·choice.Pre
+    and 3 exprs·choice-kinds.ps (is 3 exprs·choice-kinds.ps μ-exprs·choice t) exprs·choice.Pre
 
-abbrev exprs·choice-below : ℕ → In 6 exprs·choice-kinds.ps
+abbrev exprs·choice-below : ℕ → In 3 exprs·choice-kinds.ps
 exprs·choice-below t =
     and
-    6
+    3
     exprs·choice-kinds.ps
-    (falls 6 exprs·choice-kinds.ps _<_ μ-exprs·choice t)
+    (falls 3 exprs·choice-kinds.ps _<_ μ-exprs·choice t)
     exprs·choice.Pre
 
-abbrev exprs·expect-at : ℕ → In 6 exprs·expect-kinds.ps
+abbrev exprs·expect-at : ℕ → In 3 exprs·expect-kinds.ps
 exprs·expect-at t =
-    and 6 exprs·expect-kinds.ps (is 6 exprs·expect-kinds.ps μ-exprs·expect t) exprs·expect.Pre
+    and 3 exprs·expect-kinds.ps (is 3 exprs·expect-kinds.ps μ-exprs·expect t) exprs·expect.Pre
 
-abbrev exprs·expect-below : ℕ → In 6 exprs·expect-kinds.ps
+abbrev exprs·expect-below : ℕ → In 3 exprs·expect-kinds.ps
 exprs·expect-below t =
     and
-    6
+    3
     exprs·expect-kinds.ps
-    (falls 6 exprs·expect-kinds.ps _<_ μ-exprs·expect t)
+    (falls 3 exprs·expect-kinds.ps _<_ μ-exprs·expect t)
     exprs·expect.Pre
 
-abbrev exprs·expr-at : ℕ → In 6 exprs·expr-kinds.ps
+abbrev exprs·expr-at : ℕ → In 3 exprs·expr-kinds.ps
 exprs·expr-at t =
-    and 6 exprs·expr-kinds.ps (is 6 exprs·expr-kinds.ps μ-exprs·expr t) exprs·expr.Pre
+    and 3 exprs·expr-kinds.ps (is 3 exprs·expr-kinds.ps μ-exprs·expr t) exprs·expr.Pre
 
-abbrev exprs·expr-below : ℕ → In 6 exprs·expr-kinds.ps
+abbrev exprs·expr-below : ℕ → In 3 exprs·expr-kinds.ps
 exprs·expr-below t =
-    and 6 exprs·expr-kinds.ps (falls 6 exprs·expr-kinds.ps _<_ μ-exprs·expr t) exprs·expr.Pre
+    and 3 exprs·expr-kinds.ps (falls 3 exprs·expr-kinds.ps _<_ μ-exprs·expr t) exprs·expr.Pre
 
-abbrev exprs·fit-at : ℕ → In 6 exprs·fit-kinds.ps
-exprs·fit-at t = and 6 exprs·fit-kinds.ps (is 6 exprs·fit-kinds.ps μ-exprs·fit t) exprs·fit.Pre
+abbrev exprs·fit-at : ℕ → In 3 exprs·fit-kinds.ps
+exprs·fit-at t = and 3 exprs·fit-kinds.ps (is 3 exprs·fit-kinds.ps μ-exprs·fit t) exprs·fit.Pre
 
-abbrev exprs·fit-below : ℕ → In 6 exprs·fit-kinds.ps
+abbrev exprs·fit-below : ℕ → In 3 exprs·fit-kinds.ps
 exprs·fit-below t =
-    and 6 exprs·fit-kinds.ps (falls 6 exprs·fit-kinds.ps _<_ μ-exprs·fit t) exprs·fit.Pre
+    and 3 exprs·fit-kinds.ps (falls 3 exprs·fit-kinds.ps _<_ μ-exprs·fit t) exprs·fit.Pre
 
-abbrev exprs·operation-at : ℕ → In 6 exprs·operation-kinds.ps
+abbrev exprs·operation-at : ℕ → In 3 exprs·operation-kinds.ps
 exprs·operation-at t =
     and
-    6
+    3
     exprs·operation-kinds.ps
-    (is 6 exprs·operation-kinds.ps μ-exprs·operation t)
+    (is 3 exprs·operation-kinds.ps μ-exprs·operation t)
     exprs·operation.Pre
 
-abbrev exprs·operation-below : ℕ → In 6 exprs·operation-kinds.ps
+abbrev exprs·operation-below : ℕ → In 3 exprs·operation-kinds.ps
 exprs·operation-below t =
     and
-    6
+    3
     exprs·operation-kinds.ps
-    (falls 6 exprs·operation-kinds.ps _<_ μ-exprs·operation t)
+    (falls 3 exprs·operation-kinds.ps _<_ μ-exprs·operation t)
     exprs·operation.Pre
 
-abbrev lists·branches-at : ℕ → In 6 lists·branches-kinds.ps
+abbrev lists·branches-at : ℕ → In 3 lists·branches-kinds.ps
 lists·branches-at t =
     and
-    6
+    3
     lists·branches-kinds.ps
-    (is 6 lists·branches-kinds.ps μ-lists·branches t)
+    (is 3 lists·branches-kinds.ps μ-lists·branches t)
     lists·branches.Pre
 
-abbrev lists·branches-below : ℕ → In 6 lists·branches-kinds.ps
+abbrev lists·branches-below : ℕ → In 3 lists·branches-kinds.ps
 lists·branches-below t =
     and
-    6
+    3
     lists·branches-kinds.ps
-    (falls 6 lists·branches-kinds.ps _<_ μ-lists·branches t)
+    (falls 3 lists·branches-kinds.ps _<_ μ-lists·branches t)
     lists·branches.Pre
 
-abbrev lists·call-at : ℕ → In 6 lists·call-kinds.ps
+abbrev lists·call-at : ℕ → In 3 lists·call-kinds.ps
 lists·call-at t =
-    and 6 lists·call-kinds.ps (is 6 lists·call-kinds.ps μ-lists·call t) lists·call.Pre
+    and 3 lists·call-kinds.ps (is 3 lists·call-kinds.ps μ-lists·call t) lists·call.Pre
 
-abbrev lists·call-below : ℕ → In 6 lists·call-kinds.ps
+abbrev lists·call-below : ℕ → In 3 lists·call-kinds.ps
 lists·call-below t =
-    and 6 lists·call-kinds.ps (falls 6 lists·call-kinds.ps _<_ μ-lists·call t) lists·call.Pre
+    and 3 lists·call-kinds.ps (falls 3 lists·call-kinds.ps _<_ μ-lists·call t) lists·call.Pre
 
-abbrev lists·case-of-at : ℕ → In 6 lists·case-of-kinds.ps
+abbrev lists·case-of-at : ℕ → In 3 lists·case-of-kinds.ps
 lists·case-of-at t =
-    and 6 lists·case-of-kinds.ps (is 6 lists·case-of-kinds.ps μ-lists·case-of t) lists·case-of.Pre
+    and 3 lists·case-of-kinds.ps (is 3 lists·case-of-kinds.ps μ-lists·case-of t) lists·case-of.Pre
 
-abbrev lists·case-of-below : ℕ → In 6 lists·case-of-kinds.ps
+abbrev lists·case-of-below : ℕ → In 3 lists·case-of-kinds.ps
 lists·case-of-below t =
     and
-    6
+    3
     lists·case-of-kinds.ps
-    (falls 6 lists·case-of-kinds.ps _<_ μ-lists·case-of t)
+    (falls 3 lists·case-of-kinds.ps _<_ μ-lists·case-of t)
     lists·case-of.Pre
 
-abbrev lists·make-at : ℕ → In 6 lists·make-kinds.ps
+abbrev lists·make-at : ℕ → In 3 lists·make-kinds.ps
 lists·make-at t =
-    and 6 lists·make-kinds.ps (is 6 lists·make-kinds.ps μ-lists·make t) lists·make.Pre
+    and 3 lists·make-kinds.ps (is 3 lists·make-kinds.ps μ-lists·make t) lists·make.Pre
 
-abbrev lists·make-below : ℕ → In 6 lists·make-kinds.ps
+abbrev lists·make-below : ℕ → In 3 lists·make-kinds.ps
 lists·make-below t =
-    and 6 lists·make-kinds.ps (falls 6 lists·make-kinds.ps _<_ μ-lists·make t) lists·make.Pre
+    and 3 lists·make-kinds.ps (falls 3 lists·make-kinds.ps _<_ μ-lists·make t) lists·make.Pre
 
-abbrev lists·several-at : ℕ → In 6 lists·several-kinds.ps
+abbrev lists·several-at : ℕ → In 3 lists·several-kinds.ps
 lists·several-at t =
-    and 6 lists·several-kinds.ps (is 6 lists·several-kinds.ps μ-lists·several t) lists·several.Pre
+    and 3 lists·several-kinds.ps (is 3 lists·several-kinds.ps μ-lists·several t) lists·several.Pre
 
-abbrev lists·several-below : ℕ → In 6 lists·several-kinds.ps
+abbrev lists·several-below : ℕ → In 3 lists·several-kinds.ps
 lists·several-below t =
     and
-    6
+    3
     lists·several-kinds.ps
-    (falls 6 lists·several-kinds.ps _<_ μ-lists·several t)
+    (falls 3 lists·several-kinds.ps _<_ μ-lists·several t)
     lists·several.Pre
 
 exprs·adjust-frame-line-requires : (t : ℕ) → exprs·adjust-lts.Need-frame-line-requires (
@@ -303,7 +302,7 @@ exprs·adjust-returns : (t : ℕ) → exprs·adjust-lts.Need-returns (
   exprs·expr-below t,
   exprs·expr.Post,
 ) (exprs·adjust-at t) exprs·adjust.Post
-exprs·adjust-returns t c = adj-stops _ _ _ _ _ _ _ (c .before .before .before .before .frame-line .ensures) (c .before .before .size .ensures) (c .enum-told .given .1)
+exprs·adjust-returns t c = adj-stops _ _ _ _ (c .before .before .before .before .frame-line .ensures) (c .before .before .size .ensures) (c .enum-told .given .1)
 
 exprs·adjust-moved-requires : (t : ℕ) → exprs·adjust-lts.Need-moved-requires (
   frame-line-reads.Asked,
@@ -327,7 +326,7 @@ exprs·adjust-expr-requires : (t : ℕ) → exprs·adjust-lts.Need-expr-requires
   exprs·expr-below t,
   exprs·expr.Post,
 ) (exprs·adjust-at t) exprs·adjust.Post
-exprs·adjust-expr-requires t c κs = (omega (arith, (c .before .before .before .before .before .before .before .before .before .before .before .before .before .before .pre .0), same-levels (c .before .moved .ensures)), omega (arith, (c .before .before .before .before .before .before .before .before .before .before .before .before .before .before .pre .1), same-levels (c .before .moved .ensures), same-variables (c .before .moved .ensures)))
+exprs·adjust-expr-requires t c κs = (omega (arith, (c .before .before .before .before .before .before .before .before .before .pre .0), same-levels (c .before .moved .ensures)), omega (arith, (c .before .before .before .before .before .before .before .before .before .pre .1), same-levels (c .before .moved .ensures), same-variables (c .before .moved .ensures)))
 
 exprs·adjust-enum-known-x : (t : ℕ) → exprs·adjust-lts.Need-enum-known-x (
   frame-line-reads.Asked,
@@ -353,18 +352,6 @@ exprs·adjust-enum-told-2 : (t : ℕ) → exprs·adjust-lts.Need-enum-told-2 (
 ) (exprs·adjust-at t) exprs·adjust.Post
 exprs·adjust-enum-told-2 t c = (c .match2 .keys2)
 
-exprs·adjust-same-length : (t : ℕ) → exprs·adjust-lts.Need-same-length (
-  frame-line-reads.Asked,
-  frame-line-reads.Learnt,
-  size-reads.Asked,
-  size-reads.Learnt,
-  moved-reads.Asked,
-  moved-reads.Learnt,
-  exprs·expr-below t,
-  exprs·expr.Post,
-) (exprs·adjust-at t) exprs·adjust.Post
-exprs·adjust-same-length t c = (c .before .before .before .before .expr .kept .1 .1 .1 .1 .1 .0)
-
 exprs·adjust-returns-2 : (t : ℕ) → exprs·adjust-lts.Need-returns-2 (
   frame-line-reads.Asked,
   frame-line-reads.Learnt,
@@ -375,19 +362,7 @@ exprs·adjust-returns-2 : (t : ℕ) → exprs·adjust-lts.Need-returns-2 (
   exprs·expr-below t,
   exprs·expr.Post,
 ) (exprs·adjust-at t) exprs·adjust.Post
-exprs·adjust-returns-2 t c = adj-wrong _ _ _ _ _ _ _ (c .before .before .before .before .before .before .before .before .before .before .before .before .frame-line .ensures) (c .before .before .before .before .before .before .before .before .before .before .size .ensures) (c .before .before .before .before .before .before .before .before .z .given .1) (at-expr (c .before .before .before .before .before .before .moved .ensures) (c .before .before .before .before .expr .ensures)) (c .enum-told2 .given .1)
-
-exprs·adjust-same-length-2 : (t : ℕ) → exprs·adjust-lts.Need-same-length-2 (
-  frame-line-reads.Asked,
-  frame-line-reads.Learnt,
-  size-reads.Asked,
-  size-reads.Learnt,
-  moved-reads.Asked,
-  moved-reads.Learnt,
-  exprs·expr-below t,
-  exprs·expr.Post,
-) (exprs·adjust-at t) exprs·adjust.Post
-exprs·adjust-same-length-2 t c = (c .before .before .before .before .before .before .before .expr .kept .1 .1 .1 .1 .1 .0)
+exprs·adjust-returns-2 t c = adj-wrong _ _ _ _ (c .before .before .before .before .before .before .before .before .before .before .frame-line .ensures) (c .before .before .before .before .before .before .before .before .size .ensures) (c .before .before .before .before .before .before .z .given .1) (at-expr (c .before .before .before .before .moved .ensures) (c .before .before .expr .ensures)) (c .enum-told2 .given .1)
 
 exprs·adjust-returns-3 : (t : ℕ) → exprs·adjust-lts.Need-returns-3 (
   frame-line-reads.Asked,
@@ -399,19 +374,7 @@ exprs·adjust-returns-3 : (t : ℕ) → exprs·adjust-lts.Need-returns-3 (
   exprs·expr-below t,
   exprs·expr.Post,
 ) (exprs·adjust-at t) exprs·adjust.Post
-exprs·adjust-returns-3 t c = adj-unnamed _ _ _ _ _ _ _ (c .before .before .before .before .before .before .before .before .before .before .before .before .before .before .before .frame-line .ensures) (c .before .before .before .before .before .before .before .before .before .before .before .before .before .size .ensures) (c .before .before .before .before .before .before .before .before .before .before .before .z .given .1) (at-expr (c .before .before .before .before .before .before .before .before .before .moved .ensures) (c .before .before .before .before .before .before .before .expr .ensures)) (c .before .before .before .x .given .1) (c .if1 .taken)
-
-exprs·adjust-same-length-3 : (t : ℕ) → exprs·adjust-lts.Need-same-length-3 (
-  frame-line-reads.Asked,
-  frame-line-reads.Learnt,
-  size-reads.Asked,
-  size-reads.Learnt,
-  moved-reads.Asked,
-  moved-reads.Learnt,
-  exprs·expr-below t,
-  exprs·expr.Post,
-) (exprs·adjust-at t) exprs·adjust.Post
-exprs·adjust-same-length-3 t c = (c .before .before .before .before .before .before .before .expr .kept .1 .1 .1 .1 .1 .0)
+exprs·adjust-returns-3 t c = adj-unnamed _ _ _ _ (c .before .before .before .before .before .before .before .before .before .before .before .before .before .frame-line .ensures) (c .before .before .before .before .before .before .before .before .before .before .before .size .ensures) (c .before .before .before .before .before .before .before .before .before .z .given .1) (at-expr (c .before .before .before .before .before .before .before .moved .ensures) (c .before .before .before .before .before .expr .ensures)) (c .before .before .before .x .given .1) (c .if1 .taken)
 
 exprs·adjust-returns-4 : (t : ℕ) → exprs·adjust-lts.Need-returns-4 (
   frame-line-reads.Asked,
@@ -423,7 +386,7 @@ exprs·adjust-returns-4 : (t : ℕ) → exprs·adjust-lts.Need-returns-4 (
   exprs·expr-below t,
   exprs·expr.Post,
 ) (exprs·adjust-at t) exprs·adjust.Post
-exprs·adjust-returns-4 t c = adj-done _ _ _ _ _ _ _ (c .before .before .before .before .before .before .before .before .before .before .before .before .before .before .before .frame-line .ensures) (c .before .before .before .before .before .before .before .before .before .before .before .before .before .size .ensures) (c .before .before .before .before .before .before .before .before .before .before .before .z .given .1) (at-expr (c .before .before .before .before .before .before .before .before .before .moved .ensures) (c .before .before .before .before .before .before .before .expr .ensures)) (c .before .before .before .x .given .1) (c .if1 .left)
+exprs·adjust-returns-4 t c = adj-done _ _ _ _ (c .before .before .before .before .before .before .before .before .before .before .before .before .before .frame-line .ensures) (c .before .before .before .before .before .before .before .before .before .before .before .size .ensures) (c .before .before .before .before .before .before .before .before .before .z .given .1) (at-expr (c .before .before .before .before .before .before .before .moved .ensures) (c .before .before .before .before .before .expr .ensures)) (c .before .before .before .x .given .1) (c .if1 .left)
 
 exprs·binding-expr-requires : (t : ℕ) → exprs·binding-lts.Need-expr-requires (
   exprs·expr-below t,
@@ -433,7 +396,7 @@ exprs·binding-expr-requires : (t : ℕ) → exprs·binding-lts.Need-expr-requir
   widened-reads.Asked,
   widened-reads.Learnt,
 ) (exprs·binding-at t) exprs·binding.Post
-exprs·binding-expr-requires t c κs = (omega (arith, (c .before .before .before .before .before .before .before .pre .0)), omega (arith, (c .before .before .before .before .before .before .before .pre .1)))
+exprs·binding-expr-requires t c κs = (omega (arith, (c .before .before .pre .0)), omega (arith, (c .before .before .pre .1)))
 
 exprs·binding-enum-known-x : (t : ℕ) → exprs·binding-lts.Need-enum-known-x (
   exprs·expr-below t,
@@ -455,16 +418,6 @@ exprs·binding-enum-told : (t : ℕ) → exprs·binding-lts.Need-enum-told (
 ) (exprs·binding-at t) exprs·binding.Post
 exprs·binding-enum-told t c = (c .match .keys2)
 
-exprs·binding-same-length : (t : ℕ) → exprs·binding-lts.Need-same-length (
-  exprs·expr-below t,
-  exprs·expr.Post,
-  put-reads.Asked,
-  put-reads.Learnt,
-  widened-reads.Asked,
-  widened-reads.Learnt,
-) (exprs·binding-at t) exprs·binding.Post
-exprs·binding-same-length t c = (c .before .before .before .before .expr .kept .1 .1 .1 .1 .1 .0)
-
 exprs·binding-returns : (t : ℕ) → exprs·binding-lts.Need-returns (
   exprs·expr-below t,
   exprs·expr.Post,
@@ -473,7 +426,7 @@ exprs·binding-returns : (t : ℕ) → exprs·binding-lts.Need-returns (
   widened-reads.Asked,
   widened-reads.Learnt,
 ) (exprs·binding-at t) exprs·binding.Post
-exprs·binding-returns t c = let-wrong _ _ _ _ _ _ _ (c .before .before .before .before .expr .ensures) (c .enum-told .given .1)
+exprs·binding-returns t c = let-wrong _ _ _ _ (c .before .before .expr .ensures) (c .enum-told .given .1)
 
 exprs·binding-cast-put : (t : ℕ) → exprs·binding-lts.Need-cast-put (
   exprs·expr-below t,
@@ -503,7 +456,7 @@ exprs·binding-widened-requires : (t : ℕ) → exprs·binding-lts.Need-widened-
   widened-reads.Asked,
   widened-reads.Learnt,
 ) (exprs·binding-at t) exprs·binding.Post
-exprs·binding-widened-requires t c κs = omega (arith, (c .before .before .before .before .before .before .before .before .before .before .before .before .before .before .before .before .before .before .before .pre .1))
+exprs·binding-widened-requires t c κs = omega (arith, (c .before .before .before .before .before .before .before .before .before .before .pre .1))
 
 exprs·binding-expr-requires-2 : (t : ℕ) → exprs·binding-lts.Need-expr-requires-2 (
   exprs·expr-below t,
@@ -513,17 +466,7 @@ exprs·binding-expr-requires-2 : (t : ℕ) → exprs·binding-lts.Need-expr-requ
   widened-reads.Asked,
   widened-reads.Learnt,
 ) (exprs·binding-at t) exprs·binding.Post
-exprs·binding-expr-requires-2 t c κs = (omega (arith, (c .before .before .before .before .before .before .before .before .before .before .before .before .before .before .before .before .before .before .before .before .before .pre .0), same-levels (c .before .widened .ensures)), omega (arith, (c .before .before .before .before .before .before .before .before .before .before .before .before .before .before .before .before .before .before .before .before .before .pre .1), same-levels (c .before .widened .ensures), same-variables (c .before .widened .ensures)))
-
-exprs·binding-same-length-2 : (t : ℕ) → exprs·binding-lts.Need-same-length-2 (
-  exprs·expr-below t,
-  exprs·expr.Post,
-  put-reads.Asked,
-  put-reads.Learnt,
-  widened-reads.Asked,
-  widened-reads.Learnt,
-) (exprs·binding-at t) exprs·binding.Post
-exprs·binding-same-length-2 t c = (c .before .before .expr2 .kept .1 .1 .1 .1 .1 .0) ∙ (c .before .before .before .before .before .before .before .before .put .kept .0) ∙ (c .before .before .before .before .before .before .before .before .before .before .before .before .before .before .before .before .expr .kept .1 .1 .1 .1 .1 .0)
+exprs·binding-expr-requires-2 t c κs = (omega (arith, (c .before .before .before .before .before .before .before .before .before .before .before .before .pre .0), same-levels (c .before .widened .ensures)), omega (arith, (c .before .before .before .before .before .before .before .before .before .before .before .before .pre .1), same-levels (c .before .widened .ensures), same-variables (c .before .widened .ensures)))
 
 exprs·binding-returns-2 : (t : ℕ) → exprs·binding-lts.Need-returns-2 (
   exprs·expr-below t,
@@ -533,7 +476,7 @@ exprs·binding-returns-2 : (t : ℕ) → exprs·binding-lts.Need-returns-2 (
   widened-reads.Asked,
   widened-reads.Learnt,
 ) (exprs·binding-at t) exprs·binding.Post
-exprs·binding-returns-2 t c = let-done _ _ _ _ _ _ _ (c .before .before .before .before .before .before .before .before .before .before .before .before .before .before .before .before .expr .ensures) (c .before .before .before .before .before .before .before .before .before .before .before .before .x .given .1) (c .before .before .before .before .before .before .before .before .put .ensures) (at-expr (c .before .before .before .before .widened .ensures) (c .before .before .expr2 .ensures))
+exprs·binding-returns-2 t c = let-done _ _ _ _ (c .before .before .before .before .before .before .before .before .before .before .expr .ensures) (c .before .before .before .before .before .before .before .before .x .given .1) (c .before .before .before .before .put .ensures) (at-expr (c .before .before .widened .ensures) (c .expr2 .ensures))
 
 exprs·choice-expect-requires : (t : ℕ) → exprs·choice-lts.Need-expect-requires (
   exprs·expect-below t,
@@ -543,7 +486,7 @@ exprs·choice-expect-requires : (t : ℕ) → exprs·choice-lts.Need-expect-requ
   exprs·expr-below t,
   exprs·expr.Post,
 ) (exprs·choice-at t) exprs·choice.Post
-exprs·choice-expect-requires t c κs = (omega (arith, (c .before .before .before .before .before .before .before .pre .0)), omega (arith, (c .before .before .before .before .before .before .before .pre .1)))
+exprs·choice-expect-requires t c κs = (omega (arith, (c .before .before .pre .0)), omega (arith, (c .before .before .pre .1)))
 
 exprs·choice-enum-known-x : (t : ℕ) → exprs·choice-lts.Need-enum-known-x (
   exprs·expect-below t,
@@ -565,16 +508,6 @@ exprs·choice-enum-told : (t : ℕ) → exprs·choice-lts.Need-enum-told (
 ) (exprs·choice-at t) exprs·choice.Post
 exprs·choice-enum-told t c = (c .match .keys2)
 
-exprs·choice-same-length : (t : ℕ) → exprs·choice-lts.Need-same-length (
-  exprs·expect-below t,
-  exprs·expect.Post,
-  moved-reads.Asked,
-  moved-reads.Learnt,
-  exprs·expr-below t,
-  exprs·expr.Post,
-) (exprs·choice-at t) exprs·choice.Post
-exprs·choice-same-length t c = (c .before .before .before .before .expect .kept .1 .1 .1 .1 .1 .0)
-
 exprs·choice-returns : (t : ℕ) → exprs·choice-lts.Need-returns (
   exprs·expect-below t,
   exprs·expect.Post,
@@ -583,7 +516,7 @@ exprs·choice-returns : (t : ℕ) → exprs·choice-lts.Need-returns (
   exprs·expr-below t,
   exprs·expr.Post,
 ) (exprs·choice-at t) exprs·choice.Post
-exprs·choice-returns t c = if-wrong _ _ _ _ _ _ _ (c .before .before .before .before .expect .ensures) (c .enum-told .given .1)
+exprs·choice-returns t c = if-wrong _ _ _ _ (c .before .before .expect .ensures) (c .enum-told .given .1)
 
 exprs·choice-moved-requires : (t : ℕ) → exprs·choice-lts.Need-moved-requires (
   exprs·expect-below t,
@@ -603,7 +536,7 @@ exprs·choice-expr-requires : (t : ℕ) → exprs·choice-lts.Need-expr-requires
   exprs·expr-below t,
   exprs·expr.Post,
 ) (exprs·choice-at t) exprs·choice.Post
-exprs·choice-expr-requires t c κs = (omega (arith, (c .before .before .before .before .before .before .before .before .before .before .before .before .before .before .before .before .pre .0), same-levels (c .before .moved .ensures)), omega (arith, (c .before .before .before .before .before .before .before .before .before .before .before .before .before .before .before .before .pre .1), same-levels (c .before .moved .ensures), same-variables (c .before .moved .ensures)))
+exprs·choice-expr-requires t c κs = (omega (arith, (c .before .before .before .before .before .before .before .before .before .pre .0), same-levels (c .before .moved .ensures)), omega (arith, (c .before .before .before .before .before .before .before .before .before .pre .1), same-levels (c .before .moved .ensures), same-variables (c .before .moved .ensures)))
 
 exprs·choice-enum-known-y : (t : ℕ) → exprs·choice-lts.Need-enum-known-y (
   exprs·expect-below t,
@@ -625,16 +558,6 @@ exprs·choice-enum-told-2 : (t : ℕ) → exprs·choice-lts.Need-enum-told-2 (
 ) (exprs·choice-at t) exprs·choice.Post
 exprs·choice-enum-told-2 t c = (c .match2 .keys2)
 
-exprs·choice-same-length-2 : (t : ℕ) → exprs·choice-lts.Need-same-length-2 (
-  exprs·expect-below t,
-  exprs·expect.Post,
-  moved-reads.Asked,
-  moved-reads.Learnt,
-  exprs·expr-below t,
-  exprs·expr.Post,
-) (exprs·choice-at t) exprs·choice.Post
-exprs·choice-same-length-2 t c = (c .before .before .before .before .expr .kept .1 .1 .1 .1 .1 .0) ∙ (c .before .before .before .before .before .before .before .before .before .before .before .before .before .expect .kept .1 .1 .1 .1 .1 .0)
-
 exprs·choice-returns-2 : (t : ℕ) → exprs·choice-lts.Need-returns-2 (
   exprs·expect-below t,
   exprs·expect.Post,
@@ -643,7 +566,7 @@ exprs·choice-returns-2 : (t : ℕ) → exprs·choice-lts.Need-returns-2 (
   exprs·expr-below t,
   exprs·expr.Post,
 ) (exprs·choice-at t) exprs·choice.Post
-exprs·choice-returns-2 t c = if-none _ _ _ _ _ _ _ (c .before .before .before .before .before .before .before .before .before .before .before .before .before .expect .ensures) (c .before .before .before .before .before .before .before .before .before .x .given .1) (at-expr (c .before .before .before .before .before .before .moved .ensures) (c .before .before .before .before .expr .ensures)) (c .enum-told2 .given .1)
+exprs·choice-returns-2 t c = if-none _ _ _ _ (c .before .before .before .before .before .before .before .before .before .expect .ensures) (c .before .before .before .before .before .before .before .x .given .1) (at-expr (c .before .before .before .before .moved .ensures) (c .before .before .expr .ensures)) (c .enum-told2 .given .1)
 
 exprs·choice-moved-requires-2 : (t : ℕ) → exprs·choice-lts.Need-moved-requires-2 (
   exprs·expect-below t,
@@ -663,17 +586,7 @@ exprs·choice-expect-requires-2 : (t : ℕ) → exprs·choice-lts.Need-expect-re
   exprs·expr-below t,
   exprs·expr.Post,
 ) (exprs·choice-at t) exprs·choice.Post
-exprs·choice-expect-requires-2 t c κs = (omega (arith, (c .before .before .before .before .before .before .before .before .before .before .before .before .before .before .before .before .before .before .before .before .before .before .before .before .before .pre .0), same-levels (c .before .moved2 .ensures)), omega (arith, (c .before .before .before .before .before .before .before .before .before .before .before .before .before .before .before .before .before .before .before .before .before .before .before .before .before .pre .1), same-levels (c .before .moved2 .ensures), same-variables (c .before .moved2 .ensures)))
-
-exprs·choice-same-length-3 : (t : ℕ) → exprs·choice-lts.Need-same-length-3 (
-  exprs·expect-below t,
-  exprs·expect.Post,
-  moved-reads.Asked,
-  moved-reads.Learnt,
-  exprs·expr-below t,
-  exprs·expr.Post,
-) (exprs·choice-at t) exprs·choice.Post
-exprs·choice-same-length-3 t c = (c .before .before .expect2 .kept .1 .1 .1 .1 .1 .0) ∙ (c .before .before .before .before .before .before .before .before .before .before .before .expr .kept .1 .1 .1 .1 .1 .0) ∙ (c .before .before .before .before .before .before .before .before .before .before .before .before .before .before .before .before .before .before .before .before .expect .kept .1 .1 .1 .1 .1 .0)
+exprs·choice-expect-requires-2 t c κs = (omega (arith, (c .before .before .before .before .before .before .before .before .before .before .before .before .before .before .before .before .pre .0), same-levels (c .before .moved2 .ensures)), omega (arith, (c .before .before .before .before .before .before .before .before .before .before .before .before .before .before .before .before .pre .1), same-levels (c .before .moved2 .ensures), same-variables (c .before .moved2 .ensures)))
 
 exprs·choice-returns-3 : (t : ℕ) → exprs·choice-lts.Need-returns-3 (
   exprs·expect-below t,
@@ -683,13 +596,13 @@ exprs·choice-returns-3 : (t : ℕ) → exprs·choice-lts.Need-returns-3 (
   exprs·expr-below t,
   exprs·expr.Post,
 ) (exprs·choice-at t) exprs·choice.Post
-exprs·choice-returns-3 t c = if-done _ _ _ _ _ _ _ (c .before .before .before .before .before .before .before .before .before .before .before .before .before .before .before .before .before .before .before .before .expect .ensures) (c .before .before .before .before .before .before .before .before .before .before .before .before .before .before .before .before .x .given .1) (at-expr (c .before .before .before .before .before .before .before .before .before .before .before .before .before .moved .ensures) (c .before .before .before .before .before .before .before .before .before .before .before .expr .ensures)) (c .before .before .before .before .before .before .before .y .given .1) (at-want (c .before .before .before .before .moved2 .ensures) (c .before .before .expect2 .ensures))
+exprs·choice-returns-3 t c = if-done _ _ _ _ (c .before .before .before .before .before .before .before .before .before .before .before .before .before .before .expect .ensures) (c .before .before .before .before .before .before .before .before .before .before .before .before .x .given .1) (at-expr (c .before .before .before .before .before .before .before .before .before .moved .ensures) (c .before .before .before .before .before .before .before .expr .ensures)) (c .before .before .before .before .before .y .given .1) (at-want (c .before .before .moved2 .ensures) (c .expect2 .ensures))
 
 exprs·expect-expr-requires : (t : ℕ) → exprs·expect-lts.Need-expr-requires (
   exprs·expr-below t,
   exprs·expr.Post,
 ) (exprs·expect-at t) exprs·expect.Post
-exprs·expect-expr-requires t c κs = (omega (arith, (c .before .before .before .before .before .before .before .pre .0)), (c .before .before .before .before .before .before .before .pre .1))
+exprs·expect-expr-requires t c κs = (omega (arith, (c .before .before .pre .0)), (c .before .before .pre .1))
 
 exprs·expect-enum-known-x : (t : ℕ) → exprs·expect-lts.Need-enum-known-x (
   exprs·expr-below t,
@@ -703,41 +616,23 @@ exprs·expect-enum-told : (t : ℕ) → exprs·expect-lts.Need-enum-told (
 ) (exprs·expect-at t) exprs·expect.Post
 exprs·expect-enum-told t c = (c .match .keys2)
 
-exprs·expect-same-length : (t : ℕ) → exprs·expect-lts.Need-same-length (
-  exprs·expr-below t,
-  exprs·expr.Post,
-) (exprs·expect-at t) exprs·expect.Post
-exprs·expect-same-length t c = (c .before .before .before .before .expr .kept .1 .1 .1 .1 .1 .0)
-
 exprs·expect-returns : (t : ℕ) → exprs·expect-lts.Need-returns (
   exprs·expr-below t,
   exprs·expr.Post,
 ) (exprs·expect-at t) exprs·expect.Post
-exprs·expect-returns t c = want-wrong _ _ _ _ _ _ _ _ (c .before .before .before .before .expr .ensures) (c .enum-told .given .1)
-
-exprs·expect-same-length-2 : (t : ℕ) → exprs·expect-lts.Need-same-length-2 (
-  exprs·expr-below t,
-  exprs·expr.Post,
-) (exprs·expect-at t) exprs·expect.Post
-exprs·expect-same-length-2 t c = (c .before .before .before .before .before .before .before .expr .kept .1 .1 .1 .1 .1 .0)
+exprs·expect-returns t c = want-wrong _ _ _ _ _ (c .before .before .expr .ensures) (c .enum-told .given .1)
 
 exprs·expect-returns-2 : (t : ℕ) → exprs·expect-lts.Need-returns-2 (
   exprs·expr-below t,
   exprs·expr.Post,
 ) (exprs·expect-at t) exprs·expect.Post
-exprs·expect-returns-2 t c = want-other _ _ _ _ _ _ _ _ (c .before .before .before .before .before .before .before .expr .ensures) (c .before .before .before .x .given .1) (c .if1 .taken)
-
-exprs·expect-same-length-3 : (t : ℕ) → exprs·expect-lts.Need-same-length-3 (
-  exprs·expr-below t,
-  exprs·expr.Post,
-) (exprs·expect-at t) exprs·expect.Post
-exprs·expect-same-length-3 t c = (c .before .before .before .before .before .before .before .expr .kept .1 .1 .1 .1 .1 .0)
+exprs·expect-returns-2 t c = want-other _ _ _ _ _ (c .before .before .before .before .before .expr .ensures) (c .before .before .before .x .given .1) (c .if1 .taken)
 
 exprs·expect-returns-3 : (t : ℕ) → exprs·expect-lts.Need-returns-3 (
   exprs·expr-below t,
   exprs·expr.Post,
 ) (exprs·expect-at t) exprs·expect.Post
-exprs·expect-returns-3 t c = want-done _ _ _ _ _ _ _ _ (c .before .before .before .before .before .before .before .expr .ensures) (c .before .before .before .x .given .1) (c .if1 .left)
+exprs·expect-returns-3 t c = want-done _ _ _ _ _ (c .before .before .before .before .before .expr .ensures) (c .before .before .before .x .given .1) (c .if1 .left)
 
 exprs·expr-returns : (t : ℕ) → exprs·expr-lts.Need-returns (
   frame-line-reads.Asked,
@@ -769,7 +664,7 @@ exprs·expr-returns : (t : ℕ) → exprs·expr-lts.Need-returns (
   exprs·fit-below t,
   exprs·fit.Post,
 ) (exprs·expr-at t) exprs·expr.Post
-exprs·expr-returns t c = expr-cut _ _ _ _ _ _ _ (c .if1 .taken)
+exprs·expr-returns t c = expr-cut _ _ _ _ (c .if1 .taken)
 
 exprs·expr-frame-line-requires : (t : ℕ) → exprs·expr-lts.Need-frame-line-requires (
   frame-line-reads.Asked,
@@ -1313,7 +1208,7 @@ exprs·expr-binding-requires : (t : ℕ) → exprs·expr-lts.Need-binding-requir
   exprs·fit-below t,
   exprs·fit.Post,
 ) (exprs·expr-at t) exprs·expr.Post
-exprs·expr-binding-requires t c κs = (omega (arith, (c .before .before .before .before .before .before .before .before .before .before .before .before .before .before .before .before .pre .0), (c .before .before .before .before .before .before .before .before .if1 .left), same-levels (c .before .before .before .inside .ensures)), omega (arith, (c .before .before .before .before .before .before .before .before .before .before .before .before .before .before .before .before .pre .1), (c .before .before .before .before .before .before .before .before .if1 .left), same-levels (c .before .before .before .inside .ensures), same-variables (c .before .before .before .inside .ensures)))
+exprs·expr-binding-requires t c κs = (omega (arith, (c .before .before .before .before .before .before .before .before .before .before .before .pre .0), (c .before .before .before .before .before .before .before .before .if1 .left), same-levels (c .before .before .before .inside .ensures)), omega (arith, (c .before .before .before .before .before .before .before .before .before .before .before .pre .1), (c .before .before .before .before .before .before .before .before .if1 .left), same-levels (c .before .before .before .inside .ensures), same-variables (c .before .before .before .inside .ensures)))
 
 exprs·expr-enum-told-4 : (t : ℕ) → exprs·expr-lts.Need-enum-told-4 (
   frame-line-reads.Asked,
@@ -1377,7 +1272,7 @@ exprs·expr-choice-requires : (t : ℕ) → exprs·expr-lts.Need-choice-requires
   exprs·fit-below t,
   exprs·fit.Post,
 ) (exprs·expr-at t) exprs·expr.Post
-exprs·expr-choice-requires t c κs = (omega (arith, (c .before .before .before .before .before .before .before .before .before .before .before .before .before .before .before .before .pre .0), (c .before .before .before .before .before .before .before .before .if1 .left), same-levels (c .before .before .before .inside .ensures)), omega (arith, (c .before .before .before .before .before .before .before .before .before .before .before .before .before .before .before .before .pre .1), (c .before .before .before .before .before .before .before .before .if1 .left), same-levels (c .before .before .before .inside .ensures), same-variables (c .before .before .before .inside .ensures)))
+exprs·expr-choice-requires t c κs = (omega (arith, (c .before .before .before .before .before .before .before .before .before .before .before .pre .0), (c .before .before .before .before .before .before .before .before .if1 .left), same-levels (c .before .before .before .inside .ensures)), omega (arith, (c .before .before .before .before .before .before .before .before .before .before .before .pre .1), (c .before .before .before .before .before .before .before .before .if1 .left), same-levels (c .before .before .before .inside .ensures), same-variables (c .before .before .before .inside .ensures)))
 
 exprs·expr-enum-known-form-4 : (t : ℕ) → exprs·expr-lts.Need-enum-known-form-4 (
   frame-line-reads.Asked,
@@ -1441,7 +1336,7 @@ exprs·expr-operation-requires : (t : ℕ) → exprs·expr-lts.Need-operation-re
   exprs·fit-below t,
   exprs·fit.Post,
 ) (exprs·expr-at t) exprs·expr.Post
-exprs·expr-operation-requires t c κs = (omega (arith, (c .before .before .before .before .before .before .before .before .before .before .before .before .before .before .before .before .before .pre .0), (c .before .before .before .before .before .before .before .before .before .if1 .left), same-levels (c .before .before .before .before .inside .ensures)), omega (arith, (c .before .before .before .before .before .before .before .before .before .before .before .before .before .before .before .before .before .pre .1), (c .before .before .before .before .before .before .before .before .before .if1 .left), same-levels (c .before .before .before .before .inside .ensures), same-variables (c .before .before .before .before .inside .ensures)))
+exprs·expr-operation-requires t c κs = (omega (arith, (c .before .before .before .before .before .before .before .before .before .before .before .before .pre .0), (c .before .before .before .before .before .before .before .before .before .if1 .left), same-levels (c .before .before .before .before .inside .ensures)), omega (arith, (c .before .before .before .before .before .before .before .before .before .before .before .before .pre .1), (c .before .before .before .before .before .before .before .before .before .if1 .left), same-levels (c .before .before .before .before .inside .ensures), same-variables (c .before .before .before .before .inside .ensures)))
 
 exprs·expr-enum-known-form-5 : (t : ℕ) → exprs·expr-lts.Need-enum-known-form-5 (
   frame-line-reads.Asked,
@@ -1505,7 +1400,7 @@ exprs·expr-call-requires : (t : ℕ) → exprs·expr-lts.Need-call-requires (
   exprs·fit-below t,
   exprs·fit.Post,
 ) (exprs·expr-at t) exprs·expr.Post
-exprs·expr-call-requires t c κs = (omega (arith, (c .before .before .before .before .before .before .before .before .before .before .before .before .before .before .before .before .before .pre .0), (c .before .before .before .before .before .before .before .before .before .if1 .left), same-levels (c .before .before .before .before .inside .ensures)), omega (arith, (c .before .before .before .before .before .before .before .before .before .before .before .before .before .before .before .before .before .pre .1), (c .before .before .before .before .before .before .before .before .before .if1 .left), same-levels (c .before .before .before .before .inside .ensures), same-variables (c .before .before .before .before .inside .ensures)))
+exprs·expr-call-requires t c κs = (omega (arith, (c .before .before .before .before .before .before .before .before .before .before .before .before .pre .0), (c .before .before .before .before .before .before .before .before .before .if1 .left), same-levels (c .before .before .before .before .inside .ensures)), omega (arith, (c .before .before .before .before .before .before .before .before .before .before .before .before .pre .1), (c .before .before .before .before .before .before .before .before .before .if1 .left), same-levels (c .before .before .before .before .inside .ensures), same-variables (c .before .before .before .before .inside .ensures)))
 
 exprs·expr-enum-known-form-6 : (t : ℕ) → exprs·expr-lts.Need-enum-known-form-6 (
   frame-line-reads.Asked,
@@ -1569,7 +1464,7 @@ exprs·expr-make-requires : (t : ℕ) → exprs·expr-lts.Need-make-requires (
   exprs·fit-below t,
   exprs·fit.Post,
 ) (exprs·expr-at t) exprs·expr.Post
-exprs·expr-make-requires t c κs = (omega (arith, (c .before .before .before .before .before .before .before .before .before .before .before .before .before .before .before .before .before .pre .0), (c .before .before .before .before .before .before .before .before .before .if1 .left), same-levels (c .before .before .before .before .inside .ensures)), omega (arith, (c .before .before .before .before .before .before .before .before .before .before .before .before .before .before .before .before .before .pre .1), (c .before .before .before .before .before .before .before .before .before .if1 .left), same-levels (c .before .before .before .before .inside .ensures), same-variables (c .before .before .before .before .inside .ensures)))
+exprs·expr-make-requires t c κs = (omega (arith, (c .before .before .before .before .before .before .before .before .before .before .before .before .pre .0), (c .before .before .before .before .before .before .before .before .before .if1 .left), same-levels (c .before .before .before .before .inside .ensures)), omega (arith, (c .before .before .before .before .before .before .before .before .before .before .before .before .pre .1), (c .before .before .before .before .before .before .before .before .before .if1 .left), same-levels (c .before .before .before .before .inside .ensures), same-variables (c .before .before .before .before .inside .ensures)))
 
 exprs·expr-enum-known-form-7 : (t : ℕ) → exprs·expr-lts.Need-enum-known-form-7 (
   frame-line-reads.Asked,
@@ -1633,7 +1528,7 @@ exprs·expr-case-of-requires : (t : ℕ) → exprs·expr-lts.Need-case-of-requir
   exprs·fit-below t,
   exprs·fit.Post,
 ) (exprs·expr-at t) exprs·expr.Post
-exprs·expr-case-of-requires t c κs = (omega (arith, (c .before .before .before .before .before .before .before .before .before .before .before .before .before .before .before .before .before .pre .0), (c .before .before .before .before .before .before .before .before .before .if1 .left), same-levels (c .before .before .before .before .inside .ensures)), omega (arith, (c .before .before .before .before .before .before .before .before .before .before .before .before .before .before .before .before .before .pre .1), (c .before .before .before .before .before .before .before .before .before .if1 .left), same-levels (c .before .before .before .before .inside .ensures), same-variables (c .before .before .before .before .inside .ensures)))
+exprs·expr-case-of-requires t c κs = (omega (arith, (c .before .before .before .before .before .before .before .before .before .before .before .before .pre .0), (c .before .before .before .before .before .before .before .before .before .if1 .left), same-levels (c .before .before .before .before .inside .ensures)), omega (arith, (c .before .before .before .before .before .before .before .before .before .before .before .before .pre .1), (c .before .before .before .before .before .before .before .before .before .if1 .left), same-levels (c .before .before .before .before .inside .ensures), same-variables (c .before .before .before .before .inside .ensures)))
 
 exprs·expr-enum-told-5 : (t : ℕ) → exprs·expr-lts.Need-enum-told-5 (
   frame-line-reads.Asked,
@@ -1697,7 +1592,7 @@ exprs·expr-adjust-requires : (t : ℕ) → exprs·expr-lts.Need-adjust-requires
   exprs·fit-below t,
   exprs·fit.Post,
 ) (exprs·expr-at t) exprs·expr.Post
-exprs·expr-adjust-requires t c κs = (omega (arith, (c .before .before .before .before .before .before .before .before .before .before .before .before .before .before .before .before .pre .0), (c .before .before .before .before .before .before .before .before .if1 .left), same-levels (c .before .before .before .inside .ensures)), omega (arith, (c .before .before .before .before .before .before .before .before .before .before .before .before .before .before .before .before .pre .1), (c .before .before .before .before .before .before .before .before .if1 .left), same-levels (c .before .before .before .inside .ensures), same-variables (c .before .before .before .inside .ensures)))
+exprs·expr-adjust-requires t c κs = (omega (arith, (c .before .before .before .before .before .before .before .before .before .before .before .pre .0), (c .before .before .before .before .before .before .before .before .if1 .left), same-levels (c .before .before .before .inside .ensures)), omega (arith, (c .before .before .before .before .before .before .before .before .before .before .before .pre .1), (c .before .before .before .before .before .before .before .before .if1 .left), same-levels (c .before .before .before .inside .ensures), same-variables (c .before .before .before .inside .ensures)))
 
 exprs·expr-enum-told-6 : (t : ℕ) → exprs·expr-lts.Need-enum-told-6 (
   frame-line-reads.Asked,
@@ -1761,7 +1656,7 @@ exprs·expr-fit-requires : (t : ℕ) → exprs·expr-lts.Need-fit-requires (
   exprs·fit-below t,
   exprs·fit.Post,
 ) (exprs·expr-at t) exprs·expr.Post
-exprs·expr-fit-requires t c κs = (omega (arith, (c .before .before .before .before .before .before .before .before .before .before .before .before .before .before .before .before .pre .0), (c .before .before .before .before .before .before .before .before .if1 .left), same-levels (c .before .before .before .inside .ensures)), omega (arith, (c .before .before .before .before .before .before .before .before .before .before .before .before .before .before .before .before .pre .1), (c .before .before .before .before .before .before .before .before .if1 .left), same-levels (c .before .before .before .inside .ensures), same-variables (c .before .before .before .inside .ensures)))
+exprs·expr-fit-requires t c κs = (omega (arith, (c .before .before .before .before .before .before .before .before .before .before .before .pre .0), (c .before .before .before .before .before .before .before .before .if1 .left), same-levels (c .before .before .before .inside .ensures)), omega (arith, (c .before .before .before .before .before .before .before .before .before .before .before .pre .1), (c .before .before .before .before .before .before .before .before .if1 .left), same-levels (c .before .before .before .inside .ensures), same-variables (c .before .before .before .inside .ensures)))
 
 exprs·expr-enum-told-7 : (t : ℕ) → exprs·expr-lts.Need-enum-told-7 (
   frame-line-reads.Asked,
@@ -1825,7 +1720,7 @@ exprs·expr-returns-2 : (t : ℕ) → exprs·expr-lts.Need-returns-2 (
   exprs·fit-below t,
   exprs·fit.Post,
 ) (exprs·expr-at t) exprs·expr.Post
-exprs·expr-returns-2 t c = expr-bool _ _ _ _ _ _ _ (c .before .before .before .before .before .before .before .frame-line .ensures) (c .before .before .before .before .before .head-at .ensures) (c .before .enum-told .given .1) (c .answer .ensures)
+exprs·expr-returns-2 t c = expr-bool _ _ _ _ (c .before .before .before .before .before .before .before .frame-line .ensures) (c .before .before .before .before .before .head-at .ensures) (c .before .enum-told .given .1) (c .answer .ensures)
 
 exprs·expr-returns-3 : (t : ℕ) → exprs·expr-lts.Need-returns-3 (
   frame-line-reads.Asked,
@@ -1857,39 +1752,7 @@ exprs·expr-returns-3 : (t : ℕ) → exprs·expr-lts.Need-returns-3 (
   exprs·fit-below t,
   exprs·fit.Post,
 ) (exprs·expr-at t) exprs·expr.Post
-exprs·expr-returns-3 t c = expr-int _ _ _ _ _ _ _ (c .before .before .before .before .before .before .before .frame-line .ensures) (c .before .before .before .before .before .head-at .ensures) (c .before .enum-told2 .given .1) (c .answer2 .ensures)
-
-exprs·expr-same-length : (t : ℕ) → exprs·expr-lts.Need-same-length (
-  frame-line-reads.Asked,
-  frame-line-reads.Learnt,
-  head-at-reads.Asked,
-  head-at-reads.Learnt,
-  inside-reads.Asked,
-  inside-reads.Learnt,
-  answer-reads.Asked,
-  answer-reads.Learnt,
-  word-at-reads.Asked,
-  word-at-reads.Learnt,
-  channel-reads.Asked,
-  channel-reads.Learnt,
-  exprs·binding-below t,
-  exprs·binding.Post,
-  exprs·choice-below t,
-  exprs·choice.Post,
-  exprs·operation-below t,
-  exprs·operation.Post,
-  lists·call-below t,
-  lists·call.Post,
-  lists·make-below t,
-  lists·make.Post,
-  lists·case-of-below t,
-  lists·case-of.Post,
-  exprs·adjust-below t,
-  exprs·adjust.Post,
-  exprs·fit-below t,
-  exprs·fit.Post,
-) (exprs·expr-at t) exprs·expr.Post
-exprs·expr-same-length t c = refl
+exprs·expr-returns-3 t c = expr-int _ _ _ _ (c .before .before .before .before .before .before .before .frame-line .ensures) (c .before .before .before .before .before .head-at .ensures) (c .before .enum-told2 .given .1) (c .answer2 .ensures)
 
 exprs·expr-returns-4 : (t : ℕ) → exprs·expr-lts.Need-returns-4 (
   frame-line-reads.Asked,
@@ -1921,7 +1784,7 @@ exprs·expr-returns-4 : (t : ℕ) → exprs·expr-lts.Need-returns-4 (
   exprs·fit-below t,
   exprs·fit.Post,
 ) (exprs·expr-at t) exprs·expr.Post
-exprs·expr-returns-4 t c = expr-var _ _ _ _ _ _ _ (c .before .before .before .before .before .before .before .before .before .before .frame-line .ensures) (c .before .before .before .before .before .before .before .before .head-at .ensures) (c .before .before .before .before .form .given .1) (c .before .word-at .ensures) (c .answer3 .ensures)
+exprs·expr-returns-4 t c = expr-var _ _ _ _ (c .before .before .before .before .before .before .before .before .before .before .before .frame-line .ensures) (c .before .before .before .before .before .before .before .before .before .head-at .ensures) (c .before .before .before .before .before .form .given .1) (c .before .word-at .ensures) (c .answer3 .ensures)
 
 exprs·expr-returns-5 : (t : ℕ) → exprs·expr-lts.Need-returns-5 (
   frame-line-reads.Asked,
@@ -1953,7 +1816,7 @@ exprs·expr-returns-5 : (t : ℕ) → exprs·expr-lts.Need-returns-5 (
   exprs·fit-below t,
   exprs·fit.Post,
 ) (exprs·expr-at t) exprs·expr.Post
-exprs·expr-returns-5 t c = expr-now _ _ _ _ _ _ _ (c .before .before .before .before .before .before .before .before .frame-line .ensures) (c .before .before .before .before .before .before .head-at .ensures) (c .channel .ensures) (c .before .before .form2 .given .1)
+exprs·expr-returns-5 t c = expr-now _ _ _ _ (c .before .before .before .before .before .before .before .before .frame-line .ensures) (c .before .before .before .before .before .before .head-at .ensures) (c .channel .ensures) (c .before .before .form2 .given .1)
 
 exprs·expr-returns-6 : (t : ℕ) → exprs·expr-lts.Need-returns-6 (
   frame-line-reads.Asked,
@@ -1985,39 +1848,7 @@ exprs·expr-returns-6 : (t : ℕ) → exprs·expr-lts.Need-returns-6 (
   exprs·fit-below t,
   exprs·fit.Post,
 ) (exprs·expr-at t) exprs·expr.Post
-exprs·expr-returns-6 t c = expr-last _ _ _ _ _ _ _ (c .before .before .before .before .before .before .before .before .frame-line .ensures) (c .before .before .before .before .before .before .head-at .ensures) (c .channel2 .ensures) (c .before .before .form3 .given .1)
-
-exprs·expr-same-length-2 : (t : ℕ) → exprs·expr-lts.Need-same-length-2 (
-  frame-line-reads.Asked,
-  frame-line-reads.Learnt,
-  head-at-reads.Asked,
-  head-at-reads.Learnt,
-  inside-reads.Asked,
-  inside-reads.Learnt,
-  answer-reads.Asked,
-  answer-reads.Learnt,
-  word-at-reads.Asked,
-  word-at-reads.Learnt,
-  channel-reads.Asked,
-  channel-reads.Learnt,
-  exprs·binding-below t,
-  exprs·binding.Post,
-  exprs·choice-below t,
-  exprs·choice.Post,
-  exprs·operation-below t,
-  exprs·operation.Post,
-  lists·call-below t,
-  lists·call.Post,
-  lists·make-below t,
-  lists·make.Post,
-  lists·case-of-below t,
-  lists·case-of.Post,
-  exprs·adjust-below t,
-  exprs·adjust.Post,
-  exprs·fit-below t,
-  exprs·fit.Post,
-) (exprs·expr-at t) exprs·expr.Post
-exprs·expr-same-length-2 t c = (c .before .before .binding .kept .1 .1 .1 .1 .1 .0)
+exprs·expr-returns-6 t c = expr-last _ _ _ _ (c .before .before .before .before .before .before .before .before .frame-line .ensures) (c .before .before .before .before .before .before .head-at .ensures) (c .channel2 .ensures) (c .before .before .form3 .given .1)
 
 exprs·expr-returns-7 : (t : ℕ) → exprs·expr-lts.Need-returns-7 (
   frame-line-reads.Asked,
@@ -2049,39 +1880,7 @@ exprs·expr-returns-7 : (t : ℕ) → exprs·expr-lts.Need-returns-7 (
   exprs·fit-below t,
   exprs·fit.Post,
 ) (exprs·expr-at t) exprs·expr.Post
-exprs·expr-returns-7 t c = expr-let _ _ _ _ _ _ _ (c .before .before .before .before .before .before .before .before .before .before .frame-line .ensures) (c .before .before .before .before .before .before .before .before .head-at .ensures) (c .before .before .before .before .enum-told3 .given .1) (at-let (c .before .before .before .before .before .before .inside .ensures) (c .before .before .binding .ensures))
-
-exprs·expr-same-length-3 : (t : ℕ) → exprs·expr-lts.Need-same-length-3 (
-  frame-line-reads.Asked,
-  frame-line-reads.Learnt,
-  head-at-reads.Asked,
-  head-at-reads.Learnt,
-  inside-reads.Asked,
-  inside-reads.Learnt,
-  answer-reads.Asked,
-  answer-reads.Learnt,
-  word-at-reads.Asked,
-  word-at-reads.Learnt,
-  channel-reads.Asked,
-  channel-reads.Learnt,
-  exprs·binding-below t,
-  exprs·binding.Post,
-  exprs·choice-below t,
-  exprs·choice.Post,
-  exprs·operation-below t,
-  exprs·operation.Post,
-  lists·call-below t,
-  lists·call.Post,
-  lists·make-below t,
-  lists·make.Post,
-  lists·case-of-below t,
-  lists·case-of.Post,
-  exprs·adjust-below t,
-  exprs·adjust.Post,
-  exprs·fit-below t,
-  exprs·fit.Post,
-) (exprs·expr-at t) exprs·expr.Post
-exprs·expr-same-length-3 t c = (c .before .before .choice .kept .1 .1 .1 .1 .1 .0)
+exprs·expr-returns-7 t c = expr-let _ _ _ _ (c .before .before .before .before .before .before .before .before .frame-line .ensures) (c .before .before .before .before .before .before .head-at .ensures) (c .before .before .enum-told3 .given .1) (at-let (c .before .before .before .before .inside .ensures) (c .binding .ensures))
 
 exprs·expr-returns-8 : (t : ℕ) → exprs·expr-lts.Need-returns-8 (
   frame-line-reads.Asked,
@@ -2113,39 +1912,7 @@ exprs·expr-returns-8 : (t : ℕ) → exprs·expr-lts.Need-returns-8 (
   exprs·fit-below t,
   exprs·fit.Post,
 ) (exprs·expr-at t) exprs·expr.Post
-exprs·expr-returns-8 t c = expr-if _ _ _ _ _ _ _ (c .before .before .before .before .before .before .before .before .before .before .frame-line .ensures) (c .before .before .before .before .before .before .before .before .head-at .ensures) (c .before .before .before .before .enum-told4 .given .1) (at-if (c .before .before .before .before .before .before .inside .ensures) (c .before .before .choice .ensures))
-
-exprs·expr-same-length-4 : (t : ℕ) → exprs·expr-lts.Need-same-length-4 (
-  frame-line-reads.Asked,
-  frame-line-reads.Learnt,
-  head-at-reads.Asked,
-  head-at-reads.Learnt,
-  inside-reads.Asked,
-  inside-reads.Learnt,
-  answer-reads.Asked,
-  answer-reads.Learnt,
-  word-at-reads.Asked,
-  word-at-reads.Learnt,
-  channel-reads.Asked,
-  channel-reads.Learnt,
-  exprs·binding-below t,
-  exprs·binding.Post,
-  exprs·choice-below t,
-  exprs·choice.Post,
-  exprs·operation-below t,
-  exprs·operation.Post,
-  lists·call-below t,
-  lists·call.Post,
-  lists·make-below t,
-  lists·make.Post,
-  lists·case-of-below t,
-  lists·case-of.Post,
-  exprs·adjust-below t,
-  exprs·adjust.Post,
-  exprs·fit-below t,
-  exprs·fit.Post,
-) (exprs·expr-at t) exprs·expr.Post
-exprs·expr-same-length-4 t c = (c .before .before .operation .kept .1 .1 .1 .1 .1 .0)
+exprs·expr-returns-8 t c = expr-if _ _ _ _ (c .before .before .before .before .before .before .before .before .frame-line .ensures) (c .before .before .before .before .before .before .head-at .ensures) (c .before .before .enum-told4 .given .1) (at-if (c .before .before .before .before .inside .ensures) (c .choice .ensures))
 
 exprs·expr-returns-9 : (t : ℕ) → exprs·expr-lts.Need-returns-9 (
   frame-line-reads.Asked,
@@ -2177,39 +1944,7 @@ exprs·expr-returns-9 : (t : ℕ) → exprs·expr-lts.Need-returns-9 (
   exprs·fit-below t,
   exprs·fit.Post,
 ) (exprs·expr-at t) exprs·expr.Post
-exprs·expr-returns-9 t c = expr-op _ _ _ _ _ _ _ (c .before .before .before .before .before .before .before .before .before .before .before .frame-line .ensures) (c .before .before .before .before .before .before .before .before .before .head-at .ensures) (c .before .before .before .before .before .form4 .given .1) (at-op (c .before .before .before .before .before .before .before .inside .ensures) (c .before .before .operation .ensures))
-
-exprs·expr-same-length-5 : (t : ℕ) → exprs·expr-lts.Need-same-length-5 (
-  frame-line-reads.Asked,
-  frame-line-reads.Learnt,
-  head-at-reads.Asked,
-  head-at-reads.Learnt,
-  inside-reads.Asked,
-  inside-reads.Learnt,
-  answer-reads.Asked,
-  answer-reads.Learnt,
-  word-at-reads.Asked,
-  word-at-reads.Learnt,
-  channel-reads.Asked,
-  channel-reads.Learnt,
-  exprs·binding-below t,
-  exprs·binding.Post,
-  exprs·choice-below t,
-  exprs·choice.Post,
-  exprs·operation-below t,
-  exprs·operation.Post,
-  lists·call-below t,
-  lists·call.Post,
-  lists·make-below t,
-  lists·make.Post,
-  lists·case-of-below t,
-  lists·case-of.Post,
-  exprs·adjust-below t,
-  exprs·adjust.Post,
-  exprs·fit-below t,
-  exprs·fit.Post,
-) (exprs·expr-at t) exprs·expr.Post
-exprs·expr-same-length-5 t c = (c .before .before .call .kept .1 .1 .1 .1 .1 .0)
+exprs·expr-returns-9 t c = expr-op _ _ _ _ (c .before .before .before .before .before .before .before .before .before .frame-line .ensures) (c .before .before .before .before .before .before .before .head-at .ensures) (c .before .before .before .form4 .given .1) (at-op (c .before .before .before .before .before .inside .ensures) (c .operation .ensures))
 
 exprs·expr-returns-10 : (t : ℕ) → exprs·expr-lts.Need-returns-10 (
   frame-line-reads.Asked,
@@ -2241,39 +1976,7 @@ exprs·expr-returns-10 : (t : ℕ) → exprs·expr-lts.Need-returns-10 (
   exprs·fit-below t,
   exprs·fit.Post,
 ) (exprs·expr-at t) exprs·expr.Post
-exprs·expr-returns-10 t c = expr-call _ _ _ _ _ _ _ (c .before .before .before .before .before .before .before .before .before .before .before .frame-line .ensures) (c .before .before .before .before .before .before .before .before .before .head-at .ensures) (c .before .before .before .before .before .form5 .given .1) (at-call (c .before .before .before .before .before .before .before .inside .ensures) (c .before .before .call .ensures))
-
-exprs·expr-same-length-6 : (t : ℕ) → exprs·expr-lts.Need-same-length-6 (
-  frame-line-reads.Asked,
-  frame-line-reads.Learnt,
-  head-at-reads.Asked,
-  head-at-reads.Learnt,
-  inside-reads.Asked,
-  inside-reads.Learnt,
-  answer-reads.Asked,
-  answer-reads.Learnt,
-  word-at-reads.Asked,
-  word-at-reads.Learnt,
-  channel-reads.Asked,
-  channel-reads.Learnt,
-  exprs·binding-below t,
-  exprs·binding.Post,
-  exprs·choice-below t,
-  exprs·choice.Post,
-  exprs·operation-below t,
-  exprs·operation.Post,
-  lists·call-below t,
-  lists·call.Post,
-  lists·make-below t,
-  lists·make.Post,
-  lists·case-of-below t,
-  lists·case-of.Post,
-  exprs·adjust-below t,
-  exprs·adjust.Post,
-  exprs·fit-below t,
-  exprs·fit.Post,
-) (exprs·expr-at t) exprs·expr.Post
-exprs·expr-same-length-6 t c = (c .before .before .make .kept .1 .1 .1 .1 .1 .0)
+exprs·expr-returns-10 t c = expr-call _ _ _ _ (c .before .before .before .before .before .before .before .before .before .frame-line .ensures) (c .before .before .before .before .before .before .before .head-at .ensures) (c .before .before .before .form5 .given .1) (at-call (c .before .before .before .before .before .inside .ensures) (c .call .ensures))
 
 exprs·expr-returns-11 : (t : ℕ) → exprs·expr-lts.Need-returns-11 (
   frame-line-reads.Asked,
@@ -2305,39 +2008,7 @@ exprs·expr-returns-11 : (t : ℕ) → exprs·expr-lts.Need-returns-11 (
   exprs·fit-below t,
   exprs·fit.Post,
 ) (exprs·expr-at t) exprs·expr.Post
-exprs·expr-returns-11 t c = expr-con _ _ _ _ _ _ _ (c .before .before .before .before .before .before .before .before .before .before .before .frame-line .ensures) (c .before .before .before .before .before .before .before .before .before .head-at .ensures) (c .before .before .before .before .before .form6 .given .1) (at-con (c .before .before .before .before .before .before .before .inside .ensures) (c .before .before .make .ensures))
-
-exprs·expr-same-length-7 : (t : ℕ) → exprs·expr-lts.Need-same-length-7 (
-  frame-line-reads.Asked,
-  frame-line-reads.Learnt,
-  head-at-reads.Asked,
-  head-at-reads.Learnt,
-  inside-reads.Asked,
-  inside-reads.Learnt,
-  answer-reads.Asked,
-  answer-reads.Learnt,
-  word-at-reads.Asked,
-  word-at-reads.Learnt,
-  channel-reads.Asked,
-  channel-reads.Learnt,
-  exprs·binding-below t,
-  exprs·binding.Post,
-  exprs·choice-below t,
-  exprs·choice.Post,
-  exprs·operation-below t,
-  exprs·operation.Post,
-  lists·call-below t,
-  lists·call.Post,
-  lists·make-below t,
-  lists·make.Post,
-  lists·case-of-below t,
-  lists·case-of.Post,
-  exprs·adjust-below t,
-  exprs·adjust.Post,
-  exprs·fit-below t,
-  exprs·fit.Post,
-) (exprs·expr-at t) exprs·expr.Post
-exprs·expr-same-length-7 t c = (c .before .before .case-of .kept .1 .1 .1 .1 .1 .0)
+exprs·expr-returns-11 t c = expr-con _ _ _ _ (c .before .before .before .before .before .before .before .before .before .frame-line .ensures) (c .before .before .before .before .before .before .before .head-at .ensures) (c .before .before .before .form6 .given .1) (at-con (c .before .before .before .before .before .inside .ensures) (c .make .ensures))
 
 exprs·expr-returns-12 : (t : ℕ) → exprs·expr-lts.Need-returns-12 (
   frame-line-reads.Asked,
@@ -2369,39 +2040,7 @@ exprs·expr-returns-12 : (t : ℕ) → exprs·expr-lts.Need-returns-12 (
   exprs·fit-below t,
   exprs·fit.Post,
 ) (exprs·expr-at t) exprs·expr.Post
-exprs·expr-returns-12 t c = expr-case _ _ _ _ _ _ _ (c .before .before .before .before .before .before .before .before .before .before .before .frame-line .ensures) (c .before .before .before .before .before .before .before .before .before .head-at .ensures) (c .before .before .before .before .before .form7 .given .1) (at-case (c .before .before .before .before .before .before .before .inside .ensures) (c .before .before .case-of .ensures))
-
-exprs·expr-same-length-8 : (t : ℕ) → exprs·expr-lts.Need-same-length-8 (
-  frame-line-reads.Asked,
-  frame-line-reads.Learnt,
-  head-at-reads.Asked,
-  head-at-reads.Learnt,
-  inside-reads.Asked,
-  inside-reads.Learnt,
-  answer-reads.Asked,
-  answer-reads.Learnt,
-  word-at-reads.Asked,
-  word-at-reads.Learnt,
-  channel-reads.Asked,
-  channel-reads.Learnt,
-  exprs·binding-below t,
-  exprs·binding.Post,
-  exprs·choice-below t,
-  exprs·choice.Post,
-  exprs·operation-below t,
-  exprs·operation.Post,
-  lists·call-below t,
-  lists·call.Post,
-  lists·make-below t,
-  lists·make.Post,
-  lists·case-of-below t,
-  lists·case-of.Post,
-  exprs·adjust-below t,
-  exprs·adjust.Post,
-  exprs·fit-below t,
-  exprs·fit.Post,
-) (exprs·expr-at t) exprs·expr.Post
-exprs·expr-same-length-8 t c = (c .before .before .adjust .kept .1 .1 .1 .1 .1 .0)
+exprs·expr-returns-12 t c = expr-case _ _ _ _ (c .before .before .before .before .before .before .before .before .before .frame-line .ensures) (c .before .before .before .before .before .before .before .head-at .ensures) (c .before .before .before .form7 .given .1) (at-case (c .before .before .before .before .before .inside .ensures) (c .case-of .ensures))
 
 exprs·expr-returns-13 : (t : ℕ) → exprs·expr-lts.Need-returns-13 (
   frame-line-reads.Asked,
@@ -2433,39 +2072,7 @@ exprs·expr-returns-13 : (t : ℕ) → exprs·expr-lts.Need-returns-13 (
   exprs·fit-below t,
   exprs·fit.Post,
 ) (exprs·expr-at t) exprs·expr.Post
-exprs·expr-returns-13 t c = expr-adj _ _ _ _ _ _ _ (c .before .before .before .before .before .before .before .before .before .before .frame-line .ensures) (c .before .before .before .before .before .before .before .before .head-at .ensures) (c .before .before .before .before .enum-told5 .given .1) (at-adj (c .before .before .before .before .before .before .inside .ensures) (c .before .before .adjust .ensures))
-
-exprs·expr-same-length-9 : (t : ℕ) → exprs·expr-lts.Need-same-length-9 (
-  frame-line-reads.Asked,
-  frame-line-reads.Learnt,
-  head-at-reads.Asked,
-  head-at-reads.Learnt,
-  inside-reads.Asked,
-  inside-reads.Learnt,
-  answer-reads.Asked,
-  answer-reads.Learnt,
-  word-at-reads.Asked,
-  word-at-reads.Learnt,
-  channel-reads.Asked,
-  channel-reads.Learnt,
-  exprs·binding-below t,
-  exprs·binding.Post,
-  exprs·choice-below t,
-  exprs·choice.Post,
-  exprs·operation-below t,
-  exprs·operation.Post,
-  lists·call-below t,
-  lists·call.Post,
-  lists·make-below t,
-  lists·make.Post,
-  lists·case-of-below t,
-  lists·case-of.Post,
-  exprs·adjust-below t,
-  exprs·adjust.Post,
-  exprs·fit-below t,
-  exprs·fit.Post,
-) (exprs·expr-at t) exprs·expr.Post
-exprs·expr-same-length-9 t c = (c .before .before .fit .kept .1 .1 .1 .1 .1 .0)
+exprs·expr-returns-13 t c = expr-adj _ _ _ _ (c .before .before .before .before .before .before .before .before .frame-line .ensures) (c .before .before .before .before .before .before .head-at .ensures) (c .before .before .enum-told5 .given .1) (at-adj (c .before .before .before .before .inside .ensures) (c .adjust .ensures))
 
 exprs·expr-returns-14 : (t : ℕ) → exprs·expr-lts.Need-returns-14 (
   frame-line-reads.Asked,
@@ -2497,7 +2104,7 @@ exprs·expr-returns-14 : (t : ℕ) → exprs·expr-lts.Need-returns-14 (
   exprs·fit-below t,
   exprs·fit.Post,
 ) (exprs·expr-at t) exprs·expr.Post
-exprs·expr-returns-14 t c = expr-fit _ _ _ _ _ _ _ (c .before .before .before .before .before .before .before .before .before .before .frame-line .ensures) (c .before .before .before .before .before .before .before .before .head-at .ensures) (c .before .before .before .before .enum-told6 .given .1) (at-fit (c .before .before .before .before .before .before .inside .ensures) (c .before .before .fit .ensures))
+exprs·expr-returns-14 t c = expr-fit _ _ _ _ (c .before .before .before .before .before .before .before .before .frame-line .ensures) (c .before .before .before .before .before .before .head-at .ensures) (c .before .before .enum-told6 .given .1) (at-fit (c .before .before .before .before .inside .ensures) (c .fit .ensures))
 
 exprs·expr-returns-15 : (t : ℕ) → exprs·expr-lts.Need-returns-15 (
   frame-line-reads.Asked,
@@ -2529,7 +2136,7 @@ exprs·expr-returns-15 : (t : ℕ) → exprs·expr-lts.Need-returns-15 (
   exprs·fit-below t,
   exprs·fit.Post,
 ) (exprs·expr-at t) exprs·expr.Post
-exprs·expr-returns-15 t c = expr-missing _ _ _ _ _ _ _ (c .before .before .before .before .before .before .frame-line .ensures) (c .before .before .before .before .head-at .ensures) (c .enum-told7 .given .1)
+exprs·expr-returns-15 t c = expr-missing _ _ _ _ (c .before .before .before .before .before .before .frame-line .ensures) (c .before .before .before .before .head-at .ensures) (c .enum-told7 .given .1)
 
 exprs·fit-expr-requires : (t : ℕ) → exprs·fit-lts.Need-expr-requires (
   exprs·expr-below t,
@@ -2543,7 +2150,7 @@ exprs·fit-expr-requires : (t : ℕ) → exprs·fit-lts.Need-expr-requires (
   exprs·expect-below t,
   exprs·expect.Post,
 ) (exprs·fit-at t) exprs·fit.Post
-exprs·fit-expr-requires t c κs = (omega (arith, (c .before .before .before .before .before .before .before .pre .0)), omega (arith, (c .before .before .before .before .before .before .before .pre .1)))
+exprs·fit-expr-requires t c κs = (omega (arith, (c .before .before .pre .0)), omega (arith, (c .before .before .pre .1)))
 
 exprs·fit-enum-known-x : (t : ℕ) → exprs·fit-lts.Need-enum-known-x (
   exprs·expr-below t,
@@ -2573,20 +2180,6 @@ exprs·fit-enum-told : (t : ℕ) → exprs·fit-lts.Need-enum-told (
 ) (exprs·fit-at t) exprs·fit.Post
 exprs·fit-enum-told t c = (c .match .keys2)
 
-exprs·fit-same-length : (t : ℕ) → exprs·fit-lts.Need-same-length (
-  exprs·expr-below t,
-  exprs·expr.Post,
-  put-reads.Asked,
-  put-reads.Learnt,
-  widened-reads.Asked,
-  widened-reads.Learnt,
-  moved-reads.Asked,
-  moved-reads.Learnt,
-  exprs·expect-below t,
-  exprs·expect.Post,
-) (exprs·fit-at t) exprs·fit.Post
-exprs·fit-same-length t c = (c .before .before .before .before .expr .kept .1 .1 .1 .1 .1 .0)
-
 exprs·fit-returns : (t : ℕ) → exprs·fit-lts.Need-returns (
   exprs·expr-below t,
   exprs·expr.Post,
@@ -2599,21 +2192,7 @@ exprs·fit-returns : (t : ℕ) → exprs·fit-lts.Need-returns (
   exprs·expect-below t,
   exprs·expect.Post,
 ) (exprs·fit-at t) exprs·fit.Post
-exprs·fit-returns t c = fit-wrong _ _ _ _ _ _ _ (c .before .before .before .before .expr .ensures) (c .enum-told .given .1)
-
-exprs·fit-same-length-2 : (t : ℕ) → exprs·fit-lts.Need-same-length-2 (
-  exprs·expr-below t,
-  exprs·expr.Post,
-  put-reads.Asked,
-  put-reads.Learnt,
-  widened-reads.Asked,
-  widened-reads.Learnt,
-  moved-reads.Asked,
-  moved-reads.Learnt,
-  exprs·expect-below t,
-  exprs·expect.Post,
-) (exprs·fit-at t) exprs·fit.Post
-exprs·fit-same-length-2 t c = (c .before .before .before .before .before .before .before .expr .kept .1 .1 .1 .1 .1 .0)
+exprs·fit-returns t c = fit-wrong _ _ _ _ (c .before .before .expr .ensures) (c .enum-told .given .1)
 
 exprs·fit-returns-2 : (t : ℕ) → exprs·fit-lts.Need-returns-2 (
   exprs·expr-below t,
@@ -2627,7 +2206,7 @@ exprs·fit-returns-2 : (t : ℕ) → exprs·fit-lts.Need-returns-2 (
   exprs·expect-below t,
   exprs·expect.Post,
 ) (exprs·fit-at t) exprs·fit.Post
-exprs·fit-returns-2 t c = fit-unnamed _ _ _ _ _ _ _ (c .before .before .before .before .before .before .before .expr .ensures) (c .before .before .before .x .given .1) (c .if1 .taken)
+exprs·fit-returns-2 t c = fit-unnamed _ _ _ _ (c .before .before .before .before .before .expr .ensures) (c .before .before .before .x .given .1) (c .if1 .taken)
 
 exprs·fit-cast-put : (t : ℕ) → exprs·fit-lts.Need-cast-put (
   exprs·expr-below t,
@@ -2669,7 +2248,7 @@ exprs·fit-widened-requires : (t : ℕ) → exprs·fit-lts.Need-widened-requires
   exprs·expect-below t,
   exprs·expect.Post,
 ) (exprs·fit-at t) exprs·fit.Post
-exprs·fit-widened-requires t c κs = omega (arith, (c .before .before .before .before .before .before .before .before .before .before .before .before .before .before .before .before .before .before .before .before .before .pre .1))
+exprs·fit-widened-requires t c κs = omega (arith, (c .before .before .before .before .before .before .before .before .before .before .before .before .pre .1))
 
 exprs·fit-expr-requires-2 : (t : ℕ) → exprs·fit-lts.Need-expr-requires-2 (
   exprs·expr-below t,
@@ -2683,7 +2262,7 @@ exprs·fit-expr-requires-2 : (t : ℕ) → exprs·fit-lts.Need-expr-requires-2 (
   exprs·expect-below t,
   exprs·expect.Post,
 ) (exprs·fit-at t) exprs·fit.Post
-exprs·fit-expr-requires-2 t c κs = (omega (arith, (c .before .before .before .before .before .before .before .before .before .before .before .before .before .before .before .before .before .before .before .before .before .before .before .pre .0), same-levels (c .before .widened .ensures)), omega (arith, (c .before .before .before .before .before .before .before .before .before .before .before .before .before .before .before .before .before .before .before .before .before .before .before .pre .1), same-levels (c .before .widened .ensures), same-variables (c .before .widened .ensures)))
+exprs·fit-expr-requires-2 t c κs = (omega (arith, (c .before .before .before .before .before .before .before .before .before .before .before .before .before .before .pre .0), same-levels (c .before .widened .ensures)), omega (arith, (c .before .before .before .before .before .before .before .before .before .before .before .before .before .before .pre .1), same-levels (c .before .widened .ensures), same-variables (c .before .widened .ensures)))
 
 exprs·fit-enum-known-y : (t : ℕ) → exprs·fit-lts.Need-enum-known-y (
   exprs·expr-below t,
@@ -2713,20 +2292,6 @@ exprs·fit-enum-told-2 : (t : ℕ) → exprs·fit-lts.Need-enum-told-2 (
 ) (exprs·fit-at t) exprs·fit.Post
 exprs·fit-enum-told-2 t c = (c .match2 .keys2)
 
-exprs·fit-same-length-3 : (t : ℕ) → exprs·fit-lts.Need-same-length-3 (
-  exprs·expr-below t,
-  exprs·expr.Post,
-  put-reads.Asked,
-  put-reads.Learnt,
-  widened-reads.Asked,
-  widened-reads.Learnt,
-  moved-reads.Asked,
-  moved-reads.Learnt,
-  exprs·expect-below t,
-  exprs·expect.Post,
-) (exprs·fit-at t) exprs·fit.Post
-exprs·fit-same-length-3 t c = (c .before .before .before .before .expr2 .kept .1 .1 .1 .1 .1 .0) ∙ (c .before .before .before .before .before .before .before .before .before .before .put .kept .0) ∙ (c .before .before .before .before .before .before .before .before .before .before .before .before .before .before .before .before .before .before .before .before .expr .kept .1 .1 .1 .1 .1 .0)
-
 exprs·fit-returns-3 : (t : ℕ) → exprs·fit-lts.Need-returns-3 (
   exprs·expr-below t,
   exprs·expr.Post,
@@ -2739,7 +2304,7 @@ exprs·fit-returns-3 : (t : ℕ) → exprs·fit-lts.Need-returns-3 (
   exprs·expect-below t,
   exprs·expect.Post,
 ) (exprs·fit-at t) exprs·fit.Post
-exprs·fit-returns-3 t c = fit-none _ _ _ _ _ _ _ (c .before .before .before .before .before .before .before .before .before .before .before .before .before .before .before .before .before .before .before .before .expr .ensures) (c .before .before .before .before .before .before .before .before .before .before .before .before .before .before .before .before .x .given .1) (c .before .before .before .before .before .before .before .before .before .before .put .ensures) (c .before .before .before .before .before .before .before .before .before .before .before .before .before .if1 .left) (at-expr (c .before .before .before .before .before .before .widened .ensures) (c .before .before .before .before .expr2 .ensures)) (c .enum-told2 .given .1)
+exprs·fit-returns-3 t c = fit-none _ _ _ _ (c .before .before .before .before .before .before .before .before .before .before .before .before .before .before .expr .ensures) (c .before .before .before .before .before .before .before .before .before .before .before .before .x .given .1) (c .before .before .before .before .before .before .put .ensures) (c .before .before .before .before .before .before .before .before .before .if1 .left) (at-expr (c .before .before .before .before .widened .ensures) (c .before .before .expr2 .ensures)) (c .enum-told2 .given .1)
 
 exprs·fit-moved-requires : (t : ℕ) → exprs·fit-lts.Need-moved-requires (
   exprs·expr-below t,
@@ -2767,21 +2332,7 @@ exprs·fit-expect-requires : (t : ℕ) → exprs·fit-lts.Need-expect-requires (
   exprs·expect-below t,
   exprs·expect.Post,
 ) (exprs·fit-at t) exprs·fit.Post
-exprs·fit-expect-requires t c κs = (omega (arith, (c .before .before .before .before .before .before .before .before .before .before .before .before .before .before .before .before .before .before .before .before .before .before .before .before .before .before .before .before .before .before .before .before .pre .0), same-levels (c .before .moved .ensures)), omega (arith, (c .before .before .before .before .before .before .before .before .before .before .before .before .before .before .before .before .before .before .before .before .before .before .before .before .before .before .before .before .before .before .before .before .pre .1), same-levels (c .before .moved .ensures), same-variables (c .before .moved .ensures)))
-
-exprs·fit-same-length-4 : (t : ℕ) → exprs·fit-lts.Need-same-length-4 (
-  exprs·expr-below t,
-  exprs·expr.Post,
-  put-reads.Asked,
-  put-reads.Learnt,
-  widened-reads.Asked,
-  widened-reads.Learnt,
-  moved-reads.Asked,
-  moved-reads.Learnt,
-  exprs·expect-below t,
-  exprs·expect.Post,
-) (exprs·fit-at t) exprs·fit.Post
-exprs·fit-same-length-4 t c = (c .before .before .expect .kept .1 .1 .1 .1 .1 .0) ∙ (c .before .before .before .before .before .before .before .before .before .before .before .expr2 .kept .1 .1 .1 .1 .1 .0) ∙ (c .before .before .before .before .before .before .before .before .before .before .before .before .before .before .before .before .before .put .kept .0) ∙ (c .before .before .before .before .before .before .before .before .before .before .before .before .before .before .before .before .before .before .before .before .before .before .before .before .before .before .before .expr .kept .1 .1 .1 .1 .1 .0)
+exprs·fit-expect-requires t c κs = (omega (arith, (c .before .before .before .before .before .before .before .before .before .before .before .before .before .before .before .before .before .before .before .before .before .pre .0), same-levels (c .before .moved .ensures)), omega (arith, (c .before .before .before .before .before .before .before .before .before .before .before .before .before .before .before .before .before .before .before .before .before .pre .1), same-levels (c .before .moved .ensures), same-variables (c .before .moved .ensures)))
 
 exprs·fit-returns-4 : (t : ℕ) → exprs·fit-lts.Need-returns-4 (
   exprs·expr-below t,
@@ -2795,7 +2346,7 @@ exprs·fit-returns-4 : (t : ℕ) → exprs·fit-lts.Need-returns-4 (
   exprs·expect-below t,
   exprs·expect.Post,
 ) (exprs·fit-at t) exprs·fit.Post
-exprs·fit-returns-4 t c = fit-done _ _ _ _ _ _ _ (c .before .before .before .before .before .before .before .before .before .before .before .before .before .before .before .before .before .before .before .before .before .before .before .before .before .before .before .expr .ensures) (c .before .before .before .before .before .before .before .before .before .before .before .before .before .before .before .before .before .before .before .before .before .before .before .x .given .1) (c .before .before .before .before .before .before .before .before .before .before .before .before .before .before .before .before .before .put .ensures) (c .before .before .before .before .before .before .before .before .before .before .before .before .before .before .before .before .before .before .before .before .if1 .left) (at-expr (c .before .before .before .before .before .before .before .before .before .before .before .before .before .widened .ensures) (c .before .before .before .before .before .before .before .before .before .before .before .expr2 .ensures)) (c .before .before .before .before .before .before .before .y .given .1) (at-want (c .before .before .before .before .moved .ensures) (c .before .before .expect .ensures))
+exprs·fit-returns-4 t c = fit-done _ _ _ _ (c .before .before .before .before .before .before .before .before .before .before .before .before .before .before .before .before .before .before .before .expr .ensures) (c .before .before .before .before .before .before .before .before .before .before .before .before .before .before .before .before .before .x .given .1) (c .before .before .before .before .before .before .before .before .before .before .before .put .ensures) (c .before .before .before .before .before .before .before .before .before .before .before .before .before .before .if1 .left) (at-expr (c .before .before .before .before .before .before .before .before .before .widened .ensures) (c .before .before .before .before .before .before .before .expr2 .ensures)) (c .before .before .before .before .before .y .given .1) (at-want (c .before .before .moved .ensures) (c .expect .ensures))
 
 exprs·operation-operand-requires : (t : ℕ) → exprs·operation-lts.Need-operand-requires (
   operand-reads.Asked,
@@ -2823,7 +2374,7 @@ exprs·operation-expect-requires : (t : ℕ) → exprs·operation-lts.Need-expec
   answer-reads.Asked,
   answer-reads.Learnt,
 ) (exprs·operation-at t) exprs·operation.Post
-exprs·operation-expect-requires t c κs = (omega (arith, (c .before .before .before .before .before .before .before .before .pre .0)), omega (arith, (c .before .before .before .before .before .before .before .before .pre .1)))
+exprs·operation-expect-requires t c κs = (omega (arith, (c .before .before .before .pre .0)), omega (arith, (c .before .before .before .pre .1)))
 
 exprs·operation-enum-known-x : (t : ℕ) → exprs·operation-lts.Need-enum-known-x (
   operand-reads.Asked,
@@ -2853,20 +2404,6 @@ exprs·operation-enum-told : (t : ℕ) → exprs·operation-lts.Need-enum-told (
 ) (exprs·operation-at t) exprs·operation.Post
 exprs·operation-enum-told t c = (c .match .keys2)
 
-exprs·operation-same-length : (t : ℕ) → exprs·operation-lts.Need-same-length (
-  operand-reads.Asked,
-  operand-reads.Learnt,
-  exprs·expect-below t,
-  exprs·expect.Post,
-  moved-reads.Asked,
-  moved-reads.Learnt,
-  outcome-reads.Asked,
-  outcome-reads.Learnt,
-  answer-reads.Asked,
-  answer-reads.Learnt,
-) (exprs·operation-at t) exprs·operation.Post
-exprs·operation-same-length t c = (c .before .before .before .before .expect .kept .1 .1 .1 .1 .1 .0)
-
 exprs·operation-returns : (t : ℕ) → exprs·operation-lts.Need-returns (
   operand-reads.Asked,
   operand-reads.Learnt,
@@ -2879,7 +2416,7 @@ exprs·operation-returns : (t : ℕ) → exprs·operation-lts.Need-returns (
   answer-reads.Asked,
   answer-reads.Learnt,
 ) (exprs·operation-at t) exprs·operation.Post
-exprs·operation-returns t c = op-wrong _ _ _ _ _ _ _ (c .before .before .before .before .before .before .operand .ensures) (c .before .before .before .before .expect .ensures) (c .enum-told .given .1)
+exprs·operation-returns t c = op-wrong _ _ _ _ (c .before .before .before .before .operand .ensures) (c .before .before .expect .ensures) (c .enum-told .given .1)
 
 exprs·operation-moved-requires : (t : ℕ) → exprs·operation-lts.Need-moved-requires (
   operand-reads.Asked,
@@ -2907,7 +2444,7 @@ exprs·operation-expect-requires-2 : (t : ℕ) → exprs·operation-lts.Need-exp
   answer-reads.Asked,
   answer-reads.Learnt,
 ) (exprs·operation-at t) exprs·operation.Post
-exprs·operation-expect-requires-2 t c κs = (omega (arith, (c .before .before .before .before .before .before .before .before .before .before .before .before .before .before .before .before .before .pre .0), same-levels (c .before .moved .ensures)), omega (arith, (c .before .before .before .before .before .before .before .before .before .before .before .before .before .before .before .before .before .pre .1), same-levels (c .before .moved .ensures), same-variables (c .before .moved .ensures)))
+exprs·operation-expect-requires-2 t c κs = (omega (arith, (c .before .before .before .before .before .before .before .before .before .before .pre .0), same-levels (c .before .moved .ensures)), omega (arith, (c .before .before .before .before .before .before .before .before .before .before .pre .1), same-levels (c .before .moved .ensures), same-variables (c .before .moved .ensures)))
 
 exprs·operation-enum-known-y : (t : ℕ) → exprs·operation-lts.Need-enum-known-y (
   operand-reads.Asked,
@@ -2937,20 +2474,6 @@ exprs·operation-enum-told-2 : (t : ℕ) → exprs·operation-lts.Need-enum-told
 ) (exprs·operation-at t) exprs·operation.Post
 exprs·operation-enum-told-2 t c = (c .match2 .keys2)
 
-exprs·operation-same-length-2 : (t : ℕ) → exprs·operation-lts.Need-same-length-2 (
-  operand-reads.Asked,
-  operand-reads.Learnt,
-  exprs·expect-below t,
-  exprs·expect.Post,
-  moved-reads.Asked,
-  moved-reads.Learnt,
-  outcome-reads.Asked,
-  outcome-reads.Learnt,
-  answer-reads.Asked,
-  answer-reads.Learnt,
-) (exprs·operation-at t) exprs·operation.Post
-exprs·operation-same-length-2 t c = (c .before .before .before .before .expect2 .kept .1 .1 .1 .1 .1 .0) ∙ (c .before .before .before .before .before .before .before .before .before .before .before .before .before .expect .kept .1 .1 .1 .1 .1 .0)
-
 exprs·operation-returns-2 : (t : ℕ) → exprs·operation-lts.Need-returns-2 (
   operand-reads.Asked,
   operand-reads.Learnt,
@@ -2963,7 +2486,7 @@ exprs·operation-returns-2 : (t : ℕ) → exprs·operation-lts.Need-returns-2 (
   answer-reads.Asked,
   answer-reads.Learnt,
 ) (exprs·operation-at t) exprs·operation.Post
-exprs·operation-returns-2 t c = op-none _ _ _ _ _ _ _ (c .before .before .before .before .before .before .before .before .before .before .before .before .before .before .before .operand .ensures) (c .before .before .before .before .before .before .before .before .before .before .before .before .before .expect .ensures) (c .before .before .before .before .before .before .before .before .before .x .given .1) (at-want (c .before .before .before .before .before .before .moved .ensures) (c .before .before .before .before .expect2 .ensures)) (c .enum-told2 .given .1)
+exprs·operation-returns-2 t c = op-none _ _ _ _ (c .before .before .before .before .before .before .before .before .before .before .before .operand .ensures) (c .before .before .before .before .before .before .before .before .before .expect .ensures) (c .before .before .before .before .before .before .before .x .given .1) (at-want (c .before .before .before .before .moved .ensures) (c .before .before .expect2 .ensures)) (c .enum-told2 .given .1)
 
 exprs·operation-outcome-requires : (t : ℕ) → exprs·operation-lts.Need-outcome-requires (
   operand-reads.Asked,
@@ -2993,20 +2516,6 @@ exprs·operation-answer-requires : (t : ℕ) → exprs·operation-lts.Need-answe
 ) (exprs·operation-at t) exprs·operation.Post
 exprs·operation-answer-requires t c κs = tt
 
-exprs·operation-same-length-3 : (t : ℕ) → exprs·operation-lts.Need-same-length-3 (
-  operand-reads.Asked,
-  operand-reads.Learnt,
-  exprs·expect-below t,
-  exprs·expect.Post,
-  moved-reads.Asked,
-  moved-reads.Learnt,
-  outcome-reads.Asked,
-  outcome-reads.Learnt,
-  answer-reads.Asked,
-  answer-reads.Learnt,
-) (exprs·operation-at t) exprs·operation.Post
-exprs·operation-same-length-3 t c = (c .before .before .before .before .before .before .before .before .expect2 .kept .1 .1 .1 .1 .1 .0) ∙ (c .before .before .before .before .before .before .before .before .before .before .before .before .before .before .before .before .before .expect .kept .1 .1 .1 .1 .1 .0)
-
 exprs·operation-returns-3 : (t : ℕ) → exprs·operation-lts.Need-returns-3 (
   operand-reads.Asked,
   operand-reads.Learnt,
@@ -3019,7 +2528,7 @@ exprs·operation-returns-3 : (t : ℕ) → exprs·operation-lts.Need-returns-3 (
   answer-reads.Asked,
   answer-reads.Learnt,
 ) (exprs·operation-at t) exprs·operation.Post
-exprs·operation-returns-3 t c = op-done _ _ _ _ _ _ _ (c .before .before .before .before .before .before .before .before .before .before .before .before .before .before .before .before .before .before .before .operand .ensures) (c .before .before .before .before .before .before .before .before .before .before .before .before .before .before .before .before .before .expect .ensures) (c .before .before .before .before .before .before .before .before .before .before .before .before .before .x .given .1) (at-want (c .before .before .before .before .before .before .before .before .before .before .moved .ensures) (c .before .before .before .before .before .before .before .before .expect2 .ensures)) (c .before .before .before .before .y .given .1) (c .before .before .outcome .ensures) (c .answer .ensures)
+exprs·operation-returns-3 t c = op-done _ _ _ _ (c .before .before .before .before .before .before .before .before .before .before .before .before .before .before .before .operand .ensures) (c .before .before .before .before .before .before .before .before .before .before .before .before .before .expect .ensures) (c .before .before .before .before .before .before .before .before .before .before .before .x .given .1) (at-want (c .before .before .before .before .before .before .before .before .moved .ensures) (c .before .before .before .before .before .before .expect2 .ensures)) (c .before .before .before .before .y .given .1) (c .before .before .outcome .ensures) (c .answer .ensures)
 
 lists·branches-answer-requires : (t : ℕ) → lists·branches-lts.Need-answer-requires (
   answer-reads.Asked,
@@ -3055,7 +2564,7 @@ lists·branches-returns : (t : ℕ) → lists·branches-lts.Need-returns (
   lists·branches-below t,
   lists·branches.Post,
 ) (lists·branches-at t) lists·branches.Post
-lists·branches-returns t c = branches-all _ _ _ _ _ _ _ _ (c .before .before .if1 .taken) (c .answer .ensures)
+lists·branches-returns t c = branches-all _ _ _ _ _ (c .before .before .if1 .taken) (c .answer .ensures)
 
 lists·branches-fields-requires : (t : ℕ) → lists·branches-lts.Need-fields-requires (
   answer-reads.Asked,
@@ -3109,7 +2618,7 @@ lists·branches-widened-requires : (t : ℕ) → lists·branches-lts.Need-widene
   lists·branches-below t,
   lists·branches.Post,
 ) (lists·branches-at t) lists·branches.Post
-lists·branches-widened-requires t c κs = omega (arith, (c .before .before .before .before .before .before .before .before .before .before .before .before .before .pre .1 .0), (c .before .before .before .before .before .fields .ensures .1))
+lists·branches-widened-requires t c κs = omega (arith, (c .before .before .before .before .before .before .pre .1 .0), (c .before .before .before .fields .ensures .1))
 
 lists·branches-expect-requires : (t : ℕ) → lists·branches-lts.Need-expect-requires (
   answer-reads.Asked,
@@ -3127,7 +2636,7 @@ lists·branches-expect-requires : (t : ℕ) → lists·branches-lts.Need-expect-
   lists·branches-below t,
   lists·branches.Post,
 ) (lists·branches-at t) lists·branches.Post
-lists·branches-expect-requires t c κs = (omega (arith, (c .before .before .before .before .before .before .before .before .before .before .before .before .before .before .before .pre .0), (c .before .before .before .before .before .before .before .before .if1 .left), same-levels (c .before .widened .ensures)), omega (arith, (c .before .before .before .before .before .before .before .before .before .before .before .before .before .before .before .pre .1 .0), (c .before .before .before .before .before .before .before .fields .ensures .1), same-levels (c .before .widened .ensures), same-variables (c .before .widened .ensures)))
+lists·branches-expect-requires t c κs = (omega (arith, (c .before .before .before .before .before .before .before .before .pre .0), (c .before .before .before .before .before .before .if1 .left), same-levels (c .before .widened .ensures)), omega (arith, (c .before .before .before .before .before .before .before .before .pre .1 .0), (c .before .before .before .before .before .fields .ensures .1), same-levels (c .before .widened .ensures), same-variables (c .before .widened .ensures)))
 
 lists·branches-enum-known-x : (t : ℕ) → lists·branches-lts.Need-enum-known-x (
   answer-reads.Asked,
@@ -3165,24 +2674,6 @@ lists·branches-enum-told : (t : ℕ) → lists·branches-lts.Need-enum-told (
 ) (lists·branches-at t) lists·branches.Post
 lists·branches-enum-told t c = (c .match .keys2)
 
-lists·branches-same-length : (t : ℕ) → lists·branches-lts.Need-same-length (
-  answer-reads.Asked,
-  answer-reads.Learnt,
-  fields-reads.Asked,
-  fields-reads.Learnt,
-  enter-reads.Asked,
-  enter-reads.Learnt,
-  widened-reads.Asked,
-  widened-reads.Learnt,
-  exprs·expect-below t,
-  exprs·expect.Post,
-  moved-reads.Asked,
-  moved-reads.Learnt,
-  lists·branches-below t,
-  lists·branches.Post,
-) (lists·branches-at t) lists·branches.Post
-lists·branches-same-length t c = (c .before .before .before .before .expect .kept .1 .1 .1 .1 .1 .0) ∙ (c .before .before .before .before .before .before .before .before .before .before .enter .kept .1 .1 .0)
-
 lists·branches-returns-2 : (t : ℕ) → lists·branches-lts.Need-returns-2 (
   answer-reads.Asked,
   answer-reads.Learnt,
@@ -3199,7 +2690,7 @@ lists·branches-returns-2 : (t : ℕ) → lists·branches-lts.Need-returns-2 (
   lists·branches-below t,
   lists·branches.Post,
 ) (lists·branches-at t) lists·branches.Post
-lists·branches-returns-2 t c = branches-wrong _ _ _ _ _ _ _ _ (c .before .before .before .before .before .before .before .before .before .before .before .before .before .if1 .left) (c .before .before .before .before .before .before .before .before .before .before .before .before .fields .ensures) (c .before .before .before .before .before .before .before .before .before .before .enter .ensures) (at-want (c .before .before .before .before .before .before .widened .ensures) (c .before .before .before .before .expect .ensures)) (c .enum-told .given .1)
+lists·branches-returns-2 t c = branches-wrong _ _ _ _ _ (c .before .before .before .before .before .before .before .before .before .if1 .left) (c .before .before .before .before .before .before .before .before .fields .ensures) (c .before .before .before .before .before .before .enter .ensures) (at-want (c .before .before .before .before .widened .ensures) (c .before .before .expect .ensures)) (c .enum-told .given .1)
 
 lists·branches-moved-requires : (t : ℕ) → lists·branches-lts.Need-moved-requires (
   answer-reads.Asked,
@@ -3219,7 +2710,7 @@ lists·branches-moved-requires : (t : ℕ) → lists·branches-lts.Need-moved-re
 ) (lists·branches-at t) lists·branches.Post
 lists·branches-moved-requires t c κs = tt
 
-lists·branches-add-t29 : (t : ℕ) → lists·branches-lts.Need-add-t29 (
+lists·branches-add-t24 : (t : ℕ) → lists·branches-lts.Need-add-t24 (
   answer-reads.Asked,
   answer-reads.Learnt,
   fields-reads.Asked,
@@ -3235,9 +2726,9 @@ lists·branches-add-t29 : (t : ℕ) → lists·branches-lts.Need-add-t29 (
   lists·branches-below t,
   lists·branches.Post,
 ) (lists·branches-at t) lists·branches.Post
-lists·branches-add-t29 t c = omega (arith, (c .before .before .before .before .before .before .before .before .before .before .before .before .before .before .before .before .before .before .before .before .before .before .before .pre .1 .1), (c .before .before .before .before .before .before .before .before .before .before .before .before .before .before .before .before .if1 .left))
+lists·branches-add-t24 t c = omega (arith, (c .before .before .before .before .before .before .before .before .before .before .before .before .before .before .pre .1 .1), (c .before .before .before .before .before .before .before .before .before .before .before .before .if1 .left))
 
-lists·branches-sub-t30 : (t : ℕ) → lists·branches-lts.Need-sub-t30 (
+lists·branches-sub-t25 : (t : ℕ) → lists·branches-lts.Need-sub-t25 (
   answer-reads.Asked,
   answer-reads.Learnt,
   fields-reads.Asked,
@@ -3253,7 +2744,7 @@ lists·branches-sub-t30 : (t : ℕ) → lists·branches-lts.Need-sub-t30 (
   lists·branches-below t,
   lists·branches.Post,
 ) (lists·branches-at t) lists·branches.Post
-lists·branches-sub-t30 t c = pos-of-ne-zero (c .before .before .before .before .before .before .before .before .before .before .before .before .before .before .before .before .if1 .left)
+lists·branches-sub-t25 t c = pos-of-ne-zero (c .before .before .before .before .before .before .before .before .before .before .before .before .if1 .left)
 
 lists·branches-branches-requires : (t : ℕ) → lists·branches-lts.Need-branches-requires (
   answer-reads.Asked,
@@ -3271,25 +2762,7 @@ lists·branches-branches-requires : (t : ℕ) → lists·branches-lts.Need-branc
   lists·branches-below t,
   lists·branches.Post,
 ) (lists·branches-at t) lists·branches.Post
-lists·branches-branches-requires t c κs = (omega (arith, (c .before .before .before .before .before .before .before .before .before .before .before .before .before .before .before .before .before .before .before .before .before .before .before .before .pre .0), (c .before .before .before .before .before .before .before .before .before .before .before .before .before .before .before .before .before .if1 .left), same-levels (c .before .moved .ensures)), (omega (arith, (c .before .before .before .before .before .before .before .before .before .before .before .before .before .before .before .before .before .before .before .before .before .before .before .before .pre .1 .0), same-levels (c .before .moved .ensures), same-variables (c .before .moved .ensures)), omega (arith, (c .before .before .before .before .before .before .before .before .before .before .before .before .before .before .before .before .before .before .before .before .before .before .before .before .pre .1 .1), (c .before .before .before .before .before .before .before .before .before .before .before .before .before .before .before .before .before .if1 .left))))
-
-lists·branches-same-length-2 : (t : ℕ) → lists·branches-lts.Need-same-length-2 (
-  answer-reads.Asked,
-  answer-reads.Learnt,
-  fields-reads.Asked,
-  fields-reads.Learnt,
-  enter-reads.Asked,
-  enter-reads.Learnt,
-  widened-reads.Asked,
-  widened-reads.Learnt,
-  exprs·expect-below t,
-  exprs·expect.Post,
-  moved-reads.Asked,
-  moved-reads.Learnt,
-  lists·branches-below t,
-  lists·branches.Post,
-) (lists·branches-at t) lists·branches.Post
-lists·branches-same-length-2 t c = (c .before .before .branches .kept .1 .1 .1 .1 .1 .0) ∙ (c .before .before .before .before .before .before .before .before .before .before .before .expect .kept .1 .1 .1 .1 .1 .0) ∙ (c .before .before .before .before .before .before .before .before .before .before .before .before .before .before .before .before .before .enter .kept .1 .1 .0)
+lists·branches-branches-requires t c κs = (omega (arith, (c .before .before .before .before .before .before .before .before .before .before .before .before .before .before .before .pre .0), (c .before .before .before .before .before .before .before .before .before .before .before .before .before .if1 .left), same-levels (c .before .moved .ensures)), (omega (arith, (c .before .before .before .before .before .before .before .before .before .before .before .before .before .before .before .pre .1 .0), same-levels (c .before .moved .ensures), same-variables (c .before .moved .ensures)), omega (arith, (c .before .before .before .before .before .before .before .before .before .before .before .before .before .before .before .pre .1 .1), (c .before .before .before .before .before .before .before .before .before .before .before .before .before .if1 .left))))
 
 lists·branches-returns-3 : (t : ℕ) → lists·branches-lts.Need-returns-3 (
   answer-reads.Asked,
@@ -3307,7 +2780,7 @@ lists·branches-returns-3 : (t : ℕ) → lists·branches-lts.Need-returns-3 (
   lists·branches-below t,
   lists·branches.Post,
 ) (lists·branches-at t) lists·branches.Post
-lists·branches-returns-3 t c = branches-next _ _ _ _ _ _ _ _ (c .before .before .before .before .before .before .before .before .before .before .before .before .before .before .before .before .before .before .before .before .if1 .left) (c .before .before .before .before .before .before .before .before .before .before .before .before .before .before .before .before .before .before .before .fields .ensures) (c .before .before .before .before .before .before .before .before .before .before .before .before .before .before .before .before .before .enter .ensures) (at-want (c .before .before .before .before .before .before .before .before .before .before .before .before .before .widened .ensures) (c .before .before .before .before .before .before .before .before .before .before .before .expect .ensures)) (c .before .before .before .before .before .before .before .x .given .1) (at-branches (c .before .before .before .before .moved .ensures) (c .before .before .branches .ensures))
+lists·branches-returns-3 t c = branches-next _ _ _ _ _ (c .before .before .before .before .before .before .before .before .before .before .before .before .before .before .if1 .left) (c .before .before .before .before .before .before .before .before .before .before .before .before .before .fields .ensures) (c .before .before .before .before .before .before .before .before .before .before .before .enter .ensures) (at-want (c .before .before .before .before .before .before .before .before .before .widened .ensures) (c .before .before .before .before .before .before .before .expect .ensures)) (c .before .before .before .before .before .x .given .1) (at-branches (c .before .before .moved .ensures) (c .branches .ensures))
 
 lists·call-returned-requires : (t : ℕ) → lists·call-lts.Need-returned-requires (
   returned-reads.Asked,
@@ -3337,17 +2810,7 @@ lists·call-several-requires : (t : ℕ) → lists·call-lts.Need-several-requir
   lists·several-below t,
   lists·several.Post,
 ) (lists·call-at t) lists·call.Post
-lists·call-several-requires t c κs = (omega (arith, (c .before .before .before .before .before .before .before .before .before .pre .0), (c .before .arity .ensures .1)), (omega (arith, (c .before .before .before .before .before .before .before .before .before .pre .1)), omega (arith, (c .before .arity .ensures .1))))
-
-lists·call-same-length : (t : ℕ) → lists·call-lts.Need-same-length (
-  returned-reads.Asked,
-  returned-reads.Learnt,
-  arity-reads.Asked,
-  arity-reads.Learnt,
-  lists·several-below t,
-  lists·several.Post,
-) (lists·call-at t) lists·call.Post
-lists·call-same-length t c = (c .before .before .several .kept .1 .1 .1 .1 .1 .0)
+lists·call-several-requires t c κs = (omega (arith, (c .before .before .before .before .pre .0), (c .before .arity .ensures .1)), (omega (arith, (c .before .before .before .before .pre .1)), omega (arith, (c .before .arity .ensures .1))))
 
 lists·call-returns : (t : ℕ) → lists·call-lts.Need-returns (
   returned-reads.Asked,
@@ -3357,7 +2820,7 @@ lists·call-returns : (t : ℕ) → lists·call-lts.Need-returns (
   lists·several-below t,
   lists·several.Post,
 ) (lists·call-at t) lists·call.Post
-lists·call-returns t c = call-done _ _ _ _ _ _ _ (c .before .before .before .before .before .returned .ensures) (c .before .before .before .before .arity .ensures) (c .before .before .several .ensures)
+lists·call-returns t c = call-done _ _ _ _ (c .before .before .before .returned .ensures) (c .before .before .arity .ensures) (c .several .ensures)
 
 lists·case-of-named-word-requires : (t : ℕ) → lists·case-of-lts.Need-named-word-requires (
   named-word-reads.Asked,
@@ -3393,7 +2856,7 @@ lists·case-of-expect-requires : (t : ℕ) → lists·case-of-lts.Need-expect-re
   lists·branches-below t,
   lists·branches.Post,
 ) (lists·case-of-at t) lists·case-of.Post
-lists·case-of-expect-requires t c κs = (omega (arith, (c .before .before .before .before .before .before .before .before .pre .0)), omega (arith, (c .before .before .before .before .before .before .before .before .pre .1)))
+lists·case-of-expect-requires t c κs = (omega (arith, (c .before .before .before .pre .0)), omega (arith, (c .before .before .before .pre .1)))
 
 lists·case-of-enum-known-x : (t : ℕ) → lists·case-of-lts.Need-enum-known-x (
   named-word-reads.Asked,
@@ -3431,24 +2894,6 @@ lists·case-of-enum-told : (t : ℕ) → lists·case-of-lts.Need-enum-told (
 ) (lists·case-of-at t) lists·case-of.Post
 lists·case-of-enum-told t c = (c .match .keys2)
 
-lists·case-of-same-length : (t : ℕ) → lists·case-of-lts.Need-same-length (
-  named-word-reads.Asked,
-  named-word-reads.Learnt,
-  exprs·expect-below t,
-  exprs·expect.Post,
-  frame-line-reads.Asked,
-  frame-line-reads.Learnt,
-  result-type-reads.Asked,
-  result-type-reads.Learnt,
-  moved-reads.Asked,
-  moved-reads.Learnt,
-  constructors-reads.Asked,
-  constructors-reads.Learnt,
-  lists·branches-below t,
-  lists·branches.Post,
-) (lists·case-of-at t) lists·case-of.Post
-lists·case-of-same-length t c = (c .before .before .before .before .expect .kept .1 .1 .1 .1 .1 .0)
-
 lists·case-of-returns : (t : ℕ) → lists·case-of-lts.Need-returns (
   named-word-reads.Asked,
   named-word-reads.Learnt,
@@ -3465,7 +2910,7 @@ lists·case-of-returns : (t : ℕ) → lists·case-of-lts.Need-returns (
   lists·branches-below t,
   lists·branches.Post,
 ) (lists·case-of-at t) lists·case-of.Post
-lists·case-of-returns t c = case-wrong _ _ _ _ _ _ _ (c .before .before .before .before .before .before .named-word .ensures) (c .before .before .before .before .expect .ensures) (c .enum-told .given .1)
+lists·case-of-returns t c = case-wrong _ _ _ _ (c .before .before .before .before .named-word .ensures) (c .before .before .expect .ensures) (c .enum-told .given .1)
 
 lists·case-of-frame-line-requires : (t : ℕ) → lists·case-of-lts.Need-frame-line-requires (
   named-word-reads.Asked,
@@ -3539,24 +2984,6 @@ lists·case-of-enum-told-2 : (t : ℕ) → lists·case-of-lts.Need-enum-told-2 (
 ) (lists·case-of-at t) lists·case-of.Post
 lists·case-of-enum-told-2 t c = (c .match2 .keys2)
 
-lists·case-of-same-length-2 : (t : ℕ) → lists·case-of-lts.Need-same-length-2 (
-  named-word-reads.Asked,
-  named-word-reads.Learnt,
-  exprs·expect-below t,
-  exprs·expect.Post,
-  frame-line-reads.Asked,
-  frame-line-reads.Learnt,
-  result-type-reads.Asked,
-  result-type-reads.Learnt,
-  moved-reads.Asked,
-  moved-reads.Learnt,
-  constructors-reads.Asked,
-  constructors-reads.Learnt,
-  lists·branches-below t,
-  lists·branches.Post,
-) (lists·case-of-at t) lists·case-of.Post
-lists·case-of-same-length-2 t c = (c .before .before .before .before .before .before .before .before .before .before .expect .kept .1 .1 .1 .1 .1 .0)
-
 lists·case-of-returns-2 : (t : ℕ) → lists·case-of-lts.Need-returns-2 (
   named-word-reads.Asked,
   named-word-reads.Learnt,
@@ -3573,7 +3000,7 @@ lists·case-of-returns-2 : (t : ℕ) → lists·case-of-lts.Need-returns-2 (
   lists·branches-below t,
   lists·branches.Post,
 ) (lists·case-of-at t) lists·case-of.Post
-lists·case-of-returns-2 t c = case-none _ _ _ _ _ _ _ (c .before .before .before .before .before .before .before .before .before .before .before .before .named-word .ensures) (c .before .before .before .before .before .before .before .before .before .before .expect .ensures) (c .before .before .before .before .before .before .x .given .1) (c .before .before .before .before .frame-line .ensures) (c .before .before .result-type .ensures) (c .enum-told2 .given .1)
+lists·case-of-returns-2 t c = case-none _ _ _ _ (c .before .before .before .before .before .before .before .before .before .before .named-word .ensures) (c .before .before .before .before .before .before .before .before .expect .ensures) (c .before .before .before .before .before .before .x .given .1) (c .before .before .before .before .frame-line .ensures) (c .before .before .result-type .ensures) (c .enum-told2 .given .1)
 
 lists·case-of-moved-requires : (t : ℕ) → lists·case-of-lts.Need-moved-requires (
   named-word-reads.Asked,
@@ -3627,25 +3054,7 @@ lists·case-of-branches-requires : (t : ℕ) → lists·case-of-lts.Need-branche
   lists·branches-below t,
   lists·branches.Post,
 ) (lists·case-of-at t) lists·case-of.Post
-lists·case-of-branches-requires t c κs = (omega (arith, (c .before .before .before .before .before .before .before .before .before .before .before .before .before .before .before .before .before .before .before .before .before .before .before .before .pre .0), (c .before .constructors .ensures .1), same-levels (c .before .before .moved .ensures)), (omega (arith, (c .before .before .before .before .before .before .before .before .before .before .before .before .before .before .before .before .before .before .before .before .before .before .before .before .pre .1), same-levels (c .before .before .moved .ensures), same-variables (c .before .before .moved .ensures)), omega (arith, (c .before .constructors .ensures .1))))
-
-lists·case-of-same-length-3 : (t : ℕ) → lists·case-of-lts.Need-same-length-3 (
-  named-word-reads.Asked,
-  named-word-reads.Learnt,
-  exprs·expect-below t,
-  exprs·expect.Post,
-  frame-line-reads.Asked,
-  frame-line-reads.Learnt,
-  result-type-reads.Asked,
-  result-type-reads.Learnt,
-  moved-reads.Asked,
-  moved-reads.Learnt,
-  constructors-reads.Asked,
-  constructors-reads.Learnt,
-  lists·branches-below t,
-  lists·branches.Post,
-) (lists·case-of-at t) lists·case-of.Post
-lists·case-of-same-length-3 t c = (c .before .before .branches .kept .1 .1 .1 .1 .1 .0) ∙ (c .before .before .before .before .before .before .before .before .before .before .before .before .before .before .before .before .before .before .expect .kept .1 .1 .1 .1 .1 .0)
+lists·case-of-branches-requires t c κs = (omega (arith, (c .before .before .before .before .before .before .before .before .before .before .before .before .before .before .before .before .before .pre .0), (c .before .constructors .ensures .1), same-levels (c .before .before .moved .ensures)), (omega (arith, (c .before .before .before .before .before .before .before .before .before .before .before .before .before .before .before .before .before .pre .1), same-levels (c .before .before .moved .ensures), same-variables (c .before .before .moved .ensures)), omega (arith, (c .before .constructors .ensures .1))))
 
 lists·case-of-returns-3 : (t : ℕ) → lists·case-of-lts.Need-returns-3 (
   named-word-reads.Asked,
@@ -3663,7 +3072,7 @@ lists·case-of-returns-3 : (t : ℕ) → lists·case-of-lts.Need-returns-3 (
   lists·branches-below t,
   lists·branches.Post,
 ) (lists·case-of-at t) lists·case-of.Post
-lists·case-of-returns-3 t c = case-done _ _ _ _ _ _ _ (c .before .before .before .before .before .before .before .before .before .before .before .before .before .before .before .before .before .before .before .before .named-word .ensures) (c .before .before .before .before .before .before .before .before .before .before .before .before .before .before .before .before .before .before .expect .ensures) (c .before .before .before .before .before .before .before .before .before .before .before .before .before .before .x .given .1) (c .before .before .before .before .before .before .before .before .before .before .before .before .frame-line .ensures) (c .before .before .before .before .before .before .before .before .before .before .result-type .ensures) (c .before .before .before .before .before .before .before .before .y .given .1) (c .before .before .before .before .constructors .ensures) (at-branches (c .before .before .before .before .before .moved .ensures) (c .before .before .branches .ensures))
+lists·case-of-returns-3 t c = case-done _ _ _ _ (c .before .before .before .before .before .before .before .before .before .before .before .before .before .before .before .before .named-word .ensures) (c .before .before .before .before .before .before .before .before .before .before .before .before .before .before .expect .ensures) (c .before .before .before .before .before .before .before .before .before .before .before .before .x .given .1) (c .before .before .before .before .before .before .before .before .before .before .frame-line .ensures) (c .before .before .before .before .before .before .before .before .result-type .ensures) (c .before .before .before .before .before .before .y .given .1) (c .before .before .constructors .ensures) (at-branches (c .before .before .before .moved .ensures) (c .branches .ensures))
 
 lists·make-named-word-requires : (t : ℕ) → lists·make-lts.Need-named-word-requires (
   named-word-reads.Asked,
@@ -3693,17 +3102,7 @@ lists·make-several-requires : (t : ℕ) → lists·make-lts.Need-several-requir
   lists·several-below t,
   lists·several.Post,
 ) (lists·make-at t) lists·make.Post
-lists·make-several-requires t c κs = (omega (arith, (c .before .before .before .before .before .before .before .before .before .pre .0), (c .before .fields .ensures .1)), (omega (arith, (c .before .before .before .before .before .before .before .before .before .pre .1)), omega (arith, (c .before .fields .ensures .1))))
-
-lists·make-same-length : (t : ℕ) → lists·make-lts.Need-same-length (
-  named-word-reads.Asked,
-  named-word-reads.Learnt,
-  fields-reads.Asked,
-  fields-reads.Learnt,
-  lists·several-below t,
-  lists·several.Post,
-) (lists·make-at t) lists·make.Post
-lists·make-same-length t c = (c .before .before .several .kept .1 .1 .1 .1 .1 .0)
+lists·make-several-requires t c κs = (omega (arith, (c .before .before .before .before .pre .0), (c .before .fields .ensures .1)), (omega (arith, (c .before .before .before .before .pre .1)), omega (arith, (c .before .fields .ensures .1))))
 
 lists·make-returns : (t : ℕ) → lists·make-lts.Need-returns (
   named-word-reads.Asked,
@@ -3713,7 +3112,7 @@ lists·make-returns : (t : ℕ) → lists·make-lts.Need-returns (
   lists·several-below t,
   lists·several.Post,
 ) (lists·make-at t) lists·make.Post
-lists·make-returns t c = con-done _ _ _ _ _ _ _ (c .before .before .before .before .before .named-word .ensures) (c .before .before .before .before .fields .ensures) (c .before .before .several .ensures)
+lists·make-returns t c = con-done _ _ _ _ (c .before .before .before .named-word .ensures) (c .before .before .fields .ensures) (c .several .ensures)
 
 lists·several-answer-requires : (t : ℕ) → lists·several-lts.Need-answer-requires (
   answer-reads.Asked,
@@ -3741,7 +3140,7 @@ lists·several-returns : (t : ℕ) → lists·several-lts.Need-returns (
   lists·several-below t,
   lists·several.Post,
 ) (lists·several-at t) lists·several.Post
-lists·several-returns t c = several-none _ _ _ _ _ _ _ _ (c .before .before .if1 .taken) (c .answer .ensures)
+lists·several-returns t c = several-none _ _ _ _ _ (c .before .before .if1 .taken) (c .answer .ensures)
 
 lists·several-wanted-requires : (t : ℕ) → lists·several-lts.Need-wanted-requires (
   answer-reads.Asked,
@@ -3769,7 +3168,7 @@ lists·several-expect-requires : (t : ℕ) → lists·several-lts.Need-expect-re
   lists·several-below t,
   lists·several.Post,
 ) (lists·several-at t) lists·several.Post
-lists·several-expect-requires t c κs = (omega (arith, (c .before .before .before .before .before .before .before .before .before .pre .0), (c .before .before .if1 .left)), (c .before .before .before .before .before .before .before .before .before .pre .1 .0))
+lists·several-expect-requires t c κs = (omega (arith, (c .before .before .before .before .pre .0), (c .before .before .if1 .left)), (c .before .before .before .before .pre .1 .0))
 
 lists·several-enum-known-x : (t : ℕ) → lists·several-lts.Need-enum-known-x (
   answer-reads.Asked,
@@ -3799,20 +3198,6 @@ lists·several-enum-told : (t : ℕ) → lists·several-lts.Need-enum-told (
 ) (lists·several-at t) lists·several.Post
 lists·several-enum-told t c = (c .match .keys2)
 
-lists·several-same-length : (t : ℕ) → lists·several-lts.Need-same-length (
-  answer-reads.Asked,
-  answer-reads.Learnt,
-  wanted-reads.Asked,
-  wanted-reads.Learnt,
-  exprs·expect-below t,
-  exprs·expect.Post,
-  moved-reads.Asked,
-  moved-reads.Learnt,
-  lists·several-below t,
-  lists·several.Post,
-) (lists·several-at t) lists·several.Post
-lists·several-same-length t c = (c .before .before .before .before .expect .kept .1 .1 .1 .1 .1 .0)
-
 lists·several-returns-2 : (t : ℕ) → lists·several-lts.Need-returns-2 (
   answer-reads.Asked,
   answer-reads.Learnt,
@@ -3825,7 +3210,7 @@ lists·several-returns-2 : (t : ℕ) → lists·several-lts.Need-returns-2 (
   lists·several-below t,
   lists·several.Post,
 ) (lists·several-at t) lists·several.Post
-lists·several-returns-2 t c = several-wrong _ _ _ _ _ _ _ _ (c .before .before .before .before .before .before .before .if1 .left) (c .before .before .before .before .before .before .wanted .ensures) (c .before .before .before .before .expect .ensures) (c .enum-told .given .1)
+lists·several-returns-2 t c = several-wrong _ _ _ _ _ (c .before .before .before .before .before .if1 .left) (c .before .before .before .before .wanted .ensures) (c .before .before .expect .ensures) (c .enum-told .given .1)
 
 lists·several-moved-requires : (t : ℕ) → lists·several-lts.Need-moved-requires (
   answer-reads.Asked,
@@ -3841,7 +3226,7 @@ lists·several-moved-requires : (t : ℕ) → lists·several-lts.Need-moved-requ
 ) (lists·several-at t) lists·several.Post
 lists·several-moved-requires t c κs = tt
 
-lists·several-add-t23 : (t : ℕ) → lists·several-lts.Need-add-t23 (
+lists·several-add-t19 : (t : ℕ) → lists·several-lts.Need-add-t19 (
   answer-reads.Asked,
   answer-reads.Learnt,
   wanted-reads.Asked,
@@ -3853,9 +3238,9 @@ lists·several-add-t23 : (t : ℕ) → lists·several-lts.Need-add-t23 (
   lists·several-below t,
   lists·several.Post,
 ) (lists·several-at t) lists·several.Post
-lists·several-add-t23 t c = omega (arith, (c .before .before .before .before .before .before .before .before .before .before .before .before .before .before .before .before .before .pre .1 .1), (c .before .before .before .before .before .before .before .before .before .before .if1 .left))
+lists·several-add-t19 t c = omega (arith, (c .before .before .before .before .before .before .before .before .before .before .pre .1 .1), (c .before .before .before .before .before .before .before .before .if1 .left))
 
-lists·several-sub-t24 : (t : ℕ) → lists·several-lts.Need-sub-t24 (
+lists·several-sub-t20 : (t : ℕ) → lists·several-lts.Need-sub-t20 (
   answer-reads.Asked,
   answer-reads.Learnt,
   wanted-reads.Asked,
@@ -3867,7 +3252,7 @@ lists·several-sub-t24 : (t : ℕ) → lists·several-lts.Need-sub-t24 (
   lists·several-below t,
   lists·several.Post,
 ) (lists·several-at t) lists·several.Post
-lists·several-sub-t24 t c = pos-of-ne-zero (c .before .before .before .before .before .before .before .before .before .before .if1 .left)
+lists·several-sub-t20 t c = pos-of-ne-zero (c .before .before .before .before .before .before .before .before .if1 .left)
 
 lists·several-several-requires : (t : ℕ) → lists·several-lts.Need-several-requires (
   answer-reads.Asked,
@@ -3881,21 +3266,7 @@ lists·several-several-requires : (t : ℕ) → lists·several-lts.Need-several-
   lists·several-below t,
   lists·several.Post,
 ) (lists·several-at t) lists·several.Post
-lists·several-several-requires t c κs = (omega (arith, (c .before .before .before .before .before .before .before .before .before .before .before .before .before .before .before .before .before .before .pre .0), (c .before .before .before .before .before .before .before .before .before .before .before .if1 .left), same-levels (c .before .moved .ensures)), (omega (arith, (c .before .before .before .before .before .before .before .before .before .before .before .before .before .before .before .before .before .before .pre .1 .0), same-levels (c .before .moved .ensures), same-variables (c .before .moved .ensures)), omega (arith, (c .before .before .before .before .before .before .before .before .before .before .before .before .before .before .before .before .before .before .pre .1 .1), (c .before .before .before .before .before .before .before .before .before .before .before .if1 .left))))
-
-lists·several-same-length-2 : (t : ℕ) → lists·several-lts.Need-same-length-2 (
-  answer-reads.Asked,
-  answer-reads.Learnt,
-  wanted-reads.Asked,
-  wanted-reads.Learnt,
-  exprs·expect-below t,
-  exprs·expect.Post,
-  moved-reads.Asked,
-  moved-reads.Learnt,
-  lists·several-below t,
-  lists·several.Post,
-) (lists·several-at t) lists·several.Post
-lists·several-same-length-2 t c = (c .before .before .several .kept .1 .1 .1 .1 .1 .0) ∙ (c .before .before .before .before .before .before .before .before .before .before .before .expect .kept .1 .1 .1 .1 .1 .0)
+lists·several-several-requires t c κs = (omega (arith, (c .before .before .before .before .before .before .before .before .before .before .before .pre .0), (c .before .before .before .before .before .before .before .before .before .if1 .left), same-levels (c .before .moved .ensures)), (omega (arith, (c .before .before .before .before .before .before .before .before .before .before .before .pre .1 .0), same-levels (c .before .moved .ensures), same-variables (c .before .moved .ensures)), omega (arith, (c .before .before .before .before .before .before .before .before .before .before .before .pre .1 .1), (c .before .before .before .before .before .before .before .before .before .if1 .left))))
 
 lists·several-returns-3 : (t : ℕ) → lists·several-lts.Need-returns-3 (
   answer-reads.Asked,
@@ -3909,7 +3280,7 @@ lists·several-returns-3 : (t : ℕ) → lists·several-lts.Need-returns-3 (
   lists·several-below t,
   lists·several.Post,
 ) (lists·several-at t) lists·several.Post
-lists·several-returns-3 t c = several-more _ _ _ _ _ _ _ _ (c .before .before .before .before .before .before .before .before .before .before .before .before .before .before .if1 .left) (c .before .before .before .before .before .before .before .before .before .before .before .before .before .wanted .ensures) (c .before .before .before .before .before .before .before .before .before .before .before .expect .ensures) (c .before .before .before .before .before .before .before .x .given .1) (at-several (c .before .before .before .before .moved .ensures) (c .before .before .several .ensures))
+lists·several-returns-3 t c = several-more _ _ _ _ _ (c .before .before .before .before .before .before .before .before .before .before .if1 .left) (c .before .before .before .before .before .before .before .before .before .wanted .ensures) (c .before .before .before .before .before .before .before .expect .ensures) (c .before .before .before .before .before .x .given .1) (at-several (c .before .before .moved .ensures) (c .several .ensures))
 
 pub +exprs·adjust+exprs·binding+exprs·choice+exprs·expect+exprs·expr+exprs·fit+exprs·operation+lists·branches+lists·call+lists·case-of+lists·make+lists·several-spec :
     {M : Type 1} → statement M
@@ -3948,11 +3319,8 @@ pub +exprs·adjust+exprs·binding+exprs·choice+exprs·expect+exprs·expr+exprs�
     (exprs·adjust-expr-requires t)
     (exprs·adjust-enum-known-x t)
     (exprs·adjust-enum-told-2 t)
-    (exprs·adjust-same-length t)
     (exprs·adjust-returns-2 t)
-    (exprs·adjust-same-length-2 t)
     (exprs·adjust-returns-3 t)
-    (exprs·adjust-same-length-3 t)
     (exprs·adjust-returns-4 t))
     (λ t. exprs·binding-lts.spec (
       exprs·expr-below t,
@@ -3967,13 +3335,11 @@ pub +exprs·adjust+exprs·binding+exprs·choice+exprs·expect+exprs·expr+exprs�
     (exprs·binding-expr-requires t)
     (exprs·binding-enum-known-x t)
     (exprs·binding-enum-told t)
-    (exprs·binding-same-length t)
     (exprs·binding-returns t)
     (exprs·binding-cast-put t)
     (exprs·binding-put-requires t)
     (exprs·binding-widened-requires t)
     (exprs·binding-expr-requires-2 t)
-    (exprs·binding-same-length-2 t)
     (exprs·binding-returns-2 t))
     (λ t. exprs·choice-lts.spec (
       exprs·expect-below t,
@@ -3988,17 +3354,14 @@ pub +exprs·adjust+exprs·binding+exprs·choice+exprs·expect+exprs·expr+exprs�
     (exprs·choice-expect-requires t)
     (exprs·choice-enum-known-x t)
     (exprs·choice-enum-told t)
-    (exprs·choice-same-length t)
     (exprs·choice-returns t)
     (exprs·choice-moved-requires t)
     (exprs·choice-expr-requires t)
     (exprs·choice-enum-known-y t)
     (exprs·choice-enum-told-2 t)
-    (exprs·choice-same-length-2 t)
     (exprs·choice-returns-2 t)
     (exprs·choice-moved-requires-2 t)
     (exprs·choice-expect-requires-2 t)
-    (exprs·choice-same-length-3 t)
     (exprs·choice-returns-3 t))
     (λ t. exprs·expect-lts.spec
     (exprs·expr-below t, exprs·expr.Post)
@@ -4007,11 +3370,8 @@ pub +exprs·adjust+exprs·binding+exprs·choice+exprs·expect+exprs·expr+exprs�
     (exprs·expect-expr-requires t)
     (exprs·expect-enum-known-x t)
     (exprs·expect-enum-told t)
-    (exprs·expect-same-length t)
     (exprs·expect-returns t)
-    (exprs·expect-same-length-2 t)
     (exprs·expect-returns-2 t)
-    (exprs·expect-same-length-3 t)
     (exprs·expect-returns-3 t))
     (λ t. exprs·expr-lts.spec (
       frame-line-reads.Asked,
@@ -4080,25 +3440,16 @@ pub +exprs·adjust+exprs·binding+exprs·choice+exprs·expect+exprs·expr+exprs�
     (exprs·expr-enum-told-7 t)
     (exprs·expr-returns-2 t)
     (exprs·expr-returns-3 t)
-    (exprs·expr-same-length t)
     (exprs·expr-returns-4 t)
     (exprs·expr-returns-5 t)
     (exprs·expr-returns-6 t)
-    (exprs·expr-same-length-2 t)
     (exprs·expr-returns-7 t)
-    (exprs·expr-same-length-3 t)
     (exprs·expr-returns-8 t)
-    (exprs·expr-same-length-4 t)
     (exprs·expr-returns-9 t)
-    (exprs·expr-same-length-5 t)
     (exprs·expr-returns-10 t)
-    (exprs·expr-same-length-6 t)
     (exprs·expr-returns-11 t)
-    (exprs·expr-same-length-7 t)
     (exprs·expr-returns-12 t)
-    (exprs·expr-same-length-8 t)
     (exprs·expr-returns-13 t)
-    (exprs·expr-same-length-9 t)
     (exprs·expr-returns-14 t)
     (exprs·expr-returns-15 t))
     (λ t. exprs·fit-lts.spec (
@@ -4118,9 +3469,7 @@ pub +exprs·adjust+exprs·binding+exprs·choice+exprs·expect+exprs·expr+exprs�
     (exprs·fit-expr-requires t)
     (exprs·fit-enum-known-x t)
     (exprs·fit-enum-told t)
-    (exprs·fit-same-length t)
     (exprs·fit-returns t)
-    (exprs·fit-same-length-2 t)
     (exprs·fit-returns-2 t)
     (exprs·fit-cast-put t)
     (exprs·fit-put-requires t)
@@ -4128,11 +3477,9 @@ pub +exprs·adjust+exprs·binding+exprs·choice+exprs·expect+exprs·expr+exprs�
     (exprs·fit-expr-requires-2 t)
     (exprs·fit-enum-known-y t)
     (exprs·fit-enum-told-2 t)
-    (exprs·fit-same-length-3 t)
     (exprs·fit-returns-3 t)
     (exprs·fit-moved-requires t)
     (exprs·fit-expect-requires t)
-    (exprs·fit-same-length-4 t)
     (exprs·fit-returns-4 t))
     (λ t. exprs·operation-lts.spec (
       operand-reads.Asked,
@@ -4152,17 +3499,14 @@ pub +exprs·adjust+exprs·binding+exprs·choice+exprs·expect+exprs·expr+exprs�
     (exprs·operation-expect-requires t)
     (exprs·operation-enum-known-x t)
     (exprs·operation-enum-told t)
-    (exprs·operation-same-length t)
     (exprs·operation-returns t)
     (exprs·operation-moved-requires t)
     (exprs·operation-expect-requires-2 t)
     (exprs·operation-enum-known-y t)
     (exprs·operation-enum-told-2 t)
-    (exprs·operation-same-length-2 t)
     (exprs·operation-returns-2 t)
     (exprs·operation-outcome-requires t)
     (exprs·operation-answer-requires t)
-    (exprs·operation-same-length-3 t)
     (exprs·operation-returns-3 t))
     (λ t. lists·branches-lts.spec (
       answer-reads.Asked,
@@ -4190,13 +3534,11 @@ pub +exprs·adjust+exprs·binding+exprs·choice+exprs·expect+exprs·expr+exprs�
     (lists·branches-expect-requires t)
     (lists·branches-enum-known-x t)
     (lists·branches-enum-told t)
-    (lists·branches-same-length t)
     (lists·branches-returns-2 t)
     (lists·branches-moved-requires t)
-    (lists·branches-add-t29 t)
-    (lists·branches-sub-t30 t)
+    (lists·branches-add-t24 t)
+    (lists·branches-sub-t25 t)
     (lists·branches-branches-requires t)
-    (lists·branches-same-length-2 t)
     (lists·branches-returns-3 t))
     (λ t. lists·call-lts.spec (
       returned-reads.Asked,
@@ -4211,7 +3553,6 @@ pub +exprs·adjust+exprs·binding+exprs·choice+exprs·expect+exprs·expr+exprs�
     (lists·call-returned-requires t)
     (lists·call-arity-requires t)
     (lists·call-several-requires t)
-    (lists·call-same-length t)
     (lists·call-returns t))
     (λ t. lists·case-of-lts.spec (
       named-word-reads.Asked,
@@ -4235,18 +3576,15 @@ pub +exprs·adjust+exprs·binding+exprs·choice+exprs·expect+exprs·expr+exprs�
     (lists·case-of-expect-requires t)
     (lists·case-of-enum-known-x t)
     (lists·case-of-enum-told t)
-    (lists·case-of-same-length t)
     (lists·case-of-returns t)
     (lists·case-of-frame-line-requires t)
     (lists·case-of-result-type-requires t)
     (lists·case-of-enum-known-y t)
     (lists·case-of-enum-told-2 t)
-    (lists·case-of-same-length-2 t)
     (lists·case-of-returns-2 t)
     (lists·case-of-moved-requires t)
     (lists·case-of-constructors-requires t)
     (lists·case-of-branches-requires t)
-    (lists·case-of-same-length-3 t)
     (lists·case-of-returns-3 t))
     (λ t. lists·make-lts.spec (
       named-word-reads.Asked,
@@ -4261,7 +3599,6 @@ pub +exprs·adjust+exprs·binding+exprs·choice+exprs·expect+exprs·expr+exprs�
     (lists·make-named-word-requires t)
     (lists·make-fields-requires t)
     (lists·make-several-requires t)
-    (lists·make-same-length t)
     (lists·make-returns t))
     λ t. lists·several-lts.spec (
       answer-reads.Asked,
@@ -4283,11 +3620,9 @@ pub +exprs·adjust+exprs·binding+exprs·choice+exprs·expect+exprs·expr+exprs�
     (lists·several-expect-requires t)
     (lists·several-enum-known-x t)
     (lists·several-enum-told t)
-    (lists·several-same-length t)
     (lists·several-returns-2 t)
     (lists·several-moved-requires t)
-    (lists·several-add-t23 t)
-    (lists·several-sub-t24 t)
+    (lists·several-add-t19 t)
+    (lists·several-sub-t20 t)
     (lists·several-several-requires t)
-    (lists·several-same-length-2 t)
     (lists·several-returns-3 t)

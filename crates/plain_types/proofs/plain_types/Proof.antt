@@ -7,16 +7,16 @@ use Rattle.plain_types.proofs.plain_types.Statement.{statement}
 use Rattle.plain_types.proofs.plain_types.Tie as tie
 
 abbrev Inv-loop : tie.InvT-loop
-Inv-loop text frames types functions channels counts most i₀ i = (i ≤ most) × AgreeBefore text frames types functions channels counts i
+Inv-loop text index most i₀ i = (i ≤ most) × AgreeBefore text index i
 
 abbrev μ-loop : tie.MeasureT-loop
-μ-loop text frames types functions channels counts most i₀ i = most - i
+μ-loop text index most i₀ i = most - i
 
 cast-most : tie.Need-cast-most Inv-loop μ-loop
 cast-most c = omega arith
 
 loop-holds : tie.Need-loop-holds Inv-loop μ-loop
-loop-holds c = (omega arith, before-none _ _ _ _ _ _)
+loop-holds c = (omega arith, before-none _ _)
 
 frame-agrees-requires : tie.Need-frame-agrees-requires Inv-loop μ-loop
 frame-agrees-requires c κs = tt
@@ -28,7 +28,7 @@ add-result : tie.Need-add-result Inv-loop μ-loop
 add-result c = omega (arith, (c .line-of .ensures))
 
 returns : tie.Need-returns Inv-loop μ-loop
-returns c = judged-refused _ _ _ _ _ _ (c .before .before .before .before .loop .inv .1) (c .before .before .frame-agrees .ensures) (not-true _ (c .before .if1 .taken)) (c .line-of .ensures)
+returns c = judged-refused _ _ (c .before .before .before .before .loop .inv .1) (c .before .before .frame-agrees .ensures) (not-true _ (c .before .if1 .taken)) (c .line-of .ensures)
 
 add-i : tie.Need-add-i Inv-loop μ-loop
 add-i c = omega arith
@@ -37,10 +37,10 @@ loop-less : tie.Need-loop-less Inv-loop μ-loop
 loop-less c = omega arith
 
 loop-again : tie.Need-loop-again Inv-loop μ-loop
-loop-again c = (omega arith, before-more _ _ _ _ _ _ (c .before .before .before .loop .inv .1) (c .before .frame-agrees .ensures) (not-false _ (c .if1 .left)))
+loop-again c = (omega arith, before-more _ _ (c .before .before .before .loop .inv .1) (c .before .frame-agrees .ensures) (not-false _ (c .if1 .left)))
 
 returns-2 : tie.Need-returns-2 Inv-loop μ-loop
-returns-2 c = judged-all _ _ _ _ _ _ (c .loop-test .left) (c .before .loop .inv .1)
+returns-2 c = judged-all _ _ (c .loop-test .left) (c .before .loop .inv .1)
 
 pub plain-types-spec : {M : Type 1} → statement M
 plain-types-spec =

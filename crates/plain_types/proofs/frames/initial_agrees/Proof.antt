@@ -1,21 +1,12 @@
 -- An initial value is of an allowed form and of the declared type.
 use native.Mathlib.Omega.{arith}
-use borrow.Author.Needs.{needs}
 use Rattle.plain_types.specs.FrameLaws.{initial-unfit, initial-fits}
+use borrow.Author.Needs.{needs}
 use Rattle.plain_types.proofs.frames.initial_agrees.Statement.{statement}
 use Rattle.plain_types.proofs.frames.initial_agrees.Tie as tie
 
-mul-word-at : tie.Need-mul-word-at
-mul-word-at c = omega arith
-
-add-word-at : tie.Need-add-word-at
-add-word-at c = omega arith
-
-word-at-requires : tie.Need-word-at-requires
-word-at-requires c κs = tt
-
-cast-t15 : tie.Need-cast-t15
-cast-t15 c = omega arith
+initial-start-requires : tie.Need-initial-start-requires
+initial-start-requires c κs = tt
 
 line-of-requires : tie.Need-line-of-requires
 line-of-requires c κs = tt
@@ -33,22 +24,19 @@ enum-told-2 : tie.Need-enum-told-2
 enum-told-2 c = search needs
 
 returns : tie.Need-returns
-returns c = initial-unfit _ _ _ _ _ _ _ _ (c .before .before .before .before .before .word-at .ensures) (c .before .before .before .before .line-of .ensures) (c .before .before .before .frame-line .ensures) (c .before .before .initial .ensures) (c .enum-told2 .given .1)
+returns c = initial-unfit _ _ _ _ (c .before .before .before .before .before .initial-start .ensures) (c .before .before .before .before .line-of .ensures) (c .before .before .before .frame-line .ensures) (c .before .before .initial .ensures) (c .enum-told2 .given .1)
 
 value-agrees-requires : tie.Need-value-agrees-requires
 value-agrees-requires c κs = omega arith
 
 returns-2 : tie.Need-returns-2
-returns-2 c = initial-fits _ _ _ _ _ _ _ _ (c .before .before .before .before .before .before .word-at .ensures) (c .before .before .before .before .before .line-of .ensures) (c .before .before .before .before .frame-line .ensures) (c .before .before .before .initial .ensures) (c .before .enum-told .given .1) (c .value-agrees .ensures)
+returns-2 c = initial-fits _ _ _ _ (c .before .before .before .before .before .before .initial-start .ensures) (c .before .before .before .before .before .line-of .ensures) (c .before .before .before .before .frame-line .ensures) (c .before .before .before .initial .ensures) (c .before .enum-told .given .1) (c .value-agrees .ensures)
 
 pub initial-agrees-spec : {M : Type 1} → statement M
 initial-agrees-spec =
     tie.close
     (tie.spec
-    mul-word-at
-    add-word-at
-    word-at-requires
-    cast-t15
+    initial-start-requires
     line-of-requires
     frame-line-requires
     initial-requires

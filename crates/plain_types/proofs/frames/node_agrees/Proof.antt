@@ -9,19 +9,10 @@ initial-agrees-requires : tie.Need-initial-agrees-requires
 initial-agrees-requires c κs = tt
 
 returns : tie.Need-returns
-returns c = node-unfit _ _ _ _ _ _ _ _ (c .before .initial-agrees .ensures) (not-true _ (c .if1 .taken))
+returns c = node-unfit _ _ _ _ (c .before .initial-agrees .ensures) (not-true _ (c .if1 .taken))
 
-mul-word-at : tie.Need-mul-word-at
-mul-word-at c = omega arith
-
-add-word-at : tie.Need-add-word-at
-add-word-at c = omega arith
-
-word-at-requires : tie.Need-word-at-requires
-word-at-requires c κs = tt
-
-cast-t15 : tie.Need-cast-t15
-cast-t15 c = omega arith
+update-start-requires : tie.Need-update-start-requires
+update-start-requires c κs = tt
 
 line-of-requires : tie.Need-line-of-requires
 line-of-requires c κs = tt
@@ -30,7 +21,7 @@ value-agrees-requires : tie.Need-value-agrees-requires
 value-agrees-requires c κs = omega arith
 
 returns-2 : tie.Need-returns-2
-returns-2 c = node-fits _ _ _ _ _ _ _ _ (c .before .before .before .before .initial-agrees .ensures) (not-false _ (c .before .before .before .if1 .left)) (c .before .before .word-at .ensures) (c .before .line-of .ensures) (c .value-agrees .ensures)
+returns-2 c = node-fits _ _ _ _ (c .before .before .before .before .initial-agrees .ensures) (not-false _ (c .before .before .before .if1 .left)) (c .before .before .update-start .ensures) (c .before .line-of .ensures) (c .value-agrees .ensures)
 
 pub node-agrees-spec : {M : Type 1} → statement M
 node-agrees-spec =
@@ -38,10 +29,7 @@ node-agrees-spec =
     (tie.spec
     initial-agrees-requires
     returns
-    mul-word-at
-    add-word-at
-    word-at-requires
-    cast-t15
+    update-start-requires
     line-of-requires
     value-agrees-requires
     returns-2)

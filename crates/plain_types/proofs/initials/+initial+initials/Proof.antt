@@ -13,7 +13,7 @@ use Rattle.plain_types.proofs.initials.initials.Reads as initials
 use Rattle.plain_types.proofs.initials.initials.Kinds as initials-kinds
 use Rattle.plain_types.proofs.initials.+initial+initials.Lts-initials as initials-lts
 use Rattle.heads.proofs.head_at.Reads as head-at-reads
-use Rattle.index.proofs.fields.Reads as fields-reads
+use Rattle.index.proofs.types.fields.Reads as fields-reads
 use Rattle.text.proofs.Cursor.size.Reads as size-reads
 use Rattle.plain_types.proofs.words.answer.Reads as answer-reads
 use Rattle.plain_types.proofs.initials.+initial+initials.{statement}
@@ -196,7 +196,7 @@ initial-initials-requires : (t : ℕ) → initial-lts.Need-initials-requires (
   initial-below t,
   initial.Post,
 ) (initial-at t) initial.Post
-initial-initials-requires t c κs = (omega (arith, (c .before .before .before .before .before .before .before .before .before .pre .0), (c .before .before .before .before .before .before .if1 .left), (c .fields .ensures .1)), tt)
+initial-initials-requires t c κs = (omega (arith, (c .before .before .before .before .before .before .before .before .pre .0), (c .before .before .before .before .before .before .if1 .left), (c .fields .ensures .1)), tt)
 
 initial-enum-told-3 : (t : ℕ) → initial-lts.Need-enum-told-3 (
   head-at-reads.Asked,
@@ -308,7 +308,7 @@ initial-initial-requires : (t : ℕ) → initial-lts.Need-initial-requires (
   initial-below t,
   initial.Post,
 ) (initial-at t) initial.Post
-initial-initial-requires t c κs = (omega (arith, (c .before .before .before .before .before .before .before .before .before .before .before .pre .0), (c .before .before .before .before .before .before .before .before .if1 .left)), tt)
+initial-initial-requires t c κs = (omega (arith, (c .before .before .before .before .before .before .before .before .before .before .pre .0), (c .before .before .before .before .before .before .before .before .if1 .left)), tt)
 
 initial-enum-told-5 : (t : ℕ) → initial-lts.Need-enum-told-5 (
   head-at-reads.Asked,
@@ -722,7 +722,7 @@ initials-initial-requires : (t : ℕ) → initials-lts.Need-initial-requires (
   initials-below t,
   initials.Post,
 ) (initials-at t) initials.Post
-initials-initial-requires t c κs = (omega (arith, (c .before .before .before .pre .0), (c .if1 .left)), tt)
+initials-initial-requires t c κs = (omega (arith, (c .before .before .pre .0), (c .if1 .left)), tt)
 
 initials-enum-known-x : (t : ℕ) → initials-lts.Need-enum-known-x (
   answer-reads.Asked,
@@ -772,7 +772,7 @@ initials-initials-requires : (t : ℕ) → initials-lts.Need-initials-requires (
   initials-below t,
   initials.Post,
 ) (initials-at t) initials.Post
-initials-initials-requires t c κs = (omega (arith, (c .before .before .before .before .before .before .before .before .pre .0), (c .before .before .before .before .before .if1 .left)), tt)
+initials-initials-requires t c κs = (omega (arith, (c .before .before .before .before .before .before .before .pre .0), (c .before .before .before .before .before .if1 .left)), tt)
 
 initials-returns-3 : (t : ℕ) → initials-lts.Need-returns-3 (
   answer-reads.Asked,

@@ -3,18 +3,18 @@ use Prim.Native.Nat.{_-_, _≤_}
 use mathlib.Core.Path.{_≡_}
 use native.Mathlib.Omega.{arith}
 use Rattle.plain_types.specs.Words.{entered}
-use Rattle.plain_types.specs.EnterLaws.{entered-none, entered-more, entered-long, entered-all}
+use Rattle.plain_types.specs.EnterLaws.{entered-none, entered-more, entered-all}
 use Rattle.plain_types.proofs.words.enter.Statement.{statement}
 use Rattle.plain_types.proofs.words.enter.Tie as tie
 
 abbrev Inv-loop : tie.InvT-loop
-Inv-loop types functions scope₀ want to n i₀ scope i = (i ≤ n) × (scope ≡ entered types functions want scope₀ to i)
+Inv-loop index scope₀ want to n i₀ scope i = (i ≤ n) × (scope ≡ entered index want scope₀ to i)
 
 abbrev μ-loop : tie.MeasureT-loop
-μ-loop types functions scope₀ want to n i₀ scope i = n - i
+μ-loop index scope₀ want to n i₀ scope i = n - i
 
 loop-holds : tie.Need-loop-holds Inv-loop μ-loop
-loop-holds c = (omega arith, entered-none _ _ _ _ _)
+loop-holds c = (omega arith, entered-none _ _ _ _)
 
 wanted-requires : tie.Need-wanted-requires Inv-loop μ-loop
 wanted-requires c κs = tt
@@ -35,13 +35,10 @@ loop-less : tie.Need-loop-less Inv-loop μ-loop
 loop-less c = omega arith
 
 loop-again : tie.Need-loop-again Inv-loop μ-loop
-loop-again c = (omega arith, entered-more _ _ _ _ _ _ (c .before .before .before .before .before .before .loop .inv .1) (c .before .before .before .before .wanted .ensures) (c .before .before .put .ensures))
-
-same-length : tie.Need-same-length Inv-loop μ-loop
-same-length c = entered-long _ _ _ _ _ _ (c .before .loop .inv .1)
+loop-again c = (omega arith, entered-more _ _ _ _ _ (c .before .before .before .before .loop .inv .1) (c .before .before .wanted .ensures) (c .put .ensures))
 
 returns : tie.Need-returns Inv-loop μ-loop
-returns c = entered-all _ _ _ _ _ (c .before .loop .inv) (c .loop-test .left)
+returns c = entered-all _ _ _ _ (c .before .loop .inv) (c .loop-test .left)
 
 pub enter-spec : {M : Type 1} → statement M
 enter-spec =
@@ -57,5 +54,4 @@ enter-spec =
     add-i
     loop-less
     loop-again
-    same-length
     returns)

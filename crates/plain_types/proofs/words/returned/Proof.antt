@@ -1,7 +1,6 @@
--- The result type of a function is the one spelled in its line at the place that the table tells.
-use native.Mathlib.Omega.{arith}
+-- The result type of a function is the one spelled in its line at the place that the index tells.
+use Rattle.plain_types.specs.ReadLaws.{returned-none, returned-is}
 use borrow.Author.Needs.{needs}
-use Rattle.plain_types.specs.ReadLaws.{at-word, returned-none, returned-is}
 use Rattle.plain_types.proofs.words.returned.Statement.{statement}
 use Rattle.plain_types.proofs.words.returned.Tie as tie
 
@@ -11,17 +10,8 @@ line-of-requires c κs = tt
 frame-line-requires : tie.Need-frame-line-requires
 frame-line-requires c κs = tt
 
-mul-word-at : tie.Need-mul-word-at
-mul-word-at c = omega arith
-
-add-word-at : tie.Need-add-word-at
-add-word-at c = omega arith
-
-word-at-requires : tie.Need-word-at-requires
-word-at-requires c κs = tt
-
-cast-at : tie.Need-cast-at
-cast-at c = omega arith
+result-start-requires : tie.Need-result-start-requires
+result-start-requires c κs = tt
 
 result-type-requires : tie.Need-result-type-requires
 result-type-requires c κs = tt
@@ -33,10 +23,10 @@ enum-told : tie.Need-enum-told
 enum-told c = search needs
 
 returns : tie.Need-returns
-returns c = returned-none _ _ _ _ _ (c .before .before .before .before .before .line-of .ensures) (c .before .before .before .before .frame-line .ensures) (at-word (c .before .before .before .word-at .ensures) (c .before .before .result-type .ensures)) (c .enum-told .given .1)
+returns c = returned-none _ _ _ (c .before .before .before .before .before .line-of .ensures) (c .before .before .before .before .frame-line .ensures) (c .before .before .before .result-start .ensures) (c .before .before .result-type .ensures) (c .enum-told .given .1)
 
 returns-2 : tie.Need-returns-2
-returns-2 c = returned-is _ _ _ _ _ (c .before .before .before .before .before .before .line-of .ensures) (c .before .before .before .before .before .frame-line .ensures) (at-word (c .before .before .before .before .word-at .ensures) (c .before .before .before .result-type .ensures)) (c .before .x .given .1)
+returns-2 c = returned-is _ _ _ (c .before .before .before .before .before .before .line-of .ensures) (c .before .before .before .before .before .frame-line .ensures) (c .before .before .before .before .result-start .ensures) (c .before .before .before .result-type .ensures) (c .before .x .given .1)
 
 pub returned-spec : {M : Type 1} → statement M
 returned-spec =
@@ -44,10 +34,7 @@ returned-spec =
     (tie.spec
     line-of-requires
     frame-line-requires
-    mul-word-at
-    add-word-at
-    word-at-requires
-    cast-at
+    result-start-requires
     result-type-requires
     enum-known-x
     enum-told
