@@ -62,15 +62,11 @@ extern "C" {
  *   15, 16, 17  heap, environment or stack needed is above the board's
  *   18  the board is over its maximum, or the list is too short
  *
- * The reader answers 1 to 8, the checker all of them. Of several the first in this order is answered, but 18 follows 9. */
+ * The reader answers 1 to 8, the checker all of them. Of several the first in this order is answered, but 18 follows 9.
+ *
+ * The bounds are the cells, slots and calls that a board needs at most, whatever the inputs. They stop at 65,535, and are 0
+ * where the file is refused, except with 15 to 17, and in all answers of the reader. */
 struct paugmeln_answer {
-    uint32_t number;
-    uint32_t frame;
-};
-
-/* An answer with the cells, slots and calls that a board needs at most, whatever the inputs. They stop at 65,535, and
- * are 0 where the file is refused, except with 15 to 17. */
-struct paugmeln_verdict {
     uint32_t number;
     uint32_t frame;
     uint32_t heap;
@@ -89,8 +85,8 @@ struct paugmeln_answer paugmeln_read(const uint8_t *text, size_t length);
  * of entry, and its rest is 0; on refusal it is 0 in its whole length, however short. One record in use may be 0
  * throughout: that of function 0 without sizes, where its three numbers are 0. At the end of the list it looks like an
  * unused one. */
-struct paugmeln_verdict paugmeln_check(const uint8_t *text, size_t length, uint32_t cells, uint32_t slots, uint32_t calls,
-                                       uint32_t *list, size_t words);
+struct paugmeln_answer paugmeln_check(const uint8_t *text, size_t length, uint32_t cells, uint32_t slots, uint32_t calls,
+                                      uint32_t *list, size_t words);
 
 #ifdef __cplusplus
 }

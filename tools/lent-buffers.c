@@ -39,7 +39,7 @@ static uint8_t *fenced_text(const char *text, size_t length)
     return memcpy(fenced(length), text, length);
 }
 
-static struct paugmeln_verdict check(const uint8_t *text, size_t length, uint32_t *list, size_t words)
+static struct paugmeln_answer check(const uint8_t *text, size_t length, uint32_t *list, size_t words)
 {
     return paugmeln_check(text, length, PAUGMELN_CELLS_MOST, PAUGMELN_SLOTS_MOST, PAUGMELN_CALLS_MOST, list, words);
 }
@@ -57,7 +57,7 @@ static void try_empty_text(const uint8_t *text, const char *where)
     uint32_t *list = malloc(PAUGMELN_LIST_WORDS * sizeof *list);
     struct paugmeln_answer read = paugmeln_read(text, 0);
     expect(read.number == 3 && read.frame == 1, where);
-    struct paugmeln_verdict checked = check(text, 0, list, PAUGMELN_LIST_WORDS);
+    struct paugmeln_answer checked = check(text, 0, list, PAUGMELN_LIST_WORDS);
     expect(checked.number == 3 && checked.frame == 1, where);
     expect(is_zero(list, PAUGMELN_LIST_WORDS), "the list is zero after a refusal");
     free(list);

@@ -14,19 +14,19 @@
 /* Exit statuses. */
 enum { ACCEPTED = 0, REFUSED = 1, NO_ANSWER = 2 };
 
-/* What one check is lent, and its verdict. The text has room for one character too many, so that a file that is too long
+/* What one check is lent, and its answer. The text has room for one character too many, so that a file that is too long
  * is seen to be. */
 struct checking {
     uint8_t text[PAUGMELN_TEXT_MOST + 1];
     size_t length;
     uint32_t list[PAUGMELN_LIST_WORDS];
-    struct paugmeln_verdict verdict;
+    struct paugmeln_answer answer;
 };
 
 static void *check(void *lent)
 {
     struct checking *of = lent;
-    of->verdict = paugmeln_check(of->text, of->length, PAUGMELN_CELLS_MOST, PAUGMELN_SLOTS_MOST, PAUGMELN_CALLS_MOST,
+    of->answer = paugmeln_check(of->text, of->length, PAUGMELN_CELLS_MOST, PAUGMELN_SLOTS_MOST, PAUGMELN_CALLS_MOST,
                                  of->list, PAUGMELN_LIST_WORDS);
     return NULL;
 }
@@ -46,7 +46,7 @@ static int check_on_deep_stack(struct checking *of)
     return failed ? failed : pthread_join(thread, NULL);
 }
 
-static void print_verdict(const struct paugmeln_verdict *v)
+static void print_answer(const struct paugmeln_answer *v)
 {
     if (v->number == 0)
         printf("ACCEPT %u %u %u\n", v->heap, v->environment, v->stack);
@@ -103,10 +103,10 @@ int main(void)
     failed = check_on_deep_stack(&of);
     if (failed)
         return no_answer("no thread with a deep stack", failed);
-    print_verdict(&of.verdict);
+    print_answer(&of.answer);
     failed = write_out();
     if (failed)
         return no_answer("standard output", failed);
     print_instances(of.list);
-    return of.verdict.number == 0 ? ACCEPTED : REFUSED;
+    return of.answer.number == 0 ? ACCEPTED : REFUSED;
 }

@@ -15,7 +15,6 @@ use Rattle.language.specs.Machine.{judged, checkFile}
 use Rattle.theory.specs.PlainTyping.{WellPlain}
 use Rattle.theory.specs.PlainTypesAgree.{well-plain}
 use Rattle.theory.specs.PlainFileSizes.{well-plain-refusals}
-use Rattle.index.specs.declared.Counts.{Counts}
 use Rattle.estimate.specs.declared.Estimate.{Estimate as HeldNumbers}
 use Rattle.estimate.specs.Stands.{Stands}
 use Rattle.plain_types.specs.Verdicts.{verdict, JudgesAll}
@@ -28,7 +27,7 @@ use Rattle.size_checker.specs.Promises.{lent}
 use Rattle.size_checker.specs.FilePromises.{AgreesFile, file-agrees, file-refused, file-beyond, SizesFile}
 use Rattle.checker.specs.declared.Board.{Board}
 use Rattle.checker.specs.declared.Answer.{Answer}
-use Rattle.checker.specs.Checks.{numbersOf, Checks, refusalOf, sizingRefusal, ReadHeld, FewChannels, Lends, Needs, Judges}
+use Rattle.checker.specs.Checks.{numbersOf, Checks, refusalOf, sizingRefusal, ReadHeld, Lends, Needs, Judges}
 use Rattle.checker.specs.VerdictLaws.{list-room}
 use Rattle.checker.specs.Outcomes.{lends, sizesOf, outcome, refused, not-enough, enough-lent}
 
@@ -39,14 +38,11 @@ record Agreed (text : List ℕ) (b : Board) (list : List ℕ) (P : File) (list�
   numbers : Stands (k .numbers) (updatesNumbers (sizes .updates))
   holds : Holds P list₁ (k .used) (sizes .list)
 
-module _ {text frames types functions channels : List ℕ} {n : Counts} (z : ReadHeld text frames types functions channels n) where
-  pub few-channels : FewChannels n
-  few-channels = let w = z .held .indexed .within in let c = z .held .counted in record { few = omega (arith, w .fewInputs, w .fewNodes, c .inputCount, c .nodeCount) }
-
-  module _ (b : Board) (list : List ℕ) {frame : ℕ} (v : JudgesAll text frames types functions channels n frame) where
+module _ {text index : List ℕ} (z : ReadHeld text index) where
+  module _ (b : Board) (list : List ℕ) {frame : ℕ} (v : JudgesAll text index frame) where
     after-reading : outcome text b list ≡ verdict frame (need (lends b list) 18 0 (sizesOf (z .file)))
     unfolding checkFile bind
-    after-reading = ap (λ u. bind u (λ Q. plainTypes Q (need (lends b list) 18 0 (sizesOf Q)))) (z .held .indexed .read) ∙ plain-types-verdict v (z .held .indexed) (z .held .counted) (need (lends b list) 18 0 (sizesOf (z .file)))
+    after-reading = ap (λ u. bind u (λ Q. plainTypes Q (need (lends b list) 18 0 (sizesOf Q)))) (z .indexed .read) ∙ plain-types-verdict v (z .indexed) (need (lends b list) 18 0 (sizesOf (z .file)))
 
     pub types-refused : {r : Answer} {list′ : List ℕ} → (frame ≡ 0 → ⊥) → r ≡ refusalOf 9 frame → list′ ≡ replicate (length list) 0 → Checks text b list r list′
     unfolding verdict
@@ -65,17 +61,17 @@ module _ {text frames types functions channels : List ℕ} {n : Counts} (z : Rea
       unfolding need
       lent-refused e f c = refused text b list (after-types ∙ ap (λ d. need d 18 0 (sizesOf (z .file))) e) f c
 
-      module _ (enough : given ≡ true) {x : Counting} {list₁ : List ℕ} (s : SizesFile (lent text frames types functions) channels list n x list₁) (kept : length list₁ ≡ length list) where
+      module _ (enough : given ≡ true) {x : Counting} {list₁ : List ℕ} (s : SizesFile (lent text index) list x list₁) (kept : length list₁ ≡ length list) where
         after-lent : outcome text b list ≡ sizesOf (z .file)
         unfolding need
         after-lent = after-types ∙ ap (λ d. need d 18 0 (sizesOf (z .file))) enough
 
         agreement : AgreesFile (z .file) list₁ x (sizedFile (z .file))
-        agreement = s .says (z .file) (z .held .indexed) (z .held .counted) (list-room b list (subst (Lends b (length list)) enough l))
+        agreement = s .says (z .file) (z .indexed) (list-room b list (subst (Lends b (length list)) enough l))
 
         well : WellPlain (z .file)
         unfolding verdict
-        well = well-plain (z .file) (ok (z .file)) (plain-types-verdict v (z .held .indexed) (z .held .counted) (ok (z .file)) ∙ ap (λ f. verdict f (ok (z .file))) agree)
+        well = well-plain (z .file) (ok (z .file)) (plain-types-verdict v (z .indexed) (ok (z .file)) ∙ ap (λ f. verdict f (ok (z .file))) agree)
 
         -- 6 and 9 were judged before
         not-before : {m f : ℕ} {A : Type 0} → sizedFile (z .file) ≡ no m f → Before m → A
@@ -107,9 +103,9 @@ module _ {text frames types functions channels : List ℕ} {n : Counts} (z : Rea
             go y q (file-refused d) = absurd (let u = sym d ∙ e in let c : _≡_ {A = ℕ} 0 1 = cc in omega arith)
             go y q (file-beyond w) = not-before q w
 
-        module _ {k : CountedFile} (e : x ≡ Are k) {y : HeldNumbers} (u : Needs types channels n (k .numbers) y) {r : Answer} (j : Judges b y r) where
+        module _ {k : CountedFile} (e : x ≡ Are k) {y : HeldNumbers} (u : Needs index (k .numbers) y) {r : Answer} (j : Judges b y r) where
           numbers-are : numbersOf y ≡ stopped (numbersNeeded (z .file) (agreed e .sizes .updates))
-          numbers-are = u .says (z .file) (z .held .indexed .within) (z .held .typesAre) (z .held .channelsAre) (z .held .counted) (agreed e .sizes .updates) (agreed e .numbers)
+          numbers-are = u .says (z .file) (z .indexed .within) (z .sections) (z .indexed .counted) (agreed e .sizes .updates) (agreed e .numbers)
 
           pub board-refused : {list′ : List ℕ} → (r .number ≡ 0 → ⊥) → list′ ≡ replicate (length list₁) 0 → Checks text b list r list′
           board-refused some c = not-enough text b list (agreed e .is) numbers-are j some (c ∙ ap (λ m. replicate m 0) kept)

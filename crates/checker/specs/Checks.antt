@@ -1,10 +1,9 @@
 -- What checking a text promises: the answer of the machine's `check`, and its list in words.
-use Prim.Native.Nat.{ℕ, _+_, _≤_, _/_}
+use Prim.Native.Nat.{ℕ, _/_}
 use mathlib.Core.List.{List}
 use mathlib.Core.Bool.{Bool}
 use mathlib.Core.Path.{_≡_}
 use lib.ListN.{length, replicate}
-use Rattle.language.specs.Limits.{channelsMost}
 use Rattle.language.specs.Syntax.{File}
 use Rattle.language.specs.Format.{spellAll}
 use Rattle.language.specs.Layout.{padded}
@@ -12,8 +11,8 @@ use Rattle.language.specs.Within.{Within}
 use Rattle.language.specs.Estimate.{Estimate as Exact, stopped}
 use Rattle.language.specs.Cells.{updatesNumbers, numbersNeeded}
 use Rattle.language.specs.Machine.{Board as MachineBoard, Answer as MachineAnswer, Record, emptyRecord, answer, judge, listLent, check}
-use Rattle.index.specs.Tables.{typeTable, channelTable}
-use Rattle.index.specs.declared.Counts.{Counts}
+use Rattle.index.specs.Sections.{countsIn}
+use Rattle.index.specs.Whole.{FileSections}
 use Rattle.reader.specs.declared.Reading.{Reading}
 use Rattle.reader.specs.declared.Reading.the-variants.{Done, Fault}
 use Rattle.estimate.specs.declared.Estimate.{Estimate as Held}
@@ -56,35 +55,26 @@ refusalOf n frame = record { number = n; frame = frame; heap = 0; environment = 
 abbrev pub boundsOf : ℕ → Held → Answer
 boundsOf n x = record { number = n; frame = 0; heap = x .heap; environment = x .env; stack = x .stack }
 
-unfoldable pub readingRefusal : Reading → Answer
-readingRefusal (Done n) = refusalOf 0 0
-readingRefusal (Fault n frame) = refusalOf n frame
+unfoldable pub readAnswer : Reading → Answer
+readAnswer Done = refusalOf 0 0
+readAnswer (Fault n frame) = refusalOf n frame
 
 unfoldable pub sizingRefusal : Counting → Answer
 sizingRefusal (Are k) = refusalOf 0 0
 sizingRefusal (Refused n frame) = refusalOf n frame
 
--- ---- a text that was read, and its tables
-pub record HeldFile (text frames types functions channels : List ℕ) (n : Counts) (P : File) : Type 0 where
-  pub indexed : Indexed text frames types functions channels P
-  pub counted : Counted n P
-  pub typesAre : types ≡ typeTable (P .types)
-  pub channelsAre : channels ≡ channelTable (P .inputs) (P .nodes)
-
-pub record ReadHeld (text frames types functions channels : List ℕ) (n : Counts) : Type 0 where
+-- ---- a text that was read, and its index
+pub record ReadHeld (text index : List ℕ) : Type 0 where
   pub file : File
-  pub held : HeldFile text frames types functions channels n file
-
-pub record FewChannels (n : Counts) : Type 0 where
-  pub few : n .inputs + n .nodes ≤ channelsMost
+  pub indexed : Indexed text index file
+  pub sections : FileSections index file
 
 -- ---- the parts
 pub record Lends (b : Board) (words : ℕ) (r : Bool) : Type 0 where
   pub is : r ≡ listLent (boardOf b) (recordsOf words)
 
-pub record Needs (types channels : List ℕ) (n : Counts) (updates r : Held) : Type 0 where
-  pub says : (P : File) → Within P → types ≡ typeTable (P .types) → channels ≡ channelTable (P .inputs) (P .nodes) → Counted n P →
-      (xs : List Exact) → Stands updates (updatesNumbers xs) → numbersOf r ≡ stopped (numbersNeeded P xs)
+pub record Needs (index : List ℕ) (updates r : Held) : Type 0 where
+  pub says : (P : File) → Within P → FileSections index P → Counted (countsIn index) P → (xs : List Exact) → Stands updates (updatesNumbers xs) → numbersOf r ≡ stopped (numbersNeeded P xs)
 
 pub record Judges (b : Board) (x : Held) (r : Answer) : Type 0 where
   pub is : said r ≡ answer (judge (boardOf b) (numbersOf x))

@@ -8,8 +8,9 @@ use Rattle.language.specs.Syntax.{Input, Node, File, declaredTypes}
 use Rattle.language.specs.Within.{Within}
 use Rattle.language.specs.Estimate.{Estimate as Exact, stop, stopped}
 use Rattle.language.specs.Cells.{channelCells, inputCells, updatesNumbers, numbersNeeded}
-use Rattle.index.specs.Tables.{typeTable, channelTable}
 use Rattle.index.specs.declared.Counts.{Counts}
+use Rattle.index.specs.Sections.{countsIn}
+use Rattle.index.specs.Whole.{FileSections}
 use Rattle.estimate.specs.declared.Estimate.{Estimate as Held}
 use Rattle.estimate.specs.Stands.{Stands}
 use Rattle.index.specs.Indexed.{Counted}
@@ -26,18 +27,18 @@ channel-count P = omega (
   length-map (P .nodes) (λ (n : Node). n .declared),
 )
 
-module _ {types channels table table₁ table₂ : List ℕ} {n : Counts} {u : Held} {all inputs cells heap : ℕ} (size : ℕ) where
-  pub needs-all : table ≡ replicate size 0 → CountsChannels types channels table (n .inputs + n .nodes) all table₁ → CountsChannels types channels table₁ (n .inputs) inputs table₂ →
-      cells ≡ stop (all + inputs) → heap ≡ stop (cells + u .heap) → Needs types channels n u (record { env = u .env; heap = heap; stack = u .stack })
+module _ {index table table₁ table₂ : List ℕ} {n : Counts} {u : Held} {all inputs cells heap : ℕ} (size : ℕ) (counts : n ≡ countsIn index) where
+  pub needs-all : table ≡ replicate size 0 → CountsChannels index table (n .inputs + n .nodes) all table₁ → CountsChannels index table₁ (n .inputs) inputs table₂ → cells ≡ stop (all + inputs) → heap ≡ stop (cells + u .heap) →
+      Needs index u (record { env = u .env; heap = heap; stack = u .stack })
   unfolding numbersNeeded
   needs-all zeros v w e f = record { says = so }
     where
-      so : (P : File) → Within P → types ≡ typeTable (P .types) → channels ≡ channelTable (P .inputs) (P .nodes) → Counted n P → (xs : List Exact) → Stands u (updatesNumbers xs) →
-          numbersOf (record { env = u .env; heap = heap; stack = u .stack }) ≡ stopped (numbersNeeded P xs)
-      so P within ts cs c xs s =
-          let right : Right types table P = subst (λ t. Right types t P) (sym zeros) (right-nothing size within ts) in
-          let one = all-channels-counted v P right cs (omega (arith, c .inputCount, c .nodeCount)) in
-          let next : Right types table₁ P = v .right P right (record { are = cs; few = omega (arith, channel-count P, c .inputCount, c .nodeCount) }) in
-          let two = inputs-counted w P next cs (sym (c .inputCount)) in
+      so : (P : File) → Within P → FileSections index P → Counted (countsIn index) P → (xs : List Exact) → Stands u (updatesNumbers xs) → numbersOf (record { env = u .env; heap = heap; stack = u .stack }) ≡ stopped (numbersNeeded P xs)
+      so P within is k xs s =
+          let c : Counted n P = subst (λ m. Counted m P) (sym counts) k in
+          let right : Right index table P = subst (λ t. Right index t P) (sym zeros) (right-nothing size within (is .types)) in
+          let one = all-channels-counted v P right (is .channels) (omega (arith, c .inputCount, c .nodeCount)) in
+          let next : Right index table₁ P = v .right P right (record { are = is .channels; few = omega (arith, channel-count P, c .inputCount, c .nodeCount) }) in
+          let two = inputs-counted w P next (is .channels) (sym (c .inputCount)) in
           let sum : heap ≡ stop (channelCells P + inputCells P + updatesNumbers xs .heap) = omega (arith, one, two, e, f, s .heap) in
           λ i. record { env = s .env i; heap = sum i; stack = s .stack i }

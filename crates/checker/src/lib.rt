@@ -1,11 +1,12 @@
 // The checker of rule files: refusals 1 to 18, the three bounds, and the list of instances.
 ghost use mathlib.Core.Path.{_≡_};
-ghost use Rattle.checker.specs.Checks.{refusalOf, boundsOf, readingRefusal, sizingRefusal, ReadHeld, FewChannels, Lends, Needs, Judges, Checks};
+ghost use Rattle.checker.specs.Checks.{refusalOf, boundsOf, readAnswer, sizingRefusal, ReadHeld, Lends, Needs, Judges, Checks};
 use cells::CELLS_TABLE;
 use cells::channels_cells;
 use estimate::Estimate;
 use estimate::capped_sum;
-use index::Counts;
+use index::INDEX_WORDS;
+use index::frame_counts;
 use instances::INSTANCE_WORDS;
 use instances::clear;
 use language::limits::CALLS_MOST;
@@ -13,11 +14,7 @@ use language::limits::CELLS_MOST;
 use language::limits::INSTANCES_MOST;
 use language::limits::SLOTS_MOST;
 use plain_types::plain_types;
-use reader::CHANNEL_TABLE;
-use reader::FRAME_TABLE;
-use reader::FUNCTION_TABLE;
 use reader::Reading;
-use reader::TYPE_TABLE;
 use reader::read;
 use size_checker::Counting;
 use size_checker::file::sized_file;
@@ -33,6 +30,7 @@ pub struct Board {
 }
 
 // A number (0 where all is well), a frame (from 1; 0 where none is named) and three bounds.
+#[repr(C)]
 pub struct Answer {
     pub number: u32,
     pub frame: u32,
@@ -67,12 +65,12 @@ fn bounds(number: u32, x: Estimate) -> Answer
     }
 }
 
-// The refusal of a text that was not read.
-fn reading_refusal(x: Reading) -> Answer
-    ensures { λ r. ⌜ r ≡ readingRefusal x ⌝ }
+// The answer for a text as far as refusal 8: its refusal, or 0 where it was read.
+pub fn read_answer(x: Reading) -> Answer
+    ensures { λ r. ⌜ r ≡ readAnswer x ⌝ }
 {
     match x {
-        Reading::Done(_) => refusal(0, 0),
+        Reading::Done => refusal(0, 0),
         Reading::Fault(n, f) => refusal(n, f),
     }
 }
@@ -104,13 +102,13 @@ fn lent(b: Board, words: usize) -> bool
 }
 
 // The numbers that a file needs: to the heap numbers of its updates come the cells of all channels and those of the inputs again.
-fn needed(types: &[u32], channels: &[u32], counts: Counts, updates: Estimate) -> Estimate
-    requires { ⌜ FewChannels counts ⌝ }
-    ensures { λ r. ⌜ Needs (now (types .entry)) (now (channels .entry)) counts updates r ⌝ }
+fn needed(index: &[u32; INDEX_WORDS], updates: Estimate) -> Estimate
+    ensures { λ r. ⌜ Needs (now (index .entry)) updates r ⌝ }
 {
+    let n = frame_counts(index);
     let mut table = [0u32; CELLS_TABLE];
-    let all = channels_cells(types, channels, &mut table, counts.inputs + counts.nodes);
-    let inputs = channels_cells(types, channels, &mut table, counts.inputs);
+    let all = channels_cells(index, &mut table, n.inputs + n.nodes);
+    let inputs = channels_cells(index, &mut table, n.inputs);
     let channel_cells = capped_sum(all, inputs);
     let heap = capped_sum(channel_cells, updates.heap);
     Estimate {
@@ -139,18 +137,14 @@ fn judge(b: Board, x: Estimate) -> Answer
 // Checks a file that was read: plain types, what is lent, sizes, and what the board has.
 fn check_read(
     text: &[u8],
-    frames: &[u32],
-    types: &[u32],
-    functions: &[u32],
-    channels: &[u32],
-    counts: Counts,
+    index: &[u32; INDEX_WORDS],
     b: Board,
     list: &mut [u32],
 ) -> Answer
-    requires { ⌜ ReadHeld (now text) (now frames) (now types) (now functions) (now channels) counts ⌝ }
+    requires { ⌜ ReadHeld (now text) (now index) ⌝ }
     ensures { λ r. ⌜ Checks (now (text .entry)) b (now (list .entry)) r (now (list .exit)) ⌝ }
 {
-    let frame = plain_types(text, frames, types, functions, channels, counts);
+    let frame = plain_types(text, index);
     if frame != 0 {
         clear(list);
         return refusal(9, frame);
@@ -159,12 +153,12 @@ fn check_read(
         clear(list);
         return refusal(18, 0);
     }
-    let x = sized_file(text, frames, types, functions, channels, list, counts);
+    let x = sized_file(text, index, list);
     let Counting::Are(k) = x else {
         clear(list);
         return sizing_refusal(x);
     };
-    let r = judge(b, needed(types, channels, counts, k.numbers));
+    let r = judge(b, needed(index, k.numbers));
     if r.number != 0 {
         clear(list);
     }
@@ -176,23 +170,11 @@ fn check_read(
 pub fn check(text: &[u8], b: Board, list: &mut [u32]) -> Answer
     ensures { λ r. ⌜ Checks (now (text .entry)) b (now (list .entry)) r (now (list .exit)) ⌝ }
 {
-    let mut frames = [0u32; FRAME_TABLE];
-    let mut types = [0u32; TYPE_TABLE];
-    let mut functions = [0u32; FUNCTION_TABLE];
-    let mut channels = [0u32; CHANNEL_TABLE];
-    let x = read(text, &mut frames, &mut types, &mut functions, &mut channels);
-    let Reading::Done(counts) = x else {
+    let mut index = [0u32; INDEX_WORDS];
+    let x = read(text, &mut index);
+    let Reading::Done = x else {
         clear(list);
-        return reading_refusal(x);
+        return read_answer(x);
     };
-    check_read(
-        text,
-        &frames,
-        &types,
-        &functions,
-        &channels,
-        counts,
-        b,
-        list,
-    )
+    check_read(text, &index, b, list)
 }

@@ -2,6 +2,8 @@
 
 use std::thread;
 
+use crate::Answer;
+
 /// The real stack that is lent for any file. The checker may go 1,024 bodies deep, each nested 32, so the need is set
 /// by measurement: `tools/measure-checking` prints what the deepest files use, and this is to stay above twice the most
 /// of them. Pages that are not touched cost nothing.
@@ -15,18 +17,6 @@ pub struct Board {
     pub calls: u32,
 }
 
-/// A number (0 where the file is accepted), a frame (0 where none is named) and heap, environment and stack needed,
-/// which are 0 except on acceptance and in 15 to 17.
-#[repr(C)]
-#[derive(Clone, Copy, Debug, PartialEq, Eq)]
-pub struct Verdict {
-    pub number: u32,
-    pub frame: u32,
-    pub heap: u32,
-    pub environment: u32,
-    pub stack: u32,
-}
-
 extern "C" {
     fn paugmeln_check(
         text: *const u8,
@@ -36,7 +26,7 @@ extern "C" {
         calls: u32,
         list: *mut u32,
         words: usize,
-    ) -> Verdict;
+    ) -> Answer;
 }
 
 /// Checks a rule file against a board, on a thread of its own whose stack is large enough for any file.
@@ -47,14 +37,14 @@ extern "C" {
 /// # Panics
 ///
 /// Where the system has no room for the thread.
-pub fn check(text: &[u8], board: Board, list: &mut [u32]) -> Verdict {
+pub fn check(text: &[u8], board: Board, list: &mut [u32]) -> Answer {
     thread::scope(|scope| {
         let deep = thread::Builder::new().stack_size(STACK_NEEDED);
         // SAFETY: the thread has the stack that is asked for, and nothing else runs on it.
         let checking =
             deep.spawn_scoped(scope, || unsafe { check_on_this_stack(text, board, list) });
-        let verdict = checking.expect("room for a deep stack").join();
-        verdict.expect("the checker returns")
+        let answer = checking.expect("room for a deep stack").join();
+        answer.expect("the checker returns")
     })
 }
 
@@ -69,7 +59,7 @@ pub fn check(text: &[u8], board: Board, list: &mut [u32]) -> Verdict {
 /// let board = library::Board { cells: 1, slots: 1, calls: 1 };
 /// library::check_on_this_stack(b"", board, &mut []);
 /// ```
-pub unsafe fn check_on_this_stack(text: &[u8], board: Board, list: &mut [u32]) -> Verdict {
+pub unsafe fn check_on_this_stack(text: &[u8], board: Board, list: &mut [u32]) -> Answer {
     let Board {
         cells,
         slots,

@@ -56,15 +56,15 @@ pub fn lent(board: Board) -> library::Board {
     }
 }
 
-/// A verdict of the library as the answer that it is.
-pub fn answer(verdict: library::Verdict) -> Answer {
+/// An answer of the library as the Rust evaluator has it.
+pub fn answer(of: library::Answer) -> Answer {
     Answer {
-        number: verdict.number,
-        frame: verdict.frame,
+        number: of.number,
+        frame: of.frame,
         bounds: Bounds {
-            heap: verdict.heap,
-            environment: verdict.environment,
-            stack: verdict.stack,
+            heap: of.heap,
+            environment: of.environment,
+            stack: of.stack,
         },
     }
 }

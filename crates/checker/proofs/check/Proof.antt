@@ -17,14 +17,14 @@ enum-told c = search needs
 clear-requires : tie.Need-clear-requires
 clear-requires c κs = tt
 
-reading-refusal-requires : tie.Need-reading-refusal-requires
-reading-refusal-requires c κs = tt
+read-answer-requires : tie.Need-read-answer-requires
+read-answer-requires c κs = tt
 
 same-length : tie.Need-same-length
 same-length c = search needs
 
 returns : tie.Need-returns
-returns c = reading-refused (c .before .before .before .before .before .before .before .read .ensures) (c .before .before .before .before .before .enum-told .given .1) (c .reading-refusal .ensures) (c .before .before .before .clear .ensures)
+returns c = reading-refused (c .before .before .before .before .before .before .before .read .ensures) (c .before .before .before .before .before .enum-told .given .1) (c .read-answer .ensures) (c .before .before .before .clear .ensures)
 
 slice-aggregate-check-read : tie.Need-slice-aggregate-check-read
 slice-aggregate-check-read c = sym (read-long (c .before .before .before .before .read .ensures) .framesLong)
@@ -55,7 +55,7 @@ check-spec =
     enum-known-x
     enum-told
     clear-requires
-    reading-refusal-requires
+    read-answer-requires
     same-length
     returns
     slice-aggregate-check-read

@@ -1,7 +1,7 @@
 -- A return each for refusal 9, 18, 10 to 14, 15 to 17, and acceptance.
 use native.Mathlib.Omega.{arith}
 use borrow.Author.Tests.{not-true, not-false}
-use Rattle.checker.specs.CheckLaws.{types-refused, lent-refused, few-channels, sizes-refused, board-refused, board-accepts}
+use Rattle.checker.specs.CheckLaws.{types-refused, lent-refused, sizes-refused, board-refused, board-accepts}
 use borrow.Author.Needs.{needs}
 use Rattle.checker.proofs.check_read.Statement.{statement}
 use Rattle.checker.proofs.check_read.Tie as tie
@@ -55,10 +55,10 @@ same-length-3 : tie.Need-same-length-3
 same-length-3 c = search needs
 
 returns-3 : tie.Need-returns-3
-returns-3 c = sizes-refused (c .before .before .before .before .before .before .before .before .before .before .before .before .before .before .before .before .before .before .before .before .before .pre) _ _ (c .before .before .before .before .before .before .before .before .before .before .before .before .before .before .plain-types .ensures) (c .before .before .before .before .before .before .before .before .before .before .before .before .before .if1 .left) (c .before .before .before .before .before .before .before .before .before .before .before .before .lent .ensures) (not-false _ (c .before .before .before .before .before .before .before .before .before .before .before .if2 .left)) (c .before .before .before .before .before .before .before .before .before .sized-file .ensures) (c .before .before .before .before .before .before .before .before .before .sized-file .kept .1 .1 .1 .1 .1 .0) (c .before .before .before .before .before .enum-told .given .1) (c .sizing-refusal .ensures) (c .before .before .before .clear3 .ensures)
+returns-3 c = sizes-refused (c .before .before .before .before .before .before .before .before .before .before .before .before .before .before .before .before .before .before .before .before .before .pre) _ _ (c .before .before .before .before .before .before .before .before .before .before .before .before .before .before .plain-types .ensures) (c .before .before .before .before .before .before .before .before .before .before .before .before .before .if1 .left) (c .before .before .before .before .before .before .before .before .before .before .before .before .lent .ensures) (not-false _ (c .before .before .before .before .before .before .before .before .before .before .before .if2 .left)) (c .before .before .before .before .before .before .before .before .before .sized-file .ensures) (c .before .before .before .before .before .before .before .before .before .sized-file .kept .1 .1 .0) (c .before .before .before .before .before .enum-told .given .1) (c .sizing-refusal .ensures) (c .before .before .before .clear3 .ensures)
 
 needed-requires : tie.Need-needed-requires
-needed-requires c κs = few-channels (c .before .before .before .before .before .before .before .before .before .before .before .before .before .before .before .before .before .pre)
+needed-requires c κs = tt
 
 judge-requires : tie.Need-judge-requires
 judge-requires c κs = tt
@@ -70,13 +70,13 @@ same-length-4 : tie.Need-same-length-4
 same-length-4 c = search needs
 
 returns-4 : tie.Need-returns-4
-returns-4 c = board-refused (c .before .before .before .before .before .before .before .before .before .before .before .before .before .before .before .before .before .before .before .before .before .before .before .before .before .pre) _ _ (c .before .before .before .before .before .before .before .before .before .before .before .before .before .before .before .before .before .before .plain-types .ensures) (c .before .before .before .before .before .before .before .before .before .before .before .before .before .before .before .before .before .if1 .left) (c .before .before .before .before .before .before .before .before .before .before .before .before .before .before .before .before .lent .ensures) (not-false _ (c .before .before .before .before .before .before .before .before .before .before .before .before .before .before .before .if2 .left)) (c .before .before .before .before .before .before .before .before .before .before .before .before .before .sized-file .ensures) (c .before .before .before .before .before .before .before .before .before .before .before .before .before .sized-file .kept .1 .1 .1 .1 .1 .0) (c .before .before .before .before .before .before .before .before .before .x .given .1) (c .before .before .before .before .before .before .before .needed .ensures) (c .before .before .before .before .before .before .judge .ensures) (λ z. omega (arith, z, c .before .before .before .before .if3 .taken)) (c .before .before .clear4 .ensures)
+returns-4 c = board-refused (c .before .before .before .before .before .before .before .before .before .before .before .before .before .before .before .before .before .before .before .before .before .before .before .before .before .pre) _ _ (c .before .before .before .before .before .before .before .before .before .before .before .before .before .before .before .before .before .before .plain-types .ensures) (c .before .before .before .before .before .before .before .before .before .before .before .before .before .before .before .before .before .if1 .left) (c .before .before .before .before .before .before .before .before .before .before .before .before .before .before .before .before .lent .ensures) (not-false _ (c .before .before .before .before .before .before .before .before .before .before .before .before .before .before .before .if2 .left)) (c .before .before .before .before .before .before .before .before .before .before .before .before .before .sized-file .ensures) (c .before .before .before .before .before .before .before .before .before .before .before .before .before .sized-file .kept .1 .1 .0) (c .before .before .before .before .before .before .before .before .before .x .given .1) (c .before .before .before .before .before .before .before .needed .ensures) (c .before .before .before .before .before .before .judge .ensures) (λ z. omega (arith, z, c .before .before .before .before .if3 .taken)) (c .before .before .clear4 .ensures)
 
 same-length-5 : tie.Need-same-length-5
 same-length-5 c = search needs
 
 returns-5 : tie.Need-returns-5
-returns-5 c = board-accepts (c .before .before .before .before .before .before .before .before .before .before .before .before .before .before .before .before .before .before .before .before .before .pre) _ _ (c .before .before .before .before .before .before .before .before .before .before .before .before .before .before .plain-types .ensures) (c .before .before .before .before .before .before .before .before .before .before .before .before .before .if1 .left) (c .before .before .before .before .before .before .before .before .before .before .before .before .lent .ensures) (not-false _ (c .before .before .before .before .before .before .before .before .before .before .before .if2 .left)) (c .before .before .before .before .before .before .before .before .before .sized-file .ensures) (c .before .before .before .before .before .before .before .before .before .sized-file .kept .1 .1 .1 .1 .1 .0) (c .before .before .before .before .before .x .given .1) (c .before .before .before .needed .ensures) (c .before .before .judge .ensures) (omega (arith, c .if3 .left))
+returns-5 c = board-accepts (c .before .before .before .before .before .before .before .before .before .before .before .before .before .before .before .before .before .before .before .before .before .pre) _ _ (c .before .before .before .before .before .before .before .before .before .before .before .before .before .before .plain-types .ensures) (c .before .before .before .before .before .before .before .before .before .before .before .before .before .if1 .left) (c .before .before .before .before .before .before .before .before .before .before .before .before .lent .ensures) (not-false _ (c .before .before .before .before .before .before .before .before .before .before .before .if2 .left)) (c .before .before .before .before .before .before .before .before .before .sized-file .ensures) (c .before .before .before .before .before .before .before .before .before .sized-file .kept .1 .1 .0) (c .before .before .before .before .before .x .given .1) (c .before .before .before .needed .ensures) (c .before .before .judge .ensures) (omega (arith, c .if3 .left))
 
 pub check-read-spec : {M : Type 1} → statement M
 check-read-spec =

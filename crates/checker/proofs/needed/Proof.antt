@@ -6,6 +6,9 @@ use borrow.Author.Needs.{needs}
 use Rattle.checker.proofs.needed.Statement.{statement}
 use Rattle.checker.proofs.needed.Tie as tie
 
+frame-counts-requires : tie.Need-frame-counts-requires
+frame-counts-requires c κs = tt
+
 slice-aggregate-channels-cells : tie.Need-slice-aggregate-channels-cells
 slice-aggregate-channels-cells c = search needs
 
@@ -34,6 +37,7 @@ pub needed-spec : {M : Type 1} → statement M
 needed-spec =
     tie.close
     (tie.spec
+    frame-counts-requires
     slice-aggregate-channels-cells
     add-channels-cells
     channels-cells-requires

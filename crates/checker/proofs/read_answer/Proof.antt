@@ -1,8 +1,8 @@
 -- A refusal's number and frame.
-use Rattle.checker.specs.Checks.{readingRefusal}
+use Rattle.checker.specs.Checks.{readAnswer}
 use borrow.Author.Needs.{needs}
-use Rattle.checker.proofs.reading_refusal.Statement.{statement}
-use Rattle.checker.proofs.reading_refusal.Tie as tie
+use Rattle.checker.proofs.read_answer.Statement.{statement}
+use Rattle.checker.proofs.read_answer.Tie as tie
 
 enum-told : tie.Need-enum-told
 enum-told c = search needs
@@ -17,14 +17,14 @@ refusal-requires-2 : tie.Need-refusal-requires-2
 refusal-requires-2 c κs = tt
 
 returns : tie.Need-returns
-unfolding readingRefusal
+unfolding readAnswer
 returns c = rw (c .before .enum-told .given .1) (c .refusal .ensures)
 
 returns-2 : tie.Need-returns-2
-unfolding readingRefusal
+unfolding readAnswer
 returns-2 c = rw (c .before .before .x .given .1) (c .refusal2 .ensures)
 
-pub reading-refusal-spec : {M : Type 1} → statement M
-reading-refusal-spec =
+pub read-answer-spec : {M : Type 1} → statement M
+read-answer-spec =
     tie.close
     (tie.spec enum-told refusal-requires enum-known-x refusal-requires-2 returns returns-2)
