@@ -135,12 +135,7 @@ fn judge(b: Board, x: Estimate) -> Answer
 }
 
 // Checks a file that was read: plain types, what is lent, sizes, and what the board has.
-fn check_read(
-    text: &[u8],
-    index: &[u32; INDEX_WORDS],
-    b: Board,
-    list: &mut [u32],
-) -> Answer
+fn check_read(text: &[u8], index: &[u32; INDEX_WORDS], b: Board, list: &mut [u32]) -> Answer
     requires { ⌜ ReadHeld (now text) (now index) ⌝ }
     ensures { λ r. ⌜ Checks (now (text .entry)) b (now (list .entry)) r (now (list .exit)) ⌝ }
 {

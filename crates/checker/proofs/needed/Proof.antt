@@ -9,17 +9,11 @@ use Rattle.checker.proofs.needed.Tie as tie
 frame-counts-requires : tie.Need-frame-counts-requires
 frame-counts-requires c κs = tt
 
-slice-aggregate-channels-cells : tie.Need-slice-aggregate-channels-cells
-slice-aggregate-channels-cells c = search needs
-
 add-channels-cells : tie.Need-add-channels-cells
 add-channels-cells c = search needs
 
 channels-cells-requires : tie.Need-channels-cells-requires
 channels-cells-requires c κs = tt
-
-slice-aggregate-channels-cells-2 : tie.Need-slice-aggregate-channels-cells-2
-slice-aggregate-channels-cells-2 c = search needs
 
 channels-cells-requires-2 : tie.Need-channels-cells-requires-2
 channels-cells-requires-2 c κs = tt
@@ -31,17 +25,15 @@ capped-sum-requires-2 : tie.Need-capped-sum-requires-2
 capped-sum-requires-2 c κs = tt
 
 returns : tie.Need-returns
-returns c = needs-all tableWords refl (c .before .before .before .before .before .before .channels-cells .ensures) (c .before .before .before .channels-cells2 .ensures) (c .before .capped-sum .ensures) (c .capped-sum2 .ensures)
+returns c = needs-all tableWords (c .before .before .before .before .before .before .before .frame-counts .ensures .0) refl (c .before .before .before .before .channels-cells .ensures) (c .before .before .channels-cells2 .ensures) (c .before .capped-sum .ensures) (c .capped-sum2 .ensures)
 
 pub needed-spec : {M : Type 1} → statement M
 needed-spec =
     tie.close
     (tie.spec
     frame-counts-requires
-    slice-aggregate-channels-cells
     add-channels-cells
     channels-cells-requires
-    slice-aggregate-channels-cells-2
     channels-cells-requires-2
     capped-sum-requires
     capped-sum-requires-2

@@ -3,12 +3,6 @@ use Rattle.expression_reader.specs.FormLaws.{call-none, call-some}
 use borrow.Author.Needs.{needs}
 use Rattle.expression_reader.proofs.call.Statement.{statement}
 use Rattle.expression_reader.proofs.call.Tie as tie
-use Rattle.expression_reader.proofs.call.Reads as reads
-use Rattle.expression_reader.proofs.call.Lts as lts
-use Rattle.index.proofs.functions.arity.Reads as arity-reads
-use Rattle.expression_reader.proofs.opened.Reads as opened-reads
-use Rattle.text.proofs.Cursor.index.Reads as index-reads
-use Rattle.text.proofs.step_of.Reads as step-of-reads
 
 index-requires : tie.Need-index-requires
 index-requires c κs = search needs

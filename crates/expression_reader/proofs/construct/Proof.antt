@@ -3,13 +3,6 @@ use Rattle.expression_reader.specs.FormLaws.{construct-none, construct-n
 use borrow.Author.Needs.{needs}
 use Rattle.expression_reader.proofs.construct.Statement.{statement}
 use Rattle.expression_reader.proofs.construct.Tie as tie
-use Rattle.expression_reader.proofs.construct.Reads as reads
-use Rattle.expression_reader.proofs.construct.Lts as lts
-use Rattle.index.proofs.types.constructors.Reads as constructors-reads
-use Rattle.index.proofs.types.fields.Reads as fields-reads
-use Rattle.expression_reader.proofs.opened.Reads as opened-reads
-use Rattle.text.proofs.Cursor.index.Reads as index-reads
-use Rattle.text.proofs.step_of.Reads as step-of-reads
 
 index-requires : tie.Need-index-requires
 index-requires c κs = search needs

@@ -2,8 +2,6 @@
 use Rattle.expression_reader.specs.ScopeLaws.{wide-variables, wide-sizes, all-levels}
 use Rattle.expression_reader.proofs.levels_in.Statement.{statement}
 use Rattle.expression_reader.proofs.levels_in.Tie as tie
-use Rattle.expression_reader.proofs.levels_in.Reads as reads
-use Rattle.expression_reader.proofs.levels_in.Lts as lts
 
 returns : tie.Need-returns
 returns c = wide-variables (c .before .before .args .s) (c .before .before .args .levels) (c .if1 .taken)

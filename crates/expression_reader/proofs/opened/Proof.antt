@@ -1,8 +1,6 @@
 use borrow.Author.Needs.{needs}
 use Rattle.expression_reader.proofs.opened.Statement.{statement}
 use Rattle.expression_reader.proofs.opened.Tie as tie
-use Rattle.expression_reader.proofs.opened.Reads as reads
-use Rattle.expression_reader.proofs.opened.Lts as lts
 
 enum-known-x : tie.Need-enum-known-x
 enum-known-x c = search needs

@@ -4,27 +4,19 @@ use native.Mathlib.Omega.{arith}
 use borrow.Author.Needs.{needs}
 use Rattle.index.proofs.frame_counts.Statement.{statement}
 use Rattle.index.proofs.frame_counts.Tie as tie
-use Rattle.index.proofs.frame_counts.Reads as reads
-use Rattle.index.proofs.frame_counts.Lts as lts
-use Rattle.index.proofs.section_word.Reads as section-word-reads
 
--- src/lib.rt:123:16
 section-word-requires : tie.Need-section-word-requires
 section-word-requires c κs = search needs
 
--- src/lib.rt:124:20
 section-word-requires-2 : tie.Need-section-word-requires-2
 section-word-requires-2 c κs = search needs
 
--- src/lib.rt:125:17
 section-word-requires-3 : tie.Need-section-word-requires-3
 section-word-requires-3 c κs = search needs
 
--- src/lib.rt:126:16
 section-word-requires-4 : tie.Need-section-word-requires-4
 section-word-requires-4 c κs = search needs
 
--- src/lib.rt:119:1
 returns : tie.Need-returns
 returns c = (
   rw ((c .before .before .before .section-word .ensures), (c .before .before .section-word2 .ensures), (c .before .section-word3 .ensures), (c .section-word4 .ensures)) refl,

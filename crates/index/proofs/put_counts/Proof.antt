@@ -4,31 +4,22 @@ use Rattle.index.specs.SectionLaws.{counts-put}
 use borrow.Author.Needs.{needs}
 use Rattle.index.proofs.put_counts.Statement.{statement}
 use Rattle.index.proofs.put_counts.Tie as tie
-use Rattle.index.proofs.put_counts.Reads as reads
-use Rattle.index.proofs.put_counts.Lts as lts
-use Rattle.index.proofs.put.Reads as put-reads
 
--- src/lib.rt:135:5
 put-requires : tie.Need-put-requires
 put-requires c κs = search needs
 
--- src/lib.rt:136:5
 put-requires-2 : tie.Need-put-requires-2
 put-requires-2 c κs = search needs
 
--- src/lib.rt:137:5
 put-requires-3 : tie.Need-put-requires-3
 put-requires-3 c κs = search needs
 
--- src/lib.rt:138:5
 put-requires-4 : tie.Need-put-requires-4
 put-requires-4 c κs = search needs
 
--- src/lib.rt:131:1
 same-length : tie.Need-same-length
 same-length c = search needs
 
--- src/lib.rt:131:1
 returns : tie.Need-returns
 returns c = rw ((c .before .before .put4 .ensures), (c .before .before .before .before .before .before .put3 .ensures), (c .before .before .before .before .before .before .before .before .before .before .put2 .ensures), (c .before .before .before .before .before .before .before .before .before .before .before .before .before .before .put .ensures)) (counts-put _ _ (omega (arith, c .before .before .before .before .before .before .before .before .before .before .before .before .before .before .before .before .before .pre)))
 

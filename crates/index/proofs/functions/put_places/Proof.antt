@@ -10,39 +10,28 @@ use Rattle.index.specs.SectionLaws.{section-lent}
 use borrow.Author.Needs.{needs}
 use Rattle.index.proofs.functions.put_places.Statement.{statement}
 use Rattle.index.proofs.functions.put_places.Tie as tie
-use Rattle.index.proofs.functions.put_places.Reads as reads
-use Rattle.index.proofs.functions.put_places.Lts as lts
-use Rattle.index.proofs.functions.places_into.Reads as places-into-reads
 
--- src/functions.rt:123:14
 mul-to : tie.Need-mul-to
 mul-to c = search needs
 
--- src/functions.rt:123:14
 add-to : tie.Need-add-to
 add-to c = search needs
 
--- src/functions.rt:125:9
 sub-places-into : tie.Need-sub-places-into
 sub-places-into c = search needs
 
--- src/functions.rt:125:9
 part-places-into-start : tie.Need-part-places-into-start
 part-places-into-start c = search needs
 
--- src/functions.rt:125:9
 part-places-into-end : tie.Need-part-places-into-end
 part-places-into-end c = search needs
 
--- src/functions.rt:124:5
 places-into-requires : tie.Need-places-into-requires
 places-into-requires c κs = search needs
 
--- src/functions.rt:119:1
 same-length : tie.Need-same-length
 same-length c = search needs
 
--- src/functions.rt:119:1
 returns : tie.Need-returns
 returns c =
     section-lent (λ x y. y ≡ set (set (set (set x (functionWords * (c .before .before .before .before .before .args .f) + headWords) (c .before .before .before .before .before .args .result)) (functionWords * (c .before .before .before .before .before .args .f) + headWords + 1) (c .before .before .before .before .before .args .conditions)) (functionWords * (c .before .before .before .before .before .args .f) + headWords + 2) (c .before .before .before .before .before .args .measure)) (functionWords * (c .before .before .before .before .before .args .f) + headWords + 3) (c .before .before .before .before .before .args .body))

@@ -5,31 +5,22 @@ use Rattle.index.specs.EnterLaws.{enters-lent}
 use borrow.Author.Needs.{needs}
 use Rattle.index.proofs.types.type_def.Statement.{statement}
 use Rattle.index.proofs.types.type_def.Tie as tie
-use Rattle.index.proofs.types.type_def.Reads as reads
-use Rattle.index.proofs.types.type_def.Lts as lts
-use Rattle.index.proofs.types.type_into.Reads as type-into-reads
 
--- src/types.rt:141:21
 sub-type-into : tie.Need-sub-type-into
 sub-type-into c = search needs
 
--- src/types.rt:141:21
 part-type-into-start : tie.Need-part-type-into-start
 part-type-into-start c = search needs
 
--- src/types.rt:141:21
 part-type-into-end : tie.Need-part-type-into-end
 part-type-into-end c = search needs
 
--- src/types.rt:141:5
 type-into-requires : tie.Need-type-into-requires
 type-into-requires c κs = search needs
 
--- src/types.rt:137:1
 same-length : tie.Need-same-length
 same-length c = search needs
 
--- src/types.rt:137:1
 returns : tie.Need-returns
 returns c =
     enters-lent typesFrom typeTableWords _ _ (omega (arith, c .before .before .before .before .before .before .pre)) (c .before .before .type-into .kept .1 .0) (c .before .before .type-into .ensures)
