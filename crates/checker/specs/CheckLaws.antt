@@ -19,10 +19,10 @@ use Rattle.estimate.specs.declared.Estimate.{Estimate as HeldNumbers}
 use Rattle.estimate.specs.Stands.{Stands}
 use Rattle.plain_types.specs.Verdicts.{verdict, JudgesAll}
 use Rattle.plain_types.specs.JudgeLaws.{plain-types-verdict}
-use Rattle.size_checker.specs.declared.Counted.{Counted as CountedFile}
-use Rattle.size_checker.specs.declared.Counting.{Counting}
-use Rattle.size_checker.specs.declared.Counting.the-variants.{Are, Refused}
-use Rattle.size_checker.specs.Agreement.{Holds, Before, before-6, before-9}
+use Rattle.size_steps.specs.declared.Counted.{Counted as CountedFile}
+use Rattle.size_steps.specs.declared.Counting.{Counting}
+use Rattle.size_steps.specs.declared.Counting.the-variants.{Are, Refused}
+use Rattle.size_steps.specs.Agreement.{Holds, Before, before-6, before-9}
 use Rattle.size_checker.specs.Promises.{lent}
 use Rattle.size_checker.specs.FilePromises.{AgreesFile, file-agrees, file-refused, file-beyond, SizesFile}
 use Rattle.checker.specs.declared.Board.{Board}

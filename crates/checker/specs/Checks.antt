@@ -20,8 +20,8 @@ use Rattle.estimate.specs.Stands.{Stands}
 use Rattle.index.specs.Indexed.{Indexed, Counted}
 use Rattle.instances.specs.Listed.{instanceWordsCount}
 use Rattle.instances.specs.Records.{recordWords}
-use Rattle.size_checker.specs.declared.Counting.{Counting}
-use Rattle.size_checker.specs.declared.Counting.the-variants.{Are, Refused}
+use Rattle.size_steps.specs.declared.Counting.{Counting}
+use Rattle.size_steps.specs.declared.Counting.the-variants.{Are, Refused}
 use Rattle.checker.specs.declared.Board.{Board}
 use Rattle.checker.specs.declared.Answer.{Answer}
 

@@ -15,7 +15,7 @@ use Rattle.index.specs.Padded.{padded-none}
 use Rattle.instances.specs.Listed.{instanceWordsCount, flat}
 use Rattle.instances.specs.ListLaws.{flat-length, listed-parts}
 use Rattle.instances.specs.Records.{recordWords, flat-records, empty-records}
-use Rattle.size_checker.specs.Agreement.{Holds}
+use Rattle.size_steps.specs.Agreement.{Holds}
 use Rattle.checker.specs.Checks.{recordsOf, wordsOf}
 
 -- zeros filled up with zeros, alone and behind other words

@@ -12,7 +12,7 @@ use Rattle.language.specs.Cells.{numbersNeeded}
 use Rattle.language.specs.Machine.{Accepted, accepted, Verdict, answer, judge, judged, verdictOf, finalList, checkFile, listLent, check, emptyRecord}
 use Rattle.estimate.specs.declared.Estimate.{Estimate as Held}
 use Rattle.instances.specs.Listed.{instanceWordsCount}
-use Rattle.size_checker.specs.Agreement.{Holds}
+use Rattle.size_steps.specs.Agreement.{Holds}
 use Rattle.checker.specs.declared.Board.{Board}
 use Rattle.checker.specs.declared.Answer.{Answer}
 use Rattle.checker.specs.Checks.{boardOf, numbersOf, said, recordsOf, wordsOf, Checks, refusalOf, Judges}

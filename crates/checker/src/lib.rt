@@ -16,7 +16,7 @@ use language::limits::SLOTS_MOST;
 use plain_types::plain_types;
 use reader::Reading;
 use reader::read;
-use size_checker::Counting;
+use size_steps::Counting;
 use size_checker::file::sized_file;
 
 // The least words of a list of instances.

@@ -25,12 +25,12 @@ use Rattle.sizes.specs.declared.SizedType.the-variants.{Named}
 use Rattle.sizes.specs.Promises.{AgreesSize, size-is, size-outside, SizeBound, size-bound, no-size, SizeGiven}
 use Rattle.sizes.specs.Prefixes.{size-in-scope}
 use Rattle.index.specs.Sections.{framesOf}
-use Rattle.size_checker.specs.declared.Place.{Place}
-use Rattle.size_checker.specs.declared.Checked.{Checked}
-use Rattle.size_checker.specs.declared.Sizing.{Sizing}
-use Rattle.size_checker.specs.declared.Sizing.the-variants.{Is, Refused}
-use Rattle.size_checker.specs.Sites.{movedTo, kept-all, kept-moved}
-use Rattle.size_checker.specs.Agreement.{agrees, not-grown, grows-to, bind-is, bind-no, named-before, need-holds, need-fails, from-some, from-none}
+use Rattle.size_steps.specs.declared.Place.{Place}
+use Rattle.size_steps.specs.declared.Checked.{Checked}
+use Rattle.size_steps.specs.declared.Sizing.{Sizing}
+use Rattle.size_steps.specs.declared.Sizing.the-variants.{Is, Refused}
+use Rattle.size_steps.specs.Sites.{movedTo, kept-all, kept-moved}
+use Rattle.size_steps.specs.Agreement.{agrees, not-grown, grows-to, bind-is, bind-no, named-before, need-holds, need-fails, from-some, from-none}
 use Rattle.size_checker.specs.Promises.{Lent, Buffers, Here, Sizes, ExprPart}
 use Rattle.size_checker.specs.Parts.{AdjPart}
 use Rattle.size_checker.specs.HereLaws.{ends-at, here-moved, suc-same}

@@ -27,14 +27,14 @@ use Rattle.instances.specs.Listed.{SizesAre}
 use Rattle.instances.specs.ListLaws.{sizes-taken}
 use Rattle.sizes.specs.Rows.{NamedSizes}
 use Rattle.index.specs.Sections.{functionsOf}
-use Rattle.size_checker.specs.declared.Place.{Place}
-use Rattle.size_checker.specs.declared.Counted.{Counted}
-use Rattle.size_checker.specs.Sites.{Bounded, bounded-small}
-use Rattle.size_checker.specs.Agreement.{CountedAs}
+use Rattle.size_steps.specs.declared.Place.{Place}
+use Rattle.size_steps.specs.declared.Counted.{Counted}
+use Rattle.size_steps.specs.Sites.{Bounded, bounded-small}
+use Rattle.size_steps.specs.Agreement.{CountedAs}
 use Rattle.size_checker.specs.Promises.{Lent, Buffers, Here, ExprsPart}
 use Rattle.size_checker.specs.Parts.{CallPart}
 use Rattle.size_checker.specs.HereLaws.{ends-at, suc-same}
-use Rattle.size_checker.specs.Leaves.{SizesFor}
+use Rattle.size_steps.specs.Leaves.{SizesFor}
 use Rattle.size_checker.specs.EnterLaws.{parameters-long}
 
 -- ---- which function is called, and its arguments

@@ -30,13 +30,13 @@ use Rattle.splits.specs.Moves.{Starts}
 use Rattle.splits.specs.SplitSizes.{splits-are}
 use Rattle.splits.specs.Walks.{starts-keep, walk-starts}
 use Rattle.index.specs.Sections.{framesOf, typesOf, functionsOf}
-use Rattle.size_checker.specs.declared.Place.{Place}
-use Rattle.size_checker.specs.declared.Sizing.{Sizing}
-use Rattle.size_checker.specs.declared.Subject.{Subject}
-use Rattle.size_checker.specs.Sites.{movedTo, Kept, kept-all, kept-then, site-kept}
-use Rattle.size_checker.specs.Agreement.{agrees}
+use Rattle.size_steps.specs.declared.Place.{Place}
+use Rattle.size_steps.specs.declared.Sizing.{Sizing}
+use Rattle.size_steps.specs.declared.Subject.{Subject}
+use Rattle.size_steps.specs.Sites.{movedTo, Kept, kept-all, kept-then, site-kept}
+use Rattle.size_steps.specs.Agreement.{agrees}
 use Rattle.size_checker.specs.Promises.{Lent, Buffers, buffers, IndexedFile, UpToMost, SizesBranch, SizesSplits}
-use Rattle.size_checker.specs.Leaves.{leafOf}
+use Rattle.size_steps.specs.Leaves.{leafOf}
 use Rattle.size_checker.specs.HereLaws.{fits-of}
 use Rattle.size_checker.specs.TurnLaws.{grown-is}
 

@@ -25,15 +25,15 @@ use Rattle.estimate.specs.declared.Estimate.{Estimate}
 use Rattle.estimate.specs.Stands.{Makes, Combines}
 use Rattle.sizes.specs.Promises.{meaning}
 use Rattle.index.specs.Sections.{typesOf}
-use Rattle.size_checker.specs.declared.Place.{Place}
-use Rattle.size_checker.specs.declared.Checked.{Checked}
-use Rattle.size_checker.specs.declared.Sizing.{Sizing}
-use Rattle.size_checker.specs.declared.Sizing.the-variants.{Is, Refused}
-use Rattle.size_checker.specs.declared.Subject.{Subject}
-use Rattle.size_checker.specs.Sites.{movedTo, Kept, kept-all, kept-then, kept-moved}
-use Rattle.size_checker.specs.Agreement.{CheckedAs, Agrees, Grows, agrees, ofType, grows-to, grows-same, bind-is, bind-no}
+use Rattle.size_steps.specs.declared.Place.{Place}
+use Rattle.size_steps.specs.declared.Checked.{Checked}
+use Rattle.size_steps.specs.declared.Sizing.{Sizing}
+use Rattle.size_steps.specs.declared.Sizing.the-variants.{Is, Refused}
+use Rattle.size_steps.specs.declared.Subject.{Subject}
+use Rattle.size_steps.specs.Sites.{movedTo, Kept, kept-all, kept-then, kept-moved}
+use Rattle.size_steps.specs.Agreement.{CheckedAs, Agrees, Grows, agrees, ofType, grows-to, grows-same, bind-is, bind-no}
 use Rattle.size_checker.specs.Promises.{Lent, Buffers, IndexedFile, Here, BranchPart, BranchesPart, entering, Wanted, SizesBranch, SizesBranches}
-use Rattle.size_checker.specs.Leaves.{leafOf}
+use Rattle.size_steps.specs.Leaves.{leafOf}
 use Rattle.size_checker.specs.HereLaws.{here-moved}
 use Rattle.size_checker.specs.TurnLaws.{grown-is}
 use Rattle.size_checker.specs.Eithers.{branches-then}

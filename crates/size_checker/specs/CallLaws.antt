@@ -18,22 +18,22 @@ use Rattle.estimate.specs.Stands.{Stands, Changes, Combines}
 use Rattle.sizes.specs.Rows.{NamedSizes}
 use Rattle.sizes.specs.Promises.{meaning}
 use Rattle.index.specs.Sections.{functionsOf}
-use Rattle.size_checker.specs.declared.Place.{Place}
-use Rattle.size_checker.specs.declared.Checked.{Checked}
-use Rattle.size_checker.specs.declared.Sizing.{Sizing}
-use Rattle.size_checker.specs.declared.Sizing.the-variants.{Is, Refused}
-use Rattle.size_checker.specs.declared.Counted.{Counted}
-use Rattle.size_checker.specs.declared.Counting.{Counting}
-use Rattle.size_checker.specs.declared.Counting.the-variants.{Are, Refused as RefusedAll}
-use Rattle.size_checker.specs.declared.Entry.{Entry}
-use Rattle.size_checker.specs.declared.Entering.{Entering}
-use Rattle.size_checker.specs.declared.Entering.the-variants.{Ready, Refused as NotEntered}
-use Rattle.size_checker.specs.Sites.{Bounded, movedTo}
-use Rattle.size_checker.specs.Agreement.{Agrees, agrees, itself, ofType, before-9, grows-to, grows-same, grows-all-to, all-are, all-no, bind-is, bind-no, need-before, from-some, from-none, need-holds, need-fails}
+use Rattle.size_steps.specs.declared.Place.{Place}
+use Rattle.size_steps.specs.declared.Checked.{Checked}
+use Rattle.size_steps.specs.declared.Sizing.{Sizing}
+use Rattle.size_steps.specs.declared.Sizing.the-variants.{Is, Refused}
+use Rattle.size_steps.specs.declared.Counted.{Counted}
+use Rattle.size_steps.specs.declared.Counting.{Counting}
+use Rattle.size_steps.specs.declared.Counting.the-variants.{Are, Refused as RefusedAll}
+use Rattle.size_steps.specs.declared.Entry.{Entry}
+use Rattle.size_steps.specs.declared.Entering.{Entering}
+use Rattle.size_steps.specs.declared.Entering.the-variants.{Ready, Refused as NotEntered}
+use Rattle.size_steps.specs.Sites.{Bounded, movedTo}
+use Rattle.size_steps.specs.Agreement.{Agrees, agrees, itself, ofType, before-9, grows-to, grows-same, grows-all-to, all-are, all-no, bind-is, bind-no, need-before, from-some, from-none, need-holds, need-fails}
 use Rattle.size_checker.specs.SeveralAgree.{grown-as, not-grown-as}
 use Rattle.size_checker.specs.Promises.{Lent, Buffers, buffers, entering, Sizes, SizesAll, Given, Enters, Argues, Applies}
 use Rattle.size_checker.specs.Parts.{CallPart}
-use Rattle.size_checker.specs.Leaves.{Prepared, ready, no-condition, no-fall, no-size, EntryOf, entry-of, no-entry, Prepares, refusedOf, notEntered, Entered}
+use Rattle.size_steps.specs.Leaves.{Prepared, ready, no-condition, no-fall, no-size, EntryOf, entry-of, no-entry, Prepares, refusedOf, notEntered, Entered}
 use Rattle.size_checker.specs.Arguments.{ArityOf, called, argued, sizes-for}
 
 -- an entry on any bytes

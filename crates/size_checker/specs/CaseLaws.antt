@@ -28,16 +28,16 @@ use Rattle.sizes.specs.Promises.{meaning, AgreesType, TypeGiven}
 use Rattle.sizes.specs.TypeLaws.{type-given, type-not-given, type-within}
 use Rattle.sizes.specs.Prefixes.{type-in-scope}
 use Rattle.index.specs.Sections.{framesOf}
-use Rattle.size_checker.specs.declared.Place.{Place}
-use Rattle.size_checker.specs.declared.Checked.{Checked}
-use Rattle.size_checker.specs.declared.Sizing.{Sizing}
-use Rattle.size_checker.specs.declared.Sizing.the-variants.{Is, Refused}
-use Rattle.size_checker.specs.declared.Subject.{Subject}
-use Rattle.size_checker.specs.Sites.{one-byte-bounded, movedTo, Kept, kept-then, kept-moved}
-use Rattle.size_checker.specs.Agreement.{CheckedAs, Agrees, Grows, agrees, before-9, ofType, not-grown, grows-to, grows-same, bind-is, bind-no, need-before, named-before, from-some, from-none}
+use Rattle.size_steps.specs.declared.Place.{Place}
+use Rattle.size_steps.specs.declared.Checked.{Checked}
+use Rattle.size_steps.specs.declared.Sizing.{Sizing}
+use Rattle.size_steps.specs.declared.Sizing.the-variants.{Is, Refused}
+use Rattle.size_steps.specs.declared.Subject.{Subject}
+use Rattle.size_steps.specs.Sites.{one-byte-bounded, movedTo, Kept, kept-then, kept-moved}
+use Rattle.size_steps.specs.Agreement.{CheckedAs, Agrees, Grows, agrees, before-9, ofType, not-grown, grows-to, grows-same, bind-is, bind-no, need-before, named-before, from-some, from-none}
 use Rattle.size_checker.specs.Promises.{Lent, Buffers, Here, ExprPart, entering, Sizes, SizesBranches}
 use Rattle.size_checker.specs.Parts.{CasePart}
-use Rattle.size_checker.specs.Leaves.{subjectOf}
+use Rattle.size_steps.specs.Leaves.{subjectOf}
 use Rattle.size_checker.specs.HereLaws.{part-at, ends-at, here-moved, suc-same}
 use Rattle.size_checker.specs.TurnLaws.{behind-first, here-behind, sizes-scope, in-frame, grown-is}
 use Rattle.size_checker.specs.KindLaws.{named-kind, NotNamed, bounded-size}

@@ -26,14 +26,14 @@ use Rattle.encoding.specs.Known.{outer-known}
 use Rattle.sizes.specs.declared.SizedType.{SizedType}
 use Rattle.sizes.specs.Promises.{meaning}
 use Rattle.index.specs.Sections.{channelsOf}
-use Rattle.size_checker.specs.declared.Place.{Place}
-use Rattle.size_checker.specs.declared.Checked.{Checked}
-use Rattle.size_checker.specs.declared.Sizing.{Sizing}
-use Rattle.size_checker.specs.declared.Sizing.the-variants.{Is, Refused}
-use Rattle.size_checker.specs.Sites.{around-none, Room}
-use Rattle.size_checker.specs.Agreement.{Holds, Agrees, agrees, itself, bind-is, bind-no, need-holds, need-fails}
+use Rattle.size_steps.specs.declared.Place.{Place}
+use Rattle.size_steps.specs.declared.Checked.{Checked}
+use Rattle.size_steps.specs.declared.Sizing.{Sizing}
+use Rattle.size_steps.specs.declared.Sizing.the-variants.{Is, Refused}
+use Rattle.size_steps.specs.Sites.{around-none, Room}
+use Rattle.size_steps.specs.Agreement.{Holds, Agrees, agrees, itself, bind-is, bind-no, need-holds, need-fails}
 use Rattle.size_checker.specs.Promises.{Lent, Buffers, buffers, IndexedFile, Here, entering, Sizes, ExprPart}
-use Rattle.size_checker.specs.Leaves.{ChannelTyped}
+use Rattle.size_steps.specs.Leaves.{ChannelTyped}
 use Rattle.size_checker.specs.HereLaws.{part-at}
 use Rattle.size_checker.specs.TurnLaws.{sizes-at}
 use Rattle.size_checker.specs.TypesTold.{channel-bounded, channel-typed}

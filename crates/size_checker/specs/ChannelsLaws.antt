@@ -11,15 +11,15 @@ use Rattle.language.specs.Checker.{Instance, Counted as CountedDef}
 use Rattle.index.specs.declared.Counts.{Counts}
 use Rattle.estimate.specs.Stands.{Stands}
 use Rattle.index.specs.Indexed.{Counted as CountsAre}
-use Rattle.size_checker.specs.declared.Checked.{Checked}
-use Rattle.size_checker.specs.declared.Sizing.{Sizing}
-use Rattle.size_checker.specs.declared.Sizing.the-variants.{Is, Refused as RefusedOne}
-use Rattle.size_checker.specs.declared.Counted.{Counted}
-use Rattle.size_checker.specs.declared.Counting.{Counting}
-use Rattle.size_checker.specs.declared.Counting.the-variants.{Are, Refused}
-use Rattle.size_checker.specs.Agreement.{Holds, Before, Agrees, agrees, refused, beyond, ofType}
+use Rattle.size_steps.specs.declared.Checked.{Checked}
+use Rattle.size_steps.specs.declared.Sizing.{Sizing}
+use Rattle.size_steps.specs.declared.Sizing.the-variants.{Is, Refused as RefusedOne}
+use Rattle.size_steps.specs.declared.Counted.{Counted}
+use Rattle.size_steps.specs.declared.Counting.{Counting}
+use Rattle.size_steps.specs.declared.Counting.the-variants.{Are, Refused}
+use Rattle.size_steps.specs.Agreement.{Holds, Before, Agrees, agrees, refused, beyond, ofType}
 use Rattle.size_checker.specs.Promises.{Lent, IndexedFile}
-use Rattle.size_checker.specs.Leaves.{refusedAll}
+use Rattle.size_steps.specs.Leaves.{refusedAll}
 use Rattle.size_checker.specs.FileParts.{Named, SizesChannel, summed, Lasting, no-more, one-more, AgreesSum, sum-agrees, sum-refused, sum-beyond, channelCount, SizesChannels, NoneYet, Joins}
 
 -- ---- before channel c: what was summed so far, and the expressions that are left decide the whole

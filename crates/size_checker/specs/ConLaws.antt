@@ -18,17 +18,17 @@ use Rattle.index.specs.Tables.{typeWords, constructorWords}
 use Rattle.encoding.specs.ExprLists.{exprCount, exprs-counted}
 use Rattle.encoding.specs.FrameSpells.{lineAt}
 use Rattle.index.specs.Sections.{typesOf}
-use Rattle.size_checker.specs.declared.Place.{Place}
-use Rattle.size_checker.specs.declared.Sizing.{Sizing}
-use Rattle.size_checker.specs.declared.Counted.{Counted}
-use Rattle.size_checker.specs.declared.Counting.{Counting}
-use Rattle.size_checker.specs.declared.Counting.the-variants.{Are, Refused as RefusedAll}
-use Rattle.size_checker.specs.Agreement.{grows-same, grows-all-to, all-no, from-some}
+use Rattle.size_steps.specs.declared.Place.{Place}
+use Rattle.size_steps.specs.declared.Sizing.{Sizing}
+use Rattle.size_steps.specs.declared.Counted.{Counted}
+use Rattle.size_steps.specs.declared.Counting.{Counting}
+use Rattle.size_steps.specs.declared.Counting.the-variants.{Are, Refused as RefusedAll}
+use Rattle.size_steps.specs.Agreement.{grows-same, grows-all-to, all-no, from-some}
 use Rattle.size_checker.specs.SeveralAgree.{not-grown-as, all-know}
 use Rattle.size_checker.specs.Promises.{Lent, Buffers, Here, entering, Sizes, SizesAll, ExprsPart}
 use Rattle.size_checker.specs.Parts.{ConPart}
 use Rattle.size_checker.specs.HereLaws.{ends-at, suc-same}
-use Rattle.size_checker.specs.Leaves.{Makes, refusedOf}
+use Rattle.size_steps.specs.Leaves.{Makes, refusedOf}
 
 -- as many types as expressions
 any-sized : (P : File) (enter : Enter) (e : Expr) (p : Stand) (Γ : List Ty) (Δ : List ℕ) (L : List Instance) → Sat (λ q. Unit {0}) (sized P enter e p Γ Δ L)

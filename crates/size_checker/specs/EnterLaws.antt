@@ -34,16 +34,16 @@ use Rattle.instances.specs.declared.Search.the-variants.{Found, Absent}
 use Rattle.instances.specs.Listed.{SameArity, Agrees as Searched, found, absent, Finds, Adds, Finishes}
 use Rattle.sizes.specs.Promises.{meaning}
 use Rattle.index.specs.Sections.{functionsOf}
-use Rattle.size_checker.specs.declared.Place.{Place}
-use Rattle.size_checker.specs.declared.Checked.{Checked}
-use Rattle.size_checker.specs.declared.Sizing.{Sizing}
-use Rattle.size_checker.specs.declared.Sizing.the-variants.{Is, Refused}
-use Rattle.size_checker.specs.declared.Entry.{Entry}
-use Rattle.size_checker.specs.Sites.{movedTo, around-one, Site}
-use Rattle.size_checker.specs.Agreement.{Row, Holds, Agrees, agrees, refused, itself, Grows, not-grown, grows-to, grows-same, bind-is, bind-no, need-holds, need-fails}
+use Rattle.size_steps.specs.declared.Place.{Place}
+use Rattle.size_steps.specs.declared.Checked.{Checked}
+use Rattle.size_steps.specs.declared.Sizing.{Sizing}
+use Rattle.size_steps.specs.declared.Sizing.the-variants.{Is, Refused}
+use Rattle.size_steps.specs.declared.Entry.{Entry}
+use Rattle.size_steps.specs.Sites.{movedTo, around-one, Site}
+use Rattle.size_steps.specs.Agreement.{Row, Holds, Agrees, agrees, refused, itself, Grows, not-grown, grows-to, grows-same, bind-is, bind-no, need-holds, need-fails}
 use Rattle.size_checker.specs.SeveralAgree.{grown-as, bind-knows}
 use Rattle.size_checker.specs.Promises.{Lent, Buffers, buffers, IndexedFile, Here, entering, Sizes, ExprPart, Given, Enters, EntersNew}
-use Rattle.size_checker.specs.Leaves.{leafOf, bodyOf}
+use Rattle.size_steps.specs.Leaves.{leafOf, bodyOf}
 use Rattle.size_checker.specs.ListKept.{Extends, sized-keeps, enters-keep}
 use Rattle.size_checker.specs.HoldsLaws.{holds-added, holds-finished}
 

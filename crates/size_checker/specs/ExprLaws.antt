@@ -25,14 +25,14 @@ use Rattle.heads.specs.HeadForms.{LetHead, IfHead, OpHead, CallHead, ConHead, C
 use Rattle.sizes.specs.declared.SizedType.{SizedType}
 use Rattle.sizes.specs.declared.SizedType.the-variants.{Bool as BoolIs, Int as IntIs}
 use Rattle.index.specs.Sections.{framesOf}
-use Rattle.size_checker.specs.declared.Place.{Place}
-use Rattle.size_checker.specs.declared.Sizing.{Sizing}
-use Rattle.size_checker.specs.declared.Sizing.the-variants.{Refused}
-use Rattle.size_checker.specs.Sites.{bounded-bool, bounded-int, bounded-small, downTo, kept-all}
-use Rattle.size_checker.specs.Agreement.{agrees, Grows, grown, not-grown, before-6, from-before}
+use Rattle.size_steps.specs.declared.Place.{Place}
+use Rattle.size_steps.specs.declared.Sizing.{Sizing}
+use Rattle.size_steps.specs.declared.Sizing.the-variants.{Refused}
+use Rattle.size_steps.specs.Sites.{bounded-bool, bounded-int, bounded-small, downTo, kept-all}
+use Rattle.size_steps.specs.Agreement.{agrees, Grows, grown, not-grown, before-6, from-before}
 use Rattle.size_checker.specs.Promises.{Lent, Buffers, Here, Sizes, ExprPart, FormPart}
 use Rattle.size_checker.specs.Parts.{Part, LetPart, IfPart, OpPart, CallPart, ConPart, CasePart, AdjPart, FitPart, CompoundPart}
-use Rattle.size_checker.specs.Leaves.{leafOf, Typed, ChannelTyped, Operands}
+use Rattle.size_steps.specs.Leaves.{leafOf, Typed, ChannelTyped, Operands}
 use Rattle.size_checker.specs.HereLaws.{here-down}
 use Rattle.size_checker.specs.TypesTold.{variable-told, channel-bounded, channel-typed}
 

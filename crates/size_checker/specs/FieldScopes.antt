@@ -19,8 +19,8 @@ use Rattle.encoding.specs.Known.{wider-known}
 use Rattle.sizes.specs.Rows.{ToldFields, FieldsBound}
 use Rattle.sizes.specs.ToldLaws.{told-fields}
 use Rattle.index.specs.Sections.{typesOf}
-use Rattle.size_checker.specs.declared.Place.{Place}
-use Rattle.size_checker.specs.Sites.{Bounded, bounded-bool, bounded-int, bounded-named, widened, Site}
+use Rattle.size_steps.specs.declared.Place.{Place}
+use Rattle.size_steps.specs.Sites.{Bounded, bounded-bool, bounded-int, bounded-named, widened, Site}
 use Rattle.size_checker.specs.Promises.{Lent, Buffers, buffers, Here, UpToMost}
 use Rattle.size_checker.specs.HereLaws.{Fits}
 

@@ -17,10 +17,10 @@ use Rattle.index.specs.Sections.{countsIn}
 use Rattle.index.specs.Indexed.{Counted as CountsAre}
 use Rattle.instances.specs.Listed.{instanceWordsCount}
 use Rattle.instances.specs.ListLaws.{listed-none}
-use Rattle.size_checker.specs.declared.Counted.{Counted}
-use Rattle.size_checker.specs.declared.Counting.{Counting}
-use Rattle.size_checker.specs.declared.Counting.the-variants.{Are, Refused}
-use Rattle.size_checker.specs.Agreement.{Holds}
+use Rattle.size_steps.specs.declared.Counted.{Counted}
+use Rattle.size_steps.specs.declared.Counting.{Counting}
+use Rattle.size_steps.specs.declared.Counting.the-variants.{Are, Refused}
+use Rattle.size_steps.specs.Agreement.{Holds}
 use Rattle.size_checker.specs.Promises.{Lent, IndexedFile}
 use Rattle.size_checker.specs.FilePromises.{AgreesFile, file-agrees, file-refused, file-beyond, SizesFile}
 use Rattle.size_checker.specs.FileParts.{Few, initialWord, updateWord, summed, AgreesSum, sum-agrees, sum-refused, sum-beyond, SizesChannels, SizesInitials}

@@ -22,13 +22,13 @@ use Rattle.estimate.specs.Stands.{Stands, Makes, Combines}
 use Rattle.index.specs.Indexed.{channelLine, Counted as CountsAre}
 use Rattle.instances.specs.Listed.{instanceWordsCount}
 use Rattle.index.specs.Sections.{channelsOf}
-use Rattle.size_checker.specs.declared.Place.{Place}
-use Rattle.size_checker.specs.declared.Checked.{Checked}
-use Rattle.size_checker.specs.declared.Sizing.{Sizing}
-use Rattle.size_checker.specs.declared.Counted.{Counted}
-use Rattle.size_checker.specs.declared.Counting.{Counting}
-use Rattle.size_checker.specs.declared.Counting.the-variants.{Are, Refused}
-use Rattle.size_checker.specs.Agreement.{Holds, Before, Agrees, ofType}
+use Rattle.size_steps.specs.declared.Place.{Place}
+use Rattle.size_steps.specs.declared.Checked.{Checked}
+use Rattle.size_steps.specs.declared.Sizing.{Sizing}
+use Rattle.size_steps.specs.declared.Counted.{Counted}
+use Rattle.size_steps.specs.declared.Counting.{Counting}
+use Rattle.size_steps.specs.declared.Counting.the-variants.{Are, Refused}
+use Rattle.size_steps.specs.Agreement.{Holds, Before, Agrees, ofType}
 use Rattle.size_checker.specs.Promises.{Lent, IndexedFile}
 
 -- ---- counts within the limits of a file

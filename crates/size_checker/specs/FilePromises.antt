@@ -10,10 +10,10 @@ use Rattle.language.specs.Checker.{SizedFile, sizedFile}
 use Rattle.language.specs.Cells.{updatesNumbers}
 use Rattle.estimate.specs.Stands.{Stands}
 use Rattle.instances.specs.Listed.{instanceWordsCount}
-use Rattle.size_checker.specs.declared.Counted.{Counted}
-use Rattle.size_checker.specs.declared.Counting.{Counting}
-use Rattle.size_checker.specs.declared.Counting.the-variants.{Are, Refused}
-use Rattle.size_checker.specs.Agreement.{Holds, Before}
+use Rattle.size_steps.specs.declared.Counted.{Counted}
+use Rattle.size_steps.specs.declared.Counting.{Counting}
+use Rattle.size_steps.specs.declared.Counting.the-variants.{Are, Refused}
+use Rattle.size_steps.specs.Agreement.{Holds, Before}
 use Rattle.size_checker.specs.Promises.{Lent, IndexedFile}
 
 -- environment and stack are the largest over the updates, their heap numbers are summed

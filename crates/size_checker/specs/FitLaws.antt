@@ -18,12 +18,12 @@ use Rattle.estimate.specs.declared.Estimate.{Estimate}
 use Rattle.estimate.specs.Stands.{Changes, Combines}
 use Rattle.sizes.specs.declared.SizedType.the-variants.{Named}
 use Rattle.sizes.specs.Promises.{meaning}
-use Rattle.size_checker.specs.declared.Place.{Place}
-use Rattle.size_checker.specs.declared.Checked.{Checked}
-use Rattle.size_checker.specs.declared.Sizing.{Sizing}
-use Rattle.size_checker.specs.declared.Sizing.the-variants.{Is, Refused}
-use Rattle.size_checker.specs.Sites.{movedTo, widened}
-use Rattle.size_checker.specs.Agreement.{CheckedAs, agrees, not-grown, bind-is, bind-no, named-before, need-holds, need-fails}
+use Rattle.size_steps.specs.declared.Place.{Place}
+use Rattle.size_steps.specs.declared.Checked.{Checked}
+use Rattle.size_steps.specs.declared.Sizing.{Sizing}
+use Rattle.size_steps.specs.declared.Sizing.the-variants.{Is, Refused}
+use Rattle.size_steps.specs.Sites.{movedTo, widened}
+use Rattle.size_steps.specs.Agreement.{CheckedAs, agrees, not-grown, bind-is, bind-no, named-before, need-holds, need-fails}
 use Rattle.size_checker.specs.Promises.{Lent, Buffers, Here, Sizes, ExprPart}
 use Rattle.size_checker.specs.Parts.{FitPart}
 use Rattle.size_checker.specs.HereLaws.{Fits, fits-of, ends-at, here-bound, suc-same}

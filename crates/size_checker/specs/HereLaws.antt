@@ -22,9 +22,9 @@ use Rattle.text.specs.declared.Cursor.{Cursor}
 use Rattle.text.specs.Bytes.{declaredWord}
 use Rattle.encoding.specs.Spells.{Spells}
 use Rattle.encoding.specs.Known.{wider-known}
-use Rattle.size_checker.specs.declared.Place.{Place}
-use Rattle.size_checker.specs.Sites.{Bounded, movedTo, downTo, widened, Kept, site-kept, site-moved, site-down}
-use Rattle.size_checker.specs.Agreement.{Holds}
+use Rattle.size_steps.specs.declared.Place.{Place}
+use Rattle.size_steps.specs.Sites.{Bounded, movedTo, downTo, widened, Kept, site-kept, site-moved, site-down}
+use Rattle.size_steps.specs.Agreement.{Holds}
 use Rattle.size_checker.specs.Promises.{Lent, Buffers, buffers, Here, ExprPart, FormPart}
 
 -- ---- the limits of a scope

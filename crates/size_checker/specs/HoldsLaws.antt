@@ -21,7 +21,7 @@ use Rattle.estimate.specs.declared.Estimate.{Estimate}
 use Rattle.estimate.specs.Stands.{Stands}
 use Rattle.instances.specs.Listed.{instanceWordsCount, numbersFrom, keyWords, SizesAre, Writes, Adds, Finishes}
 use Rattle.instances.specs.ListLaws.{key-wide}
-use Rattle.size_checker.specs.Agreement.{Row, Holds}
+use Rattle.size_steps.specs.Agreement.{Row, Holds}
 use Rattle.size_checker.specs.ListKept.{Extends, filled-in}
 
 drop-zeros : (m n : ℕ) → drop {A = ℕ} m (replicate n 0) ≡ replicate (n - m) 0

@@ -9,12 +9,12 @@ use Rattle.theory.specs.SameTests.{same-type}
 use Rattle.estimate.specs.declared.Estimate.{Estimate}
 use Rattle.estimate.specs.Stands.{Combines}
 use Rattle.sizes.specs.Promises.{meaning}
-use Rattle.size_checker.specs.declared.Place.{Place}
-use Rattle.size_checker.specs.declared.Checked.{Checked}
-use Rattle.size_checker.specs.declared.Sizing.{Sizing}
-use Rattle.size_checker.specs.declared.Sizing.the-variants.{Is, Refused}
-use Rattle.size_checker.specs.Sites.{movedTo}
-use Rattle.size_checker.specs.Agreement.{agrees, not-grown, before-9, bind-is, bind-no, need-before, need-holds, need-fails}
+use Rattle.size_steps.specs.declared.Place.{Place}
+use Rattle.size_steps.specs.declared.Checked.{Checked}
+use Rattle.size_steps.specs.declared.Sizing.{Sizing}
+use Rattle.size_steps.specs.declared.Sizing.the-variants.{Is, Refused}
+use Rattle.size_steps.specs.Sites.{movedTo}
+use Rattle.size_steps.specs.Agreement.{agrees, not-grown, before-9, bind-is, bind-no, need-before, need-holds, need-fails}
 use Rattle.size_checker.specs.Promises.{Lent, Buffers, Sizes, ExprPart}
 use Rattle.size_checker.specs.Parts.{IfPart}
 use Rattle.size_checker.specs.HereLaws.{ends-at, suc-same}

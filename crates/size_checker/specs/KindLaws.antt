@@ -7,7 +7,7 @@ use Rattle.language.specs.Syntax.{Ty, tnamed}
 use Rattle.sizes.specs.declared.SizedType.{SizedType}
 use Rattle.sizes.specs.declared.SizedType.the-variants.{Bool as BoolIs, Int as IntIs, Named}
 use Rattle.sizes.specs.Promises.{meaning}
-use Rattle.size_checker.specs.Sites.{Bounded, bounded-bool, bounded-int, bounded-named}
+use Rattle.size_steps.specs.Sites.{Bounded, bounded-bool, bounded-int, bounded-named}
 
 pub named-kind : {t k : ℕ} (x : SizedType) → meaning x ≡ tnamed t k → x ≡ Named t k
 named-kind BoolIs e = absurd (let z : _≡_ {A = ℕ} 0 1 = cc in omega arith)

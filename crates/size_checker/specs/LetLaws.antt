@@ -9,12 +9,12 @@ use Rattle.text.specs.Bytes.{declaredWord}
 use Rattle.estimate.specs.declared.Estimate.{Estimate}
 use Rattle.estimate.specs.Stands.{Changes, Combines}
 use Rattle.sizes.specs.Promises.{meaning}
-use Rattle.size_checker.specs.declared.Place.{Place}
-use Rattle.size_checker.specs.declared.Checked.{Checked}
-use Rattle.size_checker.specs.declared.Sizing.{Sizing}
-use Rattle.size_checker.specs.declared.Sizing.the-variants.{Is, Refused}
-use Rattle.size_checker.specs.Sites.{movedTo, widened}
-use Rattle.size_checker.specs.Agreement.{agrees, grows-to, bind-is, bind-no}
+use Rattle.size_steps.specs.declared.Place.{Place}
+use Rattle.size_steps.specs.declared.Checked.{Checked}
+use Rattle.size_steps.specs.declared.Sizing.{Sizing}
+use Rattle.size_steps.specs.declared.Sizing.the-variants.{Is, Refused}
+use Rattle.size_steps.specs.Sites.{movedTo, widened}
+use Rattle.size_steps.specs.Agreement.{agrees, grows-to, bind-is, bind-no}
 use Rattle.size_checker.specs.Promises.{Lent, Buffers, Sizes, ExprPart}
 use Rattle.size_checker.specs.Parts.{LetPart}
 use Rattle.size_checker.specs.TurnLaws.{sizes-at, part-agrees, Behind, behind-first, here-behind, boundIn, boundAt, bound-at, under-kept, under-grows, grown-is}

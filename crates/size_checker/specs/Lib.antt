@@ -1,9 +1,5 @@
-pub mod Sites
-pub mod Agreement
 pub mod Promises
 pub mod Parts
-pub mod Leaves
-pub mod Numbers
 pub mod Loads
 pub mod HereLaws
 pub mod LetLaws
@@ -31,7 +27,6 @@ pub mod EnterLaws
 pub mod Arguments
 pub mod CallLaws
 pub mod ConLaws
-pub mod LeafLaws
 pub mod FilePromises
 pub mod FileParts
 pub mod ChannelLaws

@@ -6,14 +6,14 @@ use mathlib.Core.Path.{_≡_, ap}
 use native.Mathlib.Omega.{arith}
 use Rattle.language.specs.Limits.{byteRange, typesMost, variablesMost, sizeVariablesMost, instancesMost}
 use Rattle.text.specs.declared.Cursor.{Cursor}
-use Rattle.size_checker.specs.declared.Place.{Place}
-use Rattle.size_checker.specs.declared.Checked.{Checked}
-use Rattle.size_checker.specs.declared.Sizing.{Sizing}
-use Rattle.size_checker.specs.declared.Sizing.the-variants.{Is}
-use Rattle.size_checker.specs.declared.Entry.{Entry}
-use Rattle.size_checker.specs.Sites.{movedTo, downTo, widened, Room}
-use Rattle.size_checker.specs.Agreement.{Grows, grows-to}
-use Rattle.size_checker.specs.Leaves.{bodyOf, Entered}
+use Rattle.size_steps.specs.declared.Place.{Place}
+use Rattle.size_steps.specs.declared.Checked.{Checked}
+use Rattle.size_steps.specs.declared.Sizing.{Sizing}
+use Rattle.size_steps.specs.declared.Sizing.the-variants.{Is}
+use Rattle.size_steps.specs.declared.Entry.{Entry}
+use Rattle.size_steps.specs.Sites.{movedTo, downTo, widened, Room}
+use Rattle.size_steps.specs.Agreement.{Grows, grows-to}
+use Rattle.size_steps.specs.Leaves.{bodyOf, Entered}
 
 -- ranks are below this, and a whole body is below an instance
 abbrev pub levelLoad : ℕ

@@ -9,15 +9,15 @@ use Rattle.language.specs.Checker.{sized}
 use Rattle.estimate.specs.declared.Estimate.{Estimate}
 use Rattle.estimate.specs.Stands.{Makes, Combines}
 use Rattle.sizes.specs.declared.SizedType.{SizedType}
-use Rattle.size_checker.specs.declared.Place.{Place}
-use Rattle.size_checker.specs.declared.Checked.{Checked}
-use Rattle.size_checker.specs.declared.Sizing.{Sizing}
-use Rattle.size_checker.specs.declared.Sizing.the-variants.{Is, Refused}
-use Rattle.size_checker.specs.Sites.{Bounded, bounded-bool, bounded-int, movedTo}
-use Rattle.size_checker.specs.Agreement.{agrees, before-9, bind-is, bind-no, need-before}
+use Rattle.size_steps.specs.declared.Place.{Place}
+use Rattle.size_steps.specs.declared.Checked.{Checked}
+use Rattle.size_steps.specs.declared.Sizing.{Sizing}
+use Rattle.size_steps.specs.declared.Sizing.the-variants.{Is, Refused}
+use Rattle.size_steps.specs.Sites.{Bounded, bounded-bool, bounded-int, movedTo}
+use Rattle.size_steps.specs.Agreement.{agrees, before-9, bind-is, bind-no, need-before}
 use Rattle.size_checker.specs.Promises.{Lent, Buffers, Sizes, ExprPart}
 use Rattle.size_checker.specs.Parts.{OpPart}
-use Rattle.size_checker.specs.Leaves.{OperatorType}
+use Rattle.size_steps.specs.Leaves.{OperatorType}
 use Rattle.size_checker.specs.HereLaws.{ends-at, suc-same}
 use Rattle.size_checker.specs.TurnLaws.{sizes-at, part-agrees, Behind, behind-first, behind-next, next-kept, next-grows, here-behind, grown-is}
 

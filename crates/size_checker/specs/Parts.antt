@@ -6,7 +6,7 @@ use Rattle.language.specs.Scope.{Scope}
 use Rattle.heads.specs.declared.Form.{Form}
 use Rattle.heads.specs.declared.Form.the-variants.{Bool as BoolForm, Int, Variable, Now, Last, Let, If, Operator, Call, Construct, Case, Adjust, Fit, Missing}
 use Rattle.heads.specs.HeadForms.{LetHead, IfHead, OpHead, CallHead, ConHead, CaseHead, AdjHead, FitHead}
-use Rattle.size_checker.specs.declared.Place.{Place}
+use Rattle.size_steps.specs.declared.Place.{Place}
 use Rattle.size_checker.specs.Promises.{FormPart}
 
 abbrev pub Part : Type 1

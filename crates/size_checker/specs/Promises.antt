@@ -25,14 +25,14 @@ use Rattle.index.specs.Indexed.{Indexed}
 use Rattle.instances.specs.Listed.{SizesAre}
 use Rattle.sizes.specs.Promises.{meaning}
 use Rattle.splits.specs.Next.{Chain}
-use Rattle.size_checker.specs.declared.Place.{Place}
-use Rattle.size_checker.specs.declared.Sizing.{Sizing}
-use Rattle.size_checker.specs.declared.Counted.{Counted}
-use Rattle.size_checker.specs.declared.Counting.{Counting}
-use Rattle.size_checker.specs.declared.Entry.{Entry}
-use Rattle.size_checker.specs.declared.Subject.{Subject}
-use Rattle.size_checker.specs.Sites.{Bounded, Around, Site, Kept}
-use Rattle.size_checker.specs.Agreement.{Holds, CountedAs, Agrees, itself, ofType, AgreesAll, Grows, GrowsAll}
+use Rattle.size_steps.specs.declared.Place.{Place}
+use Rattle.size_steps.specs.declared.Sizing.{Sizing}
+use Rattle.size_steps.specs.declared.Counted.{Counted}
+use Rattle.size_steps.specs.declared.Counting.{Counting}
+use Rattle.size_steps.specs.declared.Entry.{Entry}
+use Rattle.size_steps.specs.declared.Subject.{Subject}
+use Rattle.size_steps.specs.Sites.{Bounded, Around, Site, Kept}
+use Rattle.size_steps.specs.Agreement.{Holds, CountedAs, Agrees, itself, ofType, AgreesAll, Grows, GrowsAll}
 
 -- ---- what is lent: the text and its index, and what is written
 pub record Lent : Type 0 where

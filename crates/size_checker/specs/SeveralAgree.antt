@@ -7,13 +7,13 @@ use Rattle.language.specs.Result.{Result, bind}
 use Rattle.language.specs.Syntax.{File}
 use Rattle.language.specs.Checker.{Sized, Sizeds}
 use Rattle.theory.specs.Outcomes.{Sat, sat-value}
-use Rattle.size_checker.specs.declared.Checked.{Checked}
-use Rattle.size_checker.specs.declared.Sizing.{Sizing}
-use Rattle.size_checker.specs.declared.Sizing.the-variants.{Is, Refused}
-use Rattle.size_checker.specs.declared.Counted.{Counted}
-use Rattle.size_checker.specs.declared.Counting.{Counting}
-use Rattle.size_checker.specs.declared.Counting.the-variants.{Are, Refused as RefusedAll}
-use Rattle.size_checker.specs.Agreement.{CheckedAs, CountedAs, Agrees, agrees, refused, beyond, AgreesAll, agree, refused-all, beyond-all, Grows, grown, not-grown, GrowsAll, grown-all}
+use Rattle.size_steps.specs.declared.Checked.{Checked}
+use Rattle.size_steps.specs.declared.Sizing.{Sizing}
+use Rattle.size_steps.specs.declared.Sizing.the-variants.{Is, Refused}
+use Rattle.size_steps.specs.declared.Counted.{Counted}
+use Rattle.size_steps.specs.declared.Counting.{Counting}
+use Rattle.size_steps.specs.declared.Counting.the-variants.{Are, Refused as RefusedAll}
+use Rattle.size_steps.specs.Agreement.{CheckedAs, CountedAs, Agrees, agrees, refused, beyond, AgreesAll, agree, refused-all, beyond-all, Grows, grown, not-grown, GrowsAll, grown-all}
 
 -- ---- growing, by what the answer is
 pub grown-as : {used : ℕ} {r : Sizing} {k : Checked} → r ≡ Is k → used ≤ k .used → Grows used r

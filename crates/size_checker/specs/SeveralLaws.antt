@@ -19,19 +19,19 @@ use Rattle.encoding.specs.ExprLists.{first-of-exprs}
 use Rattle.estimate.specs.declared.Estimate.{Estimate}
 use Rattle.estimate.specs.Stands.{Makes, Combines}
 use Rattle.sizes.specs.Promises.{meaning}
-use Rattle.size_checker.specs.declared.Place.{Place}
-use Rattle.size_checker.specs.declared.Checked.{Checked}
-use Rattle.size_checker.specs.declared.Sizing.{Sizing}
-use Rattle.size_checker.specs.declared.Sizing.the-variants.{Is, Refused}
-use Rattle.size_checker.specs.declared.Counted.{Counted}
-use Rattle.size_checker.specs.declared.Counting.{Counting}
-use Rattle.size_checker.specs.declared.Counting.the-variants.{Are, Refused as RefusedAll}
-use Rattle.size_checker.specs.Sites.{movedTo, Kept, kept-all, kept-then, kept-moved}
-use Rattle.size_checker.specs.Agreement.{agree, GrowsAll, not-grown-all, grows-to, grows-all-to}
+use Rattle.size_steps.specs.declared.Place.{Place}
+use Rattle.size_steps.specs.declared.Checked.{Checked}
+use Rattle.size_steps.specs.declared.Sizing.{Sizing}
+use Rattle.size_steps.specs.declared.Sizing.the-variants.{Is, Refused}
+use Rattle.size_steps.specs.declared.Counted.{Counted}
+use Rattle.size_steps.specs.declared.Counting.{Counting}
+use Rattle.size_steps.specs.declared.Counting.the-variants.{Are, Refused as RefusedAll}
+use Rattle.size_steps.specs.Sites.{movedTo, Kept, kept-all, kept-then, kept-moved}
+use Rattle.size_steps.specs.Agreement.{agree, GrowsAll, not-grown-all, grows-to, grows-all-to}
 use Rattle.size_checker.specs.SeveralAgree.{grown-all-as, first-is, first-no, rest-are, rest-no}
 use Rattle.size_checker.specs.Promises.{Lent, Buffers, Sizes, SizesAll, ExprPart, ExprsPart}
-use Rattle.size_checker.specs.Leaves.{refusedAll}
-use Rattle.size_checker.specs.Numbers.{OneMoreOf, more-are, more-refused}
+use Rattle.size_steps.specs.Leaves.{refusedAll}
+use Rattle.size_steps.specs.Numbers.{OneMoreOf, more-are, more-refused}
 use Rattle.size_checker.specs.HereLaws.{part-at, here-moved}
 
 -- ---- none are left, or a first one and others

@@ -20,8 +20,8 @@ use Rattle.splits.specs.Moves.{Moves}
 use Rattle.splits.specs.MoveLaws.{drop-of-take}
 use Rattle.splits.specs.Walks.{next-long}
 use Rattle.text.specs.declared.Cursor.{Cursor}
-use Rattle.size_checker.specs.declared.Place.{Place}
-use Rattle.size_checker.specs.Sites.{movedTo, widened, Kept}
+use Rattle.size_steps.specs.declared.Place.{Place}
+use Rattle.size_steps.specs.Sites.{movedTo, widened, Kept}
 
 -- how many lists of so many digits there are, a digit for each number up to the largest size; and how many come behind this one
 unfoldable pub whole : ℕ → ℕ

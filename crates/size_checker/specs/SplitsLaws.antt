@@ -30,13 +30,13 @@ use Rattle.splits.specs.Walks.{moves-keep, walk-moves, walk-ends}
 use Rattle.sizes.specs.Rows.{FieldsBound}
 use Rattle.sizes.specs.ToldLaws.{told-fields, fields-counted}
 use Rattle.index.specs.Sections.{typesOf}
-use Rattle.size_checker.specs.declared.Place.{Place}
-use Rattle.size_checker.specs.declared.Checked.{Checked}
-use Rattle.size_checker.specs.declared.Sizing.{Sizing}
-use Rattle.size_checker.specs.declared.Sizing.the-variants.{Is, Refused}
-use Rattle.size_checker.specs.declared.Subject.{Subject}
-use Rattle.size_checker.specs.Sites.{Bounded, movedTo, widened, Kept, kept-then, kept-moved, kept-under}
-use Rattle.size_checker.specs.Agreement.{Holds, Before, CheckedAs, Agrees, Grows, agrees, refused, beyond, itself, ofType, grown, not-grown, grows-to, grows-same, bind-is, bind-no, need-fails}
+use Rattle.size_steps.specs.declared.Place.{Place}
+use Rattle.size_steps.specs.declared.Checked.{Checked}
+use Rattle.size_steps.specs.declared.Sizing.{Sizing}
+use Rattle.size_steps.specs.declared.Sizing.the-variants.{Is, Refused}
+use Rattle.size_steps.specs.declared.Subject.{Subject}
+use Rattle.size_steps.specs.Sites.{Bounded, movedTo, widened, Kept, kept-then, kept-moved, kept-under}
+use Rattle.size_steps.specs.Agreement.{Holds, Before, CheckedAs, Agrees, Grows, agrees, refused, beyond, itself, ofType, grown, not-grown, grows-to, grows-same, bind-is, bind-no, need-fails}
 use Rattle.size_checker.specs.Promises.{Lent, Buffers, buffers, Here, ExprPart, entering, BranchPart, UpToMost, Wanted, Sizes, SizesSplits}
 use Rattle.size_checker.specs.HereLaws.{fits-of, here-moved}
 use Rattle.size_checker.specs.TurnLaws.{in-frame, grown-is}

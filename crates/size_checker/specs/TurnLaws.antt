@@ -12,12 +12,12 @@ use Rattle.language.specs.Typing.{Place as Stand, frameAt}
 use Rattle.language.specs.Checker.{Instance, Sized, sized}
 use Rattle.encoding.specs.Spells.{Spells}
 use Rattle.encoding.specs.FrameSpells.{lineAt}
-use Rattle.size_checker.specs.declared.Place.{Place}
-use Rattle.size_checker.specs.declared.Checked.{Checked}
-use Rattle.size_checker.specs.declared.Sizing.{Sizing}
-use Rattle.size_checker.specs.declared.Sizing.the-variants.{Is, Refused}
-use Rattle.size_checker.specs.Sites.{movedTo, widened, Kept, kept-then, kept-moved, kept-under, kept-set}
-use Rattle.size_checker.specs.Agreement.{Agrees, itself, CheckedAs, Grows, grown, grows-to, grows-same}
+use Rattle.size_steps.specs.declared.Place.{Place}
+use Rattle.size_steps.specs.declared.Checked.{Checked}
+use Rattle.size_steps.specs.declared.Sizing.{Sizing}
+use Rattle.size_steps.specs.declared.Sizing.the-variants.{Is, Refused}
+use Rattle.size_steps.specs.Sites.{movedTo, widened, Kept, kept-then, kept-moved, kept-under, kept-set}
+use Rattle.size_steps.specs.Agreement.{Agrees, itself, CheckedAs, Grows, grown, grows-to, grows-same}
 use Rattle.size_checker.specs.Promises.{Lent, Buffers, buffers, Here, entering, Sizes, ExprPart}
 use Rattle.size_checker.specs.HereLaws.{part-at, here-moved}
 

@@ -21,9 +21,9 @@ use Rattle.index.specs.Indexed.{declaredAt}
 use Rattle.encoding.specs.WithinParts.{input-within, node-within}
 use Rattle.sizes.specs.declared.SizedType.{SizedType}
 use Rattle.sizes.specs.Promises.{meaning}
-use Rattle.size_checker.specs.declared.Place.{Place}
-use Rattle.size_checker.specs.Sites.{Bounded, bounded-bool, bounded-int, bounded-named, bounded-small, Site}
-use Rattle.size_checker.specs.Leaves.{ChannelTyped}
+use Rattle.size_steps.specs.declared.Place.{Place}
+use Rattle.size_steps.specs.Sites.{Bounded, bounded-bool, bounded-int, bounded-named, bounded-small, Site}
+use Rattle.size_steps.specs.Leaves.{ChannelTyped}
 use Rattle.size_checker.specs.Promises.{Lent, IndexedFile}
 
 -- a type, and the word that stands for it

@@ -18,11 +18,11 @@ use Rattle.estimate.specs.declared.Estimate.{Estimate as Held}
 use Rattle.estimate.specs.Stands.{Stands, Makes}
 use Rattle.sizes.specs.Promises.{meaning}
 use Rattle.splits.specs.Next.{Chain}
-use Rattle.size_checker.specs.declared.Place.{Place}
-use Rattle.size_checker.specs.declared.Checked.{Checked}
-use Rattle.size_checker.specs.declared.Subject.{Subject}
-use Rattle.size_checker.specs.Sites.{Kept, kept-all}
-use Rattle.size_checker.specs.Agreement.{Holds, Before}
+use Rattle.size_steps.specs.declared.Place.{Place}
+use Rattle.size_steps.specs.declared.Checked.{Checked}
+use Rattle.size_steps.specs.declared.Subject.{Subject}
+use Rattle.size_steps.specs.Sites.{Kept, kept-all}
+use Rattle.size_steps.specs.Agreement.{Holds, Before}
 use Rattle.size_checker.specs.Promises.{Lent, Buffers, Here, entering, atSplit, BranchPart, UpToMost, Wanted}
 use Rattle.size_checker.specs.Eithers.{joined, joined-none}
 

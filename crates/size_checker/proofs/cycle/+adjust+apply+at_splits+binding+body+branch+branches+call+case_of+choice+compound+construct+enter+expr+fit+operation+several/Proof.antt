@@ -6,7 +6,7 @@ use lib.ListN.{length, take, drop}
 use borrow.Author.Tests.{not-true, not-false}
 use Rattle.size_checker.specs.Loads.{load, load-same, load-moved, load-wide, load-down, load-body, room-same, room-wide, room-down, room-widens, scope-long, sizes-long, room-behind, room-rest, room-kept, room-body, room-inner, room-row, prepares, grows-behind, grows-wide}
 use Rattle.size_checker.specs.TurnLaws.{put-is}
-use Rattle.size_checker.specs.Agreement.{grows-to, grows-all-to}
+use Rattle.size_steps.specs.Agreement.{grows-to, grows-all-to}
 use mathlib.Core.Bool.{false}
 use mathlib.Core.Logic.{_⊎_, inl, inr, ⊎-elim}
 use denote.Ref.{now}
@@ -16,7 +16,7 @@ use Rattle.heads.specs.declared.Form.the-variants.{Bool as BoolForm, Int, Varia
 use Rattle.sizes.proofs.SizedType.{enum}
 use Rattle.sizes.specs.declared.SizedType.{SizedType}
 use Rattle.size_checker.specs.KindLaws.{NotNamed}
-use Rattle.size_checker.specs.Leaves.{Operands}
+use Rattle.size_steps.specs.Leaves.{Operands}
 use Rattle.language.specs.Limits.{byteRange}
 use Rattle.size_checker.specs.ExprLaws.{isLeaf, hasParts, expr-deep, expr-bool, expr-int, expr-variable, expr-now, expr-last, expr-compound, now-counted, last-counted, compound-is, compound-none, operands-of}
 use Rattle.size_checker.specs.SeveralLaws.{several-none, several-first, several-more}
@@ -106,36 +106,36 @@ use Rattle.sizes.proofs.rows.named_sizes.Reads as named-sizes-reads
 use Rattle.sizes.proofs.size_at.Reads as size-at-reads
 use Rattle.sizes.proofs.type_at.Reads as type-at-reads
 use Rattle.sizes.proofs.word_of.Reads as word-of-reads
-use Rattle.size_checker.proofs.numbers.adjusted.Reads as adjusted-reads
-use Rattle.size_checker.proofs.numbers.agree.Reads as agree-reads
-use Rattle.size_checker.proofs.places.behind.Reads as behind-reads
-use Rattle.size_checker.proofs.places.body_place.Reads as body-place-reads
-use Rattle.size_checker.proofs.numbers.branched.Reads as branched-reads
-use Rattle.size_checker.proofs.numbers.called.Reads as called-reads
-use Rattle.size_checker.proofs.numbers.cased.Reads as cased-reads
-use Rattle.size_checker.proofs.leaves.channel_type.Reads as channel-type-reads
-use Rattle.size_checker.proofs.numbers.chosen.Reads as chosen-reads
-use Rattle.size_checker.proofs.places.down.Reads as down-reads
-use Rattle.size_checker.proofs.numbers.fitted.Reads as fitted-reads
-use Rattle.size_checker.proofs.numbers.is_kind.Reads as is-kind-reads
-use Rattle.size_checker.proofs.numbers.kind_word.Reads as kind-word-reads
-use Rattle.size_checker.proofs.numbers.larger.Reads as larger-reads
-use Rattle.size_checker.proofs.numbers.leaf.Reads as leaf-reads
-use Rattle.size_checker.proofs.leaves.made.Reads as made-reads
-use Rattle.size_checker.proofs.places.moved.Reads as moved-reads
-use Rattle.size_checker.proofs.numbers.none.Reads as none-reads
-use Rattle.size_checker.proofs.numbers.not_entered.Reads as not-entered-reads
-use Rattle.size_checker.proofs.numbers.nothing_yet.Reads as nothing-yet-reads
-use Rattle.size_checker.proofs.numbers.one_more.Reads as one-more-reads
-use Rattle.size_checker.proofs.numbers.operated.Reads as operated-reads
-use Rattle.size_checker.proofs.leaves.prepare.Reads as prepare-reads
-use Rattle.size_checker.proofs.numbers.refused.Reads as refused-reads
-use Rattle.size_checker.proofs.numbers.refused_all.Reads as refused-all-reads
-use Rattle.size_checker.proofs.numbers.slotted.Reads as slotted-reads
-use Rattle.size_checker.proofs.numbers.subject.Reads as subject-reads
-use Rattle.size_checker.proofs.leaves.type_in.Reads as type-in-reads
-use Rattle.size_checker.proofs.places.widen.Reads as widen-reads
-use Rattle.size_checker.proofs.numbers.with_let.Reads as with-let-reads
+use Rattle.size_steps.proofs.numbers.adjusted.Reads as adjusted-reads
+use Rattle.size_steps.proofs.numbers.agree.Reads as agree-reads
+use Rattle.size_steps.proofs.places.behind.Reads as behind-reads
+use Rattle.size_steps.proofs.places.body_place.Reads as body-place-reads
+use Rattle.size_steps.proofs.numbers.branched.Reads as branched-reads
+use Rattle.size_steps.proofs.numbers.called.Reads as called-reads
+use Rattle.size_steps.proofs.numbers.cased.Reads as cased-reads
+use Rattle.size_steps.proofs.leaves.channel_type.Reads as channel-type-reads
+use Rattle.size_steps.proofs.numbers.chosen.Reads as chosen-reads
+use Rattle.size_steps.proofs.places.down.Reads as down-reads
+use Rattle.size_steps.proofs.numbers.fitted.Reads as fitted-reads
+use Rattle.size_steps.proofs.numbers.is_kind.Reads as is-kind-reads
+use Rattle.size_steps.proofs.numbers.kind_word.Reads as kind-word-reads
+use Rattle.size_steps.proofs.numbers.larger.Reads as larger-reads
+use Rattle.size_steps.proofs.numbers.leaf.Reads as leaf-reads
+use Rattle.size_steps.proofs.leaves.made.Reads as made-reads
+use Rattle.size_steps.proofs.places.moved.Reads as moved-reads
+use Rattle.size_steps.proofs.numbers.none.Reads as none-reads
+use Rattle.size_steps.proofs.numbers.not_entered.Reads as not-entered-reads
+use Rattle.size_steps.proofs.numbers.nothing_yet.Reads as nothing-yet-reads
+use Rattle.size_steps.proofs.numbers.one_more.Reads as one-more-reads
+use Rattle.size_steps.proofs.numbers.operated.Reads as operated-reads
+use Rattle.size_steps.proofs.leaves.prepare.Reads as prepare-reads
+use Rattle.size_steps.proofs.numbers.refused.Reads as refused-reads
+use Rattle.size_steps.proofs.numbers.refused_all.Reads as refused-all-reads
+use Rattle.size_steps.proofs.numbers.slotted.Reads as slotted-reads
+use Rattle.size_steps.proofs.numbers.subject.Reads as subject-reads
+use Rattle.size_steps.proofs.leaves.type_in.Reads as type-in-reads
+use Rattle.size_steps.proofs.places.widen.Reads as widen-reads
+use Rattle.size_steps.proofs.numbers.with_let.Reads as with-let-reads
 use Rattle.heads.proofs.skip.skip.Reads as skip-reads
 use Rattle.splits.proofs.first_split.Reads as first-split-reads
 use Rattle.splits.proofs.next_split.Reads as next-split-reads

@@ -1,0 +1,5 @@
+pub mod Sites
+pub mod Agreement
+pub mod Leaves
+pub mod Numbers
+pub mod LeafLaws

@@ -1,0 +1,112 @@
+// What a form asks of the index and of the lines: types, conditions, measures, fields.
+ghost use Prim.Native.Nat.{_<_, _≤_, _+_, _^_};
+ghost use Rattle.language.specs.Limits.{byteRange, typesMost};
+ghost use Rattle.size_steps.specs.Leaves.{Typed, ChannelTyped, Falls, Prepares, Makes};
+use super::Checked;
+use super::Counted;
+use super::Entering;
+use super::Entry;
+use super::Place;
+use super::Sizing;
+use estimate::after;
+use estimate::one_cell;
+use index::INDEX_WORDS;
+use index::channels::declared_word;
+use index::frames::frame_line;
+use index::functions::conditions_start;
+use index::functions::measure_start;
+use index::functions::result_start;
+use index::word_at;
+use language::limits::SIZE_MOST;
+use sizes::SizedType;
+use sizes::TypeAt;
+use sizes::conditions_hold;
+use sizes::rows::fields_agree;
+use sizes::rows::own_sum;
+use sizes::type_at;
+use sizes::type_of;
+use sizes::weight;
+
+// The type whose word stands in a row, 0 beyond it.
+pub fn type_in(row: &[u32], i: usize) -> SizedType
+    ensures { λ r. ⌜ Typed (now (row .entry)) i r ⌝ }
+{
+    type_of(word_at(row, i))
+}
+
+// The declared type of channel c.
+pub fn channel_type(index: &[u32; INDEX_WORDS], c: u32) -> SizedType
+    ensures { λ r. ⌜ ChannelTyped (now (index .entry)) c r ⌝ }
+{
+    type_of(declared_word(index, c))
+}
+
+// For a self-call whether the summed measure falls; any other call may be made.
+pub fn falls(p: Place, f: u32, w: u32) -> bool
+    ensures { λ r. ⌜ Falls p f w r ⌝ }
+{
+    if p.around == 0 {
+        return true;
+    }
+    if p.around - 1 != f {
+        return true;
+    }
+    w < p.weight
+}
+
+// A call whose arguments were checked: its conditions, for a self-call that the measure falls, and the size of its result.
+pub fn prepare(
+    text: &[u8],
+    index: &[u32; INDEX_WORDS],
+    sizes: &[u8],
+    p: Place,
+    f: u32,
+    n: u32,
+    m: u32,
+) -> Entering
+    requires { ⌜ (p .types ≤ typesMost) × ((p .line < 2 ^ 16) × (f < byteRange)) ⌝ }
+    ensures { λ r. ⌜ Prepares (now (text .entry)) (now (index .entry)) (now (sizes .entry)) p f n m r ⌝ }
+{
+    let line = frame_line(text, index, p.types + f);
+    if !conditions_hold(line, conditions_start(index, f), sizes) {
+        return Entering::Refused(12, p.line + 1);
+    }
+    let w = weight(line, measure_start(index, f), sizes);
+    if !falls(p, f, w) {
+        return Entering::Refused(13, p.line + 1);
+    }
+    let x = type_at(line, result_start(index, f), sizes);
+    let TypeAt::Is(kind, _) = x else {
+        return Entering::Refused(10, p.types + f + 1);
+    };
+    Entering::Ready(Entry {
+        function: f,
+        weight: w,
+        kind: kind,
+        variables: n,
+        sizes: m,
+    })
+}
+
+// A constructor whose fields were checked: its size, then that each field is exactly what it must be.
+pub fn made(index: &[u32; INDEX_WORDS], row: &[u32], p: Place, a: Counted, t: u32, c: u32) -> Sizing
+    requires { ⌜ (p .line < 2 ^ 16) × (t < byteRange) ⌝ }
+    ensures { λ r. ⌜ Makes (now (index .entry)) (now (row .entry)) p a t c r ⌝ }
+{
+    let size = own_sum(index, row, t, c);
+    if SIZE_MOST <= size {
+        return Sizing::Refused(10, p.line + 1);
+    }
+    if !fields_agree(index, row, t, c) {
+        return Sizing::Refused(11, p.line + 1);
+    }
+    let fields = a.numbers;
+    let next = a.next;
+    let numbers = after(fields, one_cell());
+    Sizing::Is(Checked {
+        kind: SizedType::Named(t as u8, (size + 1) as u8),
+        numbers: numbers,
+        next: next,
+        used: a.used,
+    })
+}

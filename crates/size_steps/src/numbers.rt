@@ -1,0 +1,294 @@
+// What a form makes of the answers of its parts: its type, its numbers, or a refusal handed on.
+ghost use Rattle.size_steps.specs.Leaves.{leafOf, OperatorType, subjectOf, refusedOf, refusedAll, notEntered};
+ghost use mathlib.Core.Path.{_≡_};
+ghost use Rattle.language.specs.Sizes.{sameType};
+ghost use Rattle.sizes.specs.Promises.{meaning, WordOf};
+ghost use Rattle.size_steps.specs.Numbers.{countedAs, LetNumbers, IfNumbers, OpNumbers, CallNumbers, CaseNumbers, EitherNumbers, LargerNumbers, SlotNumbers, adjustedTo, FitNumbers, NoneCounted, OneMore, OneMoreOf, NothingYet};
+use super::Checked;
+use super::Counted;
+use super::Counting;
+use super::Entering;
+use super::Place;
+use super::Sizing;
+use super::Subject;
+use estimate::Estimate;
+use estimate::after;
+use estimate::either;
+use estimate::in_call;
+use estimate::nothing;
+use estimate::one_cell;
+use estimate::with_slots;
+use sizes::SizedType;
+use sizes::same;
+use sizes::word_of;
+
+// A constant, a variable or a channel, which ends where the place is.
+pub fn leaf(kind: SizedType, numbers: Estimate, p: Place) -> Sizing
+    ensures { λ r. ⌜ r ≡ leafOf kind numbers p ⌝ }
+{
+    let at = p.at;
+    Sizing::Is(Checked {
+        kind: kind,
+        numbers: numbers,
+        next: at,
+        used: p.used,
+    })
+}
+
+// The type of an operation by its operator: `00` to `02` give Int.
+pub fn operator_type(o: u32) -> SizedType
+    ensures { λ r. ⌜ OperatorType o r ⌝ }
+{
+    if o <= 2 {
+        return SizedType::Int;
+    }
+    SizedType::Bool
+}
+
+// A checked expression with other numbers.
+fn counted(b: Checked, numbers: Estimate) -> Sizing
+    ensures { λ r. ⌜ r ≡ countedAs b numbers ⌝ }
+{
+    let kind = b.kind;
+    let next = b.next;
+    Sizing::Is(Checked {
+        kind: kind,
+        numbers: numbers,
+        next: next,
+        used: b.used,
+    })
+}
+
+// The word of a checked expression's type.
+pub fn kind_word(a: Checked) -> u32
+    ensures { λ r. ⌜ WordOf (a .kind) r ⌝ }
+{
+    let kind = a.kind;
+    word_of(kind)
+}
+
+// Whether a checked expression is of this type.
+pub fn is_kind(a: Checked, kind: SizedType) -> bool
+    ensures { λ r. ⌜ r ≡ sameType (meaning (a .kind)) (meaning kind) ⌝ }
+{
+    let found = a.kind;
+    same(found, kind)
+}
+
+// Whether two checked expressions are of the same type.
+pub fn agree(a: Checked, b: Checked) -> bool
+    ensures { λ r. ⌜ r ≡ sameType (meaning (a .kind)) (meaning (b .kind)) ⌝ }
+{
+    let kind = b.kind;
+    is_kind(a, kind)
+}
+
+// A let: a, and then b with a slot more.
+pub fn with_let(a: Checked, b: Checked) -> Sizing
+    ensures { λ r. ⌜ LetNumbers a b r ⌝ }
+{
+    let first = a.numbers;
+    let second = b.numbers;
+    let numbers = after(first, with_slots(1, second));
+    counted(b, numbers)
+}
+
+// An if: a, and then b or d.
+pub fn chosen(a: Checked, b: Checked, d: Checked) -> Sizing
+    ensures { λ r. ⌜ IfNumbers a b d r ⌝ }
+{
+    let first = a.numbers;
+    let second = b.numbers;
+    let third = d.numbers;
+    let numbers = after(first, either(second, third));
+    counted(d, numbers)
+}
+
+// An operation: a, b, and a cell for the result.
+pub fn operated(o: u32, a: Checked, b: Checked) -> Sizing
+    ensures { λ r. ⌜ OpNumbers o a b r ⌝ }
+{
+    let first = a.numbers;
+    let second = b.numbers;
+    let next = b.next;
+    let numbers = after(after(first, second), one_cell());
+    let kind = operator_type(o);
+    Sizing::Is(Checked {
+        kind: kind,
+        numbers: numbers,
+        next: next,
+        used: b.used,
+    })
+}
+
+// A call of n arguments: a, and then the body b inside a call, with a slot for each argument.
+pub fn called(n: u32, a: Counted, b: Checked) -> Sizing
+    ensures { λ r. ⌜ CallNumbers n a b r ⌝ }
+{
+    let first = a.numbers;
+    let second = b.numbers;
+    let numbers = with_slots(n, after(first, in_call(second)));
+    counted(b, numbers)
+}
+
+// A case: the subject a, and then its branches b.
+pub fn cased(a: Checked, b: Checked) -> Sizing
+    ensures { λ r. ⌜ CaseNumbers a b r ⌝ }
+{
+    let first = a.numbers;
+    let second = b.numbers;
+    let numbers = after(first, second);
+    counted(b, numbers)
+}
+
+// Branches: a or b; the answer ends behind b.
+pub fn branched(a: Checked, b: Checked) -> Sizing
+    ensures { λ r. ⌜ EitherNumbers a b r ⌝ }
+{
+    let first = a.numbers;
+    let second = b.numbers;
+    let numbers = either(first, second);
+    counted(b, numbers)
+}
+
+// A branch at splits so far, and at one more.
+pub fn larger(all: Checked, a: Checked) -> Checked
+    ensures { λ r. ⌜ LargerNumbers all a r ⌝ }
+{
+    let first = all.numbers;
+    let second = a.numbers;
+    let kind = all.kind;
+    let next = a.next;
+    let numbers = either(first, second);
+    Checked {
+        kind: kind,
+        numbers: numbers,
+        next: next,
+        used: a.used,
+    }
+}
+
+// A branch at all splits, with a slot for each of n fields.
+pub fn slotted(n: u32, all: Checked) -> Sizing
+    ensures { λ r. ⌜ SlotNumbers n all r ⌝ }
+{
+    let inside = all.numbers;
+    let numbers = with_slots(n, inside);
+    counted(all, numbers)
+}
+
+// An expression of type t adjusted to size k.
+pub fn adjusted(t: u8, k: u8, a: Checked) -> Sizing
+    ensures { λ r. ⌜ r ≡ adjustedTo t k a ⌝ }
+{
+    let numbers = a.numbers;
+    let next = a.next;
+    Sizing::Is(Checked {
+        kind: SizedType::Named(t, k),
+        numbers: numbers,
+        next: next,
+        used: a.used,
+    })
+}
+
+// A fit: a, and then b with a slot more, or d.
+pub fn fitted(a: Checked, b: Checked, d: Checked) -> Sizing
+    ensures { λ r. ⌜ FitNumbers a b d r ⌝ }
+{
+    let first = a.numbers;
+    let second = b.numbers;
+    let third = d.numbers;
+    let numbers = after(first, either(with_slots(1, second), third));
+    counted(d, numbers)
+}
+
+// No part.
+pub fn none(p: Place) -> Counting
+    ensures { λ r. ⌜ NoneCounted p r ⌝ }
+{
+    let at = p.at;
+    Counting::Are(Counted {
+        numbers: nothing(),
+        next: at,
+        used: p.used,
+    })
+}
+
+// One part, and then those behind it.
+fn counted_more(a: Checked, b: Counted) -> Counting
+    ensures { λ r. ⌜ OneMore a b r ⌝ }
+{
+    let first = a.numbers;
+    let second = b.numbers;
+    let next = b.next;
+    let numbers = after(first, second);
+    Counting::Are(Counted {
+        numbers: numbers,
+        next: next,
+        used: b.used,
+    })
+}
+
+// The same where those behind it may be refused.
+pub fn one_more(a: Checked, y: Counting) -> Counting
+    ensures { λ r. ⌜ OneMoreOf a y r ⌝ }
+{
+    let Counting::Are(b) = y else {
+        return y;
+    };
+    counted_more(a, b)
+}
+
+// A branch of this type before its first split.
+pub fn nothing_yet(kind: SizedType, p: Place) -> Checked
+    ensures { λ r. ⌜ NothingYet kind p r ⌝ }
+{
+    let at = p.at;
+    Checked {
+        kind: kind,
+        numbers: nothing(),
+        next: at,
+        used: p.used,
+    }
+}
+
+// A refusal among arguments is one of the whole.
+pub fn refused(x: Counting) -> Sizing
+    ensures { λ r. ⌜ r ≡ refusedOf x ⌝ }
+{
+    match x {
+        Counting::Are(_) => Sizing::Refused(0, 0),
+        Counting::Refused(n, frame) => Sizing::Refused(n, frame),
+    }
+}
+
+// A refusal of one part is one of them all.
+pub fn refused_all(x: Sizing) -> Counting
+    ensures { λ r. ⌜ r ≡ refusedAll x ⌝ }
+{
+    match x {
+        Sizing::Is(_) => Counting::Refused(0, 0),
+        Sizing::Refused(n, frame) => Counting::Refused(n, frame),
+    }
+}
+
+// The same of a call that was not entered.
+pub fn not_entered(x: Entering) -> Sizing
+    ensures { λ r. ⌜ r ≡ notEntered x ⌝ }
+{
+    match x {
+        Entering::Ready(_) => Sizing::Refused(0, 0),
+        Entering::Refused(n, frame) => Sizing::Refused(n, frame),
+    }
+}
+
+// The subject of a case.
+pub fn subject(t: u32, m: u8, kind: SizedType) -> Subject
+    ensures { λ r. ⌜ r ≡ subjectOf t m kind ⌝ }
+{
+    Subject {
+        of: t,
+        size: m,
+        kind: kind,
+    }
+}
