@@ -8,9 +8,9 @@ use estimate::Estimate;
 use sizes::SizedType;
 use text::Cursor;
 
-// Where an expression stands: its place in the line of a frame, the levels left, how many types the file has, the line of the
-// first channel and its own line, both counted from 0, the function around it and one (0 where there is none) at its summed
-// measure, how many variables and size variables are in scope, and how many instances have been entered.
+// Where an expression stands: its place in the line of a frame, the levels left, how many types the file has, its line, counted from 0,
+// the function around it and one (0 where there is none) at its summed measure, how many variables and size variables are in
+// scope, and how many instances have been entered.
 pub struct Place {
     pub at: Cursor,
     pub levels: u32,

@@ -10,8 +10,6 @@ use super::Place;
 use index::INDEX_WORDS;
 use index::functions::body_start;
 use language::limits::NESTING_MOST;
-use sizes::same;
-use sizes::weight;
 use text::Cursor;
 
 // The same place elsewhere in the line, with so many instances entered.
