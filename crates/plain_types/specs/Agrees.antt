@@ -1,4 +1,5 @@
--- An answer of the code agrees with the definition's: a plain type as a word, the cursor where the expression ends; or none.
+-- What a plain type of the code means, and when an answer of the code agrees with the definition's: a plain type, the cursor where the
+-- expression ends; or none.
 -- Laws of chain, when and both, one each.
 use Prim.Native.Nat.{ℕ}
 use mathlib.Core.Bool.{Bool, true, false}
@@ -6,23 +7,28 @@ use mathlib.Core.Option.{Option, none, some}
 use mathlib.Core.Path.{_≡_, refl, sym, ap, _∙_, subst}
 use native.Mathlib.Omega.{arith}
 use Rattle.language.specs.Result.{both, when, chain}
-use Rattle.language.specs.Syntax.{Plain}
-use Rattle.text.specs.declared.Cursor.{Cursor}
-use Rattle.text.specs.Bytes.{plainWord}
+use Rattle.language.specs.Syntax.{Plain, pbool, pint, pnamed}
 use Rattle.theory.specs.Lists.{none-is-not-some}
+use Rattle.plain_types.specs.declared.words.PlainType.{PlainType}
+use Rattle.plain_types.specs.declared.words.PlainType.the-variants.{Bool as BoolIs, Int as IntIs, Named}
 use Rattle.plain_types.specs.declared.words.Typed.{Typed}
 use Rattle.plain_types.specs.declared.words.Typing.{Typing}
 use Rattle.plain_types.specs.declared.words.Typing.the-variants.{Is, Wrong}
 
+abbrev pub meaning : PlainType → Plain
+meaning BoolIs = pbool
+meaning IntIs = pint
+meaning (Named t) = pnamed t
+
 pub data Agrees (r : Typing) (end : ℕ) : Option Plain → Type 0 where
-  is-some : {k : Typed} {τ : Plain} → r ≡ Is k → k .word ≡ plainWord τ → k .next .at ≡ end → Agrees r end (some τ)
+  is-some : {k : Typed} {τ : Plain} → r ≡ Is k → meaning (k .of) ≡ τ → k .next .at ≡ end → Agrees r end (some τ)
   is-none : r ≡ Wrong → Agrees r end none
 
 -- ---- what an answer tells
 pub record TypeFound (k : Typed) (end : ℕ) (o : Option Plain) : Type 0 where
   pub type : Plain
   pub is : o ≡ some type
-  pub word : k .word ≡ plainWord type
+  pub kind : meaning (k .of) ≡ type
   pub place : k .next .at ≡ end
 
 wrong-is-not : {B : Type 0} {k : Typed} → Wrong ≡ Is k → B
@@ -38,7 +44,7 @@ module _ {x : Typing} {end : ℕ} where
   pub typed : {o : Option Plain} {k : Typed} → Agrees x end o → x ≡ Is k → TypeFound k end o
   typed {k} (is-some {k = j} {τ} q w p) e =
       let same : j ≡ k = is-once (sym q ∙ e) in
-      record { type = τ; is = refl; word = ap (λ (i : Typed). i .word) (sym same) ∙ w; place = ap (λ (i : Typed). i .next .at) (sym same) ∙ p }
+      record { type = τ; is = refl; kind = ap (λ (i : Typed). meaning (i .of)) (sym same) ∙ w; place = ap (λ (i : Typed). i .next .at) (sym same) ∙ p }
   typed (is-none q) e = wrong-is-not (sym q ∙ e)
 
   pub untyped : {o : Option Plain} → Agrees x end o → x ≡ Wrong → o ≡ none
@@ -49,8 +55,8 @@ module _ {x : Typing} {end : ℕ} where
   agrees-as e a = subst (Agrees x end) (sym e) a
 
   -- an answer that is known
-  pub typed-is : {τ : Plain} {k : Typed} → Agrees x end (some τ) → x ≡ Is k → (k .word ≡ plainWord τ) × (k .next .at ≡ end)
-  typed-is {τ} a e = let t = typed a e in let same : τ ≡ t .type = some-once (t .is) in (t .word ∙ ap plainWord (sym same), t .place)
+  pub typed-is : {τ : Plain} {k : Typed} → Agrees x end (some τ) → x ≡ Is k → (meaning (k .of) ≡ τ) × (k .next .at ≡ end)
+  typed-is {τ} a e = let t = typed a e in let same : τ ≡ t .type = some-once (t .is) in (t .kind ∙ sym same, t .place)
 
   pub typed-there : {τ : Plain} → Agrees x end (some τ) → x ≡ Wrong → ⊥
   typed-there a e = none-is-not-some (sym (untyped a e))
@@ -69,7 +75,7 @@ when-none false a e = refl
 -- an answer to a test: it holds, and the answer is what stands behind it; or it does not hold
 pub record Holds (k : Typed) (end : ℕ) (b : Bool) (τ : Plain) : Type 0 where
   pub is : b ≡ true
-  pub word : k .word ≡ plainWord τ
+  pub kind : meaning (k .of) ≡ τ
   pub place : k .next .at ≡ end
 
 module _ {x : Typing} {end : ℕ} (b : Bool) (τ : Plain) where
@@ -77,19 +83,16 @@ module _ {x : Typing} {end : ℕ} (b : Bool) (τ : Plain) where
   holds a e =
       let t = typed a e in
       let w = when-some b τ (t .is) in
-      record { is = w .0; word = t .word ∙ ap plainWord (sym (w .1)); place = t .place }
+      record { is = w .0; kind = t .kind ∙ sym (w .1); place = t .place }
 
   pub fails : Agrees x end (when b τ) → x ≡ Wrong → b ≡ false
   fails a e = when-none b τ (untyped a e)
 
 -- ---- an answer made
-pub answer-is : {end word : ℕ} {c : Cursor} (τ : Plain) → word ≡ plainWord τ → c .at ≡ end → Agrees (Is (record { word = word; next = c })) end (some τ)
-answer-is τ w p = is-some refl w p
-
 pub wrong : {end : ℕ} {o : Option Plain} → o ≡ none → Agrees Wrong end o
 wrong e = agrees-as e (is-none refl)
 
-pub answered : {r : Typing} {end : ℕ} {k : Typed} {τ : Plain} {o : Option Plain} → r ≡ Is k → k .word ≡ plainWord τ → k .next .at ≡ end → o ≡ some τ → Agrees r end o
+pub answered : {r : Typing} {end : ℕ} {k : Typed} {τ : Plain} {o : Option Plain} → r ≡ Is k → meaning (k .of) ≡ τ → k .next .at ≡ end → o ≡ some τ → Agrees r end o
 answered q w p e = agrees-as e (is-some q w p)
 
 -- ---- the definition's combinators where a part is known

@@ -1,5 +1,5 @@
 -- What the functions of the cycle promise. Each is asked for the plain type of something spelled at its place, in a scope whose types
--- are the first words of the lent slice; the words below the scope's end stay as they were, on any bytes.
+-- are the first words of the lent array; the words below the scope's end stay as they were, on any bytes.
 use Prim.Native.Nat.{ℕ, _+_, _-_, _*_, _≤_, _<_, _^_}
 use mathlib.Core.List.{List, [], map}
 use mathlib.Core.Option.{Option}
@@ -10,7 +10,7 @@ use Rattle.language.specs.Result.{when}
 use Rattle.language.specs.Syntax.{Constructor, Plain, pbool, Size, ResultType, Op, Expr, elet, eif, eop, ecall, econ, ecase, eadj, efit, Exprs, File, constructorsOf}
 use Rattle.language.specs.Format.{opCode, sizeBytes, resultBytes, exprBytes, exprsBytes}
 use Rattle.language.specs.Scope.{Scope, wider}
-use Rattle.language.specs.Within.{WithinSize, WithinResult, WithinExpr, WithinExprs, WithinBranches}
+use Rattle.language.specs.Within.{All, WithinPlain, WithinSize, WithinResult, WithinExpr, WithinExprs, WithinBranches}
 use Rattle.language.specs.Layout.{tagStep}
 use Rattle.language.specs.PlainTypes.{isPlain, arePlain, plainOf, plainsOf, plainBranches}
 use Rattle.text.specs.declared.Cursor.{Cursor}
@@ -20,12 +20,13 @@ use Rattle.encoding.specs.FrameSpells.{lineAt}
 use Rattle.encoding.specs.Known.{Known}
 use Rattle.index.specs.Sections.{channelsOf}
 use Rattle.index.specs.Indexed.{declaredAt, lineCount, Indexed}
+use Rattle.plain_types.specs.declared.words.PlainType.{PlainType}
 use Rattle.plain_types.specs.declared.words.Typing.{Typing}
 use Rattle.plain_types.specs.declared.places.Place.{Place}
 use Rattle.plain_types.specs.declared.places.Series.{Series}
 use Rattle.plain_types.specs.declared.places.BranchSeries.{BranchSeries}
-use Rattle.plain_types.specs.Words.{withoutSize, wantedWord}
-use Rattle.plain_types.specs.Agrees.{Agrees}
+use Rattle.plain_types.specs.Words.{typeAt, wantedType}
+use Rattle.plain_types.specs.Agrees.{meaning, Agrees}
 
 -- ---- places: the same with another cursor, with so many variables more, and with a level less
 abbrev pub movedTo : Place → Cursor → Place
@@ -46,15 +47,16 @@ pub record Kept (n : ℕ) (scope scope′ : List ℕ) : Type 0 where
   pub low : take n scope′ ≡ take n scope
   pub long : length scope′ ≡ length scope
 
--- ---- a scope of a file that was read: Γ its types, as the first words of the slice; C the types of the channels it may name
+-- ---- a scope of a file that was read: Γ its types, as the first words of the array; C the types of the channels it may name
 pub record Stage (text index scope : List ℕ) (line variables : ℕ) (P : File) (C : List Plain) (S : Scope) (Γ : List Plain) : Type 0 where
   pub indexed : Indexed text index P
   pub less : line < lineCount P
   pub known : Known P S
-  pub channel : (c : ℕ) → c < length C → withoutSize (declaredAt (channelsOf index) c) ≡ plainWord (getD C c pbool)
+  pub channel : (c : ℕ) → c < length C → meaning (typeAt (declaredAt (channelsOf index) c)) ≡ getD C c pbool
   pub now : S .now ≤ length C
   pub last : S .last ≤ length C
   pub words : take variables scope ≡ map plainWord Γ
+  pub small : All (WithinPlain tagStep) Γ
   pub long : length Γ ≡ variables
   pub inScope : S .variables ≡ variables
   pub room : variablesMost ≤ length scope
@@ -79,11 +81,11 @@ module _ (text : List ℕ) (p : Place) where
     pub part : Part (lineAt text (p .line)) (p .levels) S (p .at .at) expr end
     pub is : o ≡ plainOf P C expr Γ
 
-  pub record AskWant (word : ℕ) (P : File) (C : List Plain) (S : Scope) (Γ : List Plain) (o : Option Plain) (end : ℕ) : Type 0 where
+  pub record AskWant (kind : PlainType) (P : File) (C : List Plain) (S : Scope) (Γ : List Plain) (o : Option Plain) (end : ℕ) : Type 0 where
     pub expr : Expr
     pub part : Part (lineAt text (p .line)) (p .levels) S (p .at .at) expr end
     pub type : Plain
-    pub wanted : word ≡ plainWord type
+    pub wanted : meaning kind ≡ type
     pub is : o ≡ when (isPlain type (plainOf P C expr Γ)) type
 
   pub record AskLet (P : File) (C : List Plain) (S : Scope) (Γ : List Plain) (o : Option Plain) (end : ℕ) : Type 0 where
@@ -138,8 +140,8 @@ module _ (text : List ℕ) (p : Place) where
     pub wants : List Plain
     pub answer : Plain
     pub counted : s .count ≡ length wants
-    pub each : (j : ℕ) → j < length wants → wantedWord index (s .of) (s .first + j) ≡ getD (map plainWord wants) j 0
-    pub answered : s .word ≡ plainWord answer
+    pub each : (j : ℕ) → j < length wants → meaning (wantedType index (s .of) (s .first + j)) ≡ getD wants j pbool
+    pub answered : meaning (s .answer) ≡ answer
     pub within : WithinExprs (p .levels) S (length wants) list
     pub spelled : Spells exprsBytes (lineAt text (p .line)) (p .at .at) list
     pub ends : p .at .at + length (exprsBytes list) ≡ end
@@ -168,7 +170,7 @@ module _ (text : List ℕ) (p : Place) where
     pub less : s .of < length (P .types)
     pub those : drop (s .first) (constructorsOf P (s .of)) ≡ constructors
     pub counted : s .count ≡ length constructors
-    pub answered : s .word ≡ plainWord answer
+    pub answered : meaning (s .answer) ≡ answer
     pub within : WithinBranches (p .levels) S constructors list
     pub spelled : Spells exprsBytes (lineAt text (p .line)) (p .at .at) list
     pub ends : p .at .at + length (exprsBytes list) ≡ end
@@ -200,8 +202,8 @@ module _ (text index scope : List ℕ) (p : Place) where
   abbrev pub TypesExpr : Typing → List ℕ → Type 0
   TypesExpr r scope′ = Types text index scope p (AskExpr text p) r scope′
 
-  abbrev pub TypesWant : ℕ → Typing → List ℕ → Type 0
-  TypesWant word r scope′ = Types text index scope p (AskWant text p word) r scope′
+  abbrev pub TypesWant : PlainType → Typing → List ℕ → Type 0
+  TypesWant kind r scope′ = Types text index scope p (AskWant text p kind) r scope′
 
   abbrev pub TypesLet : Typing → List ℕ → Type 0
   TypesLet r scope′ = Types text index scope p (AskLet text p) r scope′

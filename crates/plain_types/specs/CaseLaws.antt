@@ -1,6 +1,6 @@
 -- Branches one after the other and cases, return by return.
 use Prim.Native.Nat.{ℕ, _+_, _-_, _*_, _%_, _<_}
-use mathlib.Core.List.{List, [], _∷_, _++_, map, head-eq-of-cons-eq, tail-eq-of-cons-eq}
+use mathlib.Core.List.{List, [], _∷_, _++_, head-eq-of-cons-eq, tail-eq-of-cons-eq}
 use mathlib.Core.Option.{Option, some}
 use mathlib.Core.Path.{_≡_, refl, sym, ap, ap₂, _∙_, subst}
 use native.Mathlib.Omega.{arith}
@@ -9,12 +9,12 @@ use lib.ListN.{length, getD, drop, length-map, length-drop}
 use lib.Seq.{drop-cons}
 use Rattle.language.specs.Limits.{byteRange}
 use Rattle.language.specs.Result.{both, when}
-use Rattle.language.specs.Syntax.{Constructor, TypeDef, owns, Plain, pnamed, Expr, Exprs, enil, econs, File, constructorsOf}
+use Rattle.language.specs.Syntax.{Constructor, TypeDef, owns, Plain, pbool, pnamed, Expr, Exprs, enil, econs, File, constructorsOf}
 use Rattle.language.specs.Format.{resultBytes, exprBytes, exprsBytes}
 use Rattle.language.specs.Scope.{Scope, wider}
-use Rattle.language.specs.Within.{WithinExpr, WithinBranches, wb-nil, wb-cons}
+use Rattle.language.specs.Within.{All, WithinPlain, WithinExpr, WithinBranches, wb-nil, wb-cons}
+use Rattle.language.specs.Layout.{tagStep}
 use Rattle.language.specs.PlainTypes.{plainField, plainFields, plainResult, isPlain, plainOf, plainBranches}
-use Rattle.text.specs.Bytes.{plainWord}
 use Rattle.index.specs.Tables.{typeWords, constructorWords}
 use Rattle.encoding.specs.Spells.{Spells}
 use Rattle.encoding.specs.ExprLists.{first-of-exprs}
@@ -23,20 +23,21 @@ use Rattle.heads.specs.SkipHeads.{count-same}
 use Rattle.heads.specs.PartLaws.{none-long, more-long}
 use Rattle.index.specs.Sections.{framesOf, typesOf}
 use Rattle.index.specs.Indexed.{framePart}
+use Rattle.plain_types.specs.declared.words.PlainType.{PlainType}
 use Rattle.plain_types.specs.declared.words.Typed.{Typed}
 use Rattle.plain_types.specs.declared.words.Typing.{Typing}
 use Rattle.plain_types.specs.declared.words.Typing.the-variants.{Is, Wrong}
 use Rattle.plain_types.specs.declared.words.Want.the-variants.{Fields}
 use Rattle.plain_types.specs.declared.places.Place.{Place}
 use Rattle.plain_types.specs.declared.places.BranchSeries.{BranchSeries}
-use Rattle.plain_types.specs.Words.{namedWord, wantedWord, entered, ReadsResult}
-use Rattle.plain_types.specs.Agrees.{Agrees, typed-is, typed-there, agrees-as, wrong, answered, when-true, when-false, both-first, both-not}
+use Rattle.plain_types.specs.Words.{namedType, wantedType, entered, ReadsResult}
+use Rattle.plain_types.specs.Agrees.{meaning, Agrees, typed-is, typed-there, agrees-as, wrong, answered, when-true, when-false, both-first, both-not}
 use Rattle.plain_types.specs.Asks.{movedTo, widerBy, Kept, Stage, Part, AskCase, AskBranches, TypesWant, TypesCase, TypesBranches}
 use Rattle.plain_types.specs.WordLaws.{named-is}
 use Rattle.plain_types.specs.EnterLaws.{kept-same, kept-then, kept-below, entered-kept, stage-kept, stage-entered}
 use Rattle.plain_types.specs.PlainLaws.{branches-none, branches-more, plain-case}
 use Rattle.plain_types.specs.FormLaws.{few-variables, met, unmet}
-use Rattle.plain_types.specs.ListLaws.{field-count, fields-wanted}
+use Rattle.plain_types.specs.ListLaws.{field-count, fields-small, fields-wanted}
 
 -- ---- the first of the branches and the others
 record MoreBranches (levels : ℕ) (S : Scope) (cs : List Constructor) (bs : Exprs) : Type 0 where
@@ -69,7 +70,7 @@ dropped-first : {A : Type 0} (l : List A) (i : ℕ) (d : A) {x : A} {xs : List A
 dropped-first l i d e = let same = sym (drop-cons l i d (dropped-less l i e)) ∙ e in (head-eq-of-cons-eq same, rw (add-one i) (tail-eq-of-cons-eq same))
 
 module _ (text index scope : List ℕ) (p : Place) (s : BranchSeries) where
-  pub branches-all : {r : Typing} → s .count ≡ 0 → r ≡ Is (record { word = s .word; next = p .at }) → TypesBranches text index scope p s r scope
+  pub branches-all : {r : Typing} → s .count ≡ 0 → r ≡ Is (record { of = s .answer; next = p .at }) → TypesBranches text index scope p s r scope
   branches-all z q = record {
     says = λ {P} {C} {S} {Γ} st ask.
         let n = no-branch (ask .constructors) (ask .list) (ask .within) (sym (ask .counted) ∙ z) in
@@ -79,7 +80,7 @@ module _ (text index scope : List ℕ) (p : Place) (s : BranchSeries) where
   }
 
   module _ (some-left : s .count ≡ 0 → ⊥) {n : ℕ} (k : (n ≡ getD (typesOf index) (typeWords * s .of + 1 + constructorWords * s .first) 0 % byteRange) × (n < byteRange)) {scope₁ : List ℕ} (enter : scope₁ ≡ entered index (Fields (s .of) (s .first)) scope (p .variables) n)
-      {x : Typing} {scope₂ : List ℕ} (v : TypesWant text index scope₁ (widerBy n p (p .at)) (s .word) x scope₂) where
+      {x : Typing} {scope₂ : List ℕ} (v : TypesWant text index scope₁ (widerBy n p (p .at)) (s .answer) x scope₂) where
     branch-kept : Kept (p .variables) scope scope₂
     branch-kept = kept-then (rw enter (entered-kept index (Fields (s .of) (s .first)) scope (p .variables) n)) (kept-below (p .variables) (omega arith) (v .kept))
 
@@ -103,12 +104,15 @@ module _ (text index scope : List ℕ) (p : Place) (s : BranchSeries) where
       branch-within = subst (λ m. WithinExpr (p .levels) (wider m (owns (b .fields)) S) (b .branch)) (sym field-number) (b .within)
 
       branch-stage : Stage text index scope₁ (p .line) (p .variables + n) P C (wider n (owns (b .fields)) S) (Γ ++ plainFields (s .of) (b .fields))
-      branch-stage = rw enter (stage-entered st (Fields (s .of) (s .first)) n (owns (b .fields)) (plainFields (s .of) (b .fields)) (length-map (b .fields) (plainField (s .of)) ∙ sym field-number) each (few-variables st n (owns (b .fields)) branch-within))
+      branch-stage = rw enter (stage-entered st (Fields (s .of) (s .first)) n (owns (b .fields)) (plainFields (s .of) (b .fields)) (length-map (b .fields) (plainField (s .of)) ∙ sym field-number) small each (few-variables st n (owns (b .fields)) branch-within))
         where
-          each : (j : ℕ) → j < n → wantedWord index (Fields (s .of) (s .first)) j ≡ getD (map plainWord (plainFields (s .of) (b .fields))) j 0
+          small : All (WithinPlain tagStep) (plainFields (s .of) (b .fields))
+          small = subst (λ (fs : Constructor). All (WithinPlain tagStep) (plainFields (s .of) fs)) first-is (fields-small (st .indexed) (s .of) (s .first) (ask .less) less₂)
+
+          each : (j : ℕ) → j < n → meaning (wantedType index (Fields (s .of) (s .first)) j) ≡ getD (plainFields (s .of) (b .fields)) j pbool
           each j there =
               fields-wanted (st .indexed) (s .of) (s .first) (ask .less) less₂ j (omega (arith, there, field-number, ap length first-is))
-              ∙ ap (λ (fs : Constructor). getD (map plainWord (plainFields (s .of) fs)) j 0) first-is
+              ∙ ap (λ (fs : Constructor). getD (plainFields (s .of) fs) j pbool) first-is
 
       branch-part : Part (lineAt text (p .line)) (p .levels) (wider n (owns (b .fields)) S) (p .at .at) (b .branch) (p .at .at + length (exprBytes (b .branch)))
       branch-part = record { within = branch-within; spelled = first-of-exprs (subst (Spells exprsBytes (lineAt text (p .line)) (p .at .at)) (b .list) (ask .spelled)) .spelled; ends = refl }
@@ -126,7 +130,7 @@ module _ (text index scope : List ℕ) (p : Place) (s : BranchSeries) where
       kept = branch-kept;
     }
 
-    pub branches-next : {j : Typed} {r : Typing} {scope₃ : List ℕ} → x ≡ Is j → TypesBranches text index scope₂ (movedTo p (j .next)) (record { of = s .of; first = s .first + 1; count = s .count - 1; word = s .word }) r scope₃ →
+    pub branches-next : {j : Typed} {r : Typing} {scope₃ : List ℕ} → x ≡ Is j → TypesBranches text index scope₂ (movedTo p (j .next)) (record { of = s .of; first = s .first + 1; count = s .count - 1; answer = s .answer }) r scope₃ →
         TypesBranches text index scope p s r scope₃
     branches-next {j} d u = record {
       says = λ {P} {C} {S} {Γ} st ask.
@@ -151,18 +155,18 @@ module _ (text index scope : List ℕ) (p : Place) (s : BranchSeries) where
     }
 
 -- ---- `1A`
-module _ (text index scope : List ℕ) (p : Place) {t subject : ℕ} (is : subject ≡ namedWord t) {x : Typing} {scope₁ : List ℕ} (v : TypesWant text index scope p subject x scope₁) where
+module _ (text index scope : List ℕ) (p : Place) {t : ℕ} {subject : PlainType} (is : subject ≡ namedType t) {x : Typing} {scope₁ : List ℕ} (v : TypesWant text index scope p subject x scope₁) where
   module _ {P : File} {C : List Plain} {S : Scope} {Γ : List Plain} {o : Option Plain} {end : ℕ} (st : Stage text index scope (p .line) (p .variables) P C S Γ) (ask : AskCase text p t P C S Γ o end) where
     case-less : t < length (P .types)
     case-less = rw (st .known .types) at (ask .less)
 
-    subject-word : subject ≡ plainWord (pnamed t)
-    subject-word = is ∙ named-is t (omega (arith, case-less, st .indexed .within .fewTypes))
+    subject-type : meaning subject ≡ pnamed t
+    subject-type = ap meaning is ∙ named-is t (omega (arith, case-less, st .indexed .within .fewTypes))
 
   pub case-wrong : x ≡ Wrong → TypesCase text index scope p t Wrong scope₁
   case-wrong d = record {
     says = λ {P} {C} {S} {Γ} st ask. wrong (ask .is ∙ plain-case P C Γ t (ask .first) (ask .result) (ask .branches)
-        ∙ when-false (plainResult (ask .result)) (both-not (plainBranches P C (ask .branches) (constructorsOf P t) t (plainResult (ask .result)) Γ) (unmet v st (ask .part) (pnamed t) (subject-word st ask) d)));
+        ∙ when-false (plainResult (ask .result)) (both-not (plainBranches P C (ask .branches) (constructorsOf P t) t (plainResult (ask .result)) Γ) (unmet v st (ask .part) (pnamed t) (subject-type st ask) d)));
     kept = v .kept;
   }
 
@@ -170,7 +174,7 @@ module _ (text index scope : List ℕ) (p : Place) {t subject : ℕ} (is : subje
     result-read : {P : File} {C : List Plain} {S : Scope} {Γ : List Plain} {o : Option Plain} {end : ℕ} → Stage text index scope (p .line) (p .variables) P C S Γ → (ask : AskCase text p t P C S Γ o end) →
         Agrees y (k .next .at + length (resultBytes (ask .result))) (some (plainResult (ask .result)))
     result-read st ask =
-        let h = met v st (ask .part) (pnamed t) (subject-word st ask) d in
+        let h = met v st (ask .part) (pnamed t) (subject-type st ask) d in
         let is : line ≡ lineAt text (p .line) = part ∙ st .indexed .eachFrame (p .line) (st .less) .line in
         w .says (omega (arith, st .indexed .within .fewTypes, ap length (st .known .types))) (ask .few) (ask .within)
         (subst (λ m. Spells resultBytes line m (ask .result)) (sym (h .place)) (subst (λ l. Spells resultBytes l (ask .middle) (ask .result)) (sym is) (ask .spelled)))
@@ -179,10 +183,10 @@ module _ (text index scope : List ℕ) (p : Place) {t subject : ℕ} (is : subje
     case-none e = record { says = λ st ask. absurd (typed-there (result-read st ask) e); kept = v .kept }
 
     pub case-done : {j : Typed} {n : ℕ} {r : Typing} {scope₂ : List ℕ} → y ≡ Is j → (n ≡ getD (typesOf index) (typeWords * t) 0 % byteRange) × (n < byteRange) →
-        TypesBranches text index scope₁ (movedTo p (j .next)) (record { of = t; first = 0; count = n; word = j .word }) r scope₂ → TypesCase text index scope p t r scope₂
+        TypesBranches text index scope₁ (movedTo p (j .next)) (record { of = t; first = 0; count = n; answer = j .of }) r scope₂ → TypesCase text index scope p t r scope₂
     case-done {j} {n} e c u = record {
       says = λ {P} {C} {S} {Γ} st ask.
-          let h = met v st (ask .part) (pnamed t) (subject-word st ask) d in
+          let h = met v st (ask .part) (pnamed t) (subject-type st ask) d in
           let found = typed-is (result-read st ask) e in
           let told = st .indexed .eachType t (case-less st ask) .tells in
           agrees-as (ask .is ∙ plain-case P C Γ t (ask .first) (ask .result) (ask .branches) ∙ ap (λ a. when a (plainResult (ask .result))) (both-first (h .is)))

@@ -6,19 +6,23 @@ use mathlib.Core.Path.{_≡_, refl, sym, ap, ap₂, _∙_}
 use native.Mathlib.Omega.{arith}
 use native.Mathlib.Nat.{add-zero, add-suc}
 use native.Mathlib.Numerals.{add-one}
-use lib.ListN.{length, getD, take, set, length-set, length-append, length-map}
+use lib.ListN.{length, getD, take, set, length-set, length-append, length-map, List·getD-map}
 use lib.Seq.{take-suc, take-suc-set, take-set-le, take-all}
 use lib.Dec.{leb}
 use borrow.Author.Tests.{leb-true}
 use Rattle.language.specs.Limits.{variablesMost, sizeVariablesMost}
-use Rattle.language.specs.Syntax.{Plain, Expr, File}
+use Rattle.language.specs.Syntax.{Plain, pbool, Expr, File}
 use Rattle.language.specs.Scope.{Scope, wider, roomIn}
-use Rattle.language.specs.Within.{WithinExpr, w-bool, w-int, w-var, w-now, w-last, w-let, w-if, w-op, w-call, w-con, w-case, w-adj, w-fit}
+use Rattle.language.specs.Within.{All, all-nil, all-cons, WithinPlain, WithinExpr, w-bool, w-int, w-var, w-now, w-last, w-let, w-if, w-op, w-call, w-con, w-case, w-adj, w-fit}
+use Rattle.language.specs.Layout.{tagStep}
+use Rattle.theory.specs.Alls.{all-append}
 use Rattle.theory.specs.Lists.{take-fewer, both-left, both-right}
 use Rattle.text.specs.Bytes.{plainWord}
 use Rattle.encoding.specs.Known.{wider-known}
+use Rattle.plain_types.specs.declared.words.PlainType.{PlainType}
 use Rattle.plain_types.specs.declared.words.Want.{Want}
-use Rattle.plain_types.specs.Words.{wantedWord, entered}
+use Rattle.plain_types.specs.Agrees.{meaning}
+use Rattle.plain_types.specs.Words.{WordOf, wantedType, wantedWord, entered}
 use Rattle.plain_types.specs.Asks.{Kept, Stage}
 
 -- ---- an expression has a level, its parts one less
@@ -67,14 +71,18 @@ pub kept-put : (n : ℕ) (scope : List ℕ) (i a : ℕ) → n ≤ i → Kept n s
 kept-put n scope i a h = record { low = take-set-le n scope i a h; long = length-set scope i a }
 
 -- ---- words entered
+pub word-at : (τs : List Plain) (j : ℕ) → getD (map plainWord τs) j 0 ≡ plainWord (getD τs j pbool)
+unfolding plainWord
+word-at τs j = List·getD-map plainWord τs j pbool
+
 module _ (index : List ℕ) (want : Want) (scope : List ℕ) (to : ℕ) where
   pub entered-none : scope ≡ entered index want scope to 0
   unfolding entered
   entered-none = refl
 
-  pub entered-more : {scope₁ scope₂ : List ℕ} {word : ℕ} (i : ℕ) → scope₁ ≡ entered index want scope to i → word ≡ wantedWord index want i → scope₂ ≡ set scope₁ (to + i) word → scope₂ ≡ entered index want scope to (i + 1)
+  pub entered-more : {scope₁ scope₂ : List ℕ} {kind : PlainType} {word : ℕ} (i : ℕ) → scope₁ ≡ entered index want scope to i → kind ≡ wantedType index want i → WordOf kind word → scope₂ ≡ set scope₁ (to + i) word → scope₂ ≡ entered index want scope to (i + 1)
   unfolding entered
-  entered-more i e w q = rw add-one (q ∙ ap₂ (λ (l : List ℕ) (a : ℕ). set l (to + i) a) e w)
+  entered-more i e k w q = rw add-one (q ∙ ap₂ (λ (l : List ℕ) (a : ℕ). set l (to + i) a) e (w .is ∙ ap (λ x. plainWord (meaning x)) k))
 
   pub entered-kept : (n : ℕ) → Kept to scope (entered index want scope to n)
   unfolding entered
@@ -107,15 +115,16 @@ module _ {text index scope : List ℕ} {line variables : ℕ} {P : File} {C : Li
     now = st .now;
     last = st .last;
     words = k .low ∙ st .words;
+    small = st .small;
     long = st .long;
     inScope = st .inScope;
     room = omega (arith, k .long, st .room);
   }
 
-  stage-more : {scope′ : List ℕ} (n sizes : ℕ) (τs : List Plain) → length τs ≡ n → take (variables + n) scope′ ≡ take variables scope ++ map plainWord τs → length scope′ ≡ length scope →
+  stage-more : {scope′ : List ℕ} (n sizes : ℕ) (τs : List Plain) → length τs ≡ n → All (WithinPlain tagStep) τs → take (variables + n) scope′ ≡ take variables scope ++ map plainWord τs → length scope′ ≡ length scope →
       Stage text index scope′ line (variables + n) P C (wider n sizes S) (Γ ++ τs)
   unfolding wider
-  stage-more n sizes τs same words long = record {
+  stage-more n sizes τs same small words long = record {
     indexed = st .indexed;
     less = st .less;
     known = wider-known n sizes (st .known);
@@ -123,21 +132,22 @@ module _ {text index scope : List ℕ} {line variables : ℕ} {P : File} {C : Li
     now = st .now;
     last = st .last;
     words = words ∙ ap (λ (l : List ℕ). l ++ map plainWord τs) (st .words) ∙ sym (map-append plainWord Γ τs);
+    small = all-append (st .small) small;
     long = omega (arith, length-append Γ τs, same, st .long);
     inScope = omega (arith, st .inScope);
     room = omega (arith, long, st .room);
   }
 
   -- one more variable, whose word is written behind the scope
-  pub stage-bound : {word : ℕ} (σ : Plain) → word ≡ plainWord σ → variables + 1 ≤ variablesMost → Stage text index (set scope variables word) line (variables + 1) P C (wider 1 0 S) (Γ ++ (σ ∷ []))
-  stage-bound {word} σ w h = stage-more 1 0 (σ ∷ []) refl
+  pub stage-bound : {word : ℕ} (σ : Plain) → word ≡ plainWord σ → WithinPlain tagStep σ → variables + 1 ≤ variablesMost → Stage text index (set scope variables word) line (variables + 1) P C (wider 1 0 S) (Γ ++ (σ ∷ []))
+  stage-bound {word} σ w small h = stage-more 1 0 (σ ∷ []) refl (all-cons small all-nil)
       (rw (add-one variables) (take-suc-set scope variables word (omega (arith, h, st .room))) ∙ ap (λ (a : ℕ). take variables scope ++ (a ∷ [])) w)
       (length-set scope variables word)
 
   -- and those of a list of types, entered
-  pub stage-entered : (want : Want) (n sizes : ℕ) (τs : List Plain) → length τs ≡ n → ((j : ℕ) → j < n → wantedWord index want j ≡ getD (map plainWord τs) j 0) → variables + n ≤ variablesMost →
+  pub stage-entered : (want : Want) (n sizes : ℕ) (τs : List Plain) → length τs ≡ n → All (WithinPlain tagStep) τs → ((j : ℕ) → j < n → meaning (wantedType index want j) ≡ getD τs j pbool) → variables + n ≤ variablesMost →
       Stage text index (entered index want scope variables n) line (variables + n) P C (wider n sizes S) (Γ ++ τs)
-  stage-entered want n sizes τs same each h = stage-more n sizes τs same
-      (entered-words index want scope variables (map plainWord τs) n (omega (arith, same, length-map τs plainWord)) each (omega (arith, h, st .room))
+  stage-entered want n sizes τs same small each h = stage-more n sizes τs same small
+      (entered-words index want scope variables (map plainWord τs) n (omega (arith, same, length-map τs plainWord)) (λ j less. ap plainWord (each j less) ∙ sym (word-at τs j)) (omega (arith, h, st .room))
       ∙ ap (λ (l : List ℕ). take variables scope ++ l) (take-all n (map plainWord τs) (omega (arith, same, length-map τs plainWord))))
       (entered-kept index want scope variables n .long)

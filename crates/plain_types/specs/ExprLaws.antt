@@ -10,6 +10,7 @@ use Rattle.language.specs.Format.{exprBytes}
 use Rattle.language.specs.Scope.{Scope}
 use Rattle.language.specs.Within.{WithinExpr, WithinExprs, WithinBranches}
 use Rattle.language.specs.PlainTypes.{plainOf}
+use Rattle.theory.specs.Alls.{all-getD}
 use Rattle.theory.specs.Lists.{look-getD, look-map}
 use Rattle.theory.specs.Places.{look-at}
 use Rattle.text.specs.Bytes.{plainWord}
@@ -21,14 +22,17 @@ use Rattle.heads.specs.Heads.{Heads}
 use Rattle.heads.specs.HeadForms.{no-missing, bool-head, int-head, var-head, now-head, last-head, let-head, if-head, op-head, call-head, con-head, case-head, adj-head, fit-head}
 use Rattle.index.specs.Sections.{framesOf, channelsOf}
 use Rattle.index.specs.Indexed.{declaredAt, framePart}
+use Rattle.plain_types.specs.declared.words.PlainType.{PlainType}
+use Rattle.plain_types.specs.declared.words.PlainType.the-variants.{Bool as BoolIs, Int as IntIs}
 use Rattle.plain_types.specs.declared.words.Typing.{Typing}
 use Rattle.plain_types.specs.declared.words.Typing.the-variants.{Is}
 use Rattle.plain_types.specs.declared.places.Place.{Place}
-use Rattle.plain_types.specs.Words.{withoutSize}
-use Rattle.plain_types.specs.Agrees.{answered}
+use Rattle.plain_types.specs.Words.{typeAt}
+use Rattle.plain_types.specs.Agrees.{meaning, answered}
 use Rattle.plain_types.specs.Asks.{insideOf, Stage, Part, TypesExpr, TypesLet, TypesIf, TypesOp, TypesCall, TypesCon, TypesCase, TypesAdj, TypesFit}
+use Rattle.plain_types.specs.WordLaws.{plain-at}
 use Rattle.plain_types.specs.EnterLaws.{no-level, less-deep, room-sizes, kept-same}
-use Rattle.plain_types.specs.PlainLaws.{bool-word, int-word, plain-bool, plain-int, plain-var, plain-now, plain-last}
+use Rattle.plain_types.specs.PlainLaws.{plain-bool, plain-int, plain-var, plain-now, plain-last}
 
 -- a word of a scope is that of the variable's type
 scope-word : (scope : List ℕ) (variables : ℕ) (Γ : List Plain) (v : ℕ) → take variables scope ≡ map plainWord Γ → v < variables → v < length Γ → getD scope v 0 ≡ plainWord (getD Γ v pbool)
@@ -52,34 +56,34 @@ module _ (text index scope : List ℕ) (p : Place) where
     expr-missing q = record { says = λ st ask. absurd (no-missing (heads-in st) (ask .part .spelled) q); kept = kept-same }
 
     -- ---- leaves
-    pub expr-bool : {b : ℕ} {r : Typing} → h .form ≡ BoolForm b → r ≡ Is (record { word = 0; next = h .next }) → TypesExpr text index scope p r scope
+    pub expr-bool : {b : ℕ} {r : Typing} → h .form ≡ BoolForm b → r ≡ Is (record { of = BoolIs; next = h .next }) → TypesExpr text index scope p r scope
     expr-bool q e = record {
       says = λ {P} {C} {S} {Γ} st ask.
           let i = bool-head (heads-in st) (ask .part .spelled) (ask .part .within) q in
-          answered e bool-word (i .ends ∙ ask .part .ends) (ask .is ∙ ap (λ a. plainOf P C a Γ) (i .is) ∙ plain-bool P C Γ (i .value));
+          answered e refl (i .ends ∙ ask .part .ends) (ask .is ∙ ap (λ a. plainOf P C a Γ) (i .is) ∙ plain-bool P C Γ (i .value));
       kept = kept-same;
     }
 
-    pub expr-int : {b : ℕ} {r : Typing} → h .form ≡ Int b → r ≡ Is (record { word = 1; next = h .next }) → TypesExpr text index scope p r scope
+    pub expr-int : {b : ℕ} {r : Typing} → h .form ≡ Int b → r ≡ Is (record { of = IntIs; next = h .next }) → TypesExpr text index scope p r scope
     expr-int {b} q e = record {
       says = λ {P} {C} {S} {Γ} st ask.
           let i = int-head (heads-in st) (ask .part .spelled) (ask .part .within) q in
-          answered e int-word (i .ends ∙ ask .part .ends) (ask .is ∙ ap (λ a. plainOf P C a Γ) (i .is) ∙ plain-int P C Γ b);
+          answered e refl (i .ends ∙ ask .part .ends) (ask .is ∙ ap (λ a. plainOf P C a Γ) (i .is) ∙ plain-int P C Γ b);
       kept = kept-same;
     }
 
-    pub expr-var : {v word : ℕ} {r : Typing} → h .form ≡ Variable v → word ≡ getD scope v 0 → r ≡ Is (record { word = word; next = h .next }) → TypesExpr text index scope p r scope
-    expr-var {v} q w e = record {
+    pub expr-var : {v word : ℕ} {of : PlainType} {r : Typing} → h .form ≡ Variable v → word ≡ getD scope v 0 → of ≡ typeAt word → r ≡ Is (record { of = of; next = h .next }) → TypesExpr text index scope p r scope
+    expr-var {v} q w k e = record {
       says = λ {P} {C} {S} {Γ} st ask.
           let i = var-head (heads-in st) (ask .part .spelled) (ask .part .within) q in
           let less : v < p .variables = omega (arith, i .less, st .inScope) in
           let less₂ : v < length Γ = omega (arith, less, st .long) in
-          answered e (w ∙ scope-word scope (p .variables) Γ v (st .words) less less₂) (i .ends ∙ ask .part .ends)
+          answered e (ap meaning k ∙ ap (λ a. meaning (typeAt a)) (w ∙ scope-word scope (p .variables) Γ v (st .words) less less₂) ∙ plain-at (all-getD (st .small) v pbool less₂)) (i .ends ∙ ask .part .ends)
           (ask .is ∙ ap (λ a. plainOf P C a Γ) (i .is) ∙ plain-var P C Γ v ∙ look-at Γ v pbool less₂);
       kept = kept-same;
     }
 
-    module _ {c : ℕ} {r : Typing} (e : r ≡ Is (record { word = withoutSize (declaredAt (channelsOf index) c); next = h .next })) where
+    module _ {c : ℕ} {r : Typing} (e : r ≡ Is (record { of = typeAt (declaredAt (channelsOf index) c); next = h .next })) where
       pub expr-now : h .form ≡ Now c → TypesExpr text index scope p r scope
       expr-now q = record {
         says = λ {P} {C} {S} {Γ} st ask.

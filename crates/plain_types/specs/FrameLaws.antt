@@ -13,11 +13,11 @@ use Rattle.language.specs.Result.{when}
 use Rattle.language.specs.Syntax.{Plain, pbool, Ty, Expr, Function, Input, Node, File, declaredTypes}
 use Rattle.language.specs.Format.{exprBytes}
 use Rattle.language.specs.Scope.{Scope, outerScope}
-use Rattle.language.specs.Within.{WithinDeclared, WithinExpr}
+use Rattle.language.specs.Within.{all-nil, WithinDeclared, WithinExpr}
 use Rattle.language.specs.PlainTypes.{plainResult, plainDeclared, isPlain, isInitial, plainOf, plainFunction, plainInitial, plainNode}
 use Rattle.theory.specs.Lists.{look-getD, look-less, look-append, look-past, look-map}
 use Rattle.theory.specs.Places.{below-or-not}
-use Rattle.theory.specs.Alls.{all-at}
+use Rattle.theory.specs.Alls.{all-map, all-at}
 use Rattle.text.specs.declared.Cursor.{Cursor}
 use Rattle.text.specs.Bytes.{plainWord, declaredWord}
 use Rattle.index.specs.Tables.{functionWords}
@@ -26,22 +26,24 @@ use Rattle.encoding.specs.Spells.{Spells}
 use Rattle.encoding.specs.FrameSpells.{lineAt}
 use Rattle.heads.specs.SkipHeads.{count-same}
 use Rattle.encoding.specs.Known.{outer-known, body-known}
-use Rattle.encoding.specs.WithinParts.{node-within}
+use Rattle.encoding.specs.WithinParts.{function-within, node-within}
 use Rattle.index.specs.Sections.{framesOf, typesOf, functionsOf, channelsOf}
 use Rattle.index.specs.Indexed.{bodyAt, declaredAt, initialAt, updateAt, framePart, functionLine, channelLine, lineCount, Indexed}
+use Rattle.plain_types.specs.declared.words.PlainType.{PlainType}
 use Rattle.plain_types.specs.declared.words.Typed.{Typed}
 use Rattle.plain_types.specs.declared.words.Typing.{Typing}
 use Rattle.plain_types.specs.declared.words.Typing.the-variants.{Is, Wrong}
 use Rattle.plain_types.specs.declared.words.Want.the-variants.{Parameters}
 use Rattle.plain_types.specs.declared.places.Place.{Place}
-use Rattle.plain_types.specs.Words.{withoutSize, lineOf, wantedWord, entered, Returns}
-use Rattle.plain_types.specs.Agrees.{Agrees, is-some, is-none, holds, fails, both-first, both-not}
+use Rattle.plain_types.specs.Words.{typeAt, lineOf, wantedType, entered, Returns}
+use Rattle.plain_types.specs.Agrees.{meaning, Agrees, is-some, is-none, holds, fails, both-first, both-not}
 use Rattle.plain_types.specs.Asks.{Stage, Part, TypesWant}
 use Rattle.plain_types.specs.Initials.{TestsInitial}
 use Rattle.plain_types.specs.Verdicts.{fits, Outer, FunctionFits, ValueFits, InitialFits, NodeFits}
-use Rattle.plain_types.specs.WordLaws.{declared-without}
-use Rattle.plain_types.specs.EnterLaws.{entered-kept, entered-words}
+use Rattle.plain_types.specs.WordLaws.{plain-at, declared-at, plain-fewer}
+use Rattle.plain_types.specs.EnterLaws.{word-at, entered-kept, entered-words}
 use Rattle.plain_types.specs.FormLaws.{ask-want}
+use Rattle.plain_types.specs.ListLaws.{parameters-small}
 
 -- ---- whether there is a type
 pub fits-is : {x : Typing} {k : Typed} → x ≡ Is k → true ≡ fits x
@@ -74,8 +76,8 @@ part-named text {levels} {end} {S} {e} p q part = subst₂ (λ i m. Part (lineAt
 
 -- ---- a function
 module _ (text index : List ℕ) (f : ℕ) {n : ℕ} (k : (n ≡ getD (functionsOf index) (functionWords * f) 0 % byteRange) × (n < byteRange)) (scope : List ℕ) {scope₁ scope₂ : List ℕ}
-    (enter : scope₁ ≡ entered index (Parameters f) scope 0 n) (room : variablesMost ≤ length scope) {at : Cursor} {line word : ℕ} (place : at .at ≡ bodyAt (functionsOf index) f) (number : line ≡ lineOf index f) (ret : Returns text index f word) {x : Typing}
-    (v : TypesWant text index scope₁ (record { at = at; levels = nestingMost; line = line; variables = n }) word x scope₂) where
+    (enter : scope₁ ≡ entered index (Parameters f) scope 0 n) (room : variablesMost ≤ length scope) {at : Cursor} {line : ℕ} {kind : PlainType} (place : at .at ≡ bodyAt (functionsOf index) f) (number : line ≡ lineOf index f) (ret : Returns text index f kind) {x : Typing}
+    (v : TypesWant text index scope₁ (record { at = at; levels = nestingMost; line = line; variables = n }) kind x scope₂) where
   module _ {P : File} {F : Function} (h : Indexed text index P) (e : look (P .functions) f ≡ some F) where
     parameter-count : n ≡ length (F .parameters)
     parameter-count = let told = h .eachFunction f e .tells in count-same k (told .count) (omega (arith, told .few))
@@ -83,15 +85,19 @@ module _ (text index : List ℕ) (f : ℕ) {n : ℕ} (k : (n ≡ getD (functions
     line-is : line ≡ functionLine P f
     line-is = omega (arith, number, h .counted .typeCount, look-less (P .functions) f e, h .within .fewFunctions)
 
+    parameter-type : (j : ℕ) → j < length (F .parameters) → meaning (wantedType index (Parameters f) j) ≡ getD (F .parameters) j pbool
+    unfolding wantedType
+    parameter-type j less = ap (λ w. meaning (typeAt w)) (h .eachFunction f e .tells .each j less ∙ word-at (F .parameters) j) ∙ plain-at (parameters-small h f e j less)
+
     parameter-words : take n scope₁ ≡ map plainWord (F .parameters)
-    unfolding wantedWord
+    unfolding wantedType
     parameter-words =
         let told = h .eachFunction f e .tells in
         let words : List ℕ = map plainWord (F .parameters) in
         let long : length words ≡ length (F .parameters) = length-map (F .parameters) plainWord in
         let few : n ≤ length words = omega (arith, parameter-count, long) in
         ap (take n) enter ∙ ap (λ m. take m (entered index (Parameters f) scope 0 n)) (sym (zero-add n))
-        ∙ entered-words index (Parameters f) scope 0 words n few (λ j less. told .each j (omega (arith, less, parameter-count))) (omega (arith, room, parameter-count, told .few))
+        ∙ entered-words index (Parameters f) scope 0 words n few (λ j less. ap plainWord (parameter-type j (omega (arith, less, parameter-count))) ∙ sym (word-at (F .parameters) j)) (omega (arith, room, parameter-count, told .few))
         ∙ take-all n words (omega (arith, parameter-count, long))
 
     body-stage : Stage text index scope₁ line n P [] (body-known (h .within) f e .scope) (F .parameters)
@@ -105,6 +111,7 @@ module _ (text index : List ℕ) (f : ℕ) {n : ℕ} (k : (n ≡ getD (functions
           now = omega (arith, b .now);
           last = omega (arith, b .last);
           words = parameter-words;
+          small = all-map (λ τ w. plain-fewer (omega (arith, h .within .fewTypes)) w) (function-within (h .within) f e .parameters);
           long = sym parameter-count;
           inScope = b .variables ∙ sym parameter-count;
           room = omega (arith, ap length enter, entered-kept index (Parameters f) scope 0 n .long, room);
@@ -119,8 +126,8 @@ module _ (text index : List ℕ) (f : ℕ) {n : ℕ} (k : (n ≡ getD (functions
   }
 
 -- ---- an expression outside all functions, of a channel's declared type
-pub value-fits : (text index : List ℕ) (p : Place) {c declared word : ℕ} {scope scope₁ : List ℕ} {x : Typing} {r : Bool} → declared ≡ declaredAt (channelsOf index) c → word ≡ withoutSize declared →
-    TypesWant text index scope p word x scope₁ → variablesMost ≤ length scope → r ≡ fits x → ValueFits text index p c r
+pub value-fits : (text index : List ℕ) (p : Place) {c declared : ℕ} {kind : PlainType} {scope scope₁ : List ℕ} {x : Typing} {r : Bool} → declared ≡ declaredAt (channelsOf index) c → kind ≡ typeAt declared →
+    TypesWant text index scope p kind x scope₁ → variablesMost ≤ length scope → r ≡ fits x → ValueFits text index p c r
 value-fits text index p {scope} d w v room q = record {
   says = λ {P} {C} {S} {e} τ z o part t.
       let st : Stage text index scope (p .line) (p .variables) P C S [] = record {
@@ -131,16 +138,17 @@ value-fits text index p {scope} d w v room q = record {
         now = o .now;
         last = o .last;
         words = ap (λ m. take m scope) z;
+        small = all-nil;
         long = sym z;
         inScope = o .none ∙ sym z;
         room = room;
       } in
-      q ∙ fits-when (isPlain τ (plainOf P C e [])) τ (v .says st (ask-want τ (w ∙ ap withoutSize d ∙ t) part));
+      q ∙ fits-when (isPlain τ (plainOf P C e [])) τ (v .says st (ask-want τ (ap meaning w ∙ ap (λ a. meaning (typeAt a)) d ∙ t) part));
 }
 
 -- ---- the scopes of initial values and updates
 outer-place : {text index : List ℕ} {line : ℕ} {P : File} (C : List Plain) (now last : ℕ) → Indexed text index P → line < lineCount P →
-    ((c : ℕ) → c < length C → withoutSize (declaredAt (channelsOf index) c) ≡ plainWord (getD C c pbool)) → now ≤ length C → last ≤ length C → Outer text index line P C (outerScope (P .types) (P .functions) now last)
+    ((c : ℕ) → c < length C → meaning (typeAt (declaredAt (channelsOf index) c)) ≡ getD C c pbool) → now ≤ length C → last ≤ length C → Outer text index line P C (outerScope (P .types) (P .functions) now last)
 unfolding outerScope
 outer-place {P} C now last h less told n l = record { indexed = h; less = less; known = outer-known P now last; channel = told; now = n; last = l; none = refl }
 
@@ -157,7 +165,7 @@ there [] i less = absurd (omega (arith, less))
 there (a ∷ l) zero less = record { of = a; at = refl }
 there (a ∷ l) (suc i) less = let r = there l i (omega (arith, less)) in record { of = r .of; at = r .at }
 
--- the plain types of the channels are the index's words without sizes
+-- the plain types of the channels are those of the index's words
 module _ {text index : List ℕ} {P : File} (h : Indexed text index P) where
   abbrev channelTypes : List Plain
   channelTypes = map plainDeclared (declaredTypes P)
@@ -171,10 +179,10 @@ module _ {text index : List ℕ} {P : File} (h : Indexed text index P) where
     length-map (P .nodes) (λ (n : Node). n .declared),
   )
 
-  declared-told : (c : ℕ) {τ : Ty} → look (declaredTypes P) c ≡ some τ → declaredAt (channelsOf index) c ≡ declaredWord τ → WithinDeclared (length (P .types)) τ → withoutSize (declaredAt (channelsOf index) c) ≡ plainWord (getD channelTypes c pbool)
-  declared-told c e q w = ap withoutSize q ∙ declared-without w ∙ ap plainWord (sym (look-getD channelTypes c pbool (look-map plainDeclared (declaredTypes P) c e)))
+  declared-told : (c : ℕ) {τ : Ty} → look (declaredTypes P) c ≡ some τ → declaredAt (channelsOf index) c ≡ declaredWord τ → WithinDeclared (length (P .types)) τ → meaning (typeAt (declaredAt (channelsOf index) c)) ≡ getD channelTypes c pbool
+  declared-told c e q w = ap (λ a. meaning (typeAt a)) q ∙ declared-at (omega (arith, h .within .fewTypes)) w ∙ sym (look-getD channelTypes c pbool (look-map plainDeclared (declaredTypes P) c e))
 
-  channel-told : (c : ℕ) → c < length channelTypes → withoutSize (declaredAt (channelsOf index) c) ≡ plainWord (getD channelTypes c pbool)
+  channel-told : (c : ℕ) → c < length channelTypes → meaning (typeAt (declaredAt (channelsOf index) c)) ≡ getD channelTypes c pbool
   channel-told c less = below-or-not c (length (P .inputs)) input node
     where
       ins : List Ty
@@ -183,12 +191,12 @@ module _ {text index : List ℕ} {P : File} (h : Indexed text index P) where
       outs : List Ty
       outs = map (λ (n : Node). n .declared) (P .nodes)
 
-      input : c < length (P .inputs) → withoutSize (declaredAt (channelsOf index) c) ≡ plainWord (getD channelTypes c pbool)
+      input : c < length (P .inputs) → meaning (typeAt (declaredAt (channelsOf index) c)) ≡ getD channelTypes c pbool
       input there₁ =
           let i = there (P .inputs) c there₁ in
           declared-told c (look-append ins outs c (look-map (λ (i : Input). i .declared) (P .inputs) c (i .at))) (h .eachInput c (i .at) .declared) (all-at (h .within .inputs) c (i .at) .declared)
 
-      node : length (P .inputs) ≤ c → withoutSize (declaredAt (channelsOf index) c) ≡ plainWord (getD channelTypes c pbool)
+      node : length (P .inputs) ≤ c → meaning (typeAt (declaredAt (channelsOf index) c)) ≡ getD channelTypes c pbool
       node over =
           let m = c - length (P .inputs) in
           let n = there (P .nodes) m (omega (arith, less, over, channels-count)) in
@@ -225,7 +233,7 @@ module _ (text index : List ℕ) (i c : ℕ) where
     initial-fits d v = record {
       says = λ {P} {τ} {e} h q less ci wd w.
           let part₁ = part-named text (channel-line number h q less) place (record { within = w; spelled = ci .initial; ends = refl }) in
-          v .says (plainDeclared τ) refl (outer-place [] 0 0 h (channel-less number h q less) (λ j there₁. absurd (omega (arith, there₁))) (omega arith) (omega arith)) part₁ (ap withoutSize (ci .declared) ∙ declared-without wd)
+          v .says (plainDeclared τ) refl (outer-place [] 0 0 h (channel-less number h q less) (λ j there₁. absurd (omega (arith, there₁))) (omega arith) (omega arith)) part₁ (ap (λ a. meaning (typeAt a)) (ci .declared) ∙ declared-at (omega (arith, h .within .fewTypes)) wd)
           ∙ sym (both-first (holds (isInitial e) pbool (tested h q less (ci .initial) w) d .is));
     }
 
@@ -247,6 +255,6 @@ module _ (text index : List ℕ) (i c : ℕ) where
           let C = channelTypes h in
           v .says (plainDeclared (n .declared)) refl
           (outer-place C (length (P .inputs) + j) (length (P .inputs) + length (P .nodes)) h (channel-less number h q less) (channel-told h) (omega (arith, channels-count h, less, k)) (omega (arith, channels-count h)))
-          part (ap withoutSize (ni .channel .declared) ∙ declared-without (w .declared))
+          part (ap (λ d. meaning (typeAt d)) (ni .channel .declared) ∙ declared-at (omega (arith, h .within .fewTypes)) (w .declared))
           ∙ sym (both-first (sym (a .says h q less (ni .channel) (w .declared) (w .initial)) ∙ z));
     }

@@ -29,6 +29,7 @@ use Rattle.heads.specs.declared.Head.{Head}
 use Rattle.heads.specs.Heads.{Heads}
 use Rattle.heads.specs.HeadForms.{no-missing, bool-head, int-head, var-head, now-head, last-head, let-head, if-head, op-head, call-head, con-head, case-head, adj-head, fit-head}
 use Rattle.theory.specs.Lists.{false-is-not-true}
+use Rattle.plain_types.specs.declared.words.PlainType.the-variants.{Bool as BoolIs}
 use Rattle.plain_types.specs.declared.words.Typed.{Typed}
 use Rattle.plain_types.specs.declared.words.Typing.{Typing}
 use Rattle.plain_types.specs.declared.words.Typing.the-variants.{Is, Wrong}
@@ -36,7 +37,6 @@ use Rattle.plain_types.specs.Agrees.{Agrees, agrees-as, holds, fails, wr
 use Rattle.plain_types.specs.Initials.{TestsInitial, TestsInitials}
 use Rattle.plain_types.specs.EnterLaws.{no-level, less-deep, room-sizes}
 use Rattle.plain_types.specs.ReadLaws.{size-passed}
-use Rattle.plain_types.specs.PlainLaws.{bool-word}
 
 agrees-at : {r : Typing} {o : Option Plain} {m n : ℕ} → m ≡ n → Agrees r m o → Agrees r n o
 agrees-at {r} {o} e a = subst (λ i. Agrees r i o) e a
@@ -105,11 +105,11 @@ module _ (line types : List ℕ) (c : Cursor) (levels : ℕ) where
   initial-cut z = record { says = λ {S} {e} told w s. absurd (no-level (subst (λ m. WithinExpr m S e) z w)) }
 
   module _ {h : Head} (heads : Heads line (c .at) h) where
-    pub initial-bool : {b : ℕ} {r : Typing} → h .form ≡ BoolForm b → r ≡ Is (record { word = 0; next = h .next }) → TestsInitial line types c levels r
-    initial-bool q e = record { says = λ told w s. answered e bool-word (bool-head heads s w q .ends) (when-true pbool (bool-initial heads s w q)) }
+    pub initial-bool : {b : ℕ} {r : Typing} → h .form ≡ BoolForm b → r ≡ Is (record { of = BoolIs; next = h .next }) → TestsInitial line types c levels r
+    initial-bool q e = record { says = λ told w s. answered e refl (bool-head heads s w q .ends) (when-true pbool (bool-initial heads s w q)) }
 
-    pub initial-int : {i : ℕ} {r : Typing} → h .form ≡ Int i → r ≡ Is (record { word = 0; next = h .next }) → TestsInitial line types c levels r
-    initial-int q e = record { says = λ told w s. answered e bool-word (int-head heads s w q .ends) (when-true pbool (int-initial heads s w q)) }
+    pub initial-int : {i : ℕ} {r : Typing} → h .form ≡ Int i → r ≡ Is (record { of = BoolIs; next = h .next }) → TestsInitial line types c levels r
+    initial-int q e = record { says = λ told w s. answered e refl (int-head heads s w q .ends) (when-true pbool (int-initial heads s w q)) }
 
     pub initial-other : (f : Form) → neverInitial f ≡ true → h .form ≡ f → TestsInitial line types c levels Wrong
     initial-other f z q = record { says = λ told w s. wrong (when-false pbool (not-initial heads s w f z q)) }
@@ -159,11 +159,11 @@ none-of ws-nil z = refl
 none-of (ws-cons w ws) z = absurd (omega (arith, z))
 
 module _ (line types : List ℕ) (c : Cursor) (levels : ℕ) {n : ℕ} where
-  pub initials-none : {r : Typing} → n ≡ 0 → r ≡ Is (record { word = 0; next = c }) → TestsInitials line types c levels n r
+  pub initials-none : {r : Typing} → n ≡ 0 → r ≡ Is (record { of = BoolIs; next = c }) → TestsInitials line types c levels n r
   initials-none z e = record {
     says = λ told w s.
         let none = none-of w z in
-        answered e bool-word (omega (arith, ap (λ (a : Exprs). length (exprsBytes a)) none, none-long)) (when-true pbool (ap areInitial none ∙ initial-nil));
+        answered e refl (omega (arith, ap (λ (a : Exprs). length (exprsBytes a)) none, none-long)) (when-true pbool (ap areInitial none ∙ initial-nil));
   }
 
   module _ (some-left : n ≡ 0 → ⊥) {x : Typing} (u : TestsInitial line types c levels x) where

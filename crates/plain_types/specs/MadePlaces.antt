@@ -2,6 +2,7 @@
 use Prim.Native.Nat.{ℕ}
 use mathlib.Core.List.{List}
 use mathlib.Core.Path.{_≡_, ap, subst}
+use Rattle.plain_types.specs.declared.words.PlainType.{PlainType}
 use Rattle.plain_types.specs.declared.words.Typing.{Typing}
 use Rattle.plain_types.specs.declared.places.Place.{Place}
 use Rattle.plain_types.specs.declared.places.Series.{Series}
@@ -18,8 +19,8 @@ module _ {text index scope scope′ : List ℕ} {p q : Place} {r : Typing} (e : 
   pub at-expr : TypesExpr text index scope p r scope′ → TypesExpr text index scope q r scope′
   at-expr v = subst (λ m. TypesExpr text index scope m r scope′) e v
 
-  pub at-want : {word : ℕ} → TypesWant text index scope p word r scope′ → TypesWant text index scope q word r scope′
-  at-want {word} v = subst (λ m. TypesWant text index scope m word r scope′) e v
+  pub at-want : {kind : PlainType} → TypesWant text index scope p kind r scope′ → TypesWant text index scope q kind r scope′
+  at-want {kind} v = subst (λ m. TypesWant text index scope m kind r scope′) e v
 
   pub at-let : TypesLet text index scope p r scope′ → TypesLet text index scope q r scope′
   at-let v = subst (λ m. TypesLet text index scope m r scope′) e v

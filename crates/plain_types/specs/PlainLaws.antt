@@ -9,26 +9,16 @@ use Rattle.language.specs.Result.{both, when, chain}
 use Rattle.language.specs.Syntax.{Constructor, Plain, pbool, pint, pnamed, Size, ResultType, Op, Expr, ebool, eint, evar, enow, elast, elet, eif, eop, ecall, econ, ecase, eadj, efit, Exprs, enil, econs, Function, File, constructorsOf}
 use Rattle.language.specs.PlainTypes.{plainFields, plainResult, samePlain, samePlains, operandType, opType, isPlain, arePlain, isNamed, plainOf, plainsOf, plainBranches}
 use Rattle.theory.specs.Lists.{both-never}
-use Rattle.text.specs.Bytes.{plainWord}
-use Rattle.plain_types.specs.WordLaws.{same-word, other-word}
-
-pub bool-word : 0 ≡ plainWord pbool
-unfolding plainWord
-bool-word = refl
-
-pub int-word : 1 ≡ plainWord pint
-unfolding plainWord
-int-word = refl
 
 -- ---- an expression of the type wanted
 module _ {o : Option Plain} {σ : Plain} (τ : Plain) (e : o ≡ some σ) where
-  pub is-wanted : plainWord σ ≡ plainWord τ → isPlain τ o ≡ true
+  pub is-wanted : samePlain σ τ ≡ true → isPlain τ o ≡ true
   unfolding isPlain
-  is-wanted q = rw e (same-word σ τ q)
+  is-wanted q = rw e q
 
-  pub not-wanted : (plainWord σ ≡ plainWord τ → ⊥) → isPlain τ o ≡ false
+  pub not-wanted : samePlain σ τ ≡ false → isPlain τ o ≡ false
   unfolding isPlain
-  not-wanted q = rw e (other-word σ τ q)
+  not-wanted q = rw e q
 
 pub none-wanted : {o : Option Plain} (τ : Plain) → o ≡ none → isPlain τ o ≡ false
 unfolding isPlain

@@ -6,6 +6,7 @@ use mathlib.Core.Path.{_≡_, refl, sym, ap, _∙_, subst, subst₂}
 use native.Mathlib.Omega.{arith}
 use lib.ListN.{length, getD, getElem? as look}
 use Rattle.language.specs.Limits.{byteRange, sizeVariablesMost, nestingMost}
+use Rattle.language.specs.Result.{choose}
 use Rattle.language.specs.Syntax.{Plain, pbool, pint, pnamed, Size, ResultType, rbool, rint, rnamed, Function, File}
 use Rattle.language.specs.Format.{sizeBytes, resultBytes}
 use Rattle.language.specs.Scope.{namedCount}
@@ -22,7 +23,7 @@ use Rattle.text.specs.declared.Number.{Number}
 use Rattle.text.specs.declared.Number.the-variants.{Is as IsNumber, Refused}
 use Rattle.text.specs.declared.Step.{Step}
 use Rattle.text.specs.declared.Step.the-variants.{Next, Stop}
-use Rattle.text.specs.Bytes.{bytesOf, bytesFrom, forget, plainWord, ReadsNumber, Passes, Below}
+use Rattle.text.specs.Bytes.{bytesOf, bytesFrom, forget, ReadsNumber, Passes, Below}
 use Rattle.index.specs.Tables.{functionWords}
 use Rattle.encoding.specs.Spells.{byteAt, Spells, spells-within}
 use Rattle.encoding.specs.TypeInversions.{ResultCoded, rbool-coded, rint-coded, rnamed-coded, IsNamedResult, result-of-byte}
@@ -34,13 +35,14 @@ use Rattle.encoding.specs.WithinParts.{function-within}
 use Rattle.index.specs.declared.Counts.{Counts}
 use Rattle.index.specs.Sections.{framesOf, typesOf, functionsOf, countsIn}
 use Rattle.index.specs.Indexed.{fieldAt, resultAt, framePart, functionLine, Indexed}
+use Rattle.plain_types.specs.declared.words.PlainType.{PlainType}
 use Rattle.plain_types.specs.declared.words.Typed.{Typed}
 use Rattle.plain_types.specs.declared.words.Typing.{Typing}
 use Rattle.plain_types.specs.declared.words.Typing.the-variants.{Is, Wrong}
 use Rattle.plain_types.specs.declared.words.Want.{Want}
 use Rattle.plain_types.specs.declared.words.Want.the-variants.{Parameters, Fields}
-use Rattle.plain_types.specs.Agrees.{Agrees, answered, typed-is, typed-there}
-use Rattle.plain_types.specs.Words.{withoutSize, namedWord, lineOf, ownOrOther, wantedWord, ReadsResult, Returns}
+use Rattle.plain_types.specs.Agrees.{meaning, Agrees, answered, typed-is, typed-there}
+use Rattle.plain_types.specs.Words.{namedType, typeAt, lineOf, ownOrOther, wantedType, ReadsResult, Returns}
 use Rattle.plain_types.specs.WordLaws.{named-is, own-is, other-is}
 
 -- ---- the line of a frame
@@ -48,17 +50,17 @@ pub line-is : (index : List ℕ) (i : ℕ) {n : Counts} → n ≡ countsIn index
 line-is index i e = ap (λ (m : Counts). m .types + i % tagStep) e
 
 -- ---- what is wanted
-pub wanted-parameter : (index : List ℕ) (want : Want) (j : ℕ) {f r : ℕ} → want ≡ Parameters f → r ≡ getD (functionsOf index) (functionWords * f + 1 + j) 0 → r ≡ wantedWord index want j
-unfolding wantedWord
-wanted-parameter index want j e q = rw e q
+pub wanted-parameter : (index : List ℕ) (want : Want) (j : ℕ) {f word : ℕ} {r : PlainType} → want ≡ Parameters f → word ≡ getD (functionsOf index) (functionWords * f + 1 + j) 0 → r ≡ typeAt word → r ≡ wantedType index want j
+unfolding wantedType
+wanted-parameter index want j e q p = rw e (p ∙ ap typeAt q)
 
-module _ (index : List ℕ) (want : Want) (j : ℕ) {t c word r : ℕ} (e : want ≡ Fields t c) (q : word ≡ fieldAt (typesOf index) t c j) where
-  pub wanted-own : word ≡ 2 → r ≡ namedWord t → r ≡ wantedWord index want j
-  unfolding wantedWord
+module _ (index : List ℕ) (want : Want) (j : ℕ) {t c word : ℕ} {r : PlainType} (e : want ≡ Fields t c) (q : word ≡ fieldAt (typesOf index) t c j) where
+  pub wanted-own : word ≡ 2 → r ≡ namedType t → r ≡ wantedType index want j
+  unfolding wantedType
   wanted-own own p = rw e (p ∙ own-is t word own ∙ ap (ownOrOther t) q)
 
-  pub wanted-other : (word ≡ 2 → ⊥) → r ≡ withoutSize word → r ≡ wantedWord index want j
-  unfolding wantedWord
+  pub wanted-other : (word ≡ 2 → ⊥) → r ≡ typeAt word → r ≡ wantedType index want j
+  unfolding wantedType
   wanted-other other p = rw e (p ∙ other-is t word other ∙ ap (ownOrOther t) q)
 
 -- ---- a size that is spelled is passed over
@@ -74,10 +76,10 @@ some-result rbool = omega arith
 some-result rint = omega arith
 some-result (rnamed t s) = omega arith
 
-leaf-result : {line : List ℕ} {at b : ℕ} {ρ : ResultType} → ResultCoded line at ρ b → b < 2 → (b ≡ plainWord (plainResult ρ)) × (length (resultBytes ρ) ≡ 1)
-unfolding plainWord plainResult
-leaf-result (rbool-coded i) h = (ap (λ (ρ : ResultType). plainWord (plainResult ρ)) (sym (i .is)), ap (λ (ρ : ResultType). length (resultBytes ρ)) (i .is) ∙ i .long)
-leaf-result (rint-coded i) h = (ap (λ (ρ : ResultType). plainWord (plainResult ρ)) (sym (i .is)), ap (λ (ρ : ResultType). length (resultBytes ρ)) (i .is) ∙ i .long)
+leaf-result : {line : List ℕ} {at b : ℕ} {ρ : ResultType} → ResultCoded line at ρ b → b < 2 → (meaning (typeAt b) ≡ plainResult ρ) × (length (resultBytes ρ) ≡ 1)
+unfolding plainResult choose
+leaf-result (rbool-coded i) h = (ap plainResult (sym (i .is)), ap (λ (ρ : ResultType). length (resultBytes ρ)) (i .is) ∙ i .long)
+leaf-result (rint-coded i) h = (ap plainResult (sym (i .is)), ap (λ (ρ : ResultType). length (resultBytes ρ)) (i .is) ∙ i .long)
 leaf-result (rnamed-coded i) h = absurd (omega (arith, h))
 
 named-result : {line : List ℕ} {at b : ℕ} {ρ : ResultType} → ResultCoded line at ρ b → 2 ≤ b → IsNamedResult line at ρ
@@ -88,7 +90,7 @@ named-result (rnamed-coded i) h = i
 named-within : {types vars t : ℕ} {s : Size} → WithinResult types vars (rnamed t s) → (t < types) × WithinSize vars nestingMost s
 named-within (w-rnamed l w) = (l, w)
 
-plain-named : {t : ℕ} {s : Size} {ρ : ResultType} → ρ ≡ rnamed t s → plainWord (pnamed t) ≡ plainWord (plainResult ρ)
+plain-named : {t : ℕ} {s : Size} {ρ : ResultType} → ρ ≡ rnamed t s → pnamed t ≡ plainResult ρ
 unfolding plainResult
 plain-named q = rw q
 
@@ -103,8 +105,8 @@ module _ (line : List ℕ) (c : Cursor) {x : Number} (v : ReadsNumber line (c .a
     second : {ρ : ResultType} → Spells resultBytes line (c .at) ρ → f .next .at ≡ c .at + 1
     second {ρ} s = byte-found (omega (arith, spells-within s, some-result ρ)) v q .1
 
-    pub result-leaf : f .value < 2 → ReadsResult line c (Is (record { word = f .value; next = f .next }))
-    result-leaf less = record { says = λ {types} {vars} {ρ} small few w s. let l = leaf-result (coded s) less in answered refl (l .0) (omega (arith, second s, l .1)) refl }
+    pub result-leaf : {of : PlainType} {r : Typing} → f .value < 2 → of ≡ typeAt (f .value) → r ≡ Is (record { of = of; next = f .next }) → ReadsResult line c r
+    result-leaf less e o = record { says = λ {types} {vars} {ρ} small few w s. let l = leaf-result (coded s) less in answered o (ap meaning e ∙ l .0) (omega (arith, second s, l .1)) refl }
 
     module _ (more : 2 ≤ f .value) {y : Number} (u : ReadsNumber line (f .next .at) y (byte (bytesFrom line (f .next .at))) × Below byteRange y) where
       here : {ρ : ResultType} → Spells resultBytes line (c .at) ρ → f .next .at < length (bytesOf line)
@@ -125,14 +127,14 @@ module _ (line : List ℕ) (c : Cursor) {x : Number} (v : ReadsNumber line (c .a
         pub result-open : {m : ℕ} → z ≡ Stop m → ReadsResult line c Wrong
         result-open o = record { says = λ small few w s. absurd (next-there (behind few w s) o) }
 
-        pub result-named : {d : Cursor} {word : ℕ} → z ≡ Next d → word ≡ namedWord (g .value) → ReadsResult line c (Is (record { word = word; next = d }))
-        result-named {d} {word} o e = record {
+        pub result-named : {d : Cursor} {of : PlainType} {r : Typing} → z ≡ Next d → of ≡ namedType (g .value) → r ≡ Is (record { of = of; next = d }) → ReadsResult line c r
+        result-named o e a₂ = record {
           says = λ {types} {vars} {ρ} small few w s.
               let i = named-result (coded s) more in
               let t = byteAt line (c .at + 1) in
               let value : g .value ≡ t = byte-found (here s) u p .0 ∙ ap (byteAt line) (second s) in
               let less : t < tagStep = omega (arith, small, named-within (subst (WithinResult types vars) (i .is) w) .0) in
-              answered refl (e ∙ ap namedWord value ∙ named-is t less ∙ plain-named (i .is))
+              answered a₂ (ap meaning e ∙ ap (λ n. meaning (namedType n)) value ∙ named-is t less ∙ plain-named (i .is))
               (omega (arith, next-at (behind few w s) o, third s, ap (λ (r : ResultType). length (resultBytes r)) (i .is), i .long)) refl;
         }
 
@@ -155,12 +157,12 @@ module _ (text index : List ℕ) (f : ℕ) {line : List ℕ} {i : ℕ} {c : Curs
       let r = function-within w f e in
       v .says (omega (arith, w .fewTypes)) (omega (arith, r .fewParameters, named-few (F .parameters))) (r .result) (subst₂ (λ l at. Spells resultBytes l at (F .result)) (sym is) (sym place) (h .eachFunction f e .result))
 
-  pub returned-none : {r : ℕ} → x ≡ Wrong → Returns text index f r
+  pub returned-none : {r : PlainType} → x ≡ Wrong → Returns text index f r
   returned-none q = record { says = λ h e. absurd (typed-there (read-result h e) q) }
 
-  pub returned-is : {k : Typed} → x ≡ Is k → Returns text index f (k .word)
+  pub returned-is : {k : Typed} → x ≡ Is k → Returns text index f (k .of)
   returned-is q = record { says = λ h e. typed-is (read-result h e) q .0 }
 
 -- ---- a channel's type
-pub channel-is : {word plain declared : ℕ} {next : Cursor} → word ≡ declared → plain ≡ withoutSize word → Is (record { word = plain; next = next }) ≡ Is (record { word = withoutSize declared; next = next })
-channel-is {next} e q = ap (λ (m : ℕ). Is (record { word = m; next = next })) (q ∙ ap withoutSize e)
+pub channel-is : {word declared : ℕ} {of : PlainType} {next : Cursor} → word ≡ declared → of ≡ typeAt word → Is (record { of = of; next = next }) ≡ Is (record { of = typeAt declared; next = next })
+channel-is {next} e q = ap (λ (x : PlainType). Is (record { of = x; next = next })) (q ∙ ap typeAt e)

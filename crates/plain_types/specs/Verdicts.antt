@@ -11,7 +11,6 @@ use Rattle.language.specs.Syntax.{Plain, pbool, Ty, Expr, Function, Node, File,
 use Rattle.language.specs.Scope.{Scope, outerScope}
 use Rattle.language.specs.Within.{WithinDeclared, WithinExpr, WithinNode}
 use Rattle.language.specs.PlainTypes.{isPlain, plainOf, plainFunction, plainInitial, plainInput, plainNode}
-use Rattle.text.specs.Bytes.{plainWord}
 use Rattle.encoding.specs.FrameSpells.{lineAt}
 use Rattle.encoding.specs.Known.{Known}
 use Rattle.index.specs.Sections.{channelsOf}
@@ -19,7 +18,8 @@ use Rattle.index.specs.Indexed.{declaredAt, channelLine, lineCount, ChannelInde
 use Rattle.plain_types.specs.declared.words.Typing.{Typing}
 use Rattle.plain_types.specs.declared.words.Typing.the-variants.{Is, Wrong}
 use Rattle.plain_types.specs.declared.places.Place.{Place}
-use Rattle.plain_types.specs.Words.{withoutSize}
+use Rattle.plain_types.specs.Agrees.{meaning}
+use Rattle.plain_types.specs.Words.{typeAt}
 use Rattle.plain_types.specs.Asks.{Part}
 
 -- whether there is a type
@@ -32,7 +32,7 @@ pub record Outer (text index : List ℕ) (line : ℕ) (P : File) (C : List Plain
   pub indexed : Indexed text index P
   pub less : line < lineCount P
   pub known : Known P S
-  pub channel : (c : ℕ) → c < length C → withoutSize (declaredAt (channelsOf index) c) ≡ plainWord (getD C c pbool)
+  pub channel : (c : ℕ) → c < length C → meaning (typeAt (declaredAt (channelsOf index) c)) ≡ getD C c pbool
   pub now : S .now ≤ length C
   pub last : S .last ≤ length C
   pub none : S .variables ≡ 0
@@ -43,7 +43,7 @@ module _ (text index : List ℕ) where
 
   pub record ValueFits (p : Place) (c : ℕ) (r : Bool) : Type 0 where
     pub says : {P : File} {C : List Plain} {S : Scope} {e : Expr} {end : ℕ} (τ : Plain) → p .variables ≡ 0 → Outer text index (p .line) P C S →
-        Part (lineAt text (p .line)) (p .levels) S (p .at .at) e end → withoutSize (declaredAt (channelsOf index) c) ≡ plainWord τ → r ≡ isPlain τ (plainOf P C e [])
+        Part (lineAt text (p .line)) (p .levels) S (p .at .at) e end → meaning (typeAt (declaredAt (channelsOf index) c)) ≡ τ → r ≡ isPlain τ (plainOf P C e [])
 
   -- channel c has the frame i behind the types
   pub record InitialFits (i c : ℕ) (r : Bool) : Type 0 where

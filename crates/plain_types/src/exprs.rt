@@ -8,13 +8,16 @@ use super::places::channel;
 use super::places::inside;
 use super::places::moved;
 use super::places::widened;
-use super::words::BOOL;
-use super::words::INT;
+use super::words::PlainType;
 use super::words::SCOPE_WORDS;
 use super::words::Typing;
 use super::words::answer;
+use super::words::is_named;
 use super::words::operand;
 use super::words::outcome;
+use super::words::same;
+use super::words::type_of;
+use super::words::word_of;
 use heads::Form;
 use heads::head_at;
 use index::INDEX_WORDS;
@@ -24,7 +27,6 @@ use index::word_at;
 use language::limits::NESTING_MOST;
 use language::limits::SIZE_VARIABLES_MOST;
 use text::Step;
-use text::TYPE_STEP;
 
 // An expression with so many levels left.
 pub fn expr(
@@ -46,9 +48,9 @@ pub fn expr(
     let next = head.next;
     let q = inside(p, next);
     match form {
-        Form::Bool(_) => answer(BOOL, next),
-        Form::Int(_) => answer(INT, next),
-        Form::Variable(v) => answer(word_at(scope, v as usize), next),
+        Form::Bool(_) => answer(PlainType::Bool, next),
+        Form::Int(_) => answer(PlainType::Int, next),
+        Form::Variable(v) => answer(type_of(word_at(scope, v as usize)), next),
         Form::Now(c) => channel(index, c, next),
         Form::Last(c) => channel(index, c, next),
         Form::Let => binding(text, index, scope, q),
@@ -69,16 +71,17 @@ pub fn expect(
     index: &[u32; INDEX_WORDS],
     scope: &mut [u32; SCOPE_WORDS],
     p: Place,
-    word: u32,
+    of: PlainType,
 ) -> Typing
     requires { ⌜ Room 0 p ⌝ }
-    ensures { λ r. ⌜ TypesWant (now (text .entry)) (now (index .entry)) (now (scope .entry)) p word r (now (scope .exit)) ⌝ }
+    ensures { λ r. ⌜ TypesWant (now (text .entry)) (now (index .entry)) (now (scope .entry)) p of r (now (scope .exit)) ⌝ }
 {
     let x = expr(text, index, scope, p);
     let Typing::Is(k) = x else {
         return Typing::Wrong;
     };
-    if k.word != word {
+    let found = k.of;
+    if !same(found, of) {
         return Typing::Wrong;
     }
     x
@@ -98,7 +101,8 @@ fn binding(
     let Typing::Is(k) = x else {
         return Typing::Wrong;
     };
-    put(scope, p.variables as usize, k.word);
+    let of = k.of;
+    put(scope, p.variables as usize, word_of(of));
     let next = k.next;
     let q = widened(p, next, 1);
     expr(text, index, scope, q)
@@ -114,7 +118,7 @@ fn choice(
     requires { ⌜ Room 1 p ⌝ }
     ensures { λ r. ⌜ TypesIf (now (text .entry)) (now (index .entry)) (now (scope .entry)) p r (now (scope .exit)) ⌝ }
 {
-    let x = expect(text, index, scope, p, BOOL);
+    let x = expect(text, index, scope, p, PlainType::Bool);
     let Typing::Is(a) = x else {
         return Typing::Wrong;
     };
@@ -126,7 +130,8 @@ fn choice(
     };
     let third = b.next;
     let s = moved(p, third);
-    expect(text, index, scope, s, b.word)
+    let of = b.of;
+    expect(text, index, scope, s, of)
 }
 
 // `17`: an operator, its code o.
@@ -140,14 +145,14 @@ fn operation(
     requires { ⌜ Room 1 p ⌝ }
     ensures { λ r. ⌜ TypesOp (now (text .entry)) (now (index .entry)) (now (scope .entry)) p o r (now (scope .exit)) ⌝ }
 {
-    let word = operand(o);
-    let x = expect(text, index, scope, p, word);
+    let of = operand(o);
+    let x = expect(text, index, scope, p, of);
     let Typing::Is(a) = x else {
         return Typing::Wrong;
     };
     let second = a.next;
     let q = moved(p, second);
-    let y = expect(text, index, scope, q, word);
+    let y = expect(text, index, scope, q, of);
     let Typing::Is(b) = y else {
         return Typing::Wrong;
     };
@@ -177,7 +182,8 @@ fn adjust(
     let Typing::Is(k) = x else {
         return Typing::Wrong;
     };
-    if k.word < TYPE_STEP {
+    let of = k.of;
+    if !is_named(of) {
         return Typing::Wrong;
     }
     x
@@ -192,10 +198,11 @@ fn fit(text: &[u8], index: &[u32; INDEX_WORDS], scope: &mut [u32; SCOPE_WORDS], 
     let Typing::Is(a) = x else {
         return Typing::Wrong;
     };
-    if a.word < TYPE_STEP {
+    let subject = a.of;
+    if !is_named(subject) {
         return Typing::Wrong;
     }
-    put(scope, p.variables as usize, a.word);
+    put(scope, p.variables as usize, word_of(subject));
     let second = a.next;
     let q = widened(p, second, 1);
     let y = expr(text, index, scope, q);
@@ -204,5 +211,6 @@ fn fit(text: &[u8], index: &[u32; INDEX_WORDS], scope: &mut [u32; SCOPE_WORDS], 
     };
     let third = b.next;
     let s = moved(p, third);
-    expect(text, index, scope, s, b.word)
+    let of = b.of;
+    expect(text, index, scope, s, of)
 }

@@ -11,7 +11,7 @@ use super::words::Want;
 use super::words::enter;
 use super::words::line_of;
 use super::words::returned;
-use super::words::without_size;
+use super::words::type_of;
 use index::INDEX_WORDS;
 use index::channels::declared_word;
 use index::channels::initial_start;
@@ -47,8 +47,8 @@ fn function_agrees(text: &[u8], index: &[u32; INDEX_WORDS], f: u32) -> bool
         line: line,
         variables: n,
     };
-    let word = returned(text, index, f);
-    let x = expect(text, index, &mut scope, p, word);
+    let result = returned(text, index, f);
+    let x = expect(text, index, &mut scope, p, result);
     is_typed(x)
 }
 
@@ -58,9 +58,8 @@ fn value_agrees(text: &[u8], index: &[u32; INDEX_WORDS], p: Place, c: u32) -> bo
     ensures { λ r. ⌜ ValueFits (now (text .entry)) (now (index .entry)) p c r ⌝ }
 {
     let mut scope = [0u32; SCOPE_WORDS];
-    let declared = declared_word(index, c);
-    let word = without_size(declared);
-    let x = expect(text, index, &mut scope, p, word);
+    let declared = type_of(declared_word(index, c));
+    let x = expect(text, index, &mut scope, p, declared);
     is_typed(x)
 }
 

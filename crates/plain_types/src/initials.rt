@@ -1,7 +1,7 @@
 // Initial values: document 01 allows them the forms `10`, `11`, `19` and `1B` only.
 ghost use Rattle.index.specs.Sections.{typesOf};
 ghost use Rattle.plain_types.specs.Initials.{TestsInitial, TestsInitials};
-use super::words::BOOL;
+use super::words::PlainType;
 use super::words::Typing;
 use super::words::answer;
 use heads::Form;
@@ -24,8 +24,8 @@ pub fn initial(line: &[u8], index: &[u32; INDEX_WORDS], c: Cursor, levels: u32) 
     let form = head.form;
     let next = head.next;
     match form {
-        Form::Bool(_) => answer(BOOL, next),
-        Form::Int(_) => answer(BOOL, next),
+        Form::Bool(_) => answer(PlainType::Bool, next),
+        Form::Int(_) => answer(PlainType::Bool, next),
         Form::Construct(t, k) => {
             let n = fields(index, t, k);
             initials(line, index, next, levels - 1, n)
@@ -55,7 +55,7 @@ fn initials(line: &[u8], index: &[u32; INDEX_WORDS], c: Cursor, levels: u32, n: 
     ensures { λ r. ⌜ TestsInitials (now (line .entry)) (typesOf (now (index .entry))) c levels n r ⌝ }
 {
     if n == 0 {
-        return answer(BOOL, c);
+        return answer(PlainType::Bool, c);
     }
     let x = initial(line, index, c, levels);
     let Typing::Is(k) = x else {

@@ -12,7 +12,7 @@ use super::words::Typing;
 use super::words::Want;
 use super::words::answer;
 use super::words::enter;
-use super::words::named_word;
+use super::words::named;
 use super::words::result_type;
 use super::words::returned;
 use super::words::wanted;
@@ -33,13 +33,13 @@ pub fn call(
     requires { ⌜ Room 1 p ⌝ }
     ensures { λ r. ⌜ TypesCall (now (text .entry)) (now (index .entry)) (now (scope .entry)) p f r (now (scope .exit)) ⌝ }
 {
-    let word = returned(text, index, f);
+    let result = returned(text, index, f);
     let n = arity(index, f);
     let series = Series {
         of: Want::Parameters(f),
         first: 0,
         count: n,
-        word: word,
+        answer: result,
     };
     several(text, index, scope, p, series)
 }
@@ -56,13 +56,13 @@ pub fn make(
     requires { ⌜ Room 1 p ⌝ }
     ensures { λ r. ⌜ TypesCon (now (text .entry)) (now (index .entry)) (now (scope .entry)) p t c r (now (scope .exit)) ⌝ }
 {
-    let word = named_word(t);
+    let result = named(t);
     let n = fields(index, t, c);
     let series = Series {
         of: Want::Fields(t, c),
         first: 0,
         count: n,
-        word: word,
+        answer: result,
     };
     several(text, index, scope, p, series)
 }
@@ -79,10 +79,10 @@ fn several(
     ensures { λ r. ⌜ TypesSeveral (now (text .entry)) (now (index .entry)) (now (scope .entry)) p series r (now (scope .exit)) ⌝ }
 {
     let left = series.count;
-    let word = series.word;
+    let result = series.answer;
     if left == 0 {
         let at = p.at;
-        return answer(word, at);
+        return answer(result, at);
     }
     let of = series.of;
     let first = series.first;
@@ -97,7 +97,7 @@ fn several(
         of: of,
         first: first + 1,
         count: left - 1,
-        word: word,
+        answer: result,
     };
     several(text, index, scope, q, others)
 }
@@ -113,7 +113,7 @@ pub fn case_of(
     requires { ⌜ Room 1 p ⌝ }
     ensures { λ r. ⌜ TypesCase (now (text .entry)) (now (index .entry)) (now (scope .entry)) p t r (now (scope .exit)) ⌝ }
 {
-    let subject = named_word(t);
+    let subject = named(t);
     let x = expect(text, index, scope, p, subject);
     let Typing::Is(k) = x else {
         return Typing::Wrong;
@@ -127,11 +127,12 @@ pub fn case_of(
     let first = result.next;
     let q = moved(p, first);
     let n = constructors(index, t);
+    let of = result.of;
     let series = BranchSeries {
         of: t,
         first: 0,
         count: n,
-        word: result.word,
+        answer: of,
     };
     branches(text, index, scope, q, series)
 }
@@ -148,10 +149,10 @@ fn branches(
     ensures { λ r. ⌜ TypesBranches (now (text .entry)) (now (index .entry)) (now (scope .entry)) p series r (now (scope .exit)) ⌝ }
 {
     let left = series.count;
-    let word = series.word;
+    let result = series.answer;
     if left == 0 {
         let at = p.at;
-        return answer(word, at);
+        return answer(result, at);
     }
     let t = series.of;
     let c = series.first;
@@ -159,7 +160,7 @@ fn branches(
     enter(index, scope, Want::Fields(t, c), p.variables, n);
     let at = p.at;
     let q = widened(p, at, n);
-    let x = expect(text, index, scope, q, word);
+    let x = expect(text, index, scope, q, result);
     let Typing::Is(k) = x else {
         return Typing::Wrong;
     };
@@ -169,7 +170,7 @@ fn branches(
         of: t,
         first: c + 1,
         count: left - 1,
-        word: word,
+        answer: result,
     };
     branches(text, index, scope, s, others)
 }

@@ -4,12 +4,13 @@ ghost use Prim.Native.Nat.{_+_, _^_, _<_};
 ghost use Rattle.index.specs.Sections.{channelsOf};
 ghost use Rattle.index.specs.Indexed.{declaredAt};
 ghost use Rattle.plain_types.specs.declared.words.Typing.the-variants.{Is};
-ghost use Rattle.plain_types.specs.Words.{withoutSize};
+ghost use Rattle.plain_types.specs.Words.{typeAt};
 ghost use Rattle.plain_types.specs.Asks.{movedTo, widerBy, insideOf};
+use super::words::PlainType;
 use super::words::Typing;
 use super::words::Want;
 use super::words::answer;
-use super::words::without_size;
+use super::words::type_of;
 use index::INDEX_WORDS;
 use index::channels::declared_word;
 use text::Cursor;
@@ -27,7 +28,7 @@ pub struct Series {
     pub of: Want,
     pub first: u32,
     pub count: u32,
-    pub word: u32,
+    pub answer: PlainType,
 }
 
 // The branches of a case: its type, the constructor of the first one, how many there are, and the type of each.
@@ -35,7 +36,7 @@ pub struct BranchSeries {
     pub of: u32,
     pub first: u32,
     pub count: u32,
-    pub word: u32,
+    pub answer: PlainType,
 }
 
 // The same place with the cursor moved on.
@@ -76,11 +77,9 @@ pub fn inside(p: Place, next: Cursor) -> Place
     }
 }
 
-// A channel: its declared type without the size.
+// A channel: its declared type, the size left out.
 pub fn channel(index: &[u32; INDEX_WORDS], c: u32, next: Cursor) -> Typing
-    ensures { λ r. ⌜ r ≡ Is (record { word = withoutSize (declaredAt (channelsOf (now (index .entry))) c); next = next }) ⌝ }
+    ensures { λ r. ⌜ r ≡ Is (record { of = typeAt (declaredAt (channelsOf (now (index .entry))) c); next = next }) ⌝ }
 {
-    let word = declared_word(index, c);
-    let plain = without_size(word);
-    answer(plain, next)
+    answer(type_of(declared_word(index, c)), next)
 }

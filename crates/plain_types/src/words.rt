@@ -1,7 +1,9 @@
-// Plain types as words: 0 Bool, 1 Int, else 256 × (t + 1).
+// Plain types, and their words in the index and in a scope: 0 Bool, 1 Int, else 256 × (t + 1), and in the index the size.
 ghost use mathlib.Core.Path.{_≡_};
+ghost use Rattle.language.specs.PlainTypes.{samePlain, isNamed};
 ghost use Rattle.plain_types.specs.declared.words.Typing.the-variants.{Is};
-ghost use Rattle.plain_types.specs.Words.{withoutSize, namedWord, operandWord, outcomeWord, lineOf, wantedWord, entered, ReadsResult, Returns};
+ghost use Rattle.plain_types.specs.Agrees.{meaning};
+ghost use Rattle.plain_types.specs.Words.{namedType, typeAt, WordOf, operandOf, outcomeOf, lineOf, wantedType, entered, ReadsResult, Returns};
 use index::INDEX_WORDS;
 use index::frame_counts;
 use index::frames::frame_line;
@@ -18,16 +20,19 @@ use text::Number;
 use text::Step;
 use text::TYPE_STEP;
 
-pub const BOOL: u32 = 0;
-
-pub const INT: u32 = 1;
-
 // The words of a scope.
 pub const SCOPE_WORDS: usize = VARIABLES_MOST as usize;
 
-// A plain type as a word, and the cursor behind what has it.
+// A plain type: Bool, Int, or the number of a named type.
+pub enum PlainType {
+    Bool,
+    Int,
+    Named(u8),
+}
+
+// A plain type, and the cursor behind what has it.
 pub struct Typed {
-    pub word: u32,
+    pub of: PlainType,
     pub next: Cursor,
 }
 
@@ -36,37 +41,66 @@ pub enum Typing {
     Wrong,
 }
 
-// What words a list of expressions is compared with: a function's parameters, a constructor's fields.
+// What types a list of expressions is compared with: a function's parameters, a constructor's fields.
 pub enum Want {
     Parameters(u32),
     Fields(u32, u32),
 }
 
 // Such an answer.
-pub fn answer(word: u32, next: Cursor) -> Typing
-    ensures { λ r. ⌜ r ≡ Is (record { word = word; next = next }) ⌝ }
+pub fn answer(of: PlainType, next: Cursor) -> Typing
+    ensures { λ r. ⌜ r ≡ Is (record { of = of; next = next }) ⌝ }
 {
-    Typing::Is(Typed {
-        word: word,
-        next: next,
-    })
+    Typing::Is(Typed { of: of, next: next })
 }
 
-// The word of a type with a size, without the size.
-pub fn without_size(word: u32) -> u32
-    ensures { λ r. ⌜ r ≡ withoutSize word ⌝ }
+// A named type, its number a byte.
+pub fn named(t: u32) -> PlainType
+    ensures { λ r. ⌜ r ≡ namedType t ⌝ }
 {
-    if word < TYPE_STEP {
-        return word;
+    PlainType::Named((t % TYPE_STEP) as u8)
+}
+
+// The type of a word, which may have a size.
+pub fn type_of(word: u32) -> PlainType
+    ensures { λ r. ⌜ r ≡ typeAt word ⌝ }
+{
+    if word == 0 {
+        return PlainType::Bool;
     }
-    word - word % TYPE_STEP
+    if word < TYPE_STEP {
+        return PlainType::Int;
+    }
+    named(word / TYPE_STEP - 1)
 }
 
-// The word of a named type, its number a byte.
-pub fn named_word(t: u32) -> u32
-    ensures { λ r. ⌜ r ≡ namedWord t ⌝ }
+// The word of a type.
+pub fn word_of(x: PlainType) -> u32
+    ensures { λ r. ⌜ WordOf x r ⌝ }
 {
-    TYPE_STEP * (t % TYPE_STEP + 1)
+    match x {
+        PlainType::Bool => 0,
+        PlainType::Int => 1,
+        PlainType::Named(t) => TYPE_STEP * (t as u32 + 1),
+    }
+}
+
+// Whether two types are the same.
+pub fn same(x: PlainType, y: PlainType) -> bool
+    ensures { λ r. ⌜ r ≡ samePlain (meaning x) (meaning y) ⌝ }
+{
+    word_of(x) == word_of(y)
+}
+
+// Whether a type is a named one.
+pub fn is_named(x: PlainType) -> bool
+    ensures { λ r. ⌜ r ≡ isNamed (meaning x) ⌝ }
+{
+    match x {
+        PlainType::Bool => false,
+        PlainType::Int => false,
+        PlainType::Named(_) => true,
+    }
 }
 
 // The line of frame i behind the types, its number a byte.
@@ -78,42 +112,42 @@ pub fn line_of(index: &[u32; INDEX_WORDS], i: u32) -> u32
 }
 
 // The type of both operands of an operator, by its code.
-pub fn operand(o: u32) -> u32
-    ensures { λ r. ⌜ r ≡ operandWord o ⌝ }
+pub fn operand(o: u32) -> PlainType
+    ensures { λ r. ⌜ r ≡ operandOf o ⌝ }
 {
     if o < 6 {
-        return INT;
+        return PlainType::Int;
     }
-    BOOL
+    PlainType::Bool
 }
 
 // The type of what an operator gives, by its code.
-pub fn outcome(o: u32) -> u32
-    ensures { λ r. ⌜ r ≡ outcomeWord o ⌝ }
+pub fn outcome(o: u32) -> PlainType
+    ensures { λ r. ⌜ r ≡ outcomeOf o ⌝ }
 {
     if o < 3 {
-        return INT;
+        return PlainType::Int;
     }
-    BOOL
+    PlainType::Bool
 }
 
 // The plain type of parameter or field j.
-pub fn wanted(index: &[u32; INDEX_WORDS], want: Want, j: u32) -> u32
-    ensures { λ r. ⌜ r ≡ wantedWord (now (index .entry)) want j ⌝ }
+pub fn wanted(index: &[u32; INDEX_WORDS], want: Want, j: u32) -> PlainType
+    ensures { λ r. ⌜ r ≡ wantedType (now (index .entry)) want j ⌝ }
 {
     match want {
-        Want::Parameters(f) => parameter_word(index, f, j),
+        Want::Parameters(f) => type_of(parameter_word(index, f, j)),
         Want::Fields(t, c) => {
             let word = field_word(index, t, c, j);
             if word == OWN_FIELD {
-                return named_word(t);
+                return named(t);
             }
-            without_size(word)
+            type_of(word)
         }
     }
 }
 
-// Writes the words of the first n parameters or fields into a scope, from a place on.
+// Writes the words of the first n parameters' or fields' types into a scope, from a place on.
 pub fn enter(
     index: &[u32; INDEX_WORDS],
     scope: &mut [u32; SCOPE_WORDS],
@@ -125,8 +159,8 @@ pub fn enter(
 {
     let mut i: u32 = 0;
     while i < n {
-        let word = wanted(index, want, i);
-        put(scope, (to as usize) + (i as usize), word);
+        let of = wanted(index, want, i);
+        put(scope, (to as usize) + (i as usize), word_of(of));
         i += 1;
     }
 }
@@ -142,10 +176,7 @@ pub fn result_type(line: &[u8], c: Cursor) -> Typing
     let form = f.value;
     let d = f.next;
     if form < 2 {
-        return Typing::Is(Typed {
-            word: form,
-            next: d,
-        });
+        return answer(type_of(form), d);
     }
     let y = d.byte(line);
     let Number::Is(g) = y else {
@@ -157,15 +188,11 @@ pub fn result_type(line: &[u8], c: Cursor) -> Typing
     let Step::Next(next) = z else {
         return Typing::Wrong;
     };
-    let word = named_word(t);
-    Typing::Is(Typed {
-        word: word,
-        next: next,
-    })
+    answer(named(t), next)
 }
 
 // The result type of function f, read in its line.
-pub fn returned(text: &[u8], index: &[u32; INDEX_WORDS], f: u32) -> u32
+pub fn returned(text: &[u8], index: &[u32; INDEX_WORDS], f: u32) -> PlainType
     ensures { λ r. ⌜ Returns (now (text .entry)) (now (index .entry)) f r ⌝ }
 {
     let i = line_of(index, f);
@@ -173,7 +200,7 @@ pub fn returned(text: &[u8], index: &[u32; INDEX_WORDS], f: u32) -> u32
     let at = result_start(index, f);
     let x = result_type(line, at);
     let Typing::Is(k) = x else {
-        return BOOL;
+        return PlainType::Bool;
     };
-    k.word
+    k.of
 }

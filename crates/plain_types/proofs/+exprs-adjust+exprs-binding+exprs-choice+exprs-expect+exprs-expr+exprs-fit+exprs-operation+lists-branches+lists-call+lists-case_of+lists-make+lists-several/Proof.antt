@@ -1,5 +1,7 @@
 -- The cycle of functions that give an expression's plain type meets its contracts: each need is answered by a law of FormLaws, ListLaws,
 -- CaseLaws or ExprLaws; the measure is levels left, then the place in the cycle, a list by what is left of it.
+use borrow.Author.Tests.{not-true, not-false}
+use mathlib.Core.Path.{sym, _∙_}
 use native.Mathlib.Omega.{arith}
 use native.Mathlib.Nat.{pos-of-ne-zero}
 use Rattle.plain_types.specs.MadePlaces.{same-levels, same-variables, at-expr, at-want, at-let, at-if, at-op, at-call, at-con, at-several, at-case, at-branches, at-adj, at-fit}
@@ -59,12 +61,16 @@ use Rattle.plain_types.proofs.places.moved.Reads as moved-reads
 use Rattle.plain_types.proofs.places.widened.Reads as widened-reads
 use Rattle.plain_types.proofs.words.answer.Reads as answer-reads
 use Rattle.plain_types.proofs.words.enter.Reads as enter-reads
-use Rattle.plain_types.proofs.words.named_word.Reads as named-word-reads
+use Rattle.plain_types.proofs.words.is_named.Reads as is-named-reads
+use Rattle.plain_types.proofs.words.named.Reads as named-reads
 use Rattle.plain_types.proofs.words.operand.Reads as operand-reads
 use Rattle.plain_types.proofs.words.outcome.Reads as outcome-reads
 use Rattle.plain_types.proofs.words.result_type.Reads as result-type-reads
 use Rattle.plain_types.proofs.words.returned.Reads as returned-reads
+use Rattle.plain_types.proofs.words.same.Reads as same-reads
+use Rattle.plain_types.proofs.words.type_of.Reads as type-of-reads
 use Rattle.plain_types.proofs.words.wanted.Reads as wanted-reads
+use Rattle.plain_types.proofs.words.word_of.Reads as word-of-reads
 use Rattle.text.proofs.Cursor.size.Reads as size-reads
 use Rattle.plain_types.proofs.+exprs-adjust+exprs-binding+exprs-choice+exprs-expect+exprs-expr+exprs-fit+exprs-operation+lists-branches+lists-call+lists-case_of+lists-make+lists-several.{
   statement,
@@ -253,6 +259,8 @@ exprs·adjust-frame-line-requires : (t : ℕ) → exprs·adjust-lts.Need-frame-l
   moved-reads.Learnt,
   exprs·expr-below t,
   exprs·expr.Post,
+  is-named-reads.Asked,
+  is-named-reads.Learnt,
 ) (exprs·adjust-at t) exprs·adjust.Post
 exprs·adjust-frame-line-requires t c κs = tt
 
@@ -265,6 +273,8 @@ exprs·adjust-size-requires : (t : ℕ) → exprs·adjust-lts.Need-size-requires
   moved-reads.Learnt,
   exprs·expr-below t,
   exprs·expr.Post,
+  is-named-reads.Asked,
+  is-named-reads.Learnt,
 ) (exprs·adjust-at t) exprs·adjust.Post
 exprs·adjust-size-requires t c κs = tt
 
@@ -277,6 +287,8 @@ exprs·adjust-enum-known-z : (t : ℕ) → exprs·adjust-lts.Need-enum-known-z (
   moved-reads.Learnt,
   exprs·expr-below t,
   exprs·expr.Post,
+  is-named-reads.Asked,
+  is-named-reads.Learnt,
 ) (exprs·adjust-at t) exprs·adjust.Post
 exprs·adjust-enum-known-z t c = (c .match .keys1)
 
@@ -289,6 +301,8 @@ exprs·adjust-enum-told : (t : ℕ) → exprs·adjust-lts.Need-enum-told (
   moved-reads.Learnt,
   exprs·expr-below t,
   exprs·expr.Post,
+  is-named-reads.Asked,
+  is-named-reads.Learnt,
 ) (exprs·adjust-at t) exprs·adjust.Post
 exprs·adjust-enum-told t c = (c .match .keys2)
 
@@ -301,6 +315,8 @@ exprs·adjust-returns : (t : ℕ) → exprs·adjust-lts.Need-returns (
   moved-reads.Learnt,
   exprs·expr-below t,
   exprs·expr.Post,
+  is-named-reads.Asked,
+  is-named-reads.Learnt,
 ) (exprs·adjust-at t) exprs·adjust.Post
 exprs·adjust-returns t c = adj-stops _ _ _ _ (c .before .before .before .before .frame-line .ensures) (c .before .before .size .ensures) (c .enum-told .given .1)
 
@@ -313,6 +329,8 @@ exprs·adjust-moved-requires : (t : ℕ) → exprs·adjust-lts.Need-moved-requir
   moved-reads.Learnt,
   exprs·expr-below t,
   exprs·expr.Post,
+  is-named-reads.Asked,
+  is-named-reads.Learnt,
 ) (exprs·adjust-at t) exprs·adjust.Post
 exprs·adjust-moved-requires t c κs = tt
 
@@ -325,6 +343,8 @@ exprs·adjust-expr-requires : (t : ℕ) → exprs·adjust-lts.Need-expr-requires
   moved-reads.Learnt,
   exprs·expr-below t,
   exprs·expr.Post,
+  is-named-reads.Asked,
+  is-named-reads.Learnt,
 ) (exprs·adjust-at t) exprs·adjust.Post
 exprs·adjust-expr-requires t c κs = (omega (arith, (c .before .before .before .before .before .before .before .before .before .pre .0), same-levels (c .before .moved .ensures)), omega (arith, (c .before .before .before .before .before .before .before .before .before .pre .1), same-levels (c .before .moved .ensures), same-variables (c .before .moved .ensures)))
 
@@ -337,6 +357,8 @@ exprs·adjust-enum-known-x : (t : ℕ) → exprs·adjust-lts.Need-enum-known-x (
   moved-reads.Learnt,
   exprs·expr-below t,
   exprs·expr.Post,
+  is-named-reads.Asked,
+  is-named-reads.Learnt,
 ) (exprs·adjust-at t) exprs·adjust.Post
 exprs·adjust-enum-known-x t c = (c .match2 .keys1)
 
@@ -349,6 +371,8 @@ exprs·adjust-enum-told-2 : (t : ℕ) → exprs·adjust-lts.Need-enum-told-2 (
   moved-reads.Learnt,
   exprs·expr-below t,
   exprs·expr.Post,
+  is-named-reads.Asked,
+  is-named-reads.Learnt,
 ) (exprs·adjust-at t) exprs·adjust.Post
 exprs·adjust-enum-told-2 t c = (c .match2 .keys2)
 
@@ -361,8 +385,24 @@ exprs·adjust-returns-2 : (t : ℕ) → exprs·adjust-lts.Need-returns-2 (
   moved-reads.Learnt,
   exprs·expr-below t,
   exprs·expr.Post,
+  is-named-reads.Asked,
+  is-named-reads.Learnt,
 ) (exprs·adjust-at t) exprs·adjust.Post
 exprs·adjust-returns-2 t c = adj-wrong _ _ _ _ (c .before .before .before .before .before .before .before .before .before .before .frame-line .ensures) (c .before .before .before .before .before .before .before .before .size .ensures) (c .before .before .before .before .before .before .z .given .1) (at-expr (c .before .before .before .before .moved .ensures) (c .before .before .expr .ensures)) (c .enum-told2 .given .1)
+
+exprs·adjust-is-named-requires : (t : ℕ) → exprs·adjust-lts.Need-is-named-requires (
+  frame-line-reads.Asked,
+  frame-line-reads.Learnt,
+  size-reads.Asked,
+  size-reads.Learnt,
+  moved-reads.Asked,
+  moved-reads.Learnt,
+  exprs·expr-below t,
+  exprs·expr.Post,
+  is-named-reads.Asked,
+  is-named-reads.Learnt,
+) (exprs·adjust-at t) exprs·adjust.Post
+exprs·adjust-is-named-requires t c κs = tt
 
 exprs·adjust-returns-3 : (t : ℕ) → exprs·adjust-lts.Need-returns-3 (
   frame-line-reads.Asked,
@@ -373,8 +413,10 @@ exprs·adjust-returns-3 : (t : ℕ) → exprs·adjust-lts.Need-returns-3 (
   moved-reads.Learnt,
   exprs·expr-below t,
   exprs·expr.Post,
+  is-named-reads.Asked,
+  is-named-reads.Learnt,
 ) (exprs·adjust-at t) exprs·adjust.Post
-exprs·adjust-returns-3 t c = adj-unnamed _ _ _ _ (c .before .before .before .before .before .before .before .before .before .before .before .before .before .frame-line .ensures) (c .before .before .before .before .before .before .before .before .before .before .before .size .ensures) (c .before .before .before .before .before .before .before .before .before .z .given .1) (at-expr (c .before .before .before .before .before .before .before .moved .ensures) (c .before .before .before .before .before .expr .ensures)) (c .before .before .before .x .given .1) (c .if1 .taken)
+exprs·adjust-returns-3 t c = adj-unnamed _ _ _ _ (c .before .before .before .before .before .before .before .before .before .before .before .before .before .frame-line .ensures) (c .before .before .before .before .before .before .before .before .before .before .before .size .ensures) (c .before .before .before .before .before .before .before .before .before .z .given .1) (at-expr (c .before .before .before .before .before .before .before .moved .ensures) (c .before .before .before .before .before .expr .ensures)) (c .before .before .before .x .given .1) (sym (c .before .is-named .ensures) ∙ not-true _ (c .if1 .taken))
 
 exprs·adjust-returns-4 : (t : ℕ) → exprs·adjust-lts.Need-returns-4 (
   frame-line-reads.Asked,
@@ -385,12 +427,16 @@ exprs·adjust-returns-4 : (t : ℕ) → exprs·adjust-lts.Need-returns-4 (
   moved-reads.Learnt,
   exprs·expr-below t,
   exprs·expr.Post,
+  is-named-reads.Asked,
+  is-named-reads.Learnt,
 ) (exprs·adjust-at t) exprs·adjust.Post
-exprs·adjust-returns-4 t c = adj-done _ _ _ _ (c .before .before .before .before .before .before .before .before .before .before .before .before .before .frame-line .ensures) (c .before .before .before .before .before .before .before .before .before .before .before .size .ensures) (c .before .before .before .before .before .before .before .before .before .z .given .1) (at-expr (c .before .before .before .before .before .before .before .moved .ensures) (c .before .before .before .before .before .expr .ensures)) (c .before .before .before .x .given .1) (c .if1 .left)
+exprs·adjust-returns-4 t c = adj-done _ _ _ _ (c .before .before .before .before .before .before .before .before .before .before .before .before .before .frame-line .ensures) (c .before .before .before .before .before .before .before .before .before .before .before .size .ensures) (c .before .before .before .before .before .before .before .before .before .z .given .1) (at-expr (c .before .before .before .before .before .before .before .moved .ensures) (c .before .before .before .before .before .expr .ensures)) (c .before .before .before .x .given .1) (sym (c .before .is-named .ensures) ∙ not-false _ (c .if1 .left))
 
 exprs·binding-expr-requires : (t : ℕ) → exprs·binding-lts.Need-expr-requires (
   exprs·expr-below t,
   exprs·expr.Post,
+  word-of-reads.Asked,
+  word-of-reads.Learnt,
   put-reads.Asked,
   put-reads.Learnt,
   widened-reads.Asked,
@@ -401,6 +447,8 @@ exprs·binding-expr-requires t c κs = (omega (arith, (c .before .before .pre .0
 exprs·binding-enum-known-x : (t : ℕ) → exprs·binding-lts.Need-enum-known-x (
   exprs·expr-below t,
   exprs·expr.Post,
+  word-of-reads.Asked,
+  word-of-reads.Learnt,
   put-reads.Asked,
   put-reads.Learnt,
   widened-reads.Asked,
@@ -411,6 +459,8 @@ exprs·binding-enum-known-x t c = (c .match .keys1)
 exprs·binding-enum-told : (t : ℕ) → exprs·binding-lts.Need-enum-told (
   exprs·expr-below t,
   exprs·expr.Post,
+  word-of-reads.Asked,
+  word-of-reads.Learnt,
   put-reads.Asked,
   put-reads.Learnt,
   widened-reads.Asked,
@@ -421,6 +471,8 @@ exprs·binding-enum-told t c = (c .match .keys2)
 exprs·binding-returns : (t : ℕ) → exprs·binding-lts.Need-returns (
   exprs·expr-below t,
   exprs·expr.Post,
+  word-of-reads.Asked,
+  word-of-reads.Learnt,
   put-reads.Asked,
   put-reads.Learnt,
   widened-reads.Asked,
@@ -431,6 +483,8 @@ exprs·binding-returns t c = let-wrong _ _ _ _ (c .before .before .expr .ensures
 exprs·binding-cast-put : (t : ℕ) → exprs·binding-lts.Need-cast-put (
   exprs·expr-below t,
   exprs·expr.Post,
+  word-of-reads.Asked,
+  word-of-reads.Learnt,
   put-reads.Asked,
   put-reads.Learnt,
   widened-reads.Asked,
@@ -438,9 +492,23 @@ exprs·binding-cast-put : (t : ℕ) → exprs·binding-lts.Need-cast-put (
 ) (exprs·binding-at t) exprs·binding.Post
 exprs·binding-cast-put t c = omega arith
 
+exprs·binding-word-of-requires : (t : ℕ) → exprs·binding-lts.Need-word-of-requires (
+  exprs·expr-below t,
+  exprs·expr.Post,
+  word-of-reads.Asked,
+  word-of-reads.Learnt,
+  put-reads.Asked,
+  put-reads.Learnt,
+  widened-reads.Asked,
+  widened-reads.Learnt,
+) (exprs·binding-at t) exprs·binding.Post
+exprs·binding-word-of-requires t c κs = tt
+
 exprs·binding-put-requires : (t : ℕ) → exprs·binding-lts.Need-put-requires (
   exprs·expr-below t,
   exprs·expr.Post,
+  word-of-reads.Asked,
+  word-of-reads.Learnt,
   put-reads.Asked,
   put-reads.Learnt,
   widened-reads.Asked,
@@ -451,32 +519,38 @@ exprs·binding-put-requires t c κs = tt
 exprs·binding-widened-requires : (t : ℕ) → exprs·binding-lts.Need-widened-requires (
   exprs·expr-below t,
   exprs·expr.Post,
+  word-of-reads.Asked,
+  word-of-reads.Learnt,
   put-reads.Asked,
   put-reads.Learnt,
   widened-reads.Asked,
   widened-reads.Learnt,
 ) (exprs·binding-at t) exprs·binding.Post
-exprs·binding-widened-requires t c κs = omega (arith, (c .before .before .before .before .before .before .before .before .before .before .pre .1))
+exprs·binding-widened-requires t c κs = omega (arith, (c .before .before .before .before .before .before .before .before .before .before .before .pre .1))
 
 exprs·binding-expr-requires-2 : (t : ℕ) → exprs·binding-lts.Need-expr-requires-2 (
   exprs·expr-below t,
   exprs·expr.Post,
+  word-of-reads.Asked,
+  word-of-reads.Learnt,
   put-reads.Asked,
   put-reads.Learnt,
   widened-reads.Asked,
   widened-reads.Learnt,
 ) (exprs·binding-at t) exprs·binding.Post
-exprs·binding-expr-requires-2 t c κs = (omega (arith, (c .before .before .before .before .before .before .before .before .before .before .before .before .pre .0), same-levels (c .before .widened .ensures)), omega (arith, (c .before .before .before .before .before .before .before .before .before .before .before .before .pre .1), same-levels (c .before .widened .ensures), same-variables (c .before .widened .ensures)))
+exprs·binding-expr-requires-2 t c κs = (omega (arith, (c .before .before .before .before .before .before .before .before .before .before .before .before .before .pre .0), same-levels (c .before .widened .ensures)), omega (arith, (c .before .before .before .before .before .before .before .before .before .before .before .before .before .pre .1), same-levels (c .before .widened .ensures), same-variables (c .before .widened .ensures)))
 
 exprs·binding-returns-2 : (t : ℕ) → exprs·binding-lts.Need-returns-2 (
   exprs·expr-below t,
   exprs·expr.Post,
+  word-of-reads.Asked,
+  word-of-reads.Learnt,
   put-reads.Asked,
   put-reads.Learnt,
   widened-reads.Asked,
   widened-reads.Learnt,
 ) (exprs·binding-at t) exprs·binding.Post
-exprs·binding-returns-2 t c = let-done _ _ _ _ (c .before .before .before .before .before .before .before .before .before .before .expr .ensures) (c .before .before .before .before .before .before .before .before .x .given .1) (c .before .before .before .before .put .ensures) (at-expr (c .before .before .widened .ensures) (c .expr2 .ensures))
+exprs·binding-returns-2 t c = let-done _ _ _ _ (c .before .before .before .before .before .before .before .before .before .before .before .expr .ensures) (c .before .before .before .before .before .before .before .before .before .x .given .1) (c .before .before .before .before .before .word-of .ensures) (c .before .before .before .before .put .ensures) (at-expr (c .before .before .widened .ensures) (c .expr2 .ensures))
 
 exprs·choice-expect-requires : (t : ℕ) → exprs·choice-lts.Need-expect-requires (
   exprs·expect-below t,
@@ -601,38 +675,58 @@ exprs·choice-returns-3 t c = if-done _ _ _ _ (c .before .before .before .before
 exprs·expect-expr-requires : (t : ℕ) → exprs·expect-lts.Need-expr-requires (
   exprs·expr-below t,
   exprs·expr.Post,
+  same-reads.Asked,
+  same-reads.Learnt,
 ) (exprs·expect-at t) exprs·expect.Post
 exprs·expect-expr-requires t c κs = (omega (arith, (c .before .before .pre .0)), (c .before .before .pre .1))
 
 exprs·expect-enum-known-x : (t : ℕ) → exprs·expect-lts.Need-enum-known-x (
   exprs·expr-below t,
   exprs·expr.Post,
+  same-reads.Asked,
+  same-reads.Learnt,
 ) (exprs·expect-at t) exprs·expect.Post
 exprs·expect-enum-known-x t c = (c .match .keys1)
 
 exprs·expect-enum-told : (t : ℕ) → exprs·expect-lts.Need-enum-told (
   exprs·expr-below t,
   exprs·expr.Post,
+  same-reads.Asked,
+  same-reads.Learnt,
 ) (exprs·expect-at t) exprs·expect.Post
 exprs·expect-enum-told t c = (c .match .keys2)
 
 exprs·expect-returns : (t : ℕ) → exprs·expect-lts.Need-returns (
   exprs·expr-below t,
   exprs·expr.Post,
+  same-reads.Asked,
+  same-reads.Learnt,
 ) (exprs·expect-at t) exprs·expect.Post
 exprs·expect-returns t c = want-wrong _ _ _ _ _ (c .before .before .expr .ensures) (c .enum-told .given .1)
+
+exprs·expect-same-requires : (t : ℕ) → exprs·expect-lts.Need-same-requires (
+  exprs·expr-below t,
+  exprs·expr.Post,
+  same-reads.Asked,
+  same-reads.Learnt,
+) (exprs·expect-at t) exprs·expect.Post
+exprs·expect-same-requires t c κs = tt
 
 exprs·expect-returns-2 : (t : ℕ) → exprs·expect-lts.Need-returns-2 (
   exprs·expr-below t,
   exprs·expr.Post,
+  same-reads.Asked,
+  same-reads.Learnt,
 ) (exprs·expect-at t) exprs·expect.Post
-exprs·expect-returns-2 t c = want-other _ _ _ _ _ (c .before .before .before .before .before .expr .ensures) (c .before .before .before .x .given .1) (c .if1 .taken)
+exprs·expect-returns-2 t c = want-other _ _ _ _ _ (c .before .before .before .before .before .expr .ensures) (c .before .before .before .x .given .1) (sym (c .before .same .ensures) ∙ not-true _ (c .if1 .taken))
 
 exprs·expect-returns-3 : (t : ℕ) → exprs·expect-lts.Need-returns-3 (
   exprs·expr-below t,
   exprs·expr.Post,
+  same-reads.Asked,
+  same-reads.Learnt,
 ) (exprs·expect-at t) exprs·expect.Post
-exprs·expect-returns-3 t c = want-done _ _ _ _ _ (c .before .before .before .before .before .expr .ensures) (c .before .before .before .x .given .1) (c .if1 .left)
+exprs·expect-returns-3 t c = want-done _ _ _ _ _ (c .before .before .before .before .before .expr .ensures) (c .before .before .before .x .given .1) (sym (c .before .same .ensures) ∙ not-false _ (c .if1 .left))
 
 exprs·expr-returns : (t : ℕ) → exprs·expr-lts.Need-returns (
   frame-line-reads.Asked,
@@ -645,6 +739,8 @@ exprs·expr-returns : (t : ℕ) → exprs·expr-lts.Need-returns (
   answer-reads.Learnt,
   word-at-reads.Asked,
   word-at-reads.Learnt,
+  type-of-reads.Asked,
+  type-of-reads.Learnt,
   channel-reads.Asked,
   channel-reads.Learnt,
   exprs·binding-below t,
@@ -677,6 +773,8 @@ exprs·expr-frame-line-requires : (t : ℕ) → exprs·expr-lts.Need-frame-line-
   answer-reads.Learnt,
   word-at-reads.Asked,
   word-at-reads.Learnt,
+  type-of-reads.Asked,
+  type-of-reads.Learnt,
   channel-reads.Asked,
   channel-reads.Learnt,
   exprs·binding-below t,
@@ -709,6 +807,8 @@ exprs·expr-head-at-requires : (t : ℕ) → exprs·expr-lts.Need-head-at-requir
   answer-reads.Learnt,
   word-at-reads.Asked,
   word-at-reads.Learnt,
+  type-of-reads.Asked,
+  type-of-reads.Learnt,
   channel-reads.Asked,
   channel-reads.Learnt,
   exprs·binding-below t,
@@ -741,6 +841,8 @@ exprs·expr-inside-requires : (t : ℕ) → exprs·expr-lts.Need-inside-requires
   answer-reads.Learnt,
   word-at-reads.Asked,
   word-at-reads.Learnt,
+  type-of-reads.Asked,
+  type-of-reads.Learnt,
   channel-reads.Asked,
   channel-reads.Learnt,
   exprs·binding-below t,
@@ -773,6 +875,8 @@ exprs·expr-enum-told : (t : ℕ) → exprs·expr-lts.Need-enum-told (
   answer-reads.Learnt,
   word-at-reads.Asked,
   word-at-reads.Learnt,
+  type-of-reads.Asked,
+  type-of-reads.Learnt,
   channel-reads.Asked,
   channel-reads.Learnt,
   exprs·binding-below t,
@@ -805,6 +909,8 @@ exprs·expr-answer-requires : (t : ℕ) → exprs·expr-lts.Need-answer-requires
   answer-reads.Learnt,
   word-at-reads.Asked,
   word-at-reads.Learnt,
+  type-of-reads.Asked,
+  type-of-reads.Learnt,
   channel-reads.Asked,
   channel-reads.Learnt,
   exprs·binding-below t,
@@ -837,6 +943,8 @@ exprs·expr-enum-told-2 : (t : ℕ) → exprs·expr-lts.Need-enum-told-2 (
   answer-reads.Learnt,
   word-at-reads.Asked,
   word-at-reads.Learnt,
+  type-of-reads.Asked,
+  type-of-reads.Learnt,
   channel-reads.Asked,
   channel-reads.Learnt,
   exprs·binding-below t,
@@ -869,6 +977,8 @@ exprs·expr-answer-requires-2 : (t : ℕ) → exprs·expr-lts.Need-answer-requir
   answer-reads.Learnt,
   word-at-reads.Asked,
   word-at-reads.Learnt,
+  type-of-reads.Asked,
+  type-of-reads.Learnt,
   channel-reads.Asked,
   channel-reads.Learnt,
   exprs·binding-below t,
@@ -901,6 +1011,8 @@ exprs·expr-enum-known-form : (t : ℕ) → exprs·expr-lts.Need-enum-known-form
   answer-reads.Learnt,
   word-at-reads.Asked,
   word-at-reads.Learnt,
+  type-of-reads.Asked,
+  type-of-reads.Learnt,
   channel-reads.Asked,
   channel-reads.Learnt,
   exprs·binding-below t,
@@ -933,6 +1045,8 @@ exprs·expr-cast-word-at : (t : ℕ) → exprs·expr-lts.Need-cast-word-at (
   answer-reads.Learnt,
   word-at-reads.Asked,
   word-at-reads.Learnt,
+  type-of-reads.Asked,
+  type-of-reads.Learnt,
   channel-reads.Asked,
   channel-reads.Learnt,
   exprs·binding-below t,
@@ -965,6 +1079,8 @@ exprs·expr-word-at-requires : (t : ℕ) → exprs·expr-lts.Need-word-at-requir
   answer-reads.Learnt,
   word-at-reads.Asked,
   word-at-reads.Learnt,
+  type-of-reads.Asked,
+  type-of-reads.Learnt,
   channel-reads.Asked,
   channel-reads.Learnt,
   exprs·binding-below t,
@@ -986,6 +1102,40 @@ exprs·expr-word-at-requires : (t : ℕ) → exprs·expr-lts.Need-word-at-requir
 ) (exprs·expr-at t) exprs·expr.Post
 exprs·expr-word-at-requires t c κs = tt
 
+exprs·expr-type-of-requires : (t : ℕ) → exprs·expr-lts.Need-type-of-requires (
+  frame-line-reads.Asked,
+  frame-line-reads.Learnt,
+  head-at-reads.Asked,
+  head-at-reads.Learnt,
+  inside-reads.Asked,
+  inside-reads.Learnt,
+  answer-reads.Asked,
+  answer-reads.Learnt,
+  word-at-reads.Asked,
+  word-at-reads.Learnt,
+  type-of-reads.Asked,
+  type-of-reads.Learnt,
+  channel-reads.Asked,
+  channel-reads.Learnt,
+  exprs·binding-below t,
+  exprs·binding.Post,
+  exprs·choice-below t,
+  exprs·choice.Post,
+  exprs·operation-below t,
+  exprs·operation.Post,
+  lists·call-below t,
+  lists·call.Post,
+  lists·make-below t,
+  lists·make.Post,
+  lists·case-of-below t,
+  lists·case-of.Post,
+  exprs·adjust-below t,
+  exprs·adjust.Post,
+  exprs·fit-below t,
+  exprs·fit.Post,
+) (exprs·expr-at t) exprs·expr.Post
+exprs·expr-type-of-requires t c κs = tt
+
 exprs·expr-answer-requires-3 : (t : ℕ) → exprs·expr-lts.Need-answer-requires-3 (
   frame-line-reads.Asked,
   frame-line-reads.Learnt,
@@ -997,6 +1147,8 @@ exprs·expr-answer-requires-3 : (t : ℕ) → exprs·expr-lts.Need-answer-requir
   answer-reads.Learnt,
   word-at-reads.Asked,
   word-at-reads.Learnt,
+  type-of-reads.Asked,
+  type-of-reads.Learnt,
   channel-reads.Asked,
   channel-reads.Learnt,
   exprs·binding-below t,
@@ -1029,6 +1181,8 @@ exprs·expr-enum-known-form-2 : (t : ℕ) → exprs·expr-lts.Need-enum-known-fo
   answer-reads.Learnt,
   word-at-reads.Asked,
   word-at-reads.Learnt,
+  type-of-reads.Asked,
+  type-of-reads.Learnt,
   channel-reads.Asked,
   channel-reads.Learnt,
   exprs·binding-below t,
@@ -1061,6 +1215,8 @@ exprs·expr-channel-requires : (t : ℕ) → exprs·expr-lts.Need-channel-requir
   answer-reads.Learnt,
   word-at-reads.Asked,
   word-at-reads.Learnt,
+  type-of-reads.Asked,
+  type-of-reads.Learnt,
   channel-reads.Asked,
   channel-reads.Learnt,
   exprs·binding-below t,
@@ -1093,6 +1249,8 @@ exprs·expr-enum-known-form-3 : (t : ℕ) → exprs·expr-lts.Need-enum-known-fo
   answer-reads.Learnt,
   word-at-reads.Asked,
   word-at-reads.Learnt,
+  type-of-reads.Asked,
+  type-of-reads.Learnt,
   channel-reads.Asked,
   channel-reads.Learnt,
   exprs·binding-below t,
@@ -1125,6 +1283,8 @@ exprs·expr-channel-requires-2 : (t : ℕ) → exprs·expr-lts.Need-channel-requ
   answer-reads.Learnt,
   word-at-reads.Asked,
   word-at-reads.Learnt,
+  type-of-reads.Asked,
+  type-of-reads.Learnt,
   channel-reads.Asked,
   channel-reads.Learnt,
   exprs·binding-below t,
@@ -1157,6 +1317,8 @@ exprs·expr-enum-told-3 : (t : ℕ) → exprs·expr-lts.Need-enum-told-3 (
   answer-reads.Learnt,
   word-at-reads.Asked,
   word-at-reads.Learnt,
+  type-of-reads.Asked,
+  type-of-reads.Learnt,
   channel-reads.Asked,
   channel-reads.Learnt,
   exprs·binding-below t,
@@ -1189,6 +1351,8 @@ exprs·expr-binding-requires : (t : ℕ) → exprs·expr-lts.Need-binding-requir
   answer-reads.Learnt,
   word-at-reads.Asked,
   word-at-reads.Learnt,
+  type-of-reads.Asked,
+  type-of-reads.Learnt,
   channel-reads.Asked,
   channel-reads.Learnt,
   exprs·binding-below t,
@@ -1221,6 +1385,8 @@ exprs·expr-enum-told-4 : (t : ℕ) → exprs·expr-lts.Need-enum-told-4 (
   answer-reads.Learnt,
   word-at-reads.Asked,
   word-at-reads.Learnt,
+  type-of-reads.Asked,
+  type-of-reads.Learnt,
   channel-reads.Asked,
   channel-reads.Learnt,
   exprs·binding-below t,
@@ -1253,6 +1419,8 @@ exprs·expr-choice-requires : (t : ℕ) → exprs·expr-lts.Need-choice-requires
   answer-reads.Learnt,
   word-at-reads.Asked,
   word-at-reads.Learnt,
+  type-of-reads.Asked,
+  type-of-reads.Learnt,
   channel-reads.Asked,
   channel-reads.Learnt,
   exprs·binding-below t,
@@ -1285,6 +1453,8 @@ exprs·expr-enum-known-form-4 : (t : ℕ) → exprs·expr-lts.Need-enum-known-fo
   answer-reads.Learnt,
   word-at-reads.Asked,
   word-at-reads.Learnt,
+  type-of-reads.Asked,
+  type-of-reads.Learnt,
   channel-reads.Asked,
   channel-reads.Learnt,
   exprs·binding-below t,
@@ -1317,6 +1487,8 @@ exprs·expr-operation-requires : (t : ℕ) → exprs·expr-lts.Need-operation-re
   answer-reads.Learnt,
   word-at-reads.Asked,
   word-at-reads.Learnt,
+  type-of-reads.Asked,
+  type-of-reads.Learnt,
   channel-reads.Asked,
   channel-reads.Learnt,
   exprs·binding-below t,
@@ -1349,6 +1521,8 @@ exprs·expr-enum-known-form-5 : (t : ℕ) → exprs·expr-lts.Need-enum-known-fo
   answer-reads.Learnt,
   word-at-reads.Asked,
   word-at-reads.Learnt,
+  type-of-reads.Asked,
+  type-of-reads.Learnt,
   channel-reads.Asked,
   channel-reads.Learnt,
   exprs·binding-below t,
@@ -1381,6 +1555,8 @@ exprs·expr-call-requires : (t : ℕ) → exprs·expr-lts.Need-call-requires (
   answer-reads.Learnt,
   word-at-reads.Asked,
   word-at-reads.Learnt,
+  type-of-reads.Asked,
+  type-of-reads.Learnt,
   channel-reads.Asked,
   channel-reads.Learnt,
   exprs·binding-below t,
@@ -1413,6 +1589,8 @@ exprs·expr-enum-known-form-6 : (t : ℕ) → exprs·expr-lts.Need-enum-known-fo
   answer-reads.Learnt,
   word-at-reads.Asked,
   word-at-reads.Learnt,
+  type-of-reads.Asked,
+  type-of-reads.Learnt,
   channel-reads.Asked,
   channel-reads.Learnt,
   exprs·binding-below t,
@@ -1445,6 +1623,8 @@ exprs·expr-make-requires : (t : ℕ) → exprs·expr-lts.Need-make-requires (
   answer-reads.Learnt,
   word-at-reads.Asked,
   word-at-reads.Learnt,
+  type-of-reads.Asked,
+  type-of-reads.Learnt,
   channel-reads.Asked,
   channel-reads.Learnt,
   exprs·binding-below t,
@@ -1477,6 +1657,8 @@ exprs·expr-enum-known-form-7 : (t : ℕ) → exprs·expr-lts.Need-enum-known-fo
   answer-reads.Learnt,
   word-at-reads.Asked,
   word-at-reads.Learnt,
+  type-of-reads.Asked,
+  type-of-reads.Learnt,
   channel-reads.Asked,
   channel-reads.Learnt,
   exprs·binding-below t,
@@ -1509,6 +1691,8 @@ exprs·expr-case-of-requires : (t : ℕ) → exprs·expr-lts.Need-case-of-requir
   answer-reads.Learnt,
   word-at-reads.Asked,
   word-at-reads.Learnt,
+  type-of-reads.Asked,
+  type-of-reads.Learnt,
   channel-reads.Asked,
   channel-reads.Learnt,
   exprs·binding-below t,
@@ -1541,6 +1725,8 @@ exprs·expr-enum-told-5 : (t : ℕ) → exprs·expr-lts.Need-enum-told-5 (
   answer-reads.Learnt,
   word-at-reads.Asked,
   word-at-reads.Learnt,
+  type-of-reads.Asked,
+  type-of-reads.Learnt,
   channel-reads.Asked,
   channel-reads.Learnt,
   exprs·binding-below t,
@@ -1573,6 +1759,8 @@ exprs·expr-adjust-requires : (t : ℕ) → exprs·expr-lts.Need-adjust-requires
   answer-reads.Learnt,
   word-at-reads.Asked,
   word-at-reads.Learnt,
+  type-of-reads.Asked,
+  type-of-reads.Learnt,
   channel-reads.Asked,
   channel-reads.Learnt,
   exprs·binding-below t,
@@ -1605,6 +1793,8 @@ exprs·expr-enum-told-6 : (t : ℕ) → exprs·expr-lts.Need-enum-told-6 (
   answer-reads.Learnt,
   word-at-reads.Asked,
   word-at-reads.Learnt,
+  type-of-reads.Asked,
+  type-of-reads.Learnt,
   channel-reads.Asked,
   channel-reads.Learnt,
   exprs·binding-below t,
@@ -1637,6 +1827,8 @@ exprs·expr-fit-requires : (t : ℕ) → exprs·expr-lts.Need-fit-requires (
   answer-reads.Learnt,
   word-at-reads.Asked,
   word-at-reads.Learnt,
+  type-of-reads.Asked,
+  type-of-reads.Learnt,
   channel-reads.Asked,
   channel-reads.Learnt,
   exprs·binding-below t,
@@ -1669,6 +1861,8 @@ exprs·expr-enum-told-7 : (t : ℕ) → exprs·expr-lts.Need-enum-told-7 (
   answer-reads.Learnt,
   word-at-reads.Asked,
   word-at-reads.Learnt,
+  type-of-reads.Asked,
+  type-of-reads.Learnt,
   channel-reads.Asked,
   channel-reads.Learnt,
   exprs·binding-below t,
@@ -1701,6 +1895,8 @@ exprs·expr-returns-2 : (t : ℕ) → exprs·expr-lts.Need-returns-2 (
   answer-reads.Learnt,
   word-at-reads.Asked,
   word-at-reads.Learnt,
+  type-of-reads.Asked,
+  type-of-reads.Learnt,
   channel-reads.Asked,
   channel-reads.Learnt,
   exprs·binding-below t,
@@ -1733,6 +1929,8 @@ exprs·expr-returns-3 : (t : ℕ) → exprs·expr-lts.Need-returns-3 (
   answer-reads.Learnt,
   word-at-reads.Asked,
   word-at-reads.Learnt,
+  type-of-reads.Asked,
+  type-of-reads.Learnt,
   channel-reads.Asked,
   channel-reads.Learnt,
   exprs·binding-below t,
@@ -1765,6 +1963,8 @@ exprs·expr-returns-4 : (t : ℕ) → exprs·expr-lts.Need-returns-4 (
   answer-reads.Learnt,
   word-at-reads.Asked,
   word-at-reads.Learnt,
+  type-of-reads.Asked,
+  type-of-reads.Learnt,
   channel-reads.Asked,
   channel-reads.Learnt,
   exprs·binding-below t,
@@ -1784,7 +1984,7 @@ exprs·expr-returns-4 : (t : ℕ) → exprs·expr-lts.Need-returns-4 (
   exprs·fit-below t,
   exprs·fit.Post,
 ) (exprs·expr-at t) exprs·expr.Post
-exprs·expr-returns-4 t c = expr-var _ _ _ _ (c .before .before .before .before .before .before .before .before .before .before .before .frame-line .ensures) (c .before .before .before .before .before .before .before .before .before .head-at .ensures) (c .before .before .before .before .before .form .given .1) (c .before .word-at .ensures) (c .answer3 .ensures)
+exprs·expr-returns-4 t c = expr-var _ _ _ _ (c .before .before .before .before .before .before .before .before .before .before .before .before .frame-line .ensures) (c .before .before .before .before .before .before .before .before .before .before .head-at .ensures) (c .before .before .before .before .before .before .form .given .1) (c .before .before .word-at .ensures) (c .before .type-of .ensures) (c .answer3 .ensures)
 
 exprs·expr-returns-5 : (t : ℕ) → exprs·expr-lts.Need-returns-5 (
   frame-line-reads.Asked,
@@ -1797,6 +1997,8 @@ exprs·expr-returns-5 : (t : ℕ) → exprs·expr-lts.Need-returns-5 (
   answer-reads.Learnt,
   word-at-reads.Asked,
   word-at-reads.Learnt,
+  type-of-reads.Asked,
+  type-of-reads.Learnt,
   channel-reads.Asked,
   channel-reads.Learnt,
   exprs·binding-below t,
@@ -1829,6 +2031,8 @@ exprs·expr-returns-6 : (t : ℕ) → exprs·expr-lts.Need-returns-6 (
   answer-reads.Learnt,
   word-at-reads.Asked,
   word-at-reads.Learnt,
+  type-of-reads.Asked,
+  type-of-reads.Learnt,
   channel-reads.Asked,
   channel-reads.Learnt,
   exprs·binding-below t,
@@ -1861,6 +2065,8 @@ exprs·expr-returns-7 : (t : ℕ) → exprs·expr-lts.Need-returns-7 (
   answer-reads.Learnt,
   word-at-reads.Asked,
   word-at-reads.Learnt,
+  type-of-reads.Asked,
+  type-of-reads.Learnt,
   channel-reads.Asked,
   channel-reads.Learnt,
   exprs·binding-below t,
@@ -1893,6 +2099,8 @@ exprs·expr-returns-8 : (t : ℕ) → exprs·expr-lts.Need-returns-8 (
   answer-reads.Learnt,
   word-at-reads.Asked,
   word-at-reads.Learnt,
+  type-of-reads.Asked,
+  type-of-reads.Learnt,
   channel-reads.Asked,
   channel-reads.Learnt,
   exprs·binding-below t,
@@ -1925,6 +2133,8 @@ exprs·expr-returns-9 : (t : ℕ) → exprs·expr-lts.Need-returns-9 (
   answer-reads.Learnt,
   word-at-reads.Asked,
   word-at-reads.Learnt,
+  type-of-reads.Asked,
+  type-of-reads.Learnt,
   channel-reads.Asked,
   channel-reads.Learnt,
   exprs·binding-below t,
@@ -1957,6 +2167,8 @@ exprs·expr-returns-10 : (t : ℕ) → exprs·expr-lts.Need-returns-10 (
   answer-reads.Learnt,
   word-at-reads.Asked,
   word-at-reads.Learnt,
+  type-of-reads.Asked,
+  type-of-reads.Learnt,
   channel-reads.Asked,
   channel-reads.Learnt,
   exprs·binding-below t,
@@ -1989,6 +2201,8 @@ exprs·expr-returns-11 : (t : ℕ) → exprs·expr-lts.Need-returns-11 (
   answer-reads.Learnt,
   word-at-reads.Asked,
   word-at-reads.Learnt,
+  type-of-reads.Asked,
+  type-of-reads.Learnt,
   channel-reads.Asked,
   channel-reads.Learnt,
   exprs·binding-below t,
@@ -2021,6 +2235,8 @@ exprs·expr-returns-12 : (t : ℕ) → exprs·expr-lts.Need-returns-12 (
   answer-reads.Learnt,
   word-at-reads.Asked,
   word-at-reads.Learnt,
+  type-of-reads.Asked,
+  type-of-reads.Learnt,
   channel-reads.Asked,
   channel-reads.Learnt,
   exprs·binding-below t,
@@ -2053,6 +2269,8 @@ exprs·expr-returns-13 : (t : ℕ) → exprs·expr-lts.Need-returns-13 (
   answer-reads.Learnt,
   word-at-reads.Asked,
   word-at-reads.Learnt,
+  type-of-reads.Asked,
+  type-of-reads.Learnt,
   channel-reads.Asked,
   channel-reads.Learnt,
   exprs·binding-below t,
@@ -2085,6 +2303,8 @@ exprs·expr-returns-14 : (t : ℕ) → exprs·expr-lts.Need-returns-14 (
   answer-reads.Learnt,
   word-at-reads.Asked,
   word-at-reads.Learnt,
+  type-of-reads.Asked,
+  type-of-reads.Learnt,
   channel-reads.Asked,
   channel-reads.Learnt,
   exprs·binding-below t,
@@ -2117,6 +2337,8 @@ exprs·expr-returns-15 : (t : ℕ) → exprs·expr-lts.Need-returns-15 (
   answer-reads.Learnt,
   word-at-reads.Asked,
   word-at-reads.Learnt,
+  type-of-reads.Asked,
+  type-of-reads.Learnt,
   channel-reads.Asked,
   channel-reads.Learnt,
   exprs·binding-below t,
@@ -2141,6 +2363,10 @@ exprs·expr-returns-15 t c = expr-missing _ _ _ _ (c .before .before .before .be
 exprs·fit-expr-requires : (t : ℕ) → exprs·fit-lts.Need-expr-requires (
   exprs·expr-below t,
   exprs·expr.Post,
+  is-named-reads.Asked,
+  is-named-reads.Learnt,
+  word-of-reads.Asked,
+  word-of-reads.Learnt,
   put-reads.Asked,
   put-reads.Learnt,
   widened-reads.Asked,
@@ -2155,6 +2381,10 @@ exprs·fit-expr-requires t c κs = (omega (arith, (c .before .before .pre .0)), 
 exprs·fit-enum-known-x : (t : ℕ) → exprs·fit-lts.Need-enum-known-x (
   exprs·expr-below t,
   exprs·expr.Post,
+  is-named-reads.Asked,
+  is-named-reads.Learnt,
+  word-of-reads.Asked,
+  word-of-reads.Learnt,
   put-reads.Asked,
   put-reads.Learnt,
   widened-reads.Asked,
@@ -2169,6 +2399,10 @@ exprs·fit-enum-known-x t c = (c .match .keys1)
 exprs·fit-enum-told : (t : ℕ) → exprs·fit-lts.Need-enum-told (
   exprs·expr-below t,
   exprs·expr.Post,
+  is-named-reads.Asked,
+  is-named-reads.Learnt,
+  word-of-reads.Asked,
+  word-of-reads.Learnt,
   put-reads.Asked,
   put-reads.Learnt,
   widened-reads.Asked,
@@ -2183,6 +2417,10 @@ exprs·fit-enum-told t c = (c .match .keys2)
 exprs·fit-returns : (t : ℕ) → exprs·fit-lts.Need-returns (
   exprs·expr-below t,
   exprs·expr.Post,
+  is-named-reads.Asked,
+  is-named-reads.Learnt,
+  word-of-reads.Asked,
+  word-of-reads.Learnt,
   put-reads.Asked,
   put-reads.Learnt,
   widened-reads.Asked,
@@ -2194,9 +2432,13 @@ exprs·fit-returns : (t : ℕ) → exprs·fit-lts.Need-returns (
 ) (exprs·fit-at t) exprs·fit.Post
 exprs·fit-returns t c = fit-wrong _ _ _ _ (c .before .before .expr .ensures) (c .enum-told .given .1)
 
-exprs·fit-returns-2 : (t : ℕ) → exprs·fit-lts.Need-returns-2 (
+exprs·fit-is-named-requires : (t : ℕ) → exprs·fit-lts.Need-is-named-requires (
   exprs·expr-below t,
   exprs·expr.Post,
+  is-named-reads.Asked,
+  is-named-reads.Learnt,
+  word-of-reads.Asked,
+  word-of-reads.Learnt,
   put-reads.Asked,
   put-reads.Learnt,
   widened-reads.Asked,
@@ -2206,11 +2448,33 @@ exprs·fit-returns-2 : (t : ℕ) → exprs·fit-lts.Need-returns-2 (
   exprs·expect-below t,
   exprs·expect.Post,
 ) (exprs·fit-at t) exprs·fit.Post
-exprs·fit-returns-2 t c = fit-unnamed _ _ _ _ (c .before .before .before .before .before .expr .ensures) (c .before .before .before .x .given .1) (c .if1 .taken)
+exprs·fit-is-named-requires t c κs = tt
+
+exprs·fit-returns-2 : (t : ℕ) → exprs·fit-lts.Need-returns-2 (
+  exprs·expr-below t,
+  exprs·expr.Post,
+  is-named-reads.Asked,
+  is-named-reads.Learnt,
+  word-of-reads.Asked,
+  word-of-reads.Learnt,
+  put-reads.Asked,
+  put-reads.Learnt,
+  widened-reads.Asked,
+  widened-reads.Learnt,
+  moved-reads.Asked,
+  moved-reads.Learnt,
+  exprs·expect-below t,
+  exprs·expect.Post,
+) (exprs·fit-at t) exprs·fit.Post
+exprs·fit-returns-2 t c = fit-unnamed _ _ _ _ (c .before .before .before .before .before .expr .ensures) (c .before .before .before .x .given .1) (sym (c .before .is-named .ensures) ∙ not-true _ (c .if1 .taken))
 
 exprs·fit-cast-put : (t : ℕ) → exprs·fit-lts.Need-cast-put (
   exprs·expr-below t,
   exprs·expr.Post,
+  is-named-reads.Asked,
+  is-named-reads.Learnt,
+  word-of-reads.Asked,
+  word-of-reads.Learnt,
   put-reads.Asked,
   put-reads.Learnt,
   widened-reads.Asked,
@@ -2222,9 +2486,31 @@ exprs·fit-cast-put : (t : ℕ) → exprs·fit-lts.Need-cast-put (
 ) (exprs·fit-at t) exprs·fit.Post
 exprs·fit-cast-put t c = omega arith
 
+exprs·fit-word-of-requires : (t : ℕ) → exprs·fit-lts.Need-word-of-requires (
+  exprs·expr-below t,
+  exprs·expr.Post,
+  is-named-reads.Asked,
+  is-named-reads.Learnt,
+  word-of-reads.Asked,
+  word-of-reads.Learnt,
+  put-reads.Asked,
+  put-reads.Learnt,
+  widened-reads.Asked,
+  widened-reads.Learnt,
+  moved-reads.Asked,
+  moved-reads.Learnt,
+  exprs·expect-below t,
+  exprs·expect.Post,
+) (exprs·fit-at t) exprs·fit.Post
+exprs·fit-word-of-requires t c κs = tt
+
 exprs·fit-put-requires : (t : ℕ) → exprs·fit-lts.Need-put-requires (
   exprs·expr-below t,
   exprs·expr.Post,
+  is-named-reads.Asked,
+  is-named-reads.Learnt,
+  word-of-reads.Asked,
+  word-of-reads.Learnt,
   put-reads.Asked,
   put-reads.Learnt,
   widened-reads.Asked,
@@ -2239,6 +2525,10 @@ exprs·fit-put-requires t c κs = tt
 exprs·fit-widened-requires : (t : ℕ) → exprs·fit-lts.Need-widened-requires (
   exprs·expr-below t,
   exprs·expr.Post,
+  is-named-reads.Asked,
+  is-named-reads.Learnt,
+  word-of-reads.Asked,
+  word-of-reads.Learnt,
   put-reads.Asked,
   put-reads.Learnt,
   widened-reads.Asked,
@@ -2248,11 +2538,15 @@ exprs·fit-widened-requires : (t : ℕ) → exprs·fit-lts.Need-widened-requires
   exprs·expect-below t,
   exprs·expect.Post,
 ) (exprs·fit-at t) exprs·fit.Post
-exprs·fit-widened-requires t c κs = omega (arith, (c .before .before .before .before .before .before .before .before .before .before .before .before .pre .1))
+exprs·fit-widened-requires t c κs = omega (arith, (c .before .before .before .before .before .before .before .before .before .before .before .before .before .pre .1))
 
 exprs·fit-expr-requires-2 : (t : ℕ) → exprs·fit-lts.Need-expr-requires-2 (
   exprs·expr-below t,
   exprs·expr.Post,
+  is-named-reads.Asked,
+  is-named-reads.Learnt,
+  word-of-reads.Asked,
+  word-of-reads.Learnt,
   put-reads.Asked,
   put-reads.Learnt,
   widened-reads.Asked,
@@ -2262,11 +2556,15 @@ exprs·fit-expr-requires-2 : (t : ℕ) → exprs·fit-lts.Need-expr-requires-2 (
   exprs·expect-below t,
   exprs·expect.Post,
 ) (exprs·fit-at t) exprs·fit.Post
-exprs·fit-expr-requires-2 t c κs = (omega (arith, (c .before .before .before .before .before .before .before .before .before .before .before .before .before .before .pre .0), same-levels (c .before .widened .ensures)), omega (arith, (c .before .before .before .before .before .before .before .before .before .before .before .before .before .before .pre .1), same-levels (c .before .widened .ensures), same-variables (c .before .widened .ensures)))
+exprs·fit-expr-requires-2 t c κs = (omega (arith, (c .before .before .before .before .before .before .before .before .before .before .before .before .before .before .before .pre .0), same-levels (c .before .widened .ensures)), omega (arith, (c .before .before .before .before .before .before .before .before .before .before .before .before .before .before .before .pre .1), same-levels (c .before .widened .ensures), same-variables (c .before .widened .ensures)))
 
 exprs·fit-enum-known-y : (t : ℕ) → exprs·fit-lts.Need-enum-known-y (
   exprs·expr-below t,
   exprs·expr.Post,
+  is-named-reads.Asked,
+  is-named-reads.Learnt,
+  word-of-reads.Asked,
+  word-of-reads.Learnt,
   put-reads.Asked,
   put-reads.Learnt,
   widened-reads.Asked,
@@ -2281,6 +2579,10 @@ exprs·fit-enum-known-y t c = (c .match2 .keys1)
 exprs·fit-enum-told-2 : (t : ℕ) → exprs·fit-lts.Need-enum-told-2 (
   exprs·expr-below t,
   exprs·expr.Post,
+  is-named-reads.Asked,
+  is-named-reads.Learnt,
+  word-of-reads.Asked,
+  word-of-reads.Learnt,
   put-reads.Asked,
   put-reads.Learnt,
   widened-reads.Asked,
@@ -2295,6 +2597,10 @@ exprs·fit-enum-told-2 t c = (c .match2 .keys2)
 exprs·fit-returns-3 : (t : ℕ) → exprs·fit-lts.Need-returns-3 (
   exprs·expr-below t,
   exprs·expr.Post,
+  is-named-reads.Asked,
+  is-named-reads.Learnt,
+  word-of-reads.Asked,
+  word-of-reads.Learnt,
   put-reads.Asked,
   put-reads.Learnt,
   widened-reads.Asked,
@@ -2304,11 +2610,15 @@ exprs·fit-returns-3 : (t : ℕ) → exprs·fit-lts.Need-returns-3 (
   exprs·expect-below t,
   exprs·expect.Post,
 ) (exprs·fit-at t) exprs·fit.Post
-exprs·fit-returns-3 t c = fit-none _ _ _ _ (c .before .before .before .before .before .before .before .before .before .before .before .before .before .before .expr .ensures) (c .before .before .before .before .before .before .before .before .before .before .before .before .x .given .1) (c .before .before .before .before .before .before .put .ensures) (c .before .before .before .before .before .before .before .before .before .if1 .left) (at-expr (c .before .before .before .before .widened .ensures) (c .before .before .expr2 .ensures)) (c .enum-told2 .given .1)
+exprs·fit-returns-3 t c = fit-none _ _ _ _ (c .before .before .before .before .before .before .before .before .before .before .before .before .before .before .before .expr .ensures) (c .before .before .before .before .before .before .before .before .before .before .before .before .before .x .given .1) (c .before .before .before .before .before .before .before .word-of .ensures) (c .before .before .before .before .before .before .put .ensures) (sym (c .before .before .before .before .before .before .before .before .before .before .before .is-named .ensures) ∙ not-false _ (c .before .before .before .before .before .before .before .before .before .before .if1 .left)) (at-expr (c .before .before .before .before .widened .ensures) (c .before .before .expr2 .ensures)) (c .enum-told2 .given .1)
 
 exprs·fit-moved-requires : (t : ℕ) → exprs·fit-lts.Need-moved-requires (
   exprs·expr-below t,
   exprs·expr.Post,
+  is-named-reads.Asked,
+  is-named-reads.Learnt,
+  word-of-reads.Asked,
+  word-of-reads.Learnt,
   put-reads.Asked,
   put-reads.Learnt,
   widened-reads.Asked,
@@ -2323,6 +2633,10 @@ exprs·fit-moved-requires t c κs = tt
 exprs·fit-expect-requires : (t : ℕ) → exprs·fit-lts.Need-expect-requires (
   exprs·expr-below t,
   exprs·expr.Post,
+  is-named-reads.Asked,
+  is-named-reads.Learnt,
+  word-of-reads.Asked,
+  word-of-reads.Learnt,
   put-reads.Asked,
   put-reads.Learnt,
   widened-reads.Asked,
@@ -2332,11 +2646,15 @@ exprs·fit-expect-requires : (t : ℕ) → exprs·fit-lts.Need-expect-requires (
   exprs·expect-below t,
   exprs·expect.Post,
 ) (exprs·fit-at t) exprs·fit.Post
-exprs·fit-expect-requires t c κs = (omega (arith, (c .before .before .before .before .before .before .before .before .before .before .before .before .before .before .before .before .before .before .before .before .before .pre .0), same-levels (c .before .moved .ensures)), omega (arith, (c .before .before .before .before .before .before .before .before .before .before .before .before .before .before .before .before .before .before .before .before .before .pre .1), same-levels (c .before .moved .ensures), same-variables (c .before .moved .ensures)))
+exprs·fit-expect-requires t c κs = (omega (arith, (c .before .before .before .before .before .before .before .before .before .before .before .before .before .before .before .before .before .before .before .before .before .before .pre .0), same-levels (c .before .moved .ensures)), omega (arith, (c .before .before .before .before .before .before .before .before .before .before .before .before .before .before .before .before .before .before .before .before .before .before .pre .1), same-levels (c .before .moved .ensures), same-variables (c .before .moved .ensures)))
 
 exprs·fit-returns-4 : (t : ℕ) → exprs·fit-lts.Need-returns-4 (
   exprs·expr-below t,
   exprs·expr.Post,
+  is-named-reads.Asked,
+  is-named-reads.Learnt,
+  word-of-reads.Asked,
+  word-of-reads.Learnt,
   put-reads.Asked,
   put-reads.Learnt,
   widened-reads.Asked,
@@ -2346,7 +2664,7 @@ exprs·fit-returns-4 : (t : ℕ) → exprs·fit-lts.Need-returns-4 (
   exprs·expect-below t,
   exprs·expect.Post,
 ) (exprs·fit-at t) exprs·fit.Post
-exprs·fit-returns-4 t c = fit-done _ _ _ _ (c .before .before .before .before .before .before .before .before .before .before .before .before .before .before .before .before .before .before .before .expr .ensures) (c .before .before .before .before .before .before .before .before .before .before .before .before .before .before .before .before .before .x .given .1) (c .before .before .before .before .before .before .before .before .before .before .before .put .ensures) (c .before .before .before .before .before .before .before .before .before .before .before .before .before .before .if1 .left) (at-expr (c .before .before .before .before .before .before .before .before .before .widened .ensures) (c .before .before .before .before .before .before .before .expr2 .ensures)) (c .before .before .before .before .before .y .given .1) (at-want (c .before .before .moved .ensures) (c .expect .ensures))
+exprs·fit-returns-4 t c = fit-done _ _ _ _ (c .before .before .before .before .before .before .before .before .before .before .before .before .before .before .before .before .before .before .before .before .expr .ensures) (c .before .before .before .before .before .before .before .before .before .before .before .before .before .before .before .before .before .before .x .given .1) (c .before .before .before .before .before .before .before .before .before .before .before .before .word-of .ensures) (c .before .before .before .before .before .before .before .before .before .before .before .put .ensures) (sym (c .before .before .before .before .before .before .before .before .before .before .before .before .before .before .before .before .is-named .ensures) ∙ not-false _ (c .before .before .before .before .before .before .before .before .before .before .before .before .before .before .before .if1 .left)) (at-expr (c .before .before .before .before .before .before .before .before .before .widened .ensures) (c .before .before .before .before .before .before .before .expr2 .ensures)) (c .before .before .before .before .before .y .given .1) (at-want (c .before .before .moved .ensures) (c .expect .ensures))
 
 exprs·operation-operand-requires : (t : ℕ) → exprs·operation-lts.Need-operand-requires (
   operand-reads.Asked,
@@ -2822,9 +3140,9 @@ lists·call-returns : (t : ℕ) → lists·call-lts.Need-returns (
 ) (lists·call-at t) lists·call.Post
 lists·call-returns t c = call-done _ _ _ _ (c .before .before .before .returned .ensures) (c .before .before .arity .ensures) (c .several .ensures)
 
-lists·case-of-named-word-requires : (t : ℕ) → lists·case-of-lts.Need-named-word-requires (
-  named-word-reads.Asked,
-  named-word-reads.Learnt,
+lists·case-of-named-requires : (t : ℕ) → lists·case-of-lts.Need-named-requires (
+  named-reads.Asked,
+  named-reads.Learnt,
   exprs·expect-below t,
   exprs·expect.Post,
   frame-line-reads.Asked,
@@ -2838,11 +3156,11 @@ lists·case-of-named-word-requires : (t : ℕ) → lists·case-of-lts.Need-named
   lists·branches-below t,
   lists·branches.Post,
 ) (lists·case-of-at t) lists·case-of.Post
-lists·case-of-named-word-requires t c κs = tt
+lists·case-of-named-requires t c κs = tt
 
 lists·case-of-expect-requires : (t : ℕ) → lists·case-of-lts.Need-expect-requires (
-  named-word-reads.Asked,
-  named-word-reads.Learnt,
+  named-reads.Asked,
+  named-reads.Learnt,
   exprs·expect-below t,
   exprs·expect.Post,
   frame-line-reads.Asked,
@@ -2859,8 +3177,8 @@ lists·case-of-expect-requires : (t : ℕ) → lists·case-of-lts.Need-expect-re
 lists·case-of-expect-requires t c κs = (omega (arith, (c .before .before .before .pre .0)), omega (arith, (c .before .before .before .pre .1)))
 
 lists·case-of-enum-known-x : (t : ℕ) → lists·case-of-lts.Need-enum-known-x (
-  named-word-reads.Asked,
-  named-word-reads.Learnt,
+  named-reads.Asked,
+  named-reads.Learnt,
   exprs·expect-below t,
   exprs·expect.Post,
   frame-line-reads.Asked,
@@ -2877,8 +3195,8 @@ lists·case-of-enum-known-x : (t : ℕ) → lists·case-of-lts.Need-enum-known-x
 lists·case-of-enum-known-x t c = (c .match .keys1)
 
 lists·case-of-enum-told : (t : ℕ) → lists·case-of-lts.Need-enum-told (
-  named-word-reads.Asked,
-  named-word-reads.Learnt,
+  named-reads.Asked,
+  named-reads.Learnt,
   exprs·expect-below t,
   exprs·expect.Post,
   frame-line-reads.Asked,
@@ -2895,8 +3213,8 @@ lists·case-of-enum-told : (t : ℕ) → lists·case-of-lts.Need-enum-told (
 lists·case-of-enum-told t c = (c .match .keys2)
 
 lists·case-of-returns : (t : ℕ) → lists·case-of-lts.Need-returns (
-  named-word-reads.Asked,
-  named-word-reads.Learnt,
+  named-reads.Asked,
+  named-reads.Learnt,
   exprs·expect-below t,
   exprs·expect.Post,
   frame-line-reads.Asked,
@@ -2910,11 +3228,11 @@ lists·case-of-returns : (t : ℕ) → lists·case-of-lts.Need-returns (
   lists·branches-below t,
   lists·branches.Post,
 ) (lists·case-of-at t) lists·case-of.Post
-lists·case-of-returns t c = case-wrong _ _ _ _ (c .before .before .before .before .named-word .ensures) (c .before .before .expect .ensures) (c .enum-told .given .1)
+lists·case-of-returns t c = case-wrong _ _ _ _ (c .before .before .before .before .named .ensures) (c .before .before .expect .ensures) (c .enum-told .given .1)
 
 lists·case-of-frame-line-requires : (t : ℕ) → lists·case-of-lts.Need-frame-line-requires (
-  named-word-reads.Asked,
-  named-word-reads.Learnt,
+  named-reads.Asked,
+  named-reads.Learnt,
   exprs·expect-below t,
   exprs·expect.Post,
   frame-line-reads.Asked,
@@ -2931,8 +3249,8 @@ lists·case-of-frame-line-requires : (t : ℕ) → lists·case-of-lts.Need-frame
 lists·case-of-frame-line-requires t c κs = tt
 
 lists·case-of-result-type-requires : (t : ℕ) → lists·case-of-lts.Need-result-type-requires (
-  named-word-reads.Asked,
-  named-word-reads.Learnt,
+  named-reads.Asked,
+  named-reads.Learnt,
   exprs·expect-below t,
   exprs·expect.Post,
   frame-line-reads.Asked,
@@ -2949,8 +3267,8 @@ lists·case-of-result-type-requires : (t : ℕ) → lists·case-of-lts.Need-resu
 lists·case-of-result-type-requires t c κs = tt
 
 lists·case-of-enum-known-y : (t : ℕ) → lists·case-of-lts.Need-enum-known-y (
-  named-word-reads.Asked,
-  named-word-reads.Learnt,
+  named-reads.Asked,
+  named-reads.Learnt,
   exprs·expect-below t,
   exprs·expect.Post,
   frame-line-reads.Asked,
@@ -2967,8 +3285,8 @@ lists·case-of-enum-known-y : (t : ℕ) → lists·case-of-lts.Need-enum-known-y
 lists·case-of-enum-known-y t c = (c .match2 .keys1)
 
 lists·case-of-enum-told-2 : (t : ℕ) → lists·case-of-lts.Need-enum-told-2 (
-  named-word-reads.Asked,
-  named-word-reads.Learnt,
+  named-reads.Asked,
+  named-reads.Learnt,
   exprs·expect-below t,
   exprs·expect.Post,
   frame-line-reads.Asked,
@@ -2985,8 +3303,8 @@ lists·case-of-enum-told-2 : (t : ℕ) → lists·case-of-lts.Need-enum-told-2 (
 lists·case-of-enum-told-2 t c = (c .match2 .keys2)
 
 lists·case-of-returns-2 : (t : ℕ) → lists·case-of-lts.Need-returns-2 (
-  named-word-reads.Asked,
-  named-word-reads.Learnt,
+  named-reads.Asked,
+  named-reads.Learnt,
   exprs·expect-below t,
   exprs·expect.Post,
   frame-line-reads.Asked,
@@ -3000,11 +3318,11 @@ lists·case-of-returns-2 : (t : ℕ) → lists·case-of-lts.Need-returns-2 (
   lists·branches-below t,
   lists·branches.Post,
 ) (lists·case-of-at t) lists·case-of.Post
-lists·case-of-returns-2 t c = case-none _ _ _ _ (c .before .before .before .before .before .before .before .before .before .before .named-word .ensures) (c .before .before .before .before .before .before .before .before .expect .ensures) (c .before .before .before .before .before .before .x .given .1) (c .before .before .before .before .frame-line .ensures) (c .before .before .result-type .ensures) (c .enum-told2 .given .1)
+lists·case-of-returns-2 t c = case-none _ _ _ _ (c .before .before .before .before .before .before .before .before .before .before .named .ensures) (c .before .before .before .before .before .before .before .before .expect .ensures) (c .before .before .before .before .before .before .x .given .1) (c .before .before .before .before .frame-line .ensures) (c .before .before .result-type .ensures) (c .enum-told2 .given .1)
 
 lists·case-of-moved-requires : (t : ℕ) → lists·case-of-lts.Need-moved-requires (
-  named-word-reads.Asked,
-  named-word-reads.Learnt,
+  named-reads.Asked,
+  named-reads.Learnt,
   exprs·expect-below t,
   exprs·expect.Post,
   frame-line-reads.Asked,
@@ -3021,8 +3339,8 @@ lists·case-of-moved-requires : (t : ℕ) → lists·case-of-lts.Need-moved-requ
 lists·case-of-moved-requires t c κs = tt
 
 lists·case-of-constructors-requires : (t : ℕ) → lists·case-of-lts.Need-constructors-requires (
-  named-word-reads.Asked,
-  named-word-reads.Learnt,
+  named-reads.Asked,
+  named-reads.Learnt,
   exprs·expect-below t,
   exprs·expect.Post,
   frame-line-reads.Asked,
@@ -3039,8 +3357,8 @@ lists·case-of-constructors-requires : (t : ℕ) → lists·case-of-lts.Need-con
 lists·case-of-constructors-requires t c κs = tt
 
 lists·case-of-branches-requires : (t : ℕ) → lists·case-of-lts.Need-branches-requires (
-  named-word-reads.Asked,
-  named-word-reads.Learnt,
+  named-reads.Asked,
+  named-reads.Learnt,
   exprs·expect-below t,
   exprs·expect.Post,
   frame-line-reads.Asked,
@@ -3057,8 +3375,8 @@ lists·case-of-branches-requires : (t : ℕ) → lists·case-of-lts.Need-branche
 lists·case-of-branches-requires t c κs = (omega (arith, (c .before .before .before .before .before .before .before .before .before .before .before .before .before .before .before .before .before .pre .0), (c .before .constructors .ensures .1), same-levels (c .before .before .moved .ensures)), (omega (arith, (c .before .before .before .before .before .before .before .before .before .before .before .before .before .before .before .before .before .pre .1), same-levels (c .before .before .moved .ensures), same-variables (c .before .before .moved .ensures)), omega (arith, (c .before .constructors .ensures .1))))
 
 lists·case-of-returns-3 : (t : ℕ) → lists·case-of-lts.Need-returns-3 (
-  named-word-reads.Asked,
-  named-word-reads.Learnt,
+  named-reads.Asked,
+  named-reads.Learnt,
   exprs·expect-below t,
   exprs·expect.Post,
   frame-line-reads.Asked,
@@ -3072,21 +3390,21 @@ lists·case-of-returns-3 : (t : ℕ) → lists·case-of-lts.Need-returns-3 (
   lists·branches-below t,
   lists·branches.Post,
 ) (lists·case-of-at t) lists·case-of.Post
-lists·case-of-returns-3 t c = case-done _ _ _ _ (c .before .before .before .before .before .before .before .before .before .before .before .before .before .before .before .before .named-word .ensures) (c .before .before .before .before .before .before .before .before .before .before .before .before .before .before .expect .ensures) (c .before .before .before .before .before .before .before .before .before .before .before .before .x .given .1) (c .before .before .before .before .before .before .before .before .before .before .frame-line .ensures) (c .before .before .before .before .before .before .before .before .result-type .ensures) (c .before .before .before .before .before .before .y .given .1) (c .before .before .constructors .ensures) (at-branches (c .before .before .before .moved .ensures) (c .branches .ensures))
+lists·case-of-returns-3 t c = case-done _ _ _ _ (c .before .before .before .before .before .before .before .before .before .before .before .before .before .before .before .before .named .ensures) (c .before .before .before .before .before .before .before .before .before .before .before .before .before .before .expect .ensures) (c .before .before .before .before .before .before .before .before .before .before .before .before .x .given .1) (c .before .before .before .before .before .before .before .before .before .before .frame-line .ensures) (c .before .before .before .before .before .before .before .before .result-type .ensures) (c .before .before .before .before .before .before .y .given .1) (c .before .before .constructors .ensures) (at-branches (c .before .before .before .moved .ensures) (c .branches .ensures))
 
-lists·make-named-word-requires : (t : ℕ) → lists·make-lts.Need-named-word-requires (
-  named-word-reads.Asked,
-  named-word-reads.Learnt,
+lists·make-named-requires : (t : ℕ) → lists·make-lts.Need-named-requires (
+  named-reads.Asked,
+  named-reads.Learnt,
   fields-reads.Asked,
   fields-reads.Learnt,
   lists·several-below t,
   lists·several.Post,
 ) (lists·make-at t) lists·make.Post
-lists·make-named-word-requires t c κs = tt
+lists·make-named-requires t c κs = tt
 
 lists·make-fields-requires : (t : ℕ) → lists·make-lts.Need-fields-requires (
-  named-word-reads.Asked,
-  named-word-reads.Learnt,
+  named-reads.Asked,
+  named-reads.Learnt,
   fields-reads.Asked,
   fields-reads.Learnt,
   lists·several-below t,
@@ -3095,8 +3413,8 @@ lists·make-fields-requires : (t : ℕ) → lists·make-lts.Need-fields-requires
 lists·make-fields-requires t c κs = tt
 
 lists·make-several-requires : (t : ℕ) → lists·make-lts.Need-several-requires (
-  named-word-reads.Asked,
-  named-word-reads.Learnt,
+  named-reads.Asked,
+  named-reads.Learnt,
   fields-reads.Asked,
   fields-reads.Learnt,
   lists·several-below t,
@@ -3105,14 +3423,14 @@ lists·make-several-requires : (t : ℕ) → lists·make-lts.Need-several-requir
 lists·make-several-requires t c κs = (omega (arith, (c .before .before .before .before .pre .0), (c .before .fields .ensures .1)), (omega (arith, (c .before .before .before .before .pre .1)), omega (arith, (c .before .fields .ensures .1))))
 
 lists·make-returns : (t : ℕ) → lists·make-lts.Need-returns (
-  named-word-reads.Asked,
-  named-word-reads.Learnt,
+  named-reads.Asked,
+  named-reads.Learnt,
   fields-reads.Asked,
   fields-reads.Learnt,
   lists·several-below t,
   lists·several.Post,
 ) (lists·make-at t) lists·make.Post
-lists·make-returns t c = con-done _ _ _ _ (c .before .before .before .named-word .ensures) (c .before .before .fields .ensures) (c .several .ensures)
+lists·make-returns t c = con-done _ _ _ _ (c .before .before .before .named .ensures) (c .before .before .fields .ensures) (c .several .ensures)
 
 lists·several-answer-requires : (t : ℕ) → lists·several-lts.Need-answer-requires (
   answer-reads.Asked,
@@ -3307,6 +3625,8 @@ pub +exprs·adjust+exprs·binding+exprs·choice+exprs·expect+exprs·expr+exprs�
       moved-reads.Learnt,
       exprs·expr-below t,
       exprs·expr.Post,
+      is-named-reads.Asked,
+      is-named-reads.Learnt,
     )
     (exprs·adjust-at t)
     exprs·adjust.Post
@@ -3320,11 +3640,14 @@ pub +exprs·adjust+exprs·binding+exprs·choice+exprs·expect+exprs·expr+exprs�
     (exprs·adjust-enum-known-x t)
     (exprs·adjust-enum-told-2 t)
     (exprs·adjust-returns-2 t)
+    (exprs·adjust-is-named-requires t)
     (exprs·adjust-returns-3 t)
     (exprs·adjust-returns-4 t))
     (λ t. exprs·binding-lts.spec (
       exprs·expr-below t,
       exprs·expr.Post,
+      word-of-reads.Asked,
+      word-of-reads.Learnt,
       put-reads.Asked,
       put-reads.Learnt,
       widened-reads.Asked,
@@ -3337,6 +3660,7 @@ pub +exprs·adjust+exprs·binding+exprs·choice+exprs·expect+exprs·expr+exprs�
     (exprs·binding-enum-told t)
     (exprs·binding-returns t)
     (exprs·binding-cast-put t)
+    (exprs·binding-word-of-requires t)
     (exprs·binding-put-requires t)
     (exprs·binding-widened-requires t)
     (exprs·binding-expr-requires-2 t)
@@ -3363,14 +3687,19 @@ pub +exprs·adjust+exprs·binding+exprs·choice+exprs·expect+exprs·expr+exprs�
     (exprs·choice-moved-requires-2 t)
     (exprs·choice-expect-requires-2 t)
     (exprs·choice-returns-3 t))
-    (λ t. exprs·expect-lts.spec
-    (exprs·expr-below t, exprs·expr.Post)
+    (λ t. exprs·expect-lts.spec (
+      exprs·expr-below t,
+      exprs·expr.Post,
+      same-reads.Asked,
+      same-reads.Learnt,
+    )
     (exprs·expect-at t)
     exprs·expect.Post
     (exprs·expect-expr-requires t)
     (exprs·expect-enum-known-x t)
     (exprs·expect-enum-told t)
     (exprs·expect-returns t)
+    (exprs·expect-same-requires t)
     (exprs·expect-returns-2 t)
     (exprs·expect-returns-3 t))
     (λ t. exprs·expr-lts.spec (
@@ -3384,6 +3713,8 @@ pub +exprs·adjust+exprs·binding+exprs·choice+exprs·expect+exprs·expr+exprs�
       answer-reads.Learnt,
       word-at-reads.Asked,
       word-at-reads.Learnt,
+      type-of-reads.Asked,
+      type-of-reads.Learnt,
       channel-reads.Asked,
       channel-reads.Learnt,
       exprs·binding-below t,
@@ -3416,6 +3747,7 @@ pub +exprs·adjust+exprs·binding+exprs·choice+exprs·expect+exprs·expr+exprs�
     (exprs·expr-enum-known-form t)
     (exprs·expr-cast-word-at t)
     (exprs·expr-word-at-requires t)
+    (exprs·expr-type-of-requires t)
     (exprs·expr-answer-requires-3 t)
     (exprs·expr-enum-known-form-2 t)
     (exprs·expr-channel-requires t)
@@ -3455,6 +3787,10 @@ pub +exprs·adjust+exprs·binding+exprs·choice+exprs·expect+exprs·expr+exprs�
     (λ t. exprs·fit-lts.spec (
       exprs·expr-below t,
       exprs·expr.Post,
+      is-named-reads.Asked,
+      is-named-reads.Learnt,
+      word-of-reads.Asked,
+      word-of-reads.Learnt,
       put-reads.Asked,
       put-reads.Learnt,
       widened-reads.Asked,
@@ -3470,8 +3806,10 @@ pub +exprs·adjust+exprs·binding+exprs·choice+exprs·expect+exprs·expr+exprs�
     (exprs·fit-enum-known-x t)
     (exprs·fit-enum-told t)
     (exprs·fit-returns t)
+    (exprs·fit-is-named-requires t)
     (exprs·fit-returns-2 t)
     (exprs·fit-cast-put t)
+    (exprs·fit-word-of-requires t)
     (exprs·fit-put-requires t)
     (exprs·fit-widened-requires t)
     (exprs·fit-expr-requires-2 t)
@@ -3555,8 +3893,8 @@ pub +exprs·adjust+exprs·binding+exprs·choice+exprs·expect+exprs·expr+exprs�
     (lists·call-several-requires t)
     (lists·call-returns t))
     (λ t. lists·case-of-lts.spec (
-      named-word-reads.Asked,
-      named-word-reads.Learnt,
+      named-reads.Asked,
+      named-reads.Learnt,
       exprs·expect-below t,
       exprs·expect.Post,
       frame-line-reads.Asked,
@@ -3572,7 +3910,7 @@ pub +exprs·adjust+exprs·binding+exprs·choice+exprs·expect+exprs·expr+exprs�
     )
     (lists·case-of-at t)
     lists·case-of.Post
-    (lists·case-of-named-word-requires t)
+    (lists·case-of-named-requires t)
     (lists·case-of-expect-requires t)
     (lists·case-of-enum-known-x t)
     (lists·case-of-enum-told t)
@@ -3587,8 +3925,8 @@ pub +exprs·adjust+exprs·binding+exprs·choice+exprs·expect+exprs·expr+exprs�
     (lists·case-of-branches-requires t)
     (lists·case-of-returns-3 t))
     (λ t. lists·make-lts.spec (
-      named-word-reads.Asked,
-      named-word-reads.Learnt,
+      named-reads.Asked,
+      named-reads.Learnt,
       fields-reads.Asked,
       fields-reads.Learnt,
       lists·several-below t,
@@ -3596,7 +3934,7 @@ pub +exprs·adjust+exprs·binding+exprs·choice+exprs·expect+exprs·expr+exprs�
     )
     (lists·make-at t)
     lists·make.Post
-    (lists·make-named-word-requires t)
+    (lists·make-named-requires t)
     (lists·make-fields-requires t)
     (lists·make-several-requires t)
     (lists·make-returns t))

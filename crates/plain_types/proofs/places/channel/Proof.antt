@@ -1,4 +1,4 @@
--- A channel's type is the index's word without the size.
+-- A channel's type is that of the index's word.
 use mathlib.Core.Path.{_∙_}
 use Rattle.plain_types.specs.ReadLaws.{channel-is}
 use Rattle.plain_types.proofs.places.channel.Statement.{statement}
@@ -7,15 +7,14 @@ use Rattle.plain_types.proofs.places.channel.Tie as tie
 declared-word-requires : tie.Need-declared-word-requires
 declared-word-requires c κs = tt
 
-without-size-requires : tie.Need-without-size-requires
-without-size-requires c κs = tt
+type-of-requires : tie.Need-type-of-requires
+type-of-requires c κs = tt
 
 answer-requires : tie.Need-answer-requires
 answer-requires c κs = tt
 
 returns : tie.Need-returns
-returns c = (c .answer .ensures) ∙ channel-is (c .before .before .declared-word .ensures) (c .before .without-size .ensures)
+returns c = (c .answer .ensures) ∙ channel-is (c .before .before .declared-word .ensures) (c .before .type-of .ensures)
 
 pub channel-spec : {M : Type 1} → statement M
-channel-spec =
-    tie.close (tie.spec declared-word-requires without-size-requires answer-requires returns)
+channel-spec = tie.close (tie.spec declared-word-requires type-of-requires answer-requires returns)

@@ -25,6 +25,9 @@ cast-put c = omega arith
 add-put : tie.Need-add-put Inv-loop μ-loop
 add-put c = omega arith
 
+word-of-requires : tie.Need-word-of-requires Inv-loop μ-loop
+word-of-requires c κs = tt
+
 put-requires : tie.Need-put-requires Inv-loop μ-loop
 put-requires c κs = tt
 
@@ -35,7 +38,7 @@ loop-less : tie.Need-loop-less Inv-loop μ-loop
 loop-less c = omega arith
 
 loop-again : tie.Need-loop-again Inv-loop μ-loop
-loop-again c = (omega arith, entered-more _ _ _ _ _ (c .before .before .before .before .loop .inv .1) (c .before .before .wanted .ensures) (c .put .ensures))
+loop-again c = (omega arith, entered-more _ _ _ _ _ (c .before .before .before .before .before .loop .inv .1) (c .before .before .before .wanted .ensures) (c .before .word-of .ensures) (c .put .ensures))
 
 returns : tie.Need-returns Inv-loop μ-loop
 returns c = entered-all _ _ _ _ (c .before .loop .inv) (c .loop-test .left)
@@ -50,6 +53,7 @@ enter-spec =
     wanted-requires
     cast-put
     add-put
+    word-of-requires
     put-requires
     add-i
     loop-less

@@ -10,26 +10,29 @@ enum-known-want c = search needs
 parameter-word-requires : tie.Need-parameter-word-requires
 parameter-word-requires c κs = tt
 
+type-of-requires : tie.Need-type-of-requires
+type-of-requires c κs = tt
+
 enum-known-want-2 : tie.Need-enum-known-want-2
 enum-known-want-2 c = search needs
 
 field-word-requires : tie.Need-field-word-requires
 field-word-requires c κs = tt
 
-named-word-requires : tie.Need-named-word-requires
-named-word-requires c κs = tt
+named-requires : tie.Need-named-requires
+named-requires c κs = tt
 
 returns : tie.Need-returns
-returns c = wanted-own _ _ _ (c .before .before .before .before .want2 .given .1) (c .before .before .field-word .ensures) (c .before .if1 .taken) (c .named-word .ensures)
+returns c = wanted-own _ _ _ (c .before .before .before .before .want2 .given .1) (c .before .before .field-word .ensures) (c .before .if1 .taken) (c .named .ensures)
 
-without-size-requires : tie.Need-without-size-requires
-without-size-requires c κs = tt
+type-of-requires-2 : tie.Need-type-of-requires-2
+type-of-requires-2 c κs = tt
 
 returns-2 : tie.Need-returns-2
-returns-2 c = wanted-parameter _ _ _ (c .before .before .want .given .1) (c .parameter-word .ensures)
+returns-2 c = wanted-parameter _ _ _ (c .before .before .before .want .given .1) (c .before .parameter-word .ensures) (c .type-of .ensures)
 
 returns-3 : tie.Need-returns-3
-returns-3 c = wanted-other _ _ _ (c .before .before .before .before .want2 .given .1) (c .before .before .field-word .ensures) (c .before .if1 .left) (c .without-size .ensures)
+returns-3 c = wanted-other _ _ _ (c .before .before .before .before .want2 .given .1) (c .before .before .field-word .ensures) (c .before .if1 .left) (c .type-of2 .ensures)
 
 pub wanted-spec : {M : Type 1} → statement M
 wanted-spec =
@@ -37,10 +40,11 @@ wanted-spec =
     (tie.spec
     enum-known-want
     parameter-word-requires
+    type-of-requires
     enum-known-want-2
     field-word-requires
-    named-word-requires
+    named-requires
     returns
-    without-size-requires
+    type-of-requires-2
     returns-2
     returns-3)
