@@ -7,5 +7,6 @@ pub mod HeadLaws
 pub mod Skips
 pub mod PartLaws
 pub mod SkipHeads
+pub mod Parted
 pub mod SkipLaws
 pub mod ScopeShapes

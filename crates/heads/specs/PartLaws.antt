@@ -8,7 +8,7 @@ use lib.ListN.{length, getD, length-append}
 use lib.Dec.{leb}
 use borrow.Author.Tests.{leb-true}
 use Rattle.language.specs.Limits.{typesMost, variablesMost, sizeVariablesMost, nestingMost}
-use Rattle.language.specs.Syntax.{Constructor, Size, ResultType, Op, Expr, ebool, eint, evar, enow, elast, elet, eif, eop, ecall, econ, ecase, eadj, efit, Exprs, enil, econs}
+use Rattle.language.specs.Syntax.{Constructor, Size, ResultType, Op, Expr, elet, eif, eop, ecall, econ, ecase, eadj, efit, Exprs, enil, econs}
 use Rattle.language.specs.Format.{exprBytes, exprsBytes}
 use Rattle.language.specs.Scope.{Scope, wider, roomIn}
 use Rattle.language.specs.Within.{WithinSize, w-lit, w-svar, w-plus, w-minus, WithinResult, w-rbool, w-rint, w-rnamed, WithinExpr, w-let, w-if, w-op, w-call, w-con, w-case, w-adj, w-fit}
@@ -19,16 +19,16 @@ use Rattle.encoding.specs.Spells.{Spells, spells-within, rest-behind}
 use Rattle.heads.specs.Skips.{Shapes, Skippable, no-more, one-more}
 
 -- ---- scopes: a wider one has the same types and arities
-pub shapes-wider : {types functions : List ℕ} {S : Scope} (v z : ℕ) → Shapes types functions S → Shapes types functions (wider v z S)
+shapes-wider : {types functions : List ℕ} {S : Scope} (v z : ℕ) → Shapes types functions S → Shapes types functions (wider v z S)
 unfolding wider
 shapes-wider v z h = record { each = h .each; arities = h .arities; few = h .few; fewTypes = h .fewTypes }
 
 -- ---- lists and branches
-pub exprs-skippable : {types functions : List ℕ} {levels m : ℕ} {S : Scope} {es : Exprs} → Shapes types functions S → WithinExprs levels S m es → Skippable types functions levels m es
+exprs-skippable : {types functions : List ℕ} {levels m : ℕ} {S : Scope} {es : Exprs} → Shapes types functions S → WithinExprs levels S m es → Skippable types functions levels m es
 exprs-skippable h ws-nil = no-more
 exprs-skippable h (ws-cons w ws) = one-more h w (exprs-skippable h ws)
 
-pub branches-skippable : {types functions : List ℕ} {levels : ℕ} {S : Scope} {cs : List Constructor} {bs : Exprs} → Shapes types functions S → WithinBranches levels S cs bs → Skippable types functions levels (length cs) bs
+branches-skippable : {types functions : List ℕ} {levels : ℕ} {S : Scope} {cs : List Constructor} {bs : Exprs} → Shapes types functions S → WithinBranches levels S cs bs → Skippable types functions levels (length cs) bs
 branches-skippable h wb-nil = no-more
 branches-skippable h (wb-cons w ws) = one-more (shapes-wider _ _ h) w (branches-skippable h ws)
 
@@ -39,12 +39,12 @@ size-wider le (w-svar {i} l) = w-svar {i = i} (omega (arith, le, l))
 size-wider le (w-plus a b) = w-plus (size-wider le a) (size-wider le b)
 size-wider le (w-minus a b) = w-minus (size-wider le a) (size-wider le b)
 
-pub result-wider : {types most vars wide : ℕ} {r : ResultType} → types ≤ most → vars ≤ wide → WithinResult types vars r → WithinResult most wide r
+result-wider : {types most vars wide : ℕ} {r : ResultType} → types ≤ most → vars ≤ wide → WithinResult types vars r → WithinResult most wide r
 result-wider le on w-rbool = w-rbool
 result-wider le on w-rint = w-rint
 result-wider le on (w-rnamed {t} l s) = w-rnamed {t = t} (omega (arith, le, l)) (size-wider on s)
 
-pub room-sizes : (S : Scope) → roomIn S ≡ true → S .sizes ≤ sizeVariablesMost
+room-sizes : (S : Scope) → roomIn S ≡ true → S .sizes ≤ sizeVariablesMost
 unfolding roomIn
 room-sizes S e = leb-true (S .sizes) sizeVariablesMost (both-right (leb (S .variables) variablesMost) (leb (S .sizes) sizeVariablesMost) e)
 
@@ -107,20 +107,3 @@ none-long = refl
 pub more-long : (e : Expr) (es : Exprs) → length (exprsBytes (econs e es)) ≡ length (exprBytes e) + length (exprsBytes es)
 unfolding exprsBytes
 more-long e es = length-append (exprBytes e) (exprsBytes es)
-
--- every expression has a byte, its code
-pub some-byte : (e : Expr) → 0 < length (exprBytes e)
-unfolding exprBytes
-some-byte (ebool b) = omega arith
-some-byte (eint n) = omega arith
-some-byte (evar v) = omega arith
-some-byte (enow c) = omega arith
-some-byte (elast c) = omega arith
-some-byte (elet a b) = omega arith
-some-byte (eif a b d) = omega arith
-some-byte (eop o a b) = omega arith
-some-byte (ecall f es) = omega arith
-some-byte (econ t c es) = omega arith
-some-byte (ecase t e r bs) = omega arith
-some-byte (eadj s e) = omega arith
-some-byte (efit k a b d) = omega arith

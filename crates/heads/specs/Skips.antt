@@ -1,19 +1,20 @@
 -- What the functions that skip an expression promise: for every scope whose types and arities the tables tell, and every
 -- expression within the limits that is spelled there, where the next thing starts.
-use Prim.Native.Nat.{ℕ, zero, suc, _+_, _*_, _<_, _≤_}
+use Prim.Native.Nat.{ℕ, zero, suc, _+_, _*_, _%_, _<_, _≤_}
 use mathlib.Core.List.{List, []}
 use mathlib.Core.Path.{_≡_}
 use lib.ListN.{length, getD}
-use Rattle.language.specs.Limits.{typesMost, parametersMost}
+use Rattle.language.specs.Limits.{byteRange, typesMost, parametersMost}
 use Rattle.language.specs.Syntax.{Expr, Exprs, enil, econs}
 use Rattle.language.specs.Format.{exprBytes, exprsBytes}
 use Rattle.language.specs.Scope.{Scope}
 use Rattle.language.specs.Within.{WithinExpr}
 use Rattle.text.specs.declared.Cursor.{Cursor}
-use Rattle.index.specs.Tables.{functionWords}
+use Rattle.index.specs.Tables.{typeWords, constructorWords, functionWords}
 use Rattle.index.specs.Enters.{TellsType}
-use Rattle.encoding.specs.Spells.{byteAt, Spells}
-use Rattle.heads.specs.declared.skip.Parts.{Parts}
+use Rattle.encoding.specs.Spells.{Spells}
+use Rattle.heads.specs.declared.Form.{Form}
+use Rattle.heads.specs.declared.Form.the-variants.{Bool as BoolForm, Int, Variable, Now, Last, Let, If, Operator, Call, Construct, Case, Adjust, Fit, Missing}
 
 -- the tables tell the scope's types and arities
 pub record Shapes (types functions : List ℕ) (S : Scope) : Type 0 where
@@ -33,17 +34,23 @@ pub record Skips (line types functions : List ℕ) (c : Cursor) (levels : ℕ) (
 pub record SkipsAll (line types functions : List ℕ) (c : Cursor) (levels n : ℕ) (r : Cursor) : Type 0 where
   pub says : (es : Exprs) → Skippable types functions levels n es → Spells exprsBytes line (c .at) es → r .at ≡ c .at + length (exprsBytes es)
 
--- a case whose code stands before the cursor
-pub record SkipsCase (line types functions : List ℕ) (c : Cursor) (levels : ℕ) (r : Cursor) : Type 0 where
-  pub says : (at : ℕ) (S : Scope) (e : Expr) → c .at ≡ at + 1 → byteAt line at ≡ 0x1A → Shapes types functions S → WithinExpr (suc levels) S e → Spells exprBytes line at e → r .at ≡ at + length (exprBytes e)
+-- the cursor stands behind what is spelled at a place and within the limits
+pub record Over {A : Type 0} (bytes : A → List ℕ) (Limited : A → Type 0) (line : List ℕ) (at : ℕ) (r : Cursor) : Type 0 where
+  pub says : (a : A) → Limited a → Spells bytes line at a → r .at ≡ at + length (bytes a)
 
--- the expression at a place ends with its parts: count expressions from next on
-pub record Parted (line types functions : List ℕ) (at levels : ℕ) (e : Expr) (next count : ℕ) : Type 0 where
-  pub parts : Exprs
-  pub skippable : Skippable types functions levels count parts
-  pub spelled : Spells exprsBytes line next parts
-  pub long : at + length (exprBytes e) ≡ next + length (exprsBytes parts)
-
--- the parts of a form whose code stands before the cursor
-pub record Heads (line types functions : List ℕ) (c : Cursor) (code : ℕ) (r : Parts) : Type 0 where
-  pub says : (at levels : ℕ) (S : Scope) (e : Expr) → c .at ≡ at + 1 → byteAt line at ≡ code → Shapes types functions S → WithinExpr (suc levels) S e → Spells exprBytes line at e → Parted line types functions at levels e (r .next .at) (r .count)
+-- how many expressions, one after the other, end an expression of a form
+abbrev pub partsOf : List ℕ → List ℕ → Form → ℕ
+partsOf types functions (BoolForm b) = 0
+partsOf types functions (Int n) = 0
+partsOf types functions (Variable v) = 0
+partsOf types functions (Now c) = 0
+partsOf types functions (Last c) = 0
+partsOf types functions Let = 2
+partsOf types functions If = 3
+partsOf types functions (Operator o) = 2
+partsOf types functions (Call f) = getD functions (functionWords * f) 0 % byteRange
+partsOf types functions (Construct t c) = getD types (typeWords * t + 1 + constructorWords * c) 0 % byteRange
+partsOf types functions (Case t) = getD types (typeWords * t) 0 % byteRange
+partsOf types functions Adjust = 1
+partsOf types functions (Fit k) = 3
+partsOf types functions Missing = 0

@@ -1,12 +1,14 @@
-// Skipping an expression that is known to be spelled in a line: where the next thing starts. The scope is not asked for; the tables
-// of the index say how many parts a form has.
+// Skipping an expression that is known to be spelled in a line: where the next thing starts. The scope is not asked for; the index says
+// how many parts a form has.
 ghost use mathlib.Core.Path.{_≡_};
-ghost use Prim.Native.Nat.{_+_, _≤_, _<_};
-ghost use lib.ListN.{length};
-ghost use Rattle.language.specs.Limits.{byteRange};
+ghost use Prim.Native.Nat.{_<_};
+ghost use Rattle.language.specs.Limits.{byteRange, typesMost, sizeVariablesMost, nestingMost};
+ghost use Rattle.language.specs.Format.{sizeBytes, resultBytes};
+ghost use Rattle.language.specs.Within.{WithinSize, WithinResult};
 ghost use Rattle.index.specs.Sections.{typesOf, functionsOf};
-ghost use Rattle.text.specs.Bytes.{bytesOf};
-ghost use Rattle.heads.specs.Skips.{Skips, SkipsAll, SkipsCase, Heads};
+ghost use Rattle.heads.specs.Skips.{Skips, SkipsAll, Over, partsOf};
+use super::Form;
+use super::head_at;
 use index::INDEX_WORDS;
 use index::functions::arity;
 use index::types::constructors;
@@ -15,133 +17,45 @@ use language::limits::NESTING_MOST;
 use language::limits::SIZE_VARIABLES_MOST;
 use language::limits::TYPES_MOST;
 use text::Cursor;
-use text::Number;
 use text::Step;
 
-// The parts of a form: where the first one starts, and how many expressions there are.
-pub struct Parts {
-    pub next: Cursor,
-    pub count: u32,
-}
-
-// The cursor moved on over so many bytes, if the line has them.
-fn ahead(line: &[u8], c: Cursor, n: usize) -> Cursor
-    ensures { λ r. ⌜ (c .at + n ≤ length (bytesOf (now (line .entry))) → r .at ≡ c .at + n) ⌝ }
+// How many expressions end an expression of a form.
+fn parts(index: &[u32; INDEX_WORDS], form: Form) -> u32
+    ensures { λ r. ⌜ (r ≡ partsOf (typesOf (now (index .entry))) (functionsOf (now (index .entry))) form) × (r < byteRange) ⌝ }
 {
-    let at = c.at;
-    let most = line.len() / 2;
-    if most < at {
-        return c;
-    }
-    if most - at < n {
-        return c;
-    }
-    Cursor { at: at + n }
-}
-
-// The forms that have the same number of parts wherever they stand.
-fn fixed(line: &[u8], index: &[u32; INDEX_WORDS], c: Cursor, code: u32) -> Parts
-    requires { ⌜ (code ≡ 0x18 → ⊥) × ((code ≡ 0x19 → ⊥) × ((code ≡ 0x1A → ⊥) × (code ≡ 0x1B → ⊥))) ⌝ }
-    ensures { λ r. ⌜ Heads (now (line .entry)) (typesOf (now (index .entry))) (functionsOf (now (index .entry))) c code r × (r .count < byteRange) ⌝ }
-{
-    if code == 0x11 {
-        let behind = ahead(line, c, 4);
-        return Parts {
-            next: behind,
-            count: 0,
-        };
-    }
-    if code == 0x15 {
-        return Parts { next: c, count: 2 };
-    }
-    if code == 0x16 {
-        return Parts { next: c, count: 3 };
-    }
-    let next = ahead(line, c, 1);
-    if code == 0x17 {
-        return Parts {
-            next: next,
-            count: 2,
-        };
-    }
-    if code == 0x1C {
-        return Parts {
-            next: next,
-            count: 3,
-        };
-    }
-    Parts {
-        next: next,
-        count: 0,
+    match form {
+        Form::Let => 2,
+        Form::If => 3,
+        Form::Operator(_) => 2,
+        Form::Call(f) => arity(index, f),
+        Form::Construct(t, k) => fields(index, t, k),
+        Form::Case(t) => constructors(index, t),
+        Form::Adjust => 1,
+        Form::Fit(_) => 3,
+        _ => 0,
     }
 }
 
-// `18`: a call has as many parts as the function has parameters.
-fn call(line: &[u8], index: &[u32; INDEX_WORDS], c: Cursor) -> Parts
-    ensures { λ r. ⌜ Heads (now (line .entry)) (typesOf (now (index .entry))) (functionsOf (now (index .entry))) c 0x18 r × (r .count < byteRange) ⌝ }
-{
-    let x = c.byte(line);
-    let Number::Is(f) = x else {
-        return Parts { next: c, count: 0 };
-    };
-    let n = arity(index, f.value);
-    let next = f.next;
-    Parts {
-        next: next,
-        count: n,
-    }
-}
-
-// `19`: a constructor has as many parts as fields.
-fn construct(line: &[u8], index: &[u32; INDEX_WORDS], c: Cursor) -> Parts
-    ensures { λ r. ⌜ Heads (now (line .entry)) (typesOf (now (index .entry))) (functionsOf (now (index .entry))) c 0x19 r × (r .count < byteRange) ⌝ }
-{
-    let x = c.byte(line);
-    let Number::Is(f) = x else {
-        return Parts { next: c, count: 0 };
-    };
-    let second = f.next;
-    let y = second.byte(line);
-    let Number::Is(g) = y else {
-        return Parts { next: c, count: 0 };
-    };
-    let n = fields(index, f.value, g.value);
-    let next = g.next;
-    Parts {
-        next: next,
-        count: n,
-    }
-}
-
-// `1B`: behind the written size is one expression.
-fn adjust(line: &[u8], index: &[u32; INDEX_WORDS], c: Cursor) -> Parts
-    ensures { λ r. ⌜ Heads (now (line .entry)) (typesOf (now (index .entry))) (functionsOf (now (index .entry))) c 0x1B r × (r .count < byteRange) ⌝ }
+// The cursor behind a written size.
+fn behind_size(line: &[u8], c: Cursor) -> Cursor
+    ensures { λ r. ⌜ Over sizeBytes (WithinSize sizeVariablesMost nestingMost) (now (line .entry)) (c .at) r ⌝ }
 {
     let x = c.size(line, SIZE_VARIABLES_MOST, NESTING_MOST);
-    let Step::Next(next) = x else {
-        return Parts { next: c, count: 0 };
-    };
-    Parts {
-        next: next,
-        count: 1,
+    match x {
+        Step::Next(part) => part,
+        Step::Stop(_) => c,
     }
 }
 
-// The parts of any form but a case; c stands behind the code.
-fn heading(line: &[u8], index: &[u32; INDEX_WORDS], c: Cursor, code: u32) -> Parts
-    requires { ⌜ (code ≡ 0x1A → ⊥) ⌝ }
-    ensures { λ r. ⌜ Heads (now (line .entry)) (typesOf (now (index .entry))) (functionsOf (now (index .entry))) c code r × (r .count < byteRange) ⌝ }
+// The cursor behind the return type of a case.
+fn behind_result(line: &[u8], c: Cursor) -> Cursor
+    ensures { λ r. ⌜ Over resultBytes (WithinResult typesMost sizeVariablesMost) (now (line .entry)) (c .at) r ⌝ }
 {
-    if code == 0x18 {
-        return call(line, index, c);
+    let x = c.result(line, TYPES_MOST as u32, SIZE_VARIABLES_MOST);
+    match x {
+        Step::Next(branches) => branches,
+        Step::Stop(_) => c,
     }
-    if code == 0x19 {
-        return construct(line, index, c);
-    }
-    if code == 0x1B {
-        return adjust(line, index, c);
-    }
-    fixed(line, index, c, code)
 }
 
 // An expression with so many levels left.
@@ -151,18 +65,18 @@ pub fn skip(line: &[u8], index: &[u32; INDEX_WORDS], c: Cursor, levels: u32) -> 
     if levels == 0 {
         return c;
     }
-    let x = c.byte(line);
-    let Number::Is(f) = x else {
-        return c;
+    let head = head_at(line, c);
+    let form = head.form;
+    let next = head.next;
+    let n = parts(index, form);
+    let first = match form {
+        Form::Case(_) => {
+            let result = skip(line, index, next, levels - 1);
+            behind_result(line, result)
+        }
+        Form::Adjust => behind_size(line, next),
+        _ => next,
     };
-    let code = f.value;
-    let next = f.next;
-    if code == 0x1A {
-        return skip_case(line, index, next, levels - 1);
-    }
-    let parts = heading(line, index, next, code);
-    let first = parts.next;
-    let n = parts.count;
     skip_several(line, index, first, levels - 1, n)
 }
 
@@ -181,23 +95,4 @@ pub fn skip_several(
     }
     let next = skip(line, index, c, levels);
     skip_several(line, index, next, levels, n - 1)
-}
-
-// `1A`: a case: its subject, its return type, a branch for each constructor; c stands behind the code.
-fn skip_case(line: &[u8], index: &[u32; INDEX_WORDS], c: Cursor, levels: u32) -> Cursor
-    ensures { λ r. ⌜ SkipsCase (now (line .entry)) (typesOf (now (index .entry))) (functionsOf (now (index .entry))) c levels r ⌝ }
-{
-    let x = c.byte(line);
-    let Number::Is(f) = x else {
-        return c;
-    };
-    let t = f.value;
-    let subject = f.next;
-    let written = skip(line, index, subject, levels);
-    let y = written.result(line, TYPES_MOST as u32, SIZE_VARIABLES_MOST);
-    let Step::Next(next) = y else {
-        return c;
-    };
-    let n = constructors(index, t);
-    skip_several(line, index, next, levels, n)
 }

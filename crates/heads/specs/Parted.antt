@@ -1,0 +1,106 @@
+-- The expressions that end an expression, form by form: where the first of them starts, and how many they are.
+use Prim.Native.Nat.{ℕ, suc, _+_}
+use mathlib.Core.List.{List, []}
+use mathlib.Core.Path.{_≡_, refl, sym, ap, subst}
+use native.Mathlib.Omega.{arith}
+use lib.ListN.{length, getD}
+use Rattle.language.specs.Limits.{typesMost, sizeVariablesMost, nestingMost}
+use Rattle.language.specs.Syntax.{Expr, Exprs, enil, econs}
+use Rattle.language.specs.Format.{exprBytes, exprsBytes, sizeBytes, resultBytes}
+use Rattle.language.specs.Scope.{Scope}
+use Rattle.language.specs.Within.{WithinSize, WithinResult, WithinExpr}
+use Rattle.text.specs.declared.Cursor.{Cursor}
+use Rattle.encoding.specs.Spells.{Spells, spells-within}
+use Rattle.heads.specs.declared.Form.{Form}
+use Rattle.heads.specs.declared.Form.the-variants.{Bool as BoolForm, Int, Variable, Now, Last, Let, If, Operator, Call, Construct, Case, Adjust, Fit, Missing}
+use Rattle.heads.specs.declared.Head.{Head}
+use Rattle.heads.specs.Heads.{Heads}
+use Rattle.heads.specs.HeadForms.{no-missing, bool-head, int-head, var-head, now-head, last-head, let-head, if-head, op-head, call-head, con-head, case-head, adj-head, fit-head}
+use Rattle.heads.specs.Skips.{Shapes, Skippable, no-more, Skips, Over, partsOf}
+use Rattle.heads.specs.PartLaws.{let-parts, if-parts, op-parts, fit-parts, call-parts, con-parts, adj-parts, case-type, case-subject, case-result, case-branches, list-none, list-more, list-one, none-long, more-long}
+
+-- the expression at a place ends with its parts: count expressions from next on
+pub record Parted (line types functions : List ℕ) (at levels : ℕ) (e : Expr) (next count : ℕ) : Type 0 where
+  pub parts : Exprs
+  pub skippable : Skippable types functions levels count parts
+  pub spelled : Spells exprsBytes line next parts
+  pub long : at + length (exprBytes e) ≡ next + length (exprsBytes parts)
+
+-- ---- from the parts themselves
+module _ {line types functions : List ℕ} {at levels next : ℕ} {e : Expr} where
+  none-parted : next ≡ at + length (exprBytes e) → Spells exprBytes line at e → Parted line types functions at levels e next 0
+  none-parted q s = record { parts = enil; skippable = no-more; spelled = list-none (omega (arith, spells-within s, q)); long = omega (arith, none-long, q) }
+
+  module _ {whole : Expr} (is : e ≡ whole) where
+    list-parted : {es : Exprs} {n : ℕ} → Spells exprsBytes line next es → at + length (exprBytes whole) ≡ next + length (exprsBytes es) → Skippable types functions levels n es → Parted line types functions at levels e next n
+    list-parted {es} s long w = record { parts = es; skippable = w; spelled = s; long = omega (arith, ap (λ (a : Expr). length (exprBytes a)) is, long) }
+
+    one-parted : {a : Expr} → Spells exprBytes line next a → at + length (exprBytes whole) ≡ next + length (exprBytes a) → Skippable types functions levels 1 (econs a enil) → Parted line types functions at levels e next 1
+    one-parted {a} s long w = list-parted (list-one s) (omega (arith, long, more-long a enil, none-long)) w
+
+    two-parted : {a b : Expr} → Spells exprBytes line next a → Spells exprBytes line (next + length (exprBytes a)) b → at + length (exprBytes whole) ≡ next + length (exprBytes a) + length (exprBytes b) →
+        Skippable types functions levels 2 (econs a (econs b enil)) → Parted line types functions at levels e next 2
+    two-parted {a} {b} s t long w = list-parted (list-more s (list-one t)) (omega (arith, long, more-long a (econs b enil), more-long b enil, none-long)) w
+
+    three-parted : {a b d : Expr} → Spells exprBytes line next a → Spells exprBytes line (next + length (exprBytes a)) b → Spells exprBytes line (next + length (exprBytes a) + length (exprBytes b)) d →
+        at + length (exprBytes whole) ≡ next + length (exprBytes a) + length (exprBytes b) + length (exprBytes d) → Skippable types functions levels 3 (econs a (econs b (econs d enil))) → Parted line types functions at levels e next 3
+    three-parted {a} {b} {d} s t u long w =
+        list-parted (list-more s (list-more t (list-one u))) (omega (arith, long, more-long a (econs b (econs d enil)), more-long b (econs d enil), more-long d enil, none-long)) w
+
+-- ---- from the form that was read
+module _ {line types functions : List ℕ} {at levels : ℕ} {S : Scope} {e : Expr} {r : Head} (d : Heads line at r) (h : Shapes types functions S) (w : WithinExpr (suc levels) S e) (s : Spells exprBytes line at e) where
+  inside : {a : Expr} → e ≡ a → WithinExpr (suc levels) S a
+  inside q = subst (WithinExpr (suc levels) S) q w
+
+  call-parted : {f : ℕ} → r .form ≡ Call f → Parted line types functions at levels e (r .next .at) (partsOf types functions (Call f))
+  call-parted {f} q =
+      let i = call-head d s w q in
+      let p = call-parts h (inside (i .is)) in
+      let same : partsOf types functions (Call f) ≡ getD (S .arities) f 0 = omega (arith, h .arities f (p .0), h .few f (p .0)) in
+      list-parted (i .is) (i .spelled) (i .long) (subst (λ m. Skippable types functions levels m (i .list)) (sym same) (p .1))
+
+  con-parted : {t k : ℕ} → r .form ≡ Construct t k → Parted line types functions at levels e (r .next .at) (partsOf types functions (Construct t k))
+  con-parted {t} {k} q =
+      let i = con-head d s w q in
+      let p = con-parts h (inside (i .is)) in
+      let told = h .each t (p .0) in
+      let same : partsOf types functions (Construct t k) ≡ length (getD (getD (S .types) t []) k []) = omega (arith, told .fields k (p .1 .0), told .fewFields k (p .1 .0)) in
+      list-parted (i .is) (i .spelled) (i .long) (subst (λ m. Skippable types functions levels m (i .list)) (sym same) (p .1 .1))
+
+  -- the forms whose parts start at once
+  pub parted : (f : Form) → r .form ≡ f → ((t : ℕ) → f ≡ Case t → ⊥) → (f ≡ Adjust → ⊥) → Parted line types functions at levels e (r .next .at) (partsOf types functions f)
+  parted (BoolForm b) q c a = none-parted (bool-head d s w q .ends) s
+  parted (Int n) q c a = none-parted (int-head d s w q .ends) s
+  parted (Variable v) q c a = none-parted (var-head d s w q .ends) s
+  parted (Now k) q c a = none-parted (now-head d s w q .ends) s
+  parted (Last k) q c a = none-parted (last-head d s w q .ends) s
+  parted Let q c a = let i = let-head d s w q in two-parted (i .is) (i .spelled) (i .spelled₂) (i .long) (let-parts h (inside (i .is)))
+  parted If q c a = let i = if-head d s w q in three-parted (i .is) (i .spelled) (i .spelled₂) (i .spelled₃) (i .long) (if-parts h (inside (i .is)))
+  parted (Operator o) q c a = let i = op-head d s w q in two-parted (i .is) (i .spelled) (i .spelled₂) (i .long) (op-parts h (inside (i .is)))
+  parted (Call f) q c a = call-parted q
+  parted (Construct t k) q c a = con-parted q
+  parted (Case t) q c a = absurd (c t refl)
+  parted Adjust q c a = absurd (a refl)
+  parted (Fit k) q c a = let i = fit-head d s w q in three-parted (i .is) (i .spelled) (i .spelled₂) (i .spelled₃) (i .long) (fit-parts h (inside (i .is)))
+  parted Missing q c a = absurd (no-missing d s q)
+
+  -- behind the written size
+  pub adj-parted : {first : Cursor} → r .form ≡ Adjust → Over sizeBytes (WithinSize sizeVariablesMost nestingMost) line (r .next .at) first → Parted line types functions at levels e (first .at) 1
+  adj-parted {first} q o =
+      let i = adj-head d s w q in
+      let p = adj-parts h (inside (i .is)) in
+      let place : first .at ≡ r .next .at + length (sizeBytes (i .size)) = o .says (i .size) (p .0) (i .spelled) in
+      one-parted (i .is) (subst (λ m. Spells exprBytes line m (i .first)) (sym place) (i .spelled₂)) (omega (arith, place, i .long)) (p .1)
+
+  -- behind the subject and the return type
+  pub case-parted : {t : ℕ} {result first : Cursor} → r .form ≡ Case t → Skips line types functions (r .next) levels result → Over resultBytes (WithinResult typesMost sizeVariablesMost) line (result .at) first →
+      Parted line types functions at levels e (first .at) (partsOf types functions (Case t))
+  case-parted {t} {result} {first} q u o =
+      let i = case-head d s w q in
+      let within = inside (i .is) in
+      let told = h .each t (case-type h within) in
+      let same : partsOf types functions (Case t) ≡ length (getD (S .types) t []) = omega (arith, told .constructors, told .few) in
+      let subject : result .at ≡ r .next .at + length (exprBytes (i .first)) = u .says S (i .first) h (case-subject h within) (i .spelled) in
+      let place : first .at ≡ result .at + length (resultBytes (i .result)) = o .says (i .result) (case-result h within) (subst (λ m. Spells resultBytes line m (i .result)) (sym subject) (i .spelled₂)) in
+      let start : first .at ≡ r .next .at + length (exprBytes (i .first)) + length (resultBytes (i .result)) = omega (arith, subject, place) in
+      list-parted (i .is) (subst (λ m. Spells exprsBytes line m (i .branches)) (sym start) (i .spelled₃)) (omega (arith, start, i .long)) (subst (λ m. Skippable types functions levels m (i .branches)) (sym same) (case-branches h within))
