@@ -35,7 +35,7 @@ use Rattle.plain_types.specs.declared.words.Typing.{Typing}
 use Rattle.plain_types.specs.declared.words.Typing.the-variants.{Is, Wrong}
 use Rattle.plain_types.specs.declared.words.Want.the-variants.{Parameters}
 use Rattle.plain_types.specs.declared.places.Place.{Place}
-use Rattle.plain_types.specs.Words.{typeAt, lineOf, wantedType, entered, Returns}
+use Rattle.plain_types.specs.Words.{typeAt, lineBehindTypes, wantedType, entered, Returns}
 use Rattle.plain_types.specs.Agrees.{meaning, Agrees, is-some, is-none, holds, fails, both-first, both-not}
 use Rattle.plain_types.specs.Asks.{Stage, Part, TypesWant}
 use Rattle.plain_types.specs.Initials.{TestsInitial}
@@ -76,7 +76,7 @@ part-named text {levels} {end} {S} {e} p q part = subst₂ (λ i m. Part (lineAt
 
 -- ---- a function
 module _ (text index : List ℕ) (f : ℕ) {n : ℕ} (k : (n ≡ getD (functionsOf index) (functionWords * f) 0 % byteRange) × (n < byteRange)) (scope : List ℕ) {scope₁ scope₂ : List ℕ}
-    (enter : scope₁ ≡ entered index (Parameters f) scope 0 n) (room : variablesMost ≤ length scope) {at : Cursor} {line : ℕ} {kind : PlainType} (place : at .at ≡ bodyAt (functionsOf index) f) (number : line ≡ lineOf index f) (ret : Returns text index f kind) {x : Typing}
+    (enter : scope₁ ≡ entered index (Parameters f) scope 0 n) (room : variablesMost ≤ length scope) {at : Cursor} {line : ℕ} {kind : PlainType} (place : at .at ≡ bodyAt (functionsOf index) f) (number : line ≡ lineBehindTypes index f) (ret : Returns text index f kind) {x : Typing}
     (v : TypesWant text index scope₁ (record { at = at; levels = nestingMost; line = line; variables = n }) kind x scope₂) where
   module _ {P : File} {F : Function} (h : Indexed text index P) (e : look (P .functions) f ≡ some F) where
     parameter-count : n ≡ length (F .parameters)
@@ -207,14 +207,14 @@ module _ {text index : List ℕ} {P : File} (h : Indexed text index P) where
 
 -- ---- an initial value; channel c has the frame i behind the types
 module _ (text index : List ℕ) (i c : ℕ) where
-  module _ {line : ℕ} (number : line ≡ lineOf index i) {P : File} (h : Indexed text index P) (q : i ≡ length (P .functions) + c) (less : c < length (P .inputs) + length (P .nodes)) where
+  module _ {line : ℕ} (number : line ≡ lineBehindTypes index i) {P : File} (h : Indexed text index P) (q : i ≡ length (P .functions) + c) (less : c < length (P .inputs) + length (P .nodes)) where
     channel-line : line ≡ channelLine P c
     channel-line = let w = h .within in omega (arith, number, h .counted .typeCount, q, less, w .fewFunctions, w .fewInputs, w .fewNodes)
 
     channel-less : line < lineCount P
     channel-less = omega (arith, channel-line, less)
 
-  module _ {at : Cursor} {line : ℕ} (place : at .at ≡ initialAt (channelsOf index) c) (number : line ≡ lineOf index i) {part : List ℕ} (taken : part ≡ framePart text (framesOf index) line) {x : Typing} (u : TestsInitial part (typesOf index) at nestingMost x) where
+  module _ {at : Cursor} {line : ℕ} (place : at .at ≡ initialAt (channelsOf index) c) (number : line ≡ lineBehindTypes index i) {part : List ℕ} (taken : part ≡ framePart text (framesOf index) line) {x : Typing} (u : TestsInitial part (typesOf index) at nestingMost x) where
     tested : {P : File} {e : Expr} → Indexed text index P → i ≡ length (P .functions) + c → c < length (P .inputs) + length (P .nodes) →
         Spells exprBytes (lineAt text (channelLine P c)) (initialAt (channelsOf index) c) e → WithinExpr nestingMost (outerScope (P .types) (P .functions) 0 0) e → Agrees x (at .at + length (exprBytes e)) (when (isInitial e) pbool)
     tested {P} {e} h q less s w =
@@ -246,7 +246,7 @@ module _ (text index : List ℕ) (i c : ℕ) where
           sym (both-not (isPlain (plainDeclared (n .declared)) (plainOf P (channelTypes h) (n .update) [])) (sym (a .says h q less (ni .channel) (w .declared) (w .initial)) ∙ z));
     }
 
-    pub node-fits : {at : Cursor} {line : ℕ} {r : Bool} → b ≡ true → at .at ≡ updateAt (channelsOf index) c → line ≡ lineOf index i → ValueFits text index (record { at = at; levels = nestingMost; line = line; variables = 0 }) c r →
+    pub node-fits : {at : Cursor} {line : ℕ} {r : Bool} → b ≡ true → at .at ≡ updateAt (channelsOf index) c → line ≡ lineBehindTypes index i → ValueFits text index (record { at = at; levels = nestingMost; line = line; variables = 0 }) c r →
         NodeFits text index i c r
     unfolding plainNode
     node-fits z place number v = record {

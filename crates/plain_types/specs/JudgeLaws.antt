@@ -18,7 +18,7 @@ use Rattle.index.specs.declared.Counts.{Counts}
 use Rattle.encoding.specs.WithinParts.{node-within}
 use Rattle.index.specs.Sections.{channelsOf, countsIn}
 use Rattle.index.specs.Indexed.{channelLine, NodeIndexed, Indexed, Counted}
-use Rattle.plain_types.specs.Words.{lineOf}
+use Rattle.plain_types.specs.Words.{lineBehindTypes}
 use Rattle.plain_types.specs.Verdicts.{FunctionFits, InitialFits, NodeFits, frameTests, firstRefused, refusedFrame, verdict, FrameFits, JudgesAll}
 use Rattle.plain_types.specs.FrameLaws.{there}
 
@@ -147,7 +147,7 @@ module _ (text index : List ℕ) where
       says = λ {P} h j less. below-or-not j i (λ l. a .says h j l) (λ over. let same : i ≡ j = omega (arith, less, over) in subst (λ m. getD (frameTests P) m true ≡ true) same (sym (v .says h) ∙ z));
     }
 
-    pub judged-refused : {line : ℕ} → b ≡ false → line ≡ lineOf index i → JudgesAll text index (line + 1)
+    pub judged-refused : {line : ℕ} → b ≡ false → line ≡ lineBehindTypes index i → JudgesAll text index (line + 1)
     judged-refused {line} z q = record {
       says = λ {P} h.
           let e : getD (frameTests P) i true ≡ false = sym (v .says h) ∙ z in

@@ -42,11 +42,11 @@ use Rattle.plain_types.specs.declared.words.Typing.the-variants.{Is, Wro
 use Rattle.plain_types.specs.declared.words.Want.{Want}
 use Rattle.plain_types.specs.declared.words.Want.the-variants.{Parameters, Fields}
 use Rattle.plain_types.specs.Agrees.{meaning, Agrees, answered, typed-is, typed-there}
-use Rattle.plain_types.specs.Words.{namedType, typeAt, lineOf, ownOrOther, wantedType, ReadsResult, Returns}
+use Rattle.plain_types.specs.Words.{namedType, typeAt, lineBehindTypes, ownOrOther, wantedType, ReadsResult, Returns}
 use Rattle.plain_types.specs.WordLaws.{named-is, own-is, other-is}
 
 -- ---- the line of a frame
-pub line-is : (index : List ℕ) (i : ℕ) {n : Counts} → n ≡ countsIn index → n .types + i % tagStep ≡ lineOf index i
+pub line-is : (index : List ℕ) (i : ℕ) {n : Counts} → n ≡ countsIn index → n .types + i % tagStep ≡ lineBehindTypes index i
 line-is index i e = ap (λ (m : Counts). m .types + i % tagStep) e
 
 -- ---- what is wanted
@@ -146,7 +146,7 @@ named-few (pbool ∷ ps) = omega (arith, named-few ps)
 named-few (pint ∷ ps) = omega (arith, named-few ps)
 named-few (pnamed t ∷ ps) = omega (arith, named-few ps)
 
-module _ (text index : List ℕ) (f : ℕ) {line : List ℕ} {i : ℕ} {c : Cursor} {x : Typing} (number : i ≡ lineOf index f) (part : line ≡ framePart text (framesOf index) i) (place : c .at ≡ resultAt (functionsOf index) f) (v : ReadsResult line c x) where
+module _ (text index : List ℕ) (f : ℕ) {line : List ℕ} {i : ℕ} {c : Cursor} {x : Typing} (number : i ≡ lineBehindTypes index f) (part : line ≡ framePart text (framesOf index) i) (place : c .at ≡ resultAt (functionsOf index) f) (v : ReadsResult line c x) where
   read-result : {P : File} {F : Function} → Indexed text index P → look (P .functions) f ≡ some F →
       Agrees x (c .at + length (resultBytes (F .result))) (some (plainResult (F .result)))
   read-result {P} {F} h e =

@@ -38,8 +38,8 @@ pub record WordOf (x : PlainType) (r : ℕ) : Type 0 where
   pub small : WithinPlain tagStep (meaning x)
 
 -- the line of frame i behind the types
-abbrev pub lineOf : List ℕ → ℕ → ℕ
-lineOf index i = countsIn index .types + i % tagStep
+abbrev pub lineBehindTypes : List ℕ → ℕ → ℕ
+lineBehindTypes index i = countsIn index .types + i % tagStep
 
 -- ---- operators, by their codes
 abbrev pub operandOf : ℕ → PlainType

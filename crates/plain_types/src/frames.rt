@@ -9,7 +9,7 @@ use super::words::SCOPE_WORDS;
 use super::words::Typing;
 use super::words::Want;
 use super::words::enter;
-use super::words::line_of;
+use super::words::line_behind_types;
 use super::words::returned;
 use super::words::type_of;
 use index::INDEX_WORDS;
@@ -40,7 +40,7 @@ fn function_agrees(text: &[u8], index: &[u32; INDEX_WORDS], f: u32) -> bool
     let n = arity(index, f);
     enter(index, &mut scope, Want::Parameters(f), 0, n);
     let at = body_start(index, f);
-    let line = line_of(index, f);
+    let line = line_behind_types(index, f);
     let p = Place {
         at: at,
         levels: NESTING_MOST,
@@ -68,7 +68,7 @@ fn initial_agrees(text: &[u8], index: &[u32; INDEX_WORDS], i: u32, c: u32) -> bo
     ensures { λ r. ⌜ InitialFits (now (text .entry)) (now (index .entry)) i c r ⌝ }
 {
     let at = initial_start(index, c);
-    let line = line_of(index, i);
+    let line = line_behind_types(index, i);
     let part = frame_line(text, index, line);
     let x = initial(part, index, at, NESTING_MOST);
     let Typing::Is(_) = x else {
@@ -91,7 +91,7 @@ fn node_agrees(text: &[u8], index: &[u32; INDEX_WORDS], i: u32, c: u32) -> bool
         return false;
     }
     let at = update_start(index, c);
-    let line = line_of(index, i);
+    let line = line_behind_types(index, i);
     let p = Place {
         at: at,
         levels: NESTING_MOST,

@@ -11,7 +11,7 @@ use frames::frame_agrees;
 use index::INDEX_WORDS;
 use language::limits::CHANNELS_MOST;
 use language::limits::FUNCTIONS_MOST;
-use words::line_of;
+use words::line_behind_types;
 
 // How many frames have types to check: those of functions and of channels.
 const BODIES_MOST: usize = FUNCTIONS_MOST + CHANNELS_MOST;
@@ -24,7 +24,7 @@ pub fn plain_types(text: &[u8], index: &[u32; INDEX_WORDS]) -> u32
     let mut i: u32 = 0;
     while i < most {
         if !frame_agrees(text, index, i) {
-            return line_of(index, i) + 1;
+            return line_behind_types(index, i) + 1;
         }
         i += 1;
     }

@@ -3,7 +3,7 @@ ghost use mathlib.Core.Path.{_≡_};
 ghost use Rattle.language.specs.PlainTypes.{samePlain, isNamed};
 ghost use Rattle.plain_types.specs.declared.words.Typing.the-variants.{Is};
 ghost use Rattle.plain_types.specs.Agrees.{meaning};
-ghost use Rattle.plain_types.specs.Words.{namedType, typeAt, WordOf, operandOf, outcomeOf, lineOf, wantedType, entered, ReadsResult, Returns};
+ghost use Rattle.plain_types.specs.Words.{namedType, typeAt, WordOf, operandOf, outcomeOf, lineBehindTypes, wantedType, entered, ReadsResult, Returns};
 use index::INDEX_WORDS;
 use index::frame_counts;
 use index::frames::frame_line;
@@ -104,8 +104,8 @@ pub fn is_named(x: PlainType) -> bool
 }
 
 // The line of frame i behind the types, its number a byte.
-pub fn line_of(index: &[u32; INDEX_WORDS], i: u32) -> u32
-    ensures { λ r. ⌜ r ≡ lineOf (now (index .entry)) i ⌝ }
+pub fn line_behind_types(index: &[u32; INDEX_WORDS], i: u32) -> u32
+    ensures { λ r. ⌜ r ≡ lineBehindTypes (now (index .entry)) i ⌝ }
 {
     let counts = frame_counts(index);
     counts.types + i % TYPE_STEP
@@ -195,7 +195,7 @@ pub fn result_type(line: &[u8], c: Cursor) -> Typing
 pub fn returned(text: &[u8], index: &[u32; INDEX_WORDS], f: u32) -> PlainType
     ensures { λ r. ⌜ Returns (now (text .entry)) (now (index .entry)) f r ⌝ }
 {
-    let i = line_of(index, f);
+    let i = line_behind_types(index, f);
     let line = frame_line(text, index, i);
     let at = result_start(index, f);
     let x = result_type(line, at);

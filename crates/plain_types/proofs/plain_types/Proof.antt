@@ -21,14 +21,14 @@ loop-holds c = (omega arith, before-none _ _)
 frame-agrees-requires : tie.Need-frame-agrees-requires Inv-loop μ-loop
 frame-agrees-requires c κs = tt
 
-line-of-requires : tie.Need-line-of-requires Inv-loop μ-loop
-line-of-requires c κs = tt
+line-behind-types-requires : tie.Need-line-behind-types-requires Inv-loop μ-loop
+line-behind-types-requires c κs = tt
 
 add-result : tie.Need-add-result Inv-loop μ-loop
-add-result c = omega (arith, (c .line-of .ensures))
+add-result c = omega (arith, (c .line-behind-types .ensures))
 
 returns : tie.Need-returns Inv-loop μ-loop
-returns c = judged-refused _ _ (c .before .before .before .before .loop .inv .1) (c .before .before .frame-agrees .ensures) (not-true _ (c .before .if1 .taken)) (c .line-of .ensures)
+returns c = judged-refused _ _ (c .before .before .before .before .loop .inv .1) (c .before .before .frame-agrees .ensures) (not-true _ (c .before .if1 .taken)) (c .line-behind-types .ensures)
 
 add-i : tie.Need-add-i Inv-loop μ-loop
 add-i c = omega arith
@@ -51,7 +51,7 @@ plain-types-spec =
     cast-most
     loop-holds
     frame-agrees-requires
-    line-of-requires
+    line-behind-types-requires
     add-result
     returns
     add-i

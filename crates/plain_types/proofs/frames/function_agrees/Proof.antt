@@ -13,8 +13,8 @@ enter-requires c κs = tt
 body-start-requires : tie.Need-body-start-requires
 body-start-requires c κs = tt
 
-line-of-requires : tie.Need-line-of-requires
-line-of-requires c κs = tt
+line-behind-types-requires : tie.Need-line-behind-types-requires
+line-behind-types-requires c κs = tt
 
 returned-requires : tie.Need-returned-requires
 returned-requires c κs = tt
@@ -26,7 +26,7 @@ is-typed-requires : tie.Need-is-typed-requires
 is-typed-requires c κs = tt
 
 returns : tie.Need-returns
-returns c = function-fits _ _ _ (c .before .before .before .before .before .before .before .before .arity .ensures) _ (c .before .before .before .before .before .before .enter .ensures) (omega arith) (c .before .before .before .before .before .body-start .ensures) (c .before .before .before .before .line-of .ensures) (c .before .before .before .returned .ensures) (c .before .expect .ensures) (c .is-typed .ensures)
+returns c = function-fits _ _ _ (c .before .before .before .before .before .before .before .before .arity .ensures) _ (c .before .before .before .before .before .before .enter .ensures) (omega arith) (c .before .before .before .before .before .body-start .ensures) (c .before .before .before .before .line-behind-types .ensures) (c .before .before .before .returned .ensures) (c .before .expect .ensures) (c .is-typed .ensures)
 
 pub function-agrees-spec : {M : Type 1} → statement M
 function-agrees-spec =
@@ -35,7 +35,7 @@ function-agrees-spec =
     arity-requires
     enter-requires
     body-start-requires
-    line-of-requires
+    line-behind-types-requires
     returned-requires
     expect-requires
     is-typed-requires

@@ -14,14 +14,14 @@ returns c = node-unfit _ _ _ _ (c .before .initial-agrees .ensures) (not-true _ 
 update-start-requires : tie.Need-update-start-requires
 update-start-requires c κs = tt
 
-line-of-requires : tie.Need-line-of-requires
-line-of-requires c κs = tt
+line-behind-types-requires : tie.Need-line-behind-types-requires
+line-behind-types-requires c κs = tt
 
 value-agrees-requires : tie.Need-value-agrees-requires
 value-agrees-requires c κs = omega arith
 
 returns-2 : tie.Need-returns-2
-returns-2 c = node-fits _ _ _ _ (c .before .before .before .before .initial-agrees .ensures) (not-false _ (c .before .before .before .if1 .left)) (c .before .before .update-start .ensures) (c .before .line-of .ensures) (c .value-agrees .ensures)
+returns-2 c = node-fits _ _ _ _ (c .before .before .before .before .initial-agrees .ensures) (not-false _ (c .before .before .before .if1 .left)) (c .before .before .update-start .ensures) (c .before .line-behind-types .ensures) (c .value-agrees .ensures)
 
 pub node-agrees-spec : {M : Type 1} → statement M
 node-agrees-spec =
@@ -30,6 +30,6 @@ node-agrees-spec =
     initial-agrees-requires
     returns
     update-start-requires
-    line-of-requires
+    line-behind-types-requires
     value-agrees-requires
     returns-2)

@@ -4,8 +4,8 @@ use borrow.Author.Needs.{needs}
 use Rattle.plain_types.proofs.words.returned.Statement.{statement}
 use Rattle.plain_types.proofs.words.returned.Tie as tie
 
-line-of-requires : tie.Need-line-of-requires
-line-of-requires c κs = tt
+line-behind-types-requires : tie.Need-line-behind-types-requires
+line-behind-types-requires c κs = tt
 
 frame-line-requires : tie.Need-frame-line-requires
 frame-line-requires c κs = tt
@@ -23,16 +23,16 @@ enum-told : tie.Need-enum-told
 enum-told c = search needs
 
 returns : tie.Need-returns
-returns c = returned-none _ _ _ (c .before .before .before .before .before .line-of .ensures) (c .before .before .before .before .frame-line .ensures) (c .before .before .before .result-start .ensures) (c .before .before .result-type .ensures) (c .enum-told .given .1)
+returns c = returned-none _ _ _ (c .before .before .before .before .before .line-behind-types .ensures) (c .before .before .before .before .frame-line .ensures) (c .before .before .before .result-start .ensures) (c .before .before .result-type .ensures) (c .enum-told .given .1)
 
 returns-2 : tie.Need-returns-2
-returns-2 c = returned-is _ _ _ (c .before .before .before .before .before .before .line-of .ensures) (c .before .before .before .before .before .frame-line .ensures) (c .before .before .before .before .result-start .ensures) (c .before .before .before .result-type .ensures) (c .before .x .given .1)
+returns-2 c = returned-is _ _ _ (c .before .before .before .before .before .before .line-behind-types .ensures) (c .before .before .before .before .before .frame-line .ensures) (c .before .before .before .before .result-start .ensures) (c .before .before .before .result-type .ensures) (c .before .x .given .1)
 
 pub returned-spec : {M : Type 1} → statement M
 returned-spec =
     tie.close
     (tie.spec
-    line-of-requires
+    line-behind-types-requires
     frame-line-requires
     result-start-requires
     result-type-requires

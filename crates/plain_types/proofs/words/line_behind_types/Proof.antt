@@ -1,8 +1,8 @@
 -- The line of a frame, by the number of types that the index tells.
 use native.Mathlib.Omega.{arith}
 use Rattle.plain_types.specs.ReadLaws.{line-is}
-use Rattle.plain_types.proofs.words.line_of.Statement.{statement}
-use Rattle.plain_types.proofs.words.line_of.Tie as tie
+use Rattle.plain_types.proofs.words.line_behind_types.Statement.{statement}
+use Rattle.plain_types.proofs.words.line_behind_types.Tie as tie
 
 frame-counts-requires : tie.Need-frame-counts-requires
 frame-counts-requires c κs = tt
@@ -13,5 +13,5 @@ add-result c = omega (arith, (c .before .frame-counts .ensures .1 .types))
 returns : tie.Need-returns
 returns c = line-is _ _ (c .before .frame-counts .ensures .0)
 
-pub line-of-spec : {M : Type 1} → statement M
-line-of-spec = tie.close (tie.spec frame-counts-requires add-result returns)
+pub line-behind-types-spec : {M : Type 1} → statement M
+line-behind-types-spec = tie.close (tie.spec frame-counts-requires add-result returns)
