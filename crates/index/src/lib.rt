@@ -8,7 +8,6 @@ pub mod types;
 ghost use mathlib.Core.Path.{_≡_};
 ghost use Prim.Native.Nat.{_+_, _<_, _≤_};
 ghost use lib.ListN.{length, getD, set, replicate};
-ghost use Rattle.language.specs.Limits.{byteRange};
 ghost use Rattle.language.specs.Format.{bit};
 ghost use Rattle.index.specs.Sections.{section, indexWords, countsIn, SmallCounts};
 ghost use Rattle.index.specs.SectionLaws.{CountsPut};

@@ -4,9 +4,6 @@ use native.Mathlib.Omega.{arith}
 use borrow.Author.Needs.{needs}
 use Rattle.index.proofs.frame_counts.Statement.{statement}
 use Rattle.index.proofs.frame_counts.Tie as tie
-use Rattle.index.proofs.frame_counts.Reads as reads
-use Rattle.index.proofs.frame_counts.Lts as lts
-use Rattle.index.proofs.section_word.Reads as section-word-reads
 
 -- src/lib.rt:123:16
 section-word-requires : tie.Need-section-word-requires

@@ -4,9 +4,6 @@ use Rattle.index.specs.SectionLaws.{counts-put}
 use borrow.Author.Needs.{needs}
 use Rattle.index.proofs.put_counts.Statement.{statement}
 use Rattle.index.proofs.put_counts.Tie as tie
-use Rattle.index.proofs.put_counts.Reads as reads
-use Rattle.index.proofs.put_counts.Lts as lts
-use Rattle.index.proofs.put.Reads as put-reads
 
 -- src/lib.rt:135:5
 put-requires : tie.Need-put-requires

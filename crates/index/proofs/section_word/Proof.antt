@@ -3,8 +3,6 @@ use Rattle.index.specs.SectionLaws.{section-word, section-beyond}
 use borrow.Author.Needs.{needs}
 use Rattle.index.proofs.section_word.Statement.{statement}
 use Rattle.index.proofs.section_word.Tie as tie
-use Rattle.index.proofs.section_word.Reads as reads
-use Rattle.index.proofs.section_word.Lts as lts
 
 -- src/lib.rt:113:22
 add-result : tie.Need-add-result

@@ -3,9 +3,6 @@ use mathlib.Core.Path.{refl}
 use borrow.Author.Needs.{needs}
 use Rattle.index.proofs.channels.channel_into.Statement.{statement}
 use Rattle.index.proofs.channels.channel_into.Tie as tie
-use Rattle.index.proofs.channels.channel_into.Reads as reads
-use Rattle.index.proofs.channels.channel_into.Lts as lts
-use Rattle.index.proofs.put.Reads as put-reads
 
 -- src/channels.rt:59:5
 put-requires : tie.Need-put-requires

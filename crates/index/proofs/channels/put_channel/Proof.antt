@@ -9,9 +9,6 @@ use Rattle.index.specs.SectionLaws.{section-lent}
 use borrow.Author.Needs.{needs}
 use Rattle.index.proofs.channels.put_channel.Statement.{statement}
 use Rattle.index.proofs.channels.put_channel.Tie as tie
-use Rattle.index.proofs.channels.put_channel.Reads as reads
-use Rattle.index.proofs.channels.put_channel.Lts as lts
-use Rattle.index.proofs.channels.channel_into.Reads as channel-into-reads
 
 -- src/channels.rt:69:14
 mul-to : tie.Need-mul-to

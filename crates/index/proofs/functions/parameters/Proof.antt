@@ -5,9 +5,6 @@ use Rattle.index.specs.EnterLaws.{enters-lent}
 use borrow.Author.Needs.{needs}
 use Rattle.index.proofs.functions.parameters.Statement.{statement}
 use Rattle.index.proofs.functions.parameters.Tie as tie
-use Rattle.index.proofs.functions.parameters.Reads as reads
-use Rattle.index.proofs.functions.parameters.Lts as lts
-use Rattle.index.proofs.functions.head_into.Reads as head-into-reads
 
 -- src/functions.rt:100:9
 sub-head-into : tie.Need-sub-head-into

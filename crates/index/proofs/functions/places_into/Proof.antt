@@ -3,9 +3,6 @@ use mathlib.Core.Path.{refl}
 use borrow.Author.Needs.{needs}
 use Rattle.index.proofs.functions.places_into.Statement.{statement}
 use Rattle.index.proofs.functions.places_into.Tie as tie
-use Rattle.index.proofs.functions.places_into.Reads as reads
-use Rattle.index.proofs.functions.places_into.Lts as lts
-use Rattle.index.proofs.put.Reads as put-reads
 
 -- src/functions.rt:112:5
 put-requires : tie.Need-put-requires

@@ -10,9 +10,6 @@ use Rattle.index.specs.SectionLaws.{section-lent}
 use borrow.Author.Needs.{needs}
 use Rattle.index.proofs.functions.put_places.Statement.{statement}
 use Rattle.index.proofs.functions.put_places.Tie as tie
-use Rattle.index.proofs.functions.put_places.Reads as reads
-use Rattle.index.proofs.functions.put_places.Lts as lts
-use Rattle.index.proofs.functions.places_into.Reads as places-into-reads
 
 -- src/functions.rt:123:14
 mul-to : tie.Need-mul-to

@@ -5,9 +5,6 @@ use Rattle.index.specs.EnterLaws.{enters-lent}
 use borrow.Author.Needs.{needs}
 use Rattle.index.proofs.types.type_def.Statement.{statement}
 use Rattle.index.proofs.types.type_def.Tie as tie
-use Rattle.index.proofs.types.type_def.Reads as reads
-use Rattle.index.proofs.types.type_def.Lts as lts
-use Rattle.index.proofs.types.type_into.Reads as type-into-reads
 
 -- src/types.rt:141:21
 sub-type-into : tie.Need-sub-type-into
