@@ -12,7 +12,7 @@ pub struct Estimate {
 }
 
 // A number, which stops at 65,535.
-pub fn capped(n: u32) -> u32
+fn capped(n: u32) -> u32
     ensures { λ r. ⌜ r ≡ stop n ⌝ }
 {
     if NUMBER_MOST < n {

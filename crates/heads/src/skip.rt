@@ -81,13 +81,7 @@ pub fn skip(line: &[u8], index: &[u32; INDEX_WORDS], c: Cursor, levels: u32) -> 
 }
 
 // So many expressions, one after the other.
-pub fn skip_several(
-    line: &[u8],
-    index: &[u32; INDEX_WORDS],
-    c: Cursor,
-    levels: u32,
-    n: u32,
-) -> Cursor
+fn skip_several(line: &[u8], index: &[u32; INDEX_WORDS], c: Cursor, levels: u32, n: u32) -> Cursor
     ensures { λ r. ⌜ SkipsAll (now (line .entry)) (typesOf (now (index .entry))) (functionsOf (now (index .entry))) c levels n r ⌝ }
 {
     if n == 0 {

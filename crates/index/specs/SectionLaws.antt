@@ -2,13 +2,13 @@
 use Prim.Native.Nat.{ℕ, zero, suc, _+_, _-_, _≤_, _<_}
 use mathlib.Core.List.{List, [], _∷_, _++_}
 use mathlib.Core.Path.{_≡_, refl, sym, ap, _∙_}
-use native.Mathlib.Nat.{add-zero, zero-add, suc-add}
+use native.Mathlib.Nat.{zero-add, suc-add}
 use native.Mathlib.Omega.{arith}
-use lib.ListN.{length, getD, take, drop, set, replicate, length-append, length-take, length-drop, List·getD-eq-default}
+use lib.ListN.{length, getD, take, drop, set, replicate, length-take, length-drop, List·getD-eq-default}
 use lib.Seq.{length-take-le, take-nil, getD-take, getD-drop, drop-drop, take-at, drop-at}
 use Rattle.theory.specs.Lists.{take-fewer}
 use Rattle.index.specs.declared.Counts.{Counts}
-use Rattle.index.specs.Sections.{section, countWords, countsOf, indexWords}
+use Rattle.index.specs.Sections.{section, countWords, countsOf}
 
 -- ---- a word of a section
 pub section-word : (from n i : ℕ) (index : List ℕ) → i < n → getD index (from + i) 0 ≡ getD (section from n index) i 0

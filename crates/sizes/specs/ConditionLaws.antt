@@ -4,7 +4,6 @@ use mathlib.Core.List.{List, [], _∷_}
 use mathlib.Core.Bool.{Bool, true, false, not}
 use mathlib.Core.Path.{_≡_, refl, sym, ap, ap₂, _∙_, subst}
 use native.Mathlib.Omega.{arith}
-use native.Mathlib.Nat.{le-refl}
 use lib.ListN.{length, getD}
 use lib.Dec.{ltb, leb, eqb}
 use borrow.Author.Tests.{not-true, not-false}
@@ -65,9 +64,9 @@ module _ (line : List ℕ) (c : Cursor) (Δ : List ℕ) where
       says vars κ w z =
           let i = condition-parts z in
           let here : c .at < length (bytesOf line) = omega (arith, i .spelled .within) in
-          let a = u .says vars (κ .left) (le-refl nestingMost) (w .left) (subst (λ m. Spells sizeBytes line m (κ .left)) (sym (v .next here)) (i .spelled)) in
+          let a = u .says vars (κ .left) (w .left) (subst (λ m. Spells sizeBytes line m (κ .left)) (sym (v .next here)) (i .spelled)) in
           let place : x .next .at ≡ c .at + 1 + length (sizeBytes (κ .left)) = omega (arith, a .ends, v .next here) in
-          let b = t .says vars (κ .right) (le-refl nestingMost) (w .right) (subst (λ m. Spells sizeBytes line m (κ .right)) (sym place) (i .next)) in
+          let b = t .says vars (κ .right) (w .right) (subst (λ m. Spells sizeBytes line m (κ .right)) (sym place) (i .next)) in
           let same : holds ≡ compare (κ .rel) (x .added + y .taken) (y .added + x .taken) = k .says (κ .rel) (v .value here ∙ i .relation) in
           (same ∙ ap₂ (compare (κ .rel)) (ap₂ _+_ (a .isAdded) (b .isTaken)) (ap₂ _+_ (b .isAdded) (a .isTaken)), omega (arith, b .ends, place, i .long))
 

@@ -42,7 +42,7 @@ pub record IsWorked (Δ : List ℕ) (s : Size) (at : ℕ) (r : Worked) : Type 0 
   pub ends : r .next .at ≡ at + length (sizeBytes s)
 
 pub record WorksOut (line : List ℕ) (c : Cursor) (Δ : List ℕ) (levels : ℕ) (r : Worked) : Type 0 where
-  pub says : (vars : ℕ) (s : Size) → levels ≤ nestingMost → WithinSize vars levels s → Spells sizeBytes line (c .at) s → IsWorked Δ s (c .at) r
+  pub says : (vars : ℕ) (s : Size) → WithinSize vars levels s → Spells sizeBytes line (c .at) s → IsWorked Δ s (c .at) r
   pub addedLess : r .added < 2 ^ (8 + levels)
   pub takenLess : r .taken < 2 ^ (8 + levels)
 

@@ -140,30 +140,27 @@ module _ (line : List ℕ) (c : Cursor) (Δ : List ℕ) (levels : ℕ) where
   small h = lt-of-lt-of-le h (least levels)
 
   pub work-none : levels ≡ 0 → WorksOut line c Δ levels (record { added = 0; taken = 0; next = c })
-  work-none q = record { says = λ vars s le w z. absurd (no-level (subst (λ m. WithinSize vars m s) q w)); addedLess = small (omega arith); takenLess = small (omega arith) }
-
-  pub work-deep : nestingMost < levels → WorksOut line c Δ levels (record { added = 0; taken = 0; next = c })
-  work-deep q = record { says = λ vars s le w z. absurd (omega (arith, q, le)); addedLess = small (omega arith); takenLess = small (omega arith) }
+  work-none q = record { says = λ vars s w z. absurd (no-level (subst (λ m. WithinSize vars m s) q w)); addedLess = small (omega arith); takenLess = small (omega arith) }
 
   module _ {f : Found} (v : Reads line c f) where
     pub work-leaf : {r : Worked} → f .value < 3 → LeafWorked line (f .next) Δ (f .value) r → WorksOut line c Δ levels r
     work-leaf less u = record {
-      says = λ vars s le w z. let here = spelled-less z in u .says (c .at) s (v .next here) (sym (v .value here)) less z;
+      says = λ vars s w z. let here = spelled-less z in u .says (c .at) s (v .next here) (sym (v .value here)) less z;
       addedLess = small (u .addedLess);
       takenLess = small (u .takenLess);
     }
 
-    module _ (more : levels ≡ 0 → ⊥) (enough : levels ≤ nestingMost) {x y : Worked} (u : WorksOut line (f .next) Δ (levels - 1) x) (t : WorksOut line (x .next) Δ (levels - 1) y) where
+    module _ (more : levels ≡ 0 → ⊥) {x y : Worked} (u : WorksOut line (f .next) Δ (levels - 1) x) (t : WorksOut line (x .next) Δ (levels - 1) y) where
       first-worked : {vars : ℕ} {s : Size} {join : Size → Size → Size} → Spells sizeBytes line (c .at) s → (i : OfTwoSizes join line (c .at) s) → WithinSize vars (levels - 1) (i .first) → IsWorked Δ (i .first) (c .at + 1) x
       first-worked {vars} z i w =
           let place : f .next .at ≡ c .at + 1 = v .next (spelled-less z) in
-          subst (λ m. IsWorked Δ (i .first) m x) place (u .says vars (i .first) (omega (arith, enough)) w (subst (λ m. Spells sizeBytes line m (i .first)) (sym place) (i .spelled)))
+          subst (λ m. IsWorked Δ (i .first) m x) place (u .says vars (i .first) w (subst (λ m. Spells sizeBytes line m (i .first)) (sym place) (i .spelled)))
 
       second-worked : {vars : ℕ} {s : Size} {join : Size → Size → Size} → Spells sizeBytes line (c .at) s → (i : OfTwoSizes join line (c .at) s) → WithinSize vars (levels - 1) (i .first) → WithinSize vars (levels - 1) (i .second) →
           IsWorked Δ (i .second) (c .at + 1 + length (sizeBytes (i .first))) y
       second-worked {vars} z i w o =
           let place : x .next .at ≡ c .at + 1 + length (sizeBytes (i .first)) = first-worked z i w .ends in
-          subst (λ m. IsWorked Δ (i .second) m y) place (t .says vars (i .second) (omega (arith, enough)) o (subst (λ m. Spells sizeBytes line m (i .second)) (sym place) (i .next)))
+          subst (λ m. IsWorked Δ (i .second) m y) place (t .says vars (i .second) o (subst (λ m. Spells sizeBytes line m (i .second)) (sym place) (i .next)))
 
       both-end : {s : Size} {join : Size → Size → Size} {n : ℕ} (i : OfTwoSizes join line (c .at) s) → n ≡ c .at + 1 + length (sizeBytes (i .first)) + length (sizeBytes (i .second)) → n ≡ c .at + length (sizeBytes s)
       both-end i e = omega (arith, e, ap (λ (a : Size). length (sizeBytes a)) (i .is), i .long)
@@ -172,8 +169,8 @@ module _ (line : List ℕ) (c : Cursor) (Δ : List ℕ) (levels : ℕ) where
       unfolding added
       work-sum code = record { says = sums; addedLess = sum-less (doubled levels more) (u .addedLess) (t .addedLess); takenLess = sum-less (doubled levels more) (u .takenLess) (t .takenLess) }
         where
-          sums : (vars : ℕ) (s : Size) → levels ≤ nestingMost → WithinSize vars levels s → Spells sizeBytes line (c .at) s → IsWorked Δ s (c .at) (record { added = x .added + y .added; taken = x .taken + y .taken; next = y .next })
-          sums vars s le w z =
+          sums : (vars : ℕ) (s : Size) → WithinSize vars levels s → Spells sizeBytes line (c .at) s → IsWorked Δ s (c .at) (record { added = x .added + y .added; taken = x .taken + y .taken; next = y .next })
+          sums vars s w z =
               let i = plus-spelled z (sym (v .value (spelled-less z)) ∙ code) in
               let within = plus-parts (subst (WithinSize vars (suc (levels - 1))) (i .is) (subst (λ m. WithinSize vars m s) (one-less levels more) w)) in
               let a = first-worked z i (within .0) in
@@ -184,8 +181,8 @@ module _ (line : List ℕ) (c : Cursor) (Δ : List ℕ) (levels : ℕ) where
       unfolding added
       work-difference most other = record { says = differs; addedLess = sum-less (doubled levels more) (u .addedLess) (t .takenLess); takenLess = sum-less (doubled levels more) (u .takenLess) (t .addedLess) }
         where
-          differs : (vars : ℕ) (s : Size) → levels ≤ nestingMost → WithinSize vars levels s → Spells sizeBytes line (c .at) s → IsWorked Δ s (c .at) (record { added = x .added + y .taken; taken = x .taken + y .added; next = y .next })
-          differs vars s le w z =
+          differs : (vars : ℕ) (s : Size) → WithinSize vars levels s → Spells sizeBytes line (c .at) s → IsWorked Δ s (c .at) (record { added = x .added + y .taken; taken = x .taken + y .added; next = y .next })
+          differs vars s w z =
               let i = difference-coded (subst (SizeCoded line (c .at) s) (sym (v .value (spelled-less z))) (size-of-byte z)) most other in
               let within = minus-parts (subst (WithinSize vars (suc (levels - 1))) (i .is) (subst (λ m. WithinSize vars m s) (one-less levels more) w)) in
               let a = first-worked z i (within .0) in

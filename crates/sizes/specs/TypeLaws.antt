@@ -4,7 +4,6 @@ use mathlib.Core.List.{List}
 use mathlib.Core.Option.{Option, none, some}
 use mathlib.Core.Path.{_≡_, refl, sym, ap, ap₂, _∙_, subst}
 use native.Mathlib.Omega.{arith}
-use native.Mathlib.Nat.{le-refl}
 use lib.ListN.{length}
 use borrow.Author.Tests.{lt-ltb, le-ltb, le-leb, lt-leb}
 use Rattle.language.specs.Limits.{sizeMost, nestingMost}
@@ -44,20 +43,20 @@ module _ (Δ : List ℕ) (s : Size) where
 module _ (line : List ℕ) (c : Cursor) (Δ : List ℕ) {x : Worked} (u : WorksOut line c Δ nestingMost x) where
   pub size-low : x .added ≤ x .taken → SizeGiven line c Δ SizeOutside
   size-low le = record {
-    says = λ vars s w z. let i = u .says vars s (le-refl nestingMost) w z in size-outside (none-low Δ s (omega (arith, le, i .isAdded, i .isTaken)));
+    says = λ vars s w z. let i = u .says vars s w z in size-outside (none-low Δ s (omega (arith, le, i .isAdded, i .isTaken)));
     bound = no-size;
   }
 
   pub size-high : sizeMost < x .added - x .taken → SizeGiven line c Δ SizeOutside
   size-high high = record {
-    says = λ vars s w z. let i = u .says vars s (le-refl nestingMost) w z in size-outside (none-high Δ s (omega (arith, high, i .isAdded, i .isTaken)));
+    says = λ vars s w z. let i = u .says vars s w z in size-outside (none-high Δ s (omega (arith, high, i .isAdded, i .isTaken)));
     bound = no-size;
   }
 
   pub size-found : x .taken < x .added → x .added - x .taken ≤ sizeMost → SizeGiven line c Δ (SizeIs (x .added - x .taken) (x .next))
   size-found less le = record {
     says = λ vars s w z.
-        let i = u .says vars s (le-refl nestingMost) w z in
+        let i = u .says vars s w z in
         size-is (some-between Δ s (omega (arith, less, i .isAdded, i .isTaken)) (omega (arith, less, le, i .isAdded, i .isTaken)) ∙ sym (ap some (ap₂ _-_ (i .isAdded) (i .isTaken)))) (i .ends);
     bound = size-bound {k = x .added - x .taken} (omega (arith, less), le);
   }

@@ -2,8 +2,8 @@
 pub mod rows;
 
 ghost use mathlib.Core.Path.{_≡_};
-ghost use Prim.Native.Nat.{_<_};
-ghost use Rattle.language.specs.Limits.{byteRange};
+ghost use Prim.Native.Nat.{_<_, _≤_};
+ghost use Rattle.language.specs.Limits.{byteRange, nestingMost};
 ghost use Rattle.language.specs.Sizes.{sameType};
 ghost use Rattle.sizes.specs.Promises.{Reads, Told, LeafWorked, WorksOut, SizeGiven, TypeGiven, Compares, Judges, HoldAll, Hold, Weighs, WeighsAll, meaning, WordOf, FromWord};
 use language::limits::NESTING_MOST;
@@ -14,7 +14,7 @@ use text::Number;
 use text::TYPE_STEP;
 
 // A size: what is added, what is taken away; the cursor behind it.
-pub struct Worked {
+struct Worked {
     pub added: u64,
     pub taken: u64,
     pub next: Cursor,
@@ -40,7 +40,7 @@ pub enum TypeAt {
 }
 
 // Whether a condition holds, and the cursor behind it.
-pub struct Judged {
+struct Judged {
     pub holds: bool,
     pub next: Cursor,
 }
@@ -90,19 +90,16 @@ fn leaf(line: &[u8], c: Cursor, sizes: &[u8], code: u32) -> Worked
 }
 
 // A size with so many levels left.
-pub fn work_out(line: &[u8], c: Cursor, sizes: &[u8], levels: u32) -> Worked
+fn work_out(line: &[u8], c: Cursor, sizes: &[u8], levels: u32) -> Worked
+    requires { ⌜ levels ≤ nestingMost ⌝ }
     ensures { λ r. ⌜ WorksOut (now (line .entry)) c (now (sizes .entry)) levels r ⌝ }
 {
-    let none = Worked {
-        added: 0,
-        taken: 0,
-        next: c,
-    };
     if levels == 0 {
-        return none;
-    }
-    if NESTING_MOST < levels {
-        return none;
+        return Worked {
+            added: 0,
+            taken: 0,
+            next: c,
+        };
     }
     let f = read(line, c);
     let code = f.value;

@@ -1,4 +1,5 @@
 -- `condition` meets its contract, return by return.
+use native.Mathlib.Omega.{arith}
 use Rattle.sizes.specs.ConditionLaws.{sides-fit, condition-judged}
 use Rattle.sizes.proofs.condition.Statement.{statement}
 use Rattle.sizes.proofs.condition.Tie as tie
@@ -7,10 +8,10 @@ read-requires : tie.Need-read-requires
 read-requires c κs = tt
 
 work-out-requires : tie.Need-work-out-requires
-work-out-requires c κs = tt
+work-out-requires c κs = omega arith
 
 work-out-requires-2 : tie.Need-work-out-requires-2
-work-out-requires-2 c κs = tt
+work-out-requires-2 c κs = omega arith
 
 add-compare : tie.Need-add-compare
 add-compare c = record { fits = sides-fit ((c .before .before .before .before .before .work-out .ensures) .addedLess) ((c .before .before .before .work-out2 .ensures) .takenLess) }

@@ -6,7 +6,7 @@ use Rattle.sizes.proofs.size_at.Statement.{statement}
 use Rattle.sizes.proofs.size_at.Tie as tie
 
 work-out-requires : tie.Need-work-out-requires
-work-out-requires c κs = tt
+work-out-requires c κs = omega arith
 
 returns : tie.Need-returns
 returns c = size-low _ _ _ (c .before .work-out .ensures) (omega (arith, (c .if1 .taken)))
