@@ -2903,7 +2903,7 @@ branch-returns : (t : ℕ) → branch-lts.Need-returns (
   at-splits-below t,
   at-splits.Post,
 ) (branch-at t) branch.Post
-branch-returns t c = branch-skipped (c .before .before .before .before .before .before .before .own-fields .ensures) (c .before .before .before .before .before .before .if1 .taken) (c .before .before .before .before .frame-line .ensures) (c .before .before .before .skip .ensures) (c .before .moved .ensures) (c .before .before .nothing .ensures) (c .leaf .ensures)
+branch-returns t c = branch-skipped (c .before .before .before .before .before .before .before .own-fields .ensures) (omega (arith, (c .before .before .before .before .before .before .if1 .taken))) (c .before .before .before .before .frame-line .ensures) (c .before .before .before .skip .ensures) (c .before .moved .ensures) (c .before .before .nothing .ensures) (c .leaf .ensures)
 
 branch-cast-first-split : (t : ℕ) → branch-lts.Need-cast-first-split (
   own-fields-reads.Asked,
