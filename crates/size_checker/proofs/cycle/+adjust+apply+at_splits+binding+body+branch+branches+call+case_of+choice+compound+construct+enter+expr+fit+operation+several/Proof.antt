@@ -11,6 +11,7 @@ use mathlib.Core.Bool.{false}
 use mathlib.Core.Logic.{_⊎_, inl, inr, ⊎-elim}
 use denote.Ref.{now}
 use denote.Enum.Declared.{tagOf, declared}
+use Rattle.heads.proofs.Form.{enum as form-enum}
 use Rattle.heads.specs.declared.Form.{Form}
 use Rattle.heads.specs.declared.Form.the-variants.{Bool as BoolForm, Int, Variable, Now, Last, Let, If, Operator, Call, Construct, Case, Adjust, Fit, Missing}
 use Rattle.sizes.proofs.SizedType.{enum}
