@@ -2,9 +2,7 @@
 -- behind the code, and the parts start behind those; where none is read, the line ends too early or the code is of no form.
 use Prim.Native.Nat.{ℕ, _+_, _≤_, _<_}
 use mathlib.Core.List.{List}
-use mathlib.Core.Bool.{Bool, true, false}
 use mathlib.Core.Path.{_≡_, subst}
-use native.Mathlib.Omega.{arith}
 use lib.ListN.{length}
 use Rattle.language.specs.Limits.{byteRange}
 use Rattle.text.specs.Bytes.{bytesOf}
@@ -72,52 +70,7 @@ Shows line at next Missing = (next ≡ at) × Unread line at
 pub record Heads (line : List ℕ) (at : ℕ) (r : Head) : Type 0 where
   pub shows : Shows line at (r .next .at) (r .form)
 
--- ---- what holds on any bytes
-abbrev pub isRead : Form → Bool
-isRead (BoolForm b) = true
-isRead (Int n) = true
-isRead (Variable v) = true
-isRead (Now c) = true
-isRead (Last c) = true
-isRead Let = true
-isRead If = true
-isRead (Operator o) = true
-isRead (Call f) = true
-isRead (Construct t c) = true
-isRead (Case t) = true
-isRead Adjust = true
-isRead (Fit k) = true
-isRead Missing = false
-
--- the cursor went on, and stays within the line
-pub record Goes (line : List ℕ) (at next : ℕ) : Type 0 where
-  pub on : at < next
-  pub within : next ≤ length (bytesOf line)
-
-coded-goes : {line : List ℕ} {at code next : ℕ} (long : ℕ) → 0 < long → Coded line at code long next → Goes line at next
-coded-goes long some c = record { on = omega (arith, some, c .ends); within = omega (arith, c .ends, c .within) }
-
-module _ {line : List ℕ} {at : ℕ} where
-  shows-goes : {next : ℕ} (f : Form) → isRead f ≡ true → Shows line at next f → Goes line at next
-  shows-goes (BoolForm b) q c = coded-goes 2 (omega arith) (c .0)
-  shows-goes (Int n) q c = coded-goes 5 (omega arith) (c .0)
-  shows-goes (Variable v) q c = coded-goes 2 (omega arith) (c .0)
-  shows-goes (Now k) q c = coded-goes 2 (omega arith) (c .0)
-  shows-goes (Last k) q c = coded-goes 2 (omega arith) (c .0)
-  shows-goes Let q c = coded-goes 1 (omega arith) c
-  shows-goes If q c = coded-goes 1 (omega arith) c
-  shows-goes (Operator o) q c = coded-goes 2 (omega arith) (c .0)
-  shows-goes (Call f) q c = coded-goes 2 (omega arith) (c .0)
-  shows-goes (Construct t k) q c = coded-goes 3 (omega arith) (c .0)
-  shows-goes (Case t) q c = coded-goes 2 (omega arith) (c .0)
-  shows-goes Adjust q c = coded-goes 1 (omega arith) c
-  shows-goes (Fit k) q c = coded-goes 2 (omega arith) (c .0)
-  shows-goes Missing q c = absurd (let z : _≡_ {A = Bool} false true = q in let y : _≡_ {A = ℕ} 0 1 = cc in omega arith)
-
-  module _ {r : Head} (h : Heads line at r) {f : Form} (q : r .form ≡ f) where
-    -- what is known of the form; with it `Shows line at next (Call f)` gives `.1 .small : f < byteRange`
-    pub shown : Shows line at (r .next .at) f
-    shown = subst (Shows line at (r .next .at)) q (h .shows)
-
-    pub head-goes : isRead f ≡ true → Goes line at (r .next .at)
-    head-goes some = shows-goes f some shown
+module _ {line : List ℕ} {at : ℕ} {r : Head} (h : Heads line at r) {f : Form} (q : r .form ≡ f) where
+  -- what is known of the form; with it `Shows line at next (Call f)` gives `.1 .small : f < byteRange`
+  pub shown : Shows line at (r .next .at) f
+  shown = subst (Shows line at (r .next .at)) q (h .shows)

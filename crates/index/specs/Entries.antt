@@ -5,10 +5,10 @@ use mathlib.Core.Path.{_≡_, refl, sym, ap, _∙_}
 use native.Mathlib.Omega.{arith}
 use native.Mathlib.Nat.{mul-suc, mul-zero, mul-le-mul-left}
 use lib.ListN.{length, getD, length-append, List·getD-append}
-use lib.Seq.{getD-append-add, sets}
+use lib.Seq.{getD-append-add}
 use Rattle.language.specs.Format.{spellAll}
 use Rattle.language.specs.Layout.{padded}
-use Rattle.index.specs.Padded.{padded-at, padded-sets}
+use Rattle.index.specs.Padded.{padded-at}
 
 pub spell-append : {A : Type 0} (entry : A → List ℕ) (xs ys : List A) → spellAll entry (xs ++ ys) ≡ spellAll entry xs ++ spellAll entry ys
 unfolding spellAll
@@ -52,7 +52,3 @@ module _ {A : Type 0} (w : ℕ) (entry : A → List ℕ) (wide : (x : A) → len
   table-so-far n xs more i j d room h k =
       let less : w * i + j < w * length xs = omega (arith, mul-suc w i, mul-le-mul-left w h) in
       padded-at n (spellAll entry xs ++ more) (w * i + j) (omega arith) ∙ List·getD-append (spellAll entry xs) more 0 (w * i + j) (omega (arith, spell-length xs)) ∙ spell-at xs i j d h k
-
-  -- one entry more: its words stored at its place, one after the other
-  pub table-grows : (n : ℕ) (xs : List A) (x : A) → w * length xs + w ≤ n → sets (padded n (spellAll entry xs)) (w * length xs) (entry x) ≡ padded n (spellAll entry (xs ++ (x ∷ [])))
-  table-grows n xs x room = ap (λ m. sets (padded n (spellAll entry xs)) m (entry x)) (sym (spell-length xs)) ∙ padded-sets n (spellAll entry xs) (entry x) (omega (arith, wide x, spell-length xs)) ∙ sym (ap (padded n) (spell-more entry xs x))

@@ -1,17 +1,15 @@
 -- The words of the list are those of the machine's records: of each instance its record, and zeros are empty records.
-use Prim.Native.Nat.{ℕ, zero, suc, _+_, _-_, _*_}
+use Prim.Native.Nat.{ℕ, zero, suc, _+_, _*_}
 use mathlib.Core.List.{List, [], _∷_, _++_, map}
 use mathlib.Core.Path.{_≡_, refl, sym, ap, ap₂, _∙_}
 use native.Mathlib.Omega.{arith}
 use native.Mathlib.Nat.{zero-add, suc-add}
-use lib.ListN.{length, drop, replicate}
+use lib.ListN.{replicate}
 use Rattle.language.specs.Format.{spellAll}
 use Rattle.language.specs.Layout.{padded}
 use Rattle.language.specs.Checker.{Instance}
 use Rattle.language.specs.Machine.{Record, emptyRecord, recordOf}
-use Rattle.index.specs.Entries.{spell-append}
-use Rattle.instances.specs.Listed.{instanceWordsCount, instanceWords, flat, Listed}
-use Rattle.instances.specs.ListLaws.{listed-parts}
+use Rattle.instances.specs.Listed.{instanceWordsCount, instanceWords, flat}
 
 unfoldable pub recordWords : Record → List ℕ
 recordWords r = (r .function ∷ r .sizes) ++ (r .numbers .env ∷ r .numbers .heap ∷ r .numbers .stack ∷ [])
@@ -39,8 +37,3 @@ empty-records zero = refl
 empty-records (suc n) =
     let on : instanceWordsCount * suc n ≡ instanceWordsCount + instanceWordsCount * n = omega arith in
     ap₂ (λ (l m : List ℕ). l ++ m) empty-record (empty-records n) ∙ sym (replicate-sum instanceWordsCount (instanceWordsCount * n) 0) ∙ ap (λ m. replicate m 0) (sym on)
-
--- the list and zeros behind it: the records that a call leaves where n are lent
-pub listed-final : {words : List ℕ} (n : ℕ) (L : List Instance) → Listed words L → drop (instanceWordsCount * length L) words ≡ replicate (instanceWordsCount * (n - length L)) 0 →
-    words ≡ spellAll recordWords (map recordOf L ++ replicate (n - length L) emptyRecord)
-listed-final n L v z = listed-parts L v ∙ ap₂ (λ (l m : List ℕ). l ++ m) (flat-records L) (z ∙ sym (empty-records (n - length L))) ∙ sym (spell-append recordWords (map recordOf L) (replicate (n - length L) emptyRecord))

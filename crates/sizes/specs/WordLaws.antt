@@ -14,7 +14,7 @@ use Rattle.theory.specs.Lists.{false-is-not-true}
 use Rattle.theory.specs.SameTests.{same-type, type-same}
 use Rattle.sizes.specs.declared.SizedType.{SizedType}
 use Rattle.sizes.specs.declared.SizedType.the-variants.{Bool as BoolIs, Int as IntIs, Named}
-use Rattle.sizes.specs.Promises.{meaning, Small, small-bool, small-int, small-named, WordOf, FromWord, OneByteEach, bool-small, int-small, named-small}
+use Rattle.sizes.specs.Promises.{meaning, Small, small-bool, small-int, small-named, WordOf, FromWord}
 
 -- ---- the word of a type
 pub word-bool : {x : SizedType} → x ≡ BoolIs → WordOf x 0
@@ -76,9 +76,3 @@ words-same {x} {y} {a} {b} v w = tested (sameType (meaning x) (meaning y)) refl
     tested : (r : Bool) → sameType (meaning x) (meaning y) ≡ r → eqb a b ≡ r
     tested true e = eq-eqb a b (v .is ∙ ap declaredWord (same-type (meaning x) (meaning y) e) ∙ sym (w .is))
     tested false e = ne-eqb a b (λ (z : a ≡ b). false-is-not-true (sym e ∙ type-same (word-once (v .small) (w .small) (sym (v .is) ∙ z ∙ w .is))))
-
--- the types that type_at gives are small
-pub one-byte-small : {x : SizedType} → OneByteEach x → Small (meaning x)
-one-byte-small bool-small = small-bool
-one-byte-small int-small = small-int
-one-byte-small (named-small {k} p q) = small-named {k = k} p (omega (arith, q .1))
