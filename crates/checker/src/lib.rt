@@ -16,8 +16,8 @@ use language::limits::SLOTS_MOST;
 use plain_types::plain_types;
 use reader::Reading;
 use reader::read;
-use size_steps::Counting;
 use size_checker::file::sized_file;
+use size_steps::Counting;
 
 // The least words of a list of instances.
 const LIST_LEAST: usize = INSTANCES_MOST * INSTANCE_WORDS;
