@@ -11,10 +11,21 @@ use index::INDEX_WORDS;
 use index::functions::arity;
 use index::types::constructors;
 use index::types::fields;
+use language::codes::EXPR_ADJUST;
+use language::codes::EXPR_CALL;
+use language::codes::EXPR_CASE;
+use language::codes::EXPR_CONSTRUCT;
+use language::codes::EXPR_FIT;
+use language::codes::EXPR_IF;
+use language::codes::EXPR_INT;
+use language::codes::EXPR_LET;
+use language::codes::EXPR_OPERATOR;
 use language::limits::NESTING_MOST;
 use language::limits::SIZE_VARIABLES_MOST;
 use language::limits::TYPES_MOST;
+use text::BYTE_DIGITS;
 use text::Cursor;
+use text::INT_BYTES;
 use text::Number;
 use text::Step;
 
@@ -29,7 +40,7 @@ fn ahead(line: &[u8], c: Cursor, n: usize) -> Cursor
     ensures { λ r. ⌜ (c .at + n ≤ length (bytesOf (now (line .entry))) → r .at ≡ c .at + n) ⌝ }
 {
     let at = c.at;
-    let most = line.len() / 2;
+    let most = line.len() / BYTE_DIGITS;
     if most < at {
         return c;
     }
@@ -44,27 +55,27 @@ fn fixed(line: &[u8], index: &[u32; INDEX_WORDS], c: Cursor, code: u32) -> Parts
     requires { ⌜ (code ≡ 0x18 → ⊥) × ((code ≡ 0x19 → ⊥) × ((code ≡ 0x1A → ⊥) × (code ≡ 0x1B → ⊥))) ⌝ }
     ensures { λ r. ⌜ Heads (now (line .entry)) (typesOf (now (index .entry))) (functionsOf (now (index .entry))) c code r × (r .count < byteRange) ⌝ }
 {
-    if code == 0x11 {
-        let behind = ahead(line, c, 4);
+    if code == EXPR_INT {
+        let behind = ahead(line, c, INT_BYTES);
         return Parts {
             next: behind,
             count: 0,
         };
     }
-    if code == 0x15 {
+    if code == EXPR_LET {
         return Parts { next: c, count: 2 };
     }
-    if code == 0x16 {
+    if code == EXPR_IF {
         return Parts { next: c, count: 3 };
     }
     let next = ahead(line, c, 1);
-    if code == 0x17 {
+    if code == EXPR_OPERATOR {
         return Parts {
             next: next,
             count: 2,
         };
     }
-    if code == 0x1C {
+    if code == EXPR_FIT {
         return Parts {
             next: next,
             count: 3,
@@ -132,13 +143,13 @@ fn heading(line: &[u8], index: &[u32; INDEX_WORDS], c: Cursor, code: u32) -> Par
     requires { ⌜ (code ≡ 0x1A → ⊥) ⌝ }
     ensures { λ r. ⌜ Heads (now (line .entry)) (typesOf (now (index .entry))) (functionsOf (now (index .entry))) c code r × (r .count < byteRange) ⌝ }
 {
-    if code == 0x18 {
+    if code == EXPR_CALL {
         return call(line, index, c);
     }
-    if code == 0x19 {
+    if code == EXPR_CONSTRUCT {
         return construct(line, index, c);
     }
-    if code == 0x1B {
+    if code == EXPR_ADJUST {
         return adjust(line, index, c);
     }
     fixed(line, index, c, code)
@@ -157,7 +168,7 @@ pub fn skip(line: &[u8], index: &[u32; INDEX_WORDS], c: Cursor, levels: u32) -> 
     };
     let code = f.value;
     let next = f.next;
-    if code == 0x1A {
+    if code == EXPR_CASE {
         return skip_case(line, index, next, levels - 1);
     }
     let parts = heading(line, index, next, code);
