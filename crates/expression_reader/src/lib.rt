@@ -15,6 +15,24 @@ use index::types::constructors;
 use index::types::fields;
 use index::types::own_fields;
 use index::word_at;
+use language::codes::BOOL_FIRST;
+use language::codes::BOOLS;
+use language::codes::EXPR_ADJUST;
+use language::codes::EXPR_BOOL;
+use language::codes::EXPR_CALL;
+use language::codes::EXPR_CASE;
+use language::codes::EXPR_CONSTRUCT;
+use language::codes::EXPR_FIRST;
+use language::codes::EXPR_FORMS;
+use language::codes::EXPR_IF;
+use language::codes::EXPR_INT;
+use language::codes::EXPR_LAST;
+use language::codes::EXPR_LET;
+use language::codes::EXPR_NOW;
+use language::codes::EXPR_OPERATOR;
+use language::codes::EXPR_VARIABLE;
+use language::codes::OPERATOR_FIRST;
+use language::codes::OPERATORS;
 use language::limits::NESTING_MOST;
 use language::limits::SIZE_MOST;
 use language::limits::SIZE_VARIABLES_MOST;
@@ -158,13 +176,38 @@ fn head(line: &[u8], index: &[u32; INDEX_WORDS], c: Cursor, s: Names, levels: u3
     requires { ⌜ (0 < levels → Roomy s) ⌝ }
     ensures { λ r. ⌜ Heads (now (line .entry)) (now (index .entry)) c s r levels ⌝ }
 {
-    let x = c.code_in(line, 0 < levels, 16, 13);
+    let x = c.code_in(line, 0 < levels, EXPR_FIRST, EXPR_FORMS);
     let Number::Is(f) = x else {
         return x;
     };
     let next = f.next;
     behind(line, index, next, s, levels - 1, f.value)
 }
+
+// The forms of an expression, counted from the first code; the last is a fit.
+const BOOL: u32 = EXPR_BOOL - EXPR_FIRST;
+
+const INT: u32 = EXPR_INT - EXPR_FIRST;
+
+const VARIABLE: u32 = EXPR_VARIABLE - EXPR_FIRST;
+
+const NOW: u32 = EXPR_NOW - EXPR_FIRST;
+
+const LAST: u32 = EXPR_LAST - EXPR_FIRST;
+
+const LET: u32 = EXPR_LET - EXPR_FIRST;
+
+const IF: u32 = EXPR_IF - EXPR_FIRST;
+
+const OPERATOR: u32 = EXPR_OPERATOR - EXPR_FIRST;
+
+const CALL: u32 = EXPR_CALL - EXPR_FIRST;
+
+const CONSTRUCT: u32 = EXPR_CONSTRUCT - EXPR_FIRST;
+
+const CASE: u32 = EXPR_CASE - EXPR_FIRST;
+
+const ADJUST: u32 = EXPR_ADJUST - EXPR_FIRST;
 
 // What stands behind the code of a form, with so many levels left inside; forms are counted from `10`.
 fn behind(
@@ -181,18 +224,18 @@ fn behind(
     ensures { λ r. ⌜ Opens (now (line .entry)) (now (index .entry)) c s r (λ S. parts (exprAt levels) S (formAt form)) ⌝ }
 {
     match form {
-        0 => opened(step_of(c.code(line, 0, 2)), 0),
-        1 => opened(c.past_int(line), 0),
-        2 => opened(step_of(c.index(line, s.variables)), 0),
-        3 => opened(step_of(c.index(line, s.now)), 0),
-        4 => opened(step_of(c.index(line, s.last)), 0),
-        5 => opened(binding(line, index, c, s, levels), 0),
-        6 => opened(Step::Next(c), 3),
-        7 => opened(step_of(c.code(line, 0, 8)), 2),
-        8 => call(line, index, c, s),
-        9 => construct(line, index, c, s),
-        10 => opened(case_of(line, index, c, s, levels), 0),
-        11 => opened(c.size(line, s.sizes, NESTING_MOST), 1),
+        BOOL => opened(step_of(c.code(line, BOOL_FIRST, BOOLS)), 0),
+        INT => opened(c.past_int(line), 0),
+        VARIABLE => opened(step_of(c.index(line, s.variables)), 0),
+        NOW => opened(step_of(c.index(line, s.now)), 0),
+        LAST => opened(step_of(c.index(line, s.last)), 0),
+        LET => opened(binding(line, index, c, s, levels), 0),
+        IF => opened(Step::Next(c), 3),
+        OPERATOR => opened(step_of(c.code(line, OPERATOR_FIRST, OPERATORS)), 2),
+        CALL => call(line, index, c, s),
+        CONSTRUCT => construct(line, index, c, s),
+        CASE => opened(case_of(line, index, c, s, levels), 0),
+        ADJUST => opened(c.size(line, s.sizes, NESTING_MOST), 1),
         _ => opened(fit(line, index, c, s, levels), 0),
     }
 }

@@ -4,6 +4,19 @@ pub mod skip;
 ghost use mathlib.Core.Path.{_≡_};
 ghost use Rattle.heads.specs.HeadLaws.{missingHead};
 ghost use Rattle.heads.specs.Heads.{Heads, Coded, OtherCode};
+use language::codes::EXPR_ADJUST;
+use language::codes::EXPR_BOOL;
+use language::codes::EXPR_CALL;
+use language::codes::EXPR_CASE;
+use language::codes::EXPR_CONSTRUCT;
+use language::codes::EXPR_FIT;
+use language::codes::EXPR_IF;
+use language::codes::EXPR_INT;
+use language::codes::EXPR_LAST;
+use language::codes::EXPR_LET;
+use language::codes::EXPR_NOW;
+use language::codes::EXPR_OPERATOR;
+use language::codes::EXPR_VARIABLE;
 use text::Cursor;
 use text::Number;
 
@@ -94,14 +107,14 @@ fn one_operand(line: &[u8], start: Cursor, c: Cursor, code: u32) -> Head
     let b = f.value;
     let next = f.next;
     let form = match code {
-        0x10 => Form::Bool(b),
-        0x12 => Form::Variable(b),
-        0x13 => Form::Now(b),
-        0x14 => Form::Last(b),
-        0x17 => Form::Operator(b),
-        0x18 => Form::Call(b),
-        0x1A => Form::Case(b),
-        0x1C => Form::Fit(b),
+        EXPR_BOOL => Form::Bool(b),
+        EXPR_VARIABLE => Form::Variable(b),
+        EXPR_NOW => Form::Now(b),
+        EXPR_LAST => Form::Last(b),
+        EXPR_OPERATOR => Form::Operator(b),
+        EXPR_CALL => Form::Call(b),
+        EXPR_CASE => Form::Case(b),
+        EXPR_FIT => Form::Fit(b),
         _ => return missing(start),
     };
     Head {
@@ -121,17 +134,17 @@ pub fn head_at(line: &[u8], c: Cursor) -> Head
     let code = f.value;
     let next = f.next;
     match code {
-        0x11 => number(line, c, next),
-        0x15 => Head {
+        EXPR_INT => number(line, c, next),
+        EXPR_LET => Head {
             form: Form::Let,
             next: next,
         },
-        0x16 => Head {
+        EXPR_IF => Head {
             form: Form::If,
             next: next,
         },
-        0x19 => construct(line, c, next),
-        0x1B => Head {
+        EXPR_CONSTRUCT => construct(line, c, next),
+        EXPR_ADJUST => Head {
             form: Form::Adjust,
             next: next,
         },

@@ -10,6 +10,8 @@ use super::CHANNEL_TABLE;
 use super::CHANNEL_WORDS;
 use super::CHANNELS_FROM;
 use super::INDEX_WORDS;
+use super::INITIAL_WORD;
+use super::UPDATE_WORD;
 use super::put;
 use super::section_word;
 use text::Cursor;
@@ -34,7 +36,7 @@ pub fn initial_start(index: &[u32; INDEX_WORDS], c: u32) -> Cursor
         index,
         CHANNELS_FROM,
         CHANNEL_TABLE,
-        CHANNEL_WORDS * (c as usize) + 1,
+        CHANNEL_WORDS * (c as usize) + INITIAL_WORD,
     );
     Cursor { at: word as usize }
 }
@@ -46,7 +48,7 @@ pub fn update_start(index: &[u32; INDEX_WORDS], c: u32) -> Cursor
         index,
         CHANNELS_FROM,
         CHANNEL_TABLE,
-        CHANNEL_WORDS * (c as usize) + 2,
+        CHANNEL_WORDS * (c as usize) + UPDATE_WORD,
     );
     Cursor { at: word as usize }
 }
@@ -57,8 +59,8 @@ fn channel_into(channels: &mut [u32], to: usize, word: u32, initial: u32, update
     ensures { λ _. ⌜ now (channels .exit) ≡ set (set (set (now (channels .entry)) to word) (to + 1) initial) (to + 2) update ⌝ }
 {
     put(channels, to, word);
-    put(channels, to + 1, initial);
-    put(channels, to + 2, update);
+    put(channels, to + INITIAL_WORD, initial);
+    put(channels, to + UPDATE_WORD, update);
 }
 
 // Writes the entry of channel c.

@@ -14,15 +14,21 @@ ghost use Rattle.index.specs.Sections.{indexWords, functionsFrom, functi
 ghost use Rattle.index.specs.SectionLaws.{Outside};
 ghost use Rattle.index.specs.Indexed.{resultAt, conditionsAt, measureAt, bodyAt};
 ghost use Rattle.index.specs.Enters.{Enters, plainWords, parametersEntry, Named};
+use super::BODY_PART;
 use super::CHANNELS_FROM;
+use super::CONDITIONS_PART;
 use super::FUNCTION_TABLE;
 use super::FUNCTION_WORDS;
 use super::FUNCTIONS_FROM;
 use super::HEAD_WORDS;
 use super::INDEX_WORDS;
+use super::MEASURE_PART;
+use super::RESULT_PART;
 use super::one_if;
 use super::put;
 use super::section_word;
+use language::codes::RELATION_FIRST;
+use language::codes::RELATIONS;
 use language::limits::BYTE_RANGE;
 use language::limits::CONDITIONS_MOST;
 use language::limits::MEASURES_MOST;
@@ -104,9 +110,9 @@ fn places_into(functions: &mut [u32], to: usize, a: u32, b: u32, c: u32, d: u32)
     ensures { λ _. ⌜ now (functions .exit) ≡ set (set (set (set (now (functions .entry)) to a) (to + 1) b) (to + 2) c) (to + 3) d ⌝ }
 {
     put(functions, to, a);
-    put(functions, to + 1, b);
-    put(functions, to + 2, c);
-    put(functions, to + 3, d);
+    put(functions, to + CONDITIONS_PART, b);
+    put(functions, to + MEASURE_PART, c);
+    put(functions, to + BODY_PART, d);
 }
 
 // Writes where the parts of function f start: its result, its conditions, its measure and its body.
@@ -145,7 +151,7 @@ pub fn parameter_word(index: &[u32; INDEX_WORDS], f: u32, i: u32) -> u32
     function_word(index, FUNCTION_WORDS * (f as usize) + 1 + (i as usize))
 }
 
-// Where a part of a function starts in its line; part 0 is its result, 1 its conditions, 2 its measure, 3 its body.
+// Where a part of a function starts in its line.
 fn part_start(index: &[u32; INDEX_WORDS], f: u32, part: usize) -> Cursor
     requires { ⌜ part < 4 ⌝ }
     ensures { λ r. ⌜ r .at ≡ getD (functionsOf (now (index .entry))) (functionWords * f + headWords + part) 0 ⌝ }
@@ -157,25 +163,25 @@ fn part_start(index: &[u32; INDEX_WORDS], f: u32, part: usize) -> Cursor
 pub fn result_start(index: &[u32; INDEX_WORDS], f: u32) -> Cursor
     ensures { λ r. ⌜ r .at ≡ resultAt (functionsOf (now (index .entry))) f ⌝ }
 {
-    part_start(index, f, 0)
+    part_start(index, f, RESULT_PART)
 }
 
 pub fn conditions_start(index: &[u32; INDEX_WORDS], f: u32) -> Cursor
     ensures { λ r. ⌜ r .at ≡ conditionsAt (functionsOf (now (index .entry))) f ⌝ }
 {
-    part_start(index, f, 1)
+    part_start(index, f, CONDITIONS_PART)
 }
 
 pub fn measure_start(index: &[u32; INDEX_WORDS], f: u32) -> Cursor
     ensures { λ r. ⌜ r .at ≡ measureAt (functionsOf (now (index .entry))) f ⌝ }
 {
-    part_start(index, f, 2)
+    part_start(index, f, MEASURE_PART)
 }
 
 pub fn body_start(index: &[u32; INDEX_WORDS], f: u32) -> Cursor
     ensures { λ r. ⌜ r .at ≡ bodyAt (functionsOf (now (index .entry))) f ⌝ }
 {
-    part_start(index, f, 3)
+    part_start(index, f, BODY_PART)
 }
 
 // How many parameters of a function are of named types.
@@ -197,7 +203,7 @@ pub fn named(index: &[u32; INDEX_WORDS], f: u32) -> u32
 fn condition(line: &[u8], c: Cursor, vars: u32) -> Step
     ensures { λ r. ⌜ Passes (now (line .entry)) (c .at) r (forget (conditionRead vars (bytesFrom (now (line .entry)) (c .at)))) ⌝ }
 {
-    let x = c.code(line, 0x00, 3);
+    let x = c.code(line, RELATION_FIRST, RELATIONS);
     let Number::Is(f) = x else {
         return step_of(x);
     };

@@ -21,21 +21,50 @@ use language::limits::NODES_MOST;
 use language::limits::PARAMETERS_MOST;
 use language::limits::TYPES_MOST;
 
-// The words of an entry.
+// The words of an entry. A frame: where its line starts, and how long it is.
 const FRAME_WORDS: usize = 2;
 
-const CONSTRUCTOR_WORDS: usize = 2 + FIELDS_MOST;
+// A constructor: how many fields it has, how many of the type itself, and the word of each.
+const CONSTRUCTOR_HEAD: usize = 2;
 
-const TYPE_WORDS: usize = 1 + CONSTRUCTORS_MOST * CONSTRUCTOR_WORDS;
+const CONSTRUCTOR_WORDS: usize = CONSTRUCTOR_HEAD + FIELDS_MOST;
 
+// A type: how many constructors it has, and the entry of each.
+const TYPE_HEAD: usize = 1;
+
+const TYPE_WORDS: usize = TYPE_HEAD + CONSTRUCTORS_MOST * CONSTRUCTOR_WORDS;
+
+// A function: how many parameters it has, the word of each, and where its result, conditions, measure and body start.
 const HEAD_WORDS: usize = 1 + PARAMETERS_MOST;
 
-const FUNCTION_WORDS: usize = HEAD_WORDS + 4;
+const RESULT_PART: usize = 0;
 
-const CHANNEL_WORDS: usize = 3;
+const CONDITIONS_PART: usize = 1;
+
+const MEASURE_PART: usize = 2;
+
+const BODY_PART: usize = 3;
+
+const FUNCTION_WORDS: usize = HEAD_WORDS + BODY_PART + 1;
+
+// A channel: the word of its declared type, and where its initial value and its update start.
+const INITIAL_WORD: usize = 1;
+
+const UPDATE_WORD: usize = 2;
+
+const CHANNEL_WORDS: usize = UPDATE_WORD + 1;
+
+// The words of the counts.
+const TYPE_COUNT: usize = 0;
+
+const FUNCTION_COUNT: usize = 1;
+
+const INPUT_COUNT: usize = 2;
+
+const NODE_COUNT: usize = 3;
 
 // How long the sections are, and where they start.
-const COUNT_WORDS: usize = 4;
+const COUNT_WORDS: usize = NODE_COUNT + 1;
 
 const FRAME_TABLE: usize = (TYPES_MOST + FUNCTIONS_MOST + INPUTS_MOST + NODES_MOST) * FRAME_WORDS;
 
@@ -119,10 +148,10 @@ pub fn frame_counts(index: &[u32; INDEX_WORDS]) -> Counts
     ensures { λ r. ⌜ (r ≡ countsIn (now (index .entry))) × SmallCounts r ⌝ }
 {
     Counts {
-        types: section_word(index, 0, COUNT_WORDS, 0) % BYTE_RANGE,
-        functions: section_word(index, 0, COUNT_WORDS, 1) % BYTE_RANGE,
-        inputs: section_word(index, 0, COUNT_WORDS, 2) % BYTE_RANGE,
-        nodes: section_word(index, 0, COUNT_WORDS, 3) % BYTE_RANGE,
+        types: section_word(index, 0, COUNT_WORDS, TYPE_COUNT) % BYTE_RANGE,
+        functions: section_word(index, 0, COUNT_WORDS, FUNCTION_COUNT) % BYTE_RANGE,
+        inputs: section_word(index, 0, COUNT_WORDS, INPUT_COUNT) % BYTE_RANGE,
+        nodes: section_word(index, 0, COUNT_WORDS, NODE_COUNT) % BYTE_RANGE,
     }
 }
 
@@ -131,8 +160,8 @@ pub fn put_counts(index: &mut [u32], n: Counts)
     requires { ⌜ length (now index) ≡ indexWords ⌝ }
     ensures { λ _. ⌜ CountsPut n (now (index .entry)) (now (index .exit)) ⌝ }
 {
-    put(index, 0, n.types);
-    put(index, 1, n.functions);
-    put(index, 2, n.inputs);
-    put(index, 3, n.nodes);
+    put(index, TYPE_COUNT, n.types);
+    put(index, FUNCTION_COUNT, n.functions);
+    put(index, INPUT_COUNT, n.inputs);
+    put(index, NODE_COUNT, n.nodes);
 }

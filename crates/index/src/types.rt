@@ -12,9 +12,11 @@ ghost use Rattle.index.specs.Sections.{indexWords, typesFrom, typeTableW
 ghost use Rattle.index.specs.SectionLaws.{Outside};
 ghost use Rattle.index.specs.Indexed.{fieldAt};
 ghost use Rattle.index.specs.Enters.{Enters, fieldWords, isOwn, howMany, typeBehind, constructorBehind, SelfFree};
+use super::CONSTRUCTOR_HEAD;
 use super::CONSTRUCTOR_WORDS;
 use super::FUNCTIONS_FROM;
 use super::INDEX_WORDS;
+use super::TYPE_HEAD;
 use super::TYPE_TABLE;
 use super::TYPE_WORDS;
 use super::TYPES_FROM;
@@ -22,6 +24,7 @@ use super::one_if;
 use super::put;
 use super::section_word;
 use super::word_at;
+use language::codes::FIELD_OWN;
 use language::limits::BYTE_RANGE;
 use language::limits::CONSTRUCTORS_MOST;
 use language::limits::FIELDS_MOST;
@@ -30,8 +33,13 @@ use text::Number;
 use text::Step;
 use text::step_of;
 
+// From a type's entry on, where a constructor's count of fields of the type itself stands, and the word of its first field.
+const OWN_COUNT: usize = TYPE_HEAD + 1;
+
+const FIRST_FIELD: usize = TYPE_HEAD + CONSTRUCTOR_HEAD;
+
 // The word of a field of the type itself.
-pub const OWN_FIELD: u32 = 2;
+pub const OWN_FIELD: u32 = FIELD_OWN;
 
 // Reads a field and writes its word.
 fn field_into(line: &[u8], types: &mut [u32], c: Cursor, t: u32, to: usize) -> Step
@@ -92,8 +100,8 @@ fn constructor_into(line: &[u8], types: &mut [u32], c: Cursor, t: u32, to: usize
     };
     let n = f.value;
     let next = f.next;
-    let y = fields_into(line, types, next, t, to + 2, n);
-    let own = own_among(types, to + 2, n);
+    let y = fields_into(line, types, next, t, to + CONSTRUCTOR_HEAD, n);
+    let own = own_among(types, to + CONSTRUCTOR_HEAD, n);
     put(types, to, n);
     put(types, to + 1, own);
     y
@@ -159,21 +167,21 @@ pub fn constructors(index: &[u32; INDEX_WORDS], t: u32) -> u32
 pub fn fields(index: &[u32; INDEX_WORDS], t: u32, c: u32) -> u32
     ensures { λ r. ⌜ (r ≡ getD (typesOf (now (index .entry))) (typeWords * t + 1 + constructorWords * c) 0 % byteRange) × (r < byteRange) ⌝ }
 {
-    let entry = TYPE_WORDS * (t as usize) + 1 + CONSTRUCTOR_WORDS * (c as usize);
+    let entry = TYPE_WORDS * (t as usize) + TYPE_HEAD + CONSTRUCTOR_WORDS * (c as usize);
     type_word(index, entry) % BYTE_RANGE
 }
 
 pub fn own_fields(index: &[u32; INDEX_WORDS], t: u32, c: u32) -> u32
     ensures { λ r. ⌜ (r ≡ getD (typesOf (now (index .entry))) (typeWords * t + 2 + constructorWords * c) 0 % byteRange) × (r < byteRange) ⌝ }
 {
-    let entry = TYPE_WORDS * (t as usize) + 2 + CONSTRUCTOR_WORDS * (c as usize);
+    let entry = TYPE_WORDS * (t as usize) + OWN_COUNT + CONSTRUCTOR_WORDS * (c as usize);
     type_word(index, entry) % BYTE_RANGE
 }
 
 pub fn field_word(index: &[u32; INDEX_WORDS], t: u32, c: u32, i: u32) -> u32
     ensures { λ r. ⌜ r ≡ fieldAt (typesOf (now (index .entry))) t c i ⌝ }
 {
-    let first = TYPE_WORDS * (t as usize) + 3 + CONSTRUCTOR_WORDS * (c as usize);
+    let first = TYPE_WORDS * (t as usize) + FIRST_FIELD + CONSTRUCTOR_WORDS * (c as usize);
     type_word(index, first + (i as usize))
 }
 

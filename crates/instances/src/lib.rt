@@ -15,11 +15,15 @@ use index::word_at;
 use language::limits::INSTANCES_MOST;
 use language::limits::PARAMETERS_MOST;
 
-// The words of a record: the function, its sizes, environment, heap and stack.
-pub const INSTANCE_WORDS: usize = 1 + PARAMETERS_MOST + 3;
-
-// Where its numbers start.
+// Where the numbers of a record start, behind the function and its sizes; the environment is the first of them.
 const NUMBERS_FROM: usize = 1 + PARAMETERS_MOST;
+
+const HEAP_WORD: usize = 1;
+
+const STACK_WORD: usize = 2;
+
+// The words of a record: the function, its sizes, environment, heap and stack.
+pub const INSTANCE_WORDS: usize = NUMBERS_FROM + STACK_WORD + 1;
 
 // How many hints there are. A hint is one more than the number of the record that was added last among those with the same place
 // for it, or 0. It never changes an answer: the record that it names is compared.
@@ -78,8 +82,8 @@ fn numbers(list: &[u32], i: u32) -> Estimate
 {
     let at = INSTANCE_WORDS * (i as usize) + NUMBERS_FROM;
     let env = word_at(list, at);
-    let heap = word_at(list, at + 1);
-    let stack = word_at(list, at + 2);
+    let heap = word_at(list, at + HEAP_WORD);
+    let stack = word_at(list, at + STACK_WORD);
     Estimate {
         env: env,
         heap: heap,
@@ -149,8 +153,8 @@ fn put_numbers(list: &mut [u32], from: usize, x: Estimate)
     ensures { λ _. ⌜ now (list .exit) ≡ sets (now (list .entry)) from (numberWords x) ⌝ }
 {
     put(list, from, x.env);
-    put(list, from + 1, x.heap);
-    put(list, from + 2, x.stack);
+    put(list, from + HEAP_WORD, x.heap);
+    put(list, from + STACK_WORD, x.stack);
 }
 
 // Notes the record behind those in use as the one to look at first for f at these sizes.

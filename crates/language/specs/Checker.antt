@@ -7,6 +7,7 @@ use mathlib.Core.Option.{Option, none, some}
 use lib.ListN.{length, set, getElem? as look}
 use lib.Dec.{ltb, leb, eqb}
 use Rattle.language.specs.Limits.{sizeMost, instancesMost}
+use Rattle.language.specs.Refusals.{badIndex, typesDisagree, sizeOutside, sizesDisagree, conditionFails, measureNotLess, tooManyInstances}
 use Rattle.language.specs.Result.{Result, ok, no, bind, need, from, both, choose}
 use Rattle.language.specs.Syntax.{Constructor, Ty, tbool, tint, tnamed, owns, Expr, ebool, eint, evar, enow, elast, elet, eif, eop, ecall, econ, ecase, eadj, efit, Exprs, enil, econs}
 use Rattle.language.specs.Syntax.{Function, Node, File, constructorsOf, functionFrame, channelFrame, declaredTypes, initialValues}
@@ -40,8 +41,8 @@ pub record Counted : Type 0 where
 
 -- a value of a named type; plain types have been checked before
 unfoldable pub named : {A : Type 0} → Ty → ℕ → (ℕ → ℕ → Result A) → Result A
-named tbool frame k = no 9 frame
-named tint frame k = no 9 frame
+named tbool frame k = no typesDisagree frame
+named tint frame k = no typesDisagree frame
 named (tnamed t j) frame k = k t j
 
 -- one branch at each split
@@ -58,30 +59,30 @@ module _ (P : File) (enter : Enter) where
     pub sized : Expr → Place → List Ty → List ℕ → List Instance → Result Sized
     sized (ebool b) p Γ Δ L = ok (record { type = tbool; numbers = oneCell; list = L })
     sized (eint n) p Γ Δ L = ok (record { type = tint; numbers = oneCell; list = L })
-    sized (evar v) p Γ Δ L = from (look Γ v) 6 (frameAt P p) (λ τ. ok (record { type = τ; numbers = nothing; list = L }))
-    sized (enow c) p Γ Δ L = from (look (channelsAt p) c) 6 (frameAt P p) (λ τ. ok (record { type = τ; numbers = nothing; list = L }))
-    sized (elast c) p Γ Δ L = from (look (channelsAt p) c) 6 (frameAt P p) (λ τ. ok (record { type = τ; numbers = nothing; list = L }))
+    sized (evar v) p Γ Δ L = from (look Γ v) badIndex (frameAt P p) (λ τ. ok (record { type = τ; numbers = nothing; list = L }))
+    sized (enow c) p Γ Δ L = from (look (channelsAt p) c) badIndex (frameAt P p) (λ τ. ok (record { type = τ; numbers = nothing; list = L }))
+    sized (elast c) p Γ Δ L = from (look (channelsAt p) c) badIndex (frameAt P p) (λ τ. ok (record { type = τ; numbers = nothing; list = L }))
     sized (elet a b) p Γ Δ L = bind (sized a p Γ Δ L) (λ q. bind (sized b p (Γ ++ (q .type ∷ [])) Δ (q .list)) (λ r.
         ok (record { type = r .type; numbers = after (q .numbers) (withSlots 1 (r .numbers)); list = r .list })))
-    sized (eif a b d) p Γ Δ L = bind (sized a p Γ Δ L) (λ q. need (sameType (q .type) tbool) 9 (frameAt P p) (bind (sized b p Γ Δ (q .list)) (λ r. bind (sized d p Γ Δ (r .list)) (λ s.
-        need (sameType (s .type) (r .type)) 11 (frameAt P p) (ok (record { type = r .type; numbers = after (q .numbers) (either (r .numbers) (s .numbers)); list = s .list }))))))
-    sized (eop o a b) p Γ Δ L = bind (sized a p Γ Δ L) (λ q. need (sameType (q .type) (baseType (operandType o))) 9 (frameAt P p) (bind (sized b p Γ Δ (q .list)) (λ r.
-        need (sameType (r .type) (baseType (operandType o))) 9 (frameAt P p) (ok (record { type = baseType (opType o); numbers = after (after (q .numbers) (r .numbers)) oneCell; list = r .list })))))
+    sized (eif a b d) p Γ Δ L = bind (sized a p Γ Δ L) (λ q. need (sameType (q .type) tbool) typesDisagree (frameAt P p) (bind (sized b p Γ Δ (q .list)) (λ r. bind (sized d p Γ Δ (r .list)) (λ s.
+        need (sameType (s .type) (r .type)) sizesDisagree (frameAt P p) (ok (record { type = r .type; numbers = after (q .numbers) (either (r .numbers) (s .numbers)); list = s .list }))))))
+    sized (eop o a b) p Γ Δ L = bind (sized a p Γ Δ L) (λ q. need (sameType (q .type) (baseType (operandType o))) typesDisagree (frameAt P p) (bind (sized b p Γ Δ (q .list)) (λ r.
+        need (sameType (r .type) (baseType (operandType o))) typesDisagree (frameAt P p) (ok (record { type = baseType (opType o); numbers = after (after (q .numbers) (r .numbers)) oneCell; list = r .list })))))
     -- "A call checks arguments, conditions, for a self-call that the summed measure falls, the result size, then enters its body"
-    sized (ecall g es) p Γ Δ L = bind (sizeds es p Γ Δ L) (λ q. from (look (P .functions) g) 6 (frameAt P p) (λ F. let ks = sizesOf (q .types) in
-        need (sameTypes (parameterTypes (F .parameters) ks) (q .types)) 9 (frameAt P p) (need (conditionsHold ks (F .conditions)) 12 (frameAt P p)
-        (need (falls p g (weight (F .measure) ks)) 13 (frameAt P p) (from (typeAt ks (F .result)) 10 (functionFrame P g) (λ τ. bind (enter (frameAt P p) g F ks τ (q .list)) (λ r.
+    sized (ecall g es) p Γ Δ L = bind (sizeds es p Γ Δ L) (λ q. from (look (P .functions) g) badIndex (frameAt P p) (λ F. let ks = sizesOf (q .types) in
+        need (sameTypes (parameterTypes (F .parameters) ks) (q .types)) typesDisagree (frameAt P p) (need (conditionsHold ks (F .conditions)) conditionFails (frameAt P p)
+        (need (falls p g (weight (F .measure) ks)) measureNotLess (frameAt P p) (from (typeAt ks (F .result)) sizeOutside (functionFrame P g) (λ τ. bind (enter (frameAt P p) g F ks τ (q .list)) (λ r.
         ok (record { type = τ; numbers = withSlots (length (F .parameters)) (after (q .numbers) (inCall (r .numbers))); list = r .list }))))))))
     -- "10 precedes 11"
-    sized (econ t i es) p Γ Δ L = bind (sizeds es p Γ Δ L) (λ q. from (look (constructorsOf P t) i) 6 (frameAt P p) (λ fs. let ks = ownSizes fs (q .types) in
-        need (ltb (sum ks) sizeMost) 10 (frameAt P p) (need (sameTypes (fieldTypes t fs ks) (q .types)) 11 (frameAt P p)
+    sized (econ t i es) p Γ Δ L = bind (sizeds es p Γ Δ L) (λ q. from (look (constructorsOf P t) i) badIndex (frameAt P p) (λ fs. let ks = ownSizes fs (q .types) in
+        need (ltb (sum ks) sizeMost) sizeOutside (frameAt P p) (need (sameTypes (fieldTypes t fs ks) (q .types)) sizesDisagree (frameAt P p)
         (ok (record { type = tnamed t (1 + sum ks); numbers = after (q .numbers) oneCell; list = q .list })))))
-    sized (ecase t e r bs) p Γ Δ L = bind (sized e p Γ Δ L) (λ q. named (q .type) (frameAt P p) (λ u k. need (eqb u t) 9 (frameAt P p) (from (typeAt Δ r) 10 (frameAt P p) (λ τ.
+    sized (ecase t e r bs) p Γ Δ L = bind (sized e p Γ Δ L) (λ q. named (q .type) (frameAt P p) (λ u k. need (eqb u t) typesDisagree (frameAt P p) (from (typeAt Δ r) sizeOutside (frameAt P p) (λ τ.
         bind (sizedBranches bs (constructorsOf P t) p Γ Δ t k τ (q .list)) (λ s. ok (record { type = τ; numbers = after (q .numbers) (s .numbers); list = s .list }))))))
-    sized (eadj s e) p Γ Δ L = from (typeSize Δ s) 10 (frameAt P p) (λ k. bind (sized e p Γ Δ L) (λ q. named (q .type) (frameAt P p) (λ t j.
-        need (leb j k) 11 (frameAt P p) (ok (record { type = tnamed t k; numbers = q .numbers; list = q .list })))))
+    sized (eadj s e) p Γ Δ L = from (typeSize Δ s) sizeOutside (frameAt P p) (λ k. bind (sized e p Γ Δ L) (λ q. named (q .type) (frameAt P p) (λ t j.
+        need (leb j k) sizesDisagree (frameAt P p) (ok (record { type = tnamed t k; numbers = q .numbers; list = q .list })))))
     sized (efit k a b d) p Γ Δ L = bind (sized a p Γ Δ L) (λ q. named (q .type) (frameAt P p) (λ t j. bind (sized b p (Γ ++ (tnamed t k ∷ [])) Δ (q .list)) (λ r. bind (sized d p Γ Δ (r .list)) (λ s.
-        need (sameType (s .type) (r .type)) 11 (frameAt P p) (ok (record { type = r .type; numbers = after (q .numbers) (either (withSlots 1 (r .numbers)) (s .numbers)); list = s .list }))))))
+        need (sameType (s .type) (r .type)) sizesDisagree (frameAt P p) (ok (record { type = r .type; numbers = after (q .numbers) (either (withSlots 1 (r .numbers)) (s .numbers)); list = s .list }))))))
 
     pub sizeds : Exprs → Place → List Ty → List ℕ → List Instance → Result Sizeds
     sizeds enil p Γ Δ L = ok (record { types = []; numbers = nothing; list = L })
@@ -91,11 +92,11 @@ module _ (P : File) (enter : Enter) where
     -- a branch is skipped, or "checked for every split"; "Agreement with the return type closes each of these checks."
     pub sizedBranches : Exprs → List Constructor → Place → List Ty → List ℕ → ℕ → ℕ → Ty → List Instance → Result Counted
     sizedBranches enil [] p Γ Δ t k τ L = ok (record { numbers = nothing; list = L })
-    sizedBranches enil (fs ∷ cs) p Γ Δ t k τ L = no 9 (frameAt P p)
-    sizedBranches (econs b bs) [] p Γ Δ t k τ L = no 9 (frameAt P p)
+    sizedBranches enil (fs ∷ cs) p Γ Δ t k τ L = no typesDisagree (frameAt P p)
+    sizedBranches (econs b bs) [] p Γ Δ t k τ L = no typesDisagree (frameAt P p)
     sizedBranches (econs b bs) (fs ∷ cs) p Γ Δ t k τ L =
         let skip : Result Counted = sizedBranches bs cs p Γ Δ t k τ L in
-        let take : Result Counted = bind (atSplits (splits (owns fs) (k - 1)) (λ ks M. bind (sized b p (Γ ++ fieldTypes t fs ks) (Δ ++ ks) M) (λ q. need (sameType (q .type) τ) 11 (frameAt P p) (ok (record { numbers = q .numbers; list = q .list })))) L)
+        let take : Result Counted = bind (atSplits (splits (owns fs) (k - 1)) (λ ks M. bind (sized b p (Γ ++ fieldTypes t fs ks) (Δ ++ ks) M) (λ q. need (sameType (q .type) τ) sizesDisagree (frameAt P p) (ok (record { numbers = q .numbers; list = q .list })))) L)
         (λ q. bind (sizedBranches bs cs p Γ Δ t k τ (q .list)) (λ r. ok (record { numbers = either (withSlots (length fs) (q .numbers)) (r .numbers); list = r .list }))) in
         choose (leb k (owns fs)) skip take
 
@@ -111,17 +112,17 @@ foundOr none L r = r
 -- "then enters its body if that instance was not entered before"; the record is added on entry. left: the instances left at
 -- the most, of which the bodies inside are entered.
 unfoldable pub enterAt : File → ℕ → ℕ → Enter
-enterAt P most zero frame g F ks τ L = foundOr (find L g ks) L (no 14 frame)
+enterAt P most zero frame g F ks τ L = foundOr (find L g ks) L (no tooManyInstances frame)
 enterAt P most (suc left) frame g F ks τ L =
-    let body : Result Counted = need (ltb (length L) most) 14 frame (bind (sized P (enterAt P most left) (F .body) (inside g (weight (F .measure) ks)) (parameterTypes (F .parameters) ks) ks (L ++ (record { function = g; sizes = ks; numbers = nothing } ∷ [])))
-    (λ q. need (sameType (q .type) τ) 11 (functionFrame P g) (ok (record { numbers = q .numbers; list = set (q .list) (length L) (record { function = g; sizes = ks; numbers = q .numbers }) })))) in
+    let body : Result Counted = need (ltb (length L) most) tooManyInstances frame (bind (sized P (enterAt P most left) (F .body) (inside g (weight (F .measure) ks)) (parameterTypes (F .parameters) ks) ks (L ++ (record { function = g; sizes = ks; numbers = nothing } ∷ [])))
+    (λ q. need (sameType (q .type) τ) sizesDisagree (functionFrame P g) (ok (record { numbers = q .numbers; list = set (q .list) (length L) (record { function = g; sizes = ks; numbers = q .numbers }) })))) in
     foundOr (find L g ks) L body
 
 -- ---- the file: "Initial values come first in channel order, then updates in node order"
 -- an expression of channel c, which agrees exactly with the declared type
 unfoldable pub sizedChannel : File → ℕ → List Ty → Expr → Ty → List Instance → Result Counted
 sizedChannel P c C e τ L = bind (sized P (enterAt P instancesMost instancesMost) e (outside (channelFrame P c) C) [] [] L)
-    (λ q. need (sameType (q .type) τ) 11 (channelFrame P c) (ok (record { numbers = q .numbers; list = q .list })))
+    (λ q. need (sameType (q .type) τ) sizesDisagree (channelFrame P c) (ok (record { numbers = q .numbers; list = q .list })))
 
 unfoldable pub sizedInitials : File → ℕ → List Expr → List Ty → List Instance → Result (List Instance)
 sizedInitials P c [] τs L = ok L

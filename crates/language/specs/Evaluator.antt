@@ -8,6 +8,7 @@ use mathlib.Core.Option.{Option, none, some}
 use lib.ListN.{length, getD, getElem? as look}
 use lib.Dec.{ltb, leb}
 use Rattle.language.specs.Limits.{sizeMost}
+use Rattle.language.specs.Refusals.{noRefusal, heapSpent, environmentSpent, stackSpent, valueTooLarge}
 use Rattle.language.specs.Result.{both, choose}
 use Rattle.language.specs.Syntax.{Expr, ebool, eint, evar, enow, elast, elet, eif, eop, ecall, econ, ecase, eadj, efit, Exprs, enil, econs, Function, File, fieldsOf}
 use Rattle.language.specs.Heap.{kbool, kint, Cell, leaf, con, truth, applyOp, cellAt, constantIn, constructorIn, sizeIn, fieldsIn, ownSum, fieldsWithin}
@@ -44,7 +45,7 @@ needs false n o = refused n
 
 -- a new cell: 20
 unfoldable pub alloc : ℕ → List Cell → Cell → Out
-alloc cap h c = needs (ltb (length h) cap) 20 (value (length h) (h ++ (c ∷ [])))
+alloc cap h c = needs (ltb (length h) cap) heapSpent (value (length h) (h ++ (c ∷ [])))
 
 -- the cells of the channels: as they stand now (`13`), and before the line (`14`)
 pub record Channels : Type 0 where
@@ -73,15 +74,15 @@ module _ (P : File) (B : Body) (cap : ℕ) (N : Channels) where
     eval (evar v) E s h = value (getD E v 0) h
     eval (enow c) E s h = value (getD (N .now) c 0) h
     eval (elast c) E s h = value (getD (N .last) c 0) h
-    eval (elet a b) E s h = bindOut (eval a E s h) (λ l g. needs (ltb 0 s) 21 (eval b (E ++ (l ∷ [])) (s - 1) g))
+    eval (elet a b) E s h = bindOut (eval a E s h) (λ l g. needs (ltb 0 s) environmentSpent (eval b (E ++ (l ∷ [])) (s - 1) g))
     eval (eif a b d) E s h = bindOut (eval a E s h) (λ l g. let x : Out = eval b E s g in let y : Out = eval d E s g in choose (truth (constantIn (cellAt g l))) x y)
     eval (eop o a b) E s h = bindOut (eval a E s h) (λ l g. bindOut (eval b E s g) (λ j i. alloc cap i (leaf (applyOp o (constantIn (cellAt i l)) (constantIn (cellAt i j))))))
-    eval (ecall f es) E s h = needs (leb (arity P f) s) 21 (bindOuts (evals es E (s - arity P f) h) (λ ls g. B f ls (s - arity P f) g))
+    eval (ecall f es) E s h = needs (leb (arity P f) s) environmentSpent (bindOuts (evals es E (s - arity P f) h) (λ ls g. B f ls (s - arity P f) g))
     eval (econ t c es) E s h = bindOuts (evals es E s h) (λ ls g. let fs = fieldsOf P t c in
-        needs (both (ltb (ownSum g fs ls) sizeMost) (fieldsWithin g fs ls)) 23 (alloc cap g (con t c (1 + ownSum g fs ls) ls)))
+        needs (both (ltb (ownSum g fs ls) sizeMost) (fieldsWithin g fs ls)) valueTooLarge (alloc cap g (con t c (1 + ownSum g fs ls) ls)))
     eval (ecase t e r bs) E s h = bindOut (eval e E s h) (λ l g. evalBranch bs (constructorIn (cellAt g l)) (fieldsIn (cellAt g l)) E s g)
     eval (eadj k e) E s h = eval e E s h
-    eval (efit k a b d) E s h = bindOut (eval a E s h) (λ l g. let x : Out = needs (ltb 0 s) 21 (eval b (E ++ (l ∷ [])) (s - 1) g) in let y : Out = eval d E s g in choose (leb (sizeIn (cellAt g l)) k) x y)
+    eval (efit k a b d) E s h = bindOut (eval a E s h) (λ l g. let x : Out = needs (ltb 0 s) environmentSpent (eval b (E ++ (l ∷ [])) (s - 1) g) in let y : Out = eval d E s g in choose (leb (sizeIn (cellAt g l)) k) x y)
 
     pub evals : Exprs → List ℕ → ℕ → List Cell → Outs
     evals enil E s h = values [] h
@@ -89,15 +90,15 @@ module _ (P : File) (B : Body) (cap : ℕ) (N : Channels) where
 
     -- the branch of constructor c, with its fields ls: "the m of E-CASE is the chosen branch's field count"
     pub evalBranch : Exprs → ℕ → List ℕ → List ℕ → ℕ → List Cell → Out
-    evalBranch enil c ls E s h = refused 0
-    evalBranch (econs b bs) zero ls E s h = needs (leb (length ls) s) 21 (eval b (E ++ ls) (s - length ls) h)
+    evalBranch enil c ls E s h = refused noRefusal
+    evalBranch (econs b bs) zero ls E s h = needs (leb (length ls) s) environmentSpent (eval b (E ++ ls) (s - length ls) h)
     evalBranch (econs b bs) (suc c) ls E s h = evalBranch bs c ls E s h
 
 unfoldable pub enterBody : Option Function → (Expr → Out) → Out
-enterBody none k = refused 0
+enterBody none k = refused noRefusal
 enterBody (some F) k = k (F .body)
 
 -- calls, with u left: 22
 unfoldable pub run : File → ℕ → ℕ → Body
-run P cap zero f ls s h = refused 22
+run P cap zero f ls s h = refused stackSpent
 run P cap (suc u) f ls s h = enterBody (look (P .functions) f) (λ e. eval P (run P cap u) cap noChannels e ls s h)

@@ -8,6 +8,9 @@ use lib.Dec.{ltb}
 use Rattle.language.specs.Syntax.{Field, fbool, fint, own, other, Constructor, TypeDef, Plain, pbool, pint, pnamed, Ty, tbool, tint, tnamed, Size, lit, svar, plus, minus, ResultType, rbool, rint, rnamed}
 use Rattle.language.specs.Syntax.{Op, oadd, osub, omul, oeq, olt, ole, oand, oor, Expr, ebool, eint, evar, enow, elast, elet, eif, eop, ecall, econ, ecase, eadj, efit, Exprs, enil, econs}
 use Rattle.language.specs.Syntax.{Relation, req, rlt, rle, Condition, Function, Input, Node, File}
+use Rattle.language.specs.Codes.{kindType, kindFunction, kindInput, kindNode, typeBool, typeInt, typeNamed, fieldBool, fieldInt, fieldOwn, fieldOther, sizeNumber, sizeVariable, sizeSum, sizeDifference, relationEqual, relationLess, relationAtMost}
+use Rattle.language.specs.Codes.{exprBool, exprInt, exprVariable, exprNow, exprLast, exprLet, exprIf, exprOperator, exprCall, exprConstruct, exprCase, exprAdjust, exprFit}
+use Rattle.language.specs.Codes.{operatorPlus, operatorMinus, operatorTimes, operatorEqual, operatorLess, operatorAtMost, operatorAnd, operatorOr, boolFalse, boolTrue, digitBase, lineFeed}
 
 -- each of a list in turn
 unfoldable pub spellAll : {A : Type 0} → (A → List ℕ) → List A → List ℕ
@@ -16,74 +19,74 @@ spellAll f (x ∷ xs) = f x ++ spellAll f xs
 
 -- ---- bytes
 abbrev pub bit : Bool → ℕ
-bit false = 0
-bit true = 1
+bit false = boolFalse
+bit true = boolTrue
 
 -- "four bytes, high byte first"
 unfoldable pub intBytes : ℕ → List ℕ
 intBytes n = n / 2 ^ 24 % 2 ^ 8 ∷ n / 2 ^ 16 % 2 ^ 8 ∷ n / 2 ^ 8 % 2 ^ 8 ∷ n % 2 ^ 8 ∷ []
 
 unfoldable pub fieldBytes : Field → List ℕ
-fieldBytes fbool = 0x00 ∷ []
-fieldBytes fint = 0x01 ∷ []
-fieldBytes own = 0x02 ∷ []
-fieldBytes (other t k) = 0x03 ∷ t ∷ k ∷ []
+fieldBytes fbool = fieldBool ∷ []
+fieldBytes fint = fieldInt ∷ []
+fieldBytes own = fieldOwn ∷ []
+fieldBytes (other t k) = fieldOther ∷ t ∷ k ∷ []
 
 unfoldable pub plainBytes : Plain → List ℕ
-plainBytes pbool = 0x00 ∷ []
-plainBytes pint = 0x01 ∷ []
-plainBytes (pnamed t) = 0x02 ∷ t ∷ []
+plainBytes pbool = typeBool ∷ []
+plainBytes pint = typeInt ∷ []
+plainBytes (pnamed t) = typeNamed ∷ t ∷ []
 
 unfoldable pub declaredBytes : Ty → List ℕ
-declaredBytes tbool = 0x00 ∷ []
-declaredBytes tint = 0x01 ∷ []
-declaredBytes (tnamed t k) = 0x02 ∷ t ∷ k ∷ []
+declaredBytes tbool = typeBool ∷ []
+declaredBytes tint = typeInt ∷ []
+declaredBytes (tnamed t k) = typeNamed ∷ t ∷ k ∷ []
 
 unfoldable pub sizeBytes : Size → List ℕ
-sizeBytes (lit k) = 0x01 ∷ k ∷ []
-sizeBytes (svar i) = 0x02 ∷ i ∷ []
-sizeBytes (plus a b) = 0x03 ∷ sizeBytes a ++ sizeBytes b
-sizeBytes (minus a b) = 0x04 ∷ sizeBytes a ++ sizeBytes b
+sizeBytes (lit k) = sizeNumber ∷ k ∷ []
+sizeBytes (svar i) = sizeVariable ∷ i ∷ []
+sizeBytes (plus a b) = sizeSum ∷ sizeBytes a ++ sizeBytes b
+sizeBytes (minus a b) = sizeDifference ∷ sizeBytes a ++ sizeBytes b
 
 unfoldable pub resultBytes : ResultType → List ℕ
-resultBytes rbool = 0x00 ∷ []
-resultBytes rint = 0x01 ∷ []
-resultBytes (rnamed t s) = 0x02 ∷ t ∷ sizeBytes s
+resultBytes rbool = typeBool ∷ []
+resultBytes rint = typeInt ∷ []
+resultBytes (rnamed t s) = typeNamed ∷ t ∷ sizeBytes s
 
 abbrev pub opCode : Op → ℕ
-opCode oadd = 0x00
-opCode osub = 0x01
-opCode omul = 0x02
-opCode oeq = 0x03
-opCode olt = 0x04
-opCode ole = 0x05
-opCode oand = 0x06
-opCode oor = 0x07
+opCode oadd = operatorPlus
+opCode osub = operatorMinus
+opCode omul = operatorTimes
+opCode oeq = operatorEqual
+opCode olt = operatorLess
+opCode ole = operatorAtMost
+opCode oand = operatorAnd
+opCode oor = operatorOr
 
 unfoldable mutual
   pub exprBytes : Expr → List ℕ
-  exprBytes (ebool b) = 0x10 ∷ bit b ∷ []
-  exprBytes (eint n) = 0x11 ∷ intBytes n
-  exprBytes (evar v) = 0x12 ∷ v ∷ []
-  exprBytes (enow c) = 0x13 ∷ c ∷ []
-  exprBytes (elast c) = 0x14 ∷ c ∷ []
-  exprBytes (elet a b) = 0x15 ∷ exprBytes a ++ exprBytes b
-  exprBytes (eif a b d) = 0x16 ∷ exprBytes a ++ (exprBytes b ++ exprBytes d)
-  exprBytes (eop o a b) = 0x17 ∷ opCode o ∷ exprBytes a ++ exprBytes b
-  exprBytes (ecall f es) = 0x18 ∷ f ∷ exprsBytes es
-  exprBytes (econ t c es) = 0x19 ∷ t ∷ c ∷ exprsBytes es
-  exprBytes (ecase t e r bs) = 0x1A ∷ t ∷ exprBytes e ++ (resultBytes r ++ exprsBytes bs)
-  exprBytes (eadj s e) = 0x1B ∷ sizeBytes s ++ exprBytes e
-  exprBytes (efit k a b d) = 0x1C ∷ k ∷ exprBytes a ++ (exprBytes b ++ exprBytes d)
+  exprBytes (ebool b) = exprBool ∷ bit b ∷ []
+  exprBytes (eint n) = exprInt ∷ intBytes n
+  exprBytes (evar v) = exprVariable ∷ v ∷ []
+  exprBytes (enow c) = exprNow ∷ c ∷ []
+  exprBytes (elast c) = exprLast ∷ c ∷ []
+  exprBytes (elet a b) = exprLet ∷ exprBytes a ++ exprBytes b
+  exprBytes (eif a b d) = exprIf ∷ exprBytes a ++ (exprBytes b ++ exprBytes d)
+  exprBytes (eop o a b) = exprOperator ∷ opCode o ∷ exprBytes a ++ exprBytes b
+  exprBytes (ecall f es) = exprCall ∷ f ∷ exprsBytes es
+  exprBytes (econ t c es) = exprConstruct ∷ t ∷ c ∷ exprsBytes es
+  exprBytes (ecase t e r bs) = exprCase ∷ t ∷ exprBytes e ++ (resultBytes r ++ exprsBytes bs)
+  exprBytes (eadj s e) = exprAdjust ∷ sizeBytes s ++ exprBytes e
+  exprBytes (efit k a b d) = exprFit ∷ k ∷ exprBytes a ++ (exprBytes b ++ exprBytes d)
 
   pub exprsBytes : Exprs → List ℕ
   exprsBytes enil = []
   exprsBytes (econs e es) = exprBytes e ++ exprsBytes es
 
 abbrev pub relationCode : Relation → ℕ
-relationCode req = 0x00
-relationCode rlt = 0x01
-relationCode rle = 0x02
+relationCode req = relationEqual
+relationCode rlt = relationLess
+relationCode rle = relationAtMost
 
 unfoldable pub conditionBytes : Condition → List ℕ
 conditionBytes c = relationCode (c .rel) ∷ sizeBytes (c .left) ++ sizeBytes (c .right)
@@ -107,8 +110,8 @@ nodeBytes n = declaredBytes (n .declared) ++ (exprBytes (n .initial) ++ exprByte
 
 -- "Frames stand in the order types (01), functions (02), inputs (03), nodes (04)"
 unfoldable pub fileFrames : File → List (List ℕ)
-fileFrames P = map (λ d. 0x01 ∷ typeBytes d) (P .types) ++ (map (λ F. 0x02 ∷ functionBytes F) (P .functions)
-    ++ (map (λ i. 0x03 ∷ inputBytes i) (P .inputs) ++ map (λ n. 0x04 ∷ nodeBytes n) (P .nodes)))
+fileFrames P = map (λ d. kindType ∷ typeBytes d) (P .types) ++ (map (λ F. kindFunction ∷ functionBytes F) (P .functions)
+    ++ (map (λ i. kindInput ∷ inputBytes i) (P .inputs) ++ map (λ n. kindNode ∷ nodeBytes n) (P .nodes)))
 
 -- ---- text: "Lines of upper-case hexadecimal pairs, one frame a line, each ended by LF (0A)"
 unfoldable pub pickDigit : Bool → ℕ → ℕ
@@ -120,10 +123,7 @@ unfoldable pub digitOf : ℕ → ℕ
 digitOf d = pickDigit (ltb d 10) d
 
 unfoldable pub pairOf : ℕ → List ℕ
-pairOf b = digitOf (b / 16) ∷ digitOf (b % 16) ∷ []
-
-abbrev pub lineFeed : ℕ
-lineFeed = 0x0A
+pairOf b = digitOf (b / digitBase) ∷ digitOf (b % digitBase) ∷ []
 
 unfoldable pub lineText : List ℕ → List ℕ
 lineText bs = spellAll pairOf bs ++ (lineFeed ∷ [])

@@ -1,4 +1,6 @@
 pub mod Limits
+pub mod Refusals
+pub mod Codes
 pub mod Constants
 pub mod Result
 pub mod Syntax

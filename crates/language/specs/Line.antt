@@ -7,6 +7,8 @@ use mathlib.Core.Option.{Option, none, some}
 use lib.ListN.{length}
 use lib.Dec.{eqb}
 use Rattle.language.specs.Result.{both, when, chain}
+use Rattle.language.specs.Refusals.{badInputLine}
+use Rattle.language.specs.Codes.{kindInputLine, exprFirst, boolFirst}
 use Rattle.language.specs.Syntax.{Ty, Input, File, constructorsOf, fieldsOf}
 use Rattle.language.specs.Heap.{kbool, kint, Tree, vleaf, vcon, Trees, vnil, vcons}
 use Rattle.language.specs.Values.{fits}
@@ -24,7 +26,7 @@ valueTrees p (suc n) = do
 -- what stands behind the code of a value; inner reads a field
 unfoldable pub valueBehind : File → Parser Tree → Form → Parser Tree
 valueBehind P inner boolForm = do
-  b ← code 0x00 bools
+  b ← code boolFirst bools
   return (vleaf (kbool b))
 valueBehind P inner intForm = do
   n ← int
@@ -34,22 +36,22 @@ valueBehind P inner conForm = do
   c ← index (length (constructorsOf P t))
   vs ← valueTrees inner (length (fieldsOf P t c))
   return (vcon t c vs)
-valueBehind P inner varForm = refuse 19
-valueBehind P inner nowForm = refuse 19
-valueBehind P inner lastForm = refuse 19
-valueBehind P inner letForm = refuse 19
-valueBehind P inner ifForm = refuse 19
-valueBehind P inner opForm = refuse 19
-valueBehind P inner callForm = refuse 19
-valueBehind P inner caseForm = refuse 19
-valueBehind P inner adjForm = refuse 19
-valueBehind P inner fitForm = refuse 19
+valueBehind P inner varForm = refuse badInputLine
+valueBehind P inner nowForm = refuse badInputLine
+valueBehind P inner lastForm = refuse badInputLine
+valueBehind P inner letForm = refuse badInputLine
+valueBehind P inner ifForm = refuse badInputLine
+valueBehind P inner opForm = refuse badInputLine
+valueBehind P inner callForm = refuse badInputLine
+valueBehind P inner caseForm = refuse badInputLine
+valueBehind P inner adjForm = refuse badInputLine
+valueBehind P inner fitForm = refuse badInputLine
 
 -- a value that takes at most n bytes
 unfoldable pub valueAt : ℕ → File → Parser Tree
-valueAt zero P = refuse 19
+valueAt zero P = refuse badInputLine
 valueAt (suc n) P = do
-  form ← code 0x10 forms
+  form ← code exprFirst forms
   valueBehind P (valueAt n P) form
 
 -- values for the inputs, and no byte more
@@ -60,7 +62,7 @@ allRead (bad n) = none
 
 unfoldable pub inputTrees : File → List ℕ → Option (List Tree)
 inputTrees P [] = none
-inputTrees P (k ∷ bs) = chain (when (eqb k 0x05) bs) (λ cs. allRead (many (valueAt (length cs) P) (length (P .inputs)) cs))
+inputTrees P (k ∷ bs) = chain (when (eqb k kindInputLine) bs) (λ cs. allRead (many (valueAt (length cs) P) (length (P .inputs)) cs))
 
 unfoldable pub treesFit : File → List Tree → List Ty → Bool
 treesFit P [] [] = true

@@ -7,6 +7,7 @@ use mathlib.Core.Option.{none}
 use lib.ListN.{length, drop, replicate}
 use lib.Dec.{leb}
 use Rattle.language.specs.Limits.{parametersMost, instancesMost, cellsMost, slotsMost, callsMost, scratchWords}
+use Rattle.language.specs.Refusals.{noRefusal, noFrame, heapShort, environmentShort, stackShort, notLent, badInputLine, heapSpent, valueTooLarge}
 use Rattle.language.specs.Result.{Result, ok, no, bind, need, from, both, choose}
 use Rattle.language.specs.Syntax.{Node, File, channelFrame}
 use Rattle.language.specs.Reader.{readFile}
@@ -59,10 +60,10 @@ pub data Verdict : Type 0 where
 
 -- "three bounds, zero except on acceptance by checker or start and in 15 to 17"
 unfoldable pub answer : Verdict → Answer
-answer (accepted x) = record { number = 0; frame = 0; bounds = x }
-answer done = record { number = 0; frame = 0; bounds = nothing }
+answer (accepted x) = record { number = noRefusal; frame = noFrame; bounds = x }
+answer done = record { number = noRefusal; frame = noFrame; bounds = nothing }
 answer (refusal n frame) = record { number = n; frame = frame; bounds = nothing }
-answer (short n x) = record { number = n; frame = 0; bounds = x }
+answer (short n x) = record { number = n; frame = noFrame; bounds = x }
 
 -- ---- checking
 -- 1 to 9, 18 where what is lent is not enough, then 10 to 14
@@ -71,11 +72,11 @@ pub record Accepted : Type 0 where
   pub sizes : SizedFile
 
 unfoldable pub checkFile : List ℕ → Bool → Result Accepted
-checkFile t lent = bind (readFile t) (λ P. plainTypes P (need lent 18 0 (bind (sizedFile P) (λ q. ok (record { file = P; sizes = q })))))
+checkFile t lent = bind (readFile t) (λ P. plainTypes P (need lent notLent noFrame (bind (sizedFile P) (λ q. ok (record { file = P; sizes = q })))))
 
 -- 15, 16, 17: "heap, environment, stack needed above the board's"; x is what is reported
 unfoldable pub judge : Board → Estimate → Verdict
-judge b x = choose (leb (x .heap) (b .cells)) (choose (leb (x .env) (b .slots)) (choose (leb (x .stack) (b .calls)) (accepted x) (short 17 x)) (short 16 x)) (short 15 x)
+judge b x = choose (leb (x .heap) (b .cells)) (choose (leb (x .env) (b .slots)) (choose (leb (x .stack) (b .calls)) (accepted x) (short stackShort x)) (short environmentShort x)) (short heapShort x)
 
 unfoldable pub judged : Board → Accepted → Verdict
 judged b a = judge b (stopped (numbersNeeded (a .file) (a .sizes .updates)))
@@ -175,14 +176,14 @@ channelValue frame (refused n) k = no n frame
 unfoldable pub putInputs : File → ℕ → ℕ → List Tree → List Cell → List ℕ → Result State
 putInputs P cells c [] h roots = ok (record { heap = h; roots = roots })
 putInputs P cells c (v ∷ vs) h roots = let r = build P v h in
-    need (leb (length (r .heap)) cells) 20 (channelFrame P c) (putInputs P cells (suc c) vs (r .heap) (roots ++ (r .location ∷ [])))
+    need (leb (length (r .heap)) cells) heapSpent (channelFrame P c) (putInputs P cells (suc c) vs (r .heap) (roots ++ (r .location ∷ [])))
 
 -- the nodes from channel c on; "a node's value above its declared size is refusal 23". now: the channels before; old: those left.
 unfoldable pub updateNodes : File → Board → List ℕ → ℕ → List Node → List Cell → List ℕ → List ℕ → Result State
 updateNodes P b last c [] h now old = ok (record { heap = h; roots = now })
 updateNodes P b last c (n ∷ ns) h now old =
     channelValue (channelFrame P c) (eval P (run P (b .cells) (b .calls)) (b .cells) (record { now = now ++ old; last = last }) (n .update) [] (b .slots) h)
-    (λ l g. need (leb (sizeIn (cellAt g l)) (sizeOfType (n .declared))) 23 (channelFrame P c) (updateNodes P b last (suc c) ns g (now ++ (l ∷ [])) (drop 1 old)))
+    (λ l g. need (leb (sizeIn (cellAt g l)) (sizeOfType (n .declared))) valueTooLarge (channelFrame P c) (updateNodes P b last (suc c) ns g (now ++ (l ∷ [])) (drop 1 old)))
 
 -- an iteration on a valid state with an allowed line's trees
 unfoldable pub iterateState : File → Board → State → List Tree → Result State
@@ -191,7 +192,7 @@ iterateState P b s vs = bind (putInputs P (b .cells) 0 vs (s .heap) []) (λ q.
 
 -- "An iteration runs 1 to 9, 18, 19, then 20 to 23 where the rules meet them"
 unfoldable pub iterateFile : List ℕ → Board → Bool → List ℕ → List ℕ → Result State
-iterateFile t b lent state line = bind (readFile t) (λ P. plainTypes P (need lent 18 0 (from (loadState P (b .cells) state) 18 0 (λ s. from (lineTrees P line) 19 0 (λ vs. iterateState P b s vs)))))
+iterateFile t b lent state line = bind (readFile t) (λ P. plainTypes P (need lent notLent noFrame (from (loadState P (b .cells) state) notLent noFrame (λ s. from (lineTrees P line) badInputLine noFrame (λ vs. iterateState P b s vs)))))
 
 pub record Iterated : Type 0 where
   pub answer : Answer

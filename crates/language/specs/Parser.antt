@@ -7,6 +7,7 @@ use mathlib.Core.Option.{Option, none, some}
 use lib.ListN.{getElem? as look}
 use lib.Dec.{ltb, leb}
 use Rattle.language.specs.Result.{both, choose}
+use Rattle.language.specs.Refusals.{badLength, badCode, badIndex, outsideLimits}
 
 pub data Read (A : Type 0) : Type 0 where
   got : A → List ℕ → Read A
@@ -39,19 +40,19 @@ fromOption none n bs = bad n
 
 -- "bytes end early": 4
 unfoldable pub byte : Parser ℕ
-byte [] = bad 4
+byte [] = bad badLength
 byte (b ∷ bs) = got b bs
 
 -- an index below n: 6; a count from least to most: 7
 unfoldable pub index : ℕ → Parser ℕ
 index n = do
   i ← byte
-  must (ltb i n) 6 (return i)
+  must (ltb i n) badIndex (return i)
 
 unfoldable pub count : ℕ → ℕ → Parser ℕ
 count least most = do
   n ← byte
-  must (both (leb least n) (leb n most)) 7 (return n)
+  must (both (leb least n) (leb n most)) outsideLimits (return n)
 
 -- a code: its place in the table of its set, counted from the first code: 5
 unfoldable pub decode : {A : Type 0} → ℕ → List A → ℕ → Option A
@@ -60,13 +61,13 @@ decode first table b = choose (leb first b) (look table (b - first)) none
 unfoldable pub code : {A : Type 0} → ℕ → List A → Parser A
 code first table = do
   b ← byte
-  fromOption (decode first table b) 5
+  fromOption (decode first table b) badCode
 
 -- the same where no room is left: 5 comes before 7
 unfoldable pub codeIn : {A : Type 0} → Bool → ℕ → List A → Parser A
 codeIn room first table = do
   a ← code first table
-  must room 7 (return a)
+  must room outsideLimits (return a)
 
 -- n times
 unfoldable pub many : {A : Type 0} → Parser A → ℕ → Parser (List A)

@@ -7,6 +7,7 @@ use mathlib.Core.Option.{Option, none, some}
 use lib.ListN.{getElem? as look}
 use lib.Dec.{eqb}
 use Rattle.language.specs.Result.{Result, needEach, both, when, chain}
+use Rattle.language.specs.Refusals.{typesDisagree}
 use Rattle.language.specs.Syntax.{Field, fbool, fint, own, other, Constructor, Plain, pbool, pint, pnamed, Ty, tbool, tint, tnamed, ResultType, rbool, rint, rnamed}
 use Rattle.language.specs.Syntax.{Op, oadd, osub, omul, oeq, olt, ole, oand, oor, Expr, ebool, eint, evar, enow, elast, elet, eif, eop, ecall, econ, ecase, eadj, efit, Exprs, enil, econs}
 use Rattle.language.specs.Syntax.{Function, Input, Node, File, constructorsOf, declaredTypes, functionFrame}
@@ -146,4 +147,4 @@ plainNode P n = both (plainInitial P (n .declared) (n .initial)) (isPlain (plain
 
 -- refusal 9 unless every frame's plain types agree
 unfoldable pub plainTypes : {A : Type 0} → File → Result A → Result A
-plainTypes P r = needEach 9 (functionFrame P 0) (map (plainFunction P) (P .functions) ++ (map (plainInput P) (P .inputs) ++ map (plainNode P) (P .nodes))) r
+plainTypes P r = needEach typesDisagree (functionFrame P 0) (map (plainFunction P) (P .functions) ++ (map (plainInput P) (P .inputs) ++ map (plainNode P) (P .nodes))) r

@@ -5,6 +5,8 @@ use mathlib.Core.List.{List, [], _∷_}
 use mathlib.Core.Bool.{Bool, true, false}
 use lib.ListN.{length, getD}
 use Rattle.language.specs.Limits.{sizeMost, nestingMost}
+use Rattle.language.specs.Refusals.{outsideLimits}
+use Rattle.language.specs.Codes.{typeFirst, fieldFirst, sizeFirst, exprFirst, operatorFirst, boolFirst}
 use Rattle.language.specs.Syntax.{Field, fbool, fint, own, other, Constructor, Plain, pbool, pint, pnamed, Ty, tbool, tint, tnamed, Size, lit, svar, plus, minus, ResultType, rbool, rint, rnamed, owns}
 use Rattle.language.specs.Syntax.{Op, oadd, osub, omul, oeq, olt, ole, oand, oor, Expr, ebool, eint, evar, enow, elast, elet, eif, eop, ecall, econ, ecase, eadj, efit, Exprs, enil, econs}
 use Rattle.language.specs.Scope.{Scope, wider, roomIn}
@@ -33,7 +35,7 @@ fieldBehind types otherField = do
 
 unfoldable pub field : ℕ → Parser Field
 field types = do
-  form ← code 0x00 fieldForms
+  form ← code fieldFirst fieldForms
   fieldBehind types form
 
 -- a type: Bool, Int or a named one
@@ -52,7 +54,7 @@ plainBehind types namedType = do
 
 unfoldable pub plain : ℕ → Parser Plain
 plain types = do
-  form ← code 0x00 typeForms
+  form ← code typeFirst typeForms
   plainBehind types form
 
 unfoldable pub declaredBehind : ℕ → TypeForm → Parser Ty
@@ -65,7 +67,7 @@ declaredBehind types namedType = do
 
 unfoldable pub declared : ℕ → Parser Ty
 declared types = do
-  form ← code 0x00 typeForms
+  form ← code typeFirst typeForms
   declaredBehind types form
 
 pub data SizeForm : Type 0 where
@@ -94,10 +96,10 @@ sizeBehind vars inner minusSize = do
 -- a size with n levels left
 unfoldable pub sizeAt : ℕ → ℕ → Parser Size
 sizeAt zero vars = do
-  form ← codeIn false 0x01 sizeForms
-  refuse 7
+  form ← codeIn false sizeFirst sizeForms
+  refuse outsideLimits
 sizeAt (suc n) vars = do
-  form ← codeIn true 0x01 sizeForms
+  form ← codeIn true sizeFirst sizeForms
   sizeBehind vars (sizeAt n vars) form
 
 abbrev pub size : ℕ → Parser Size
@@ -113,7 +115,7 @@ resultBehind types vars namedType = do
 
 unfoldable pub result : ℕ → ℕ → Parser ResultType
 result types vars = do
-  form ← code 0x00 typeForms
+  form ← code typeFirst typeForms
   resultBehind types vars form
 
 -- ---- expressions
@@ -158,7 +160,7 @@ branches inner S (fs ∷ cs) = do
 -- what stands behind the code of a form; inner reads an expression one level further in
 unfoldable pub exprBehind : (Scope → Parser Expr) → Scope → Form → Parser Expr
 exprBehind inner S boolForm = do
-  b ← code 0x00 bools
+  b ← code boolFirst bools
   return (ebool b)
 exprBehind inner S intForm = do
   n ← int
@@ -182,7 +184,7 @@ exprBehind inner S ifForm = do
   d ← inner S
   return (eif a b d)
 exprBehind inner S opForm = do
-  o ← code 0x00 ops
+  o ← code operatorFirst ops
   a ← inner S
   b ← inner S
   return (eop o a b)
@@ -215,10 +217,10 @@ exprBehind inner S fitForm = do
 -- an expression with n levels left; a scope too wide is noticed at its first byte
 unfoldable pub exprAt : ℕ → Scope → Parser Expr
 exprAt zero S = do
-  form ← codeIn false 0x10 forms
-  refuse 7
+  form ← codeIn false exprFirst forms
+  refuse outsideLimits
 exprAt (suc n) S = do
-  form ← codeIn (roomIn S) 0x10 forms
+  form ← codeIn (roomIn S) exprFirst forms
   exprBehind (exprAt n) S form
 
 abbrev pub expr : Scope → Parser Expr

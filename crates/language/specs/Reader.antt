@@ -7,8 +7,9 @@ use mathlib.Core.Option.{Option, none, some}
 use lib.ListN.{length}
 use lib.Dec.{ltb, leb, eqb}
 use Rattle.language.specs.Limits.{textMost, typesMost, functionsMost, inputsMost, nodesMost, constructorsMost, fieldsMost, parametersMost, conditionsMost, measuresMost}
+use Rattle.language.specs.Refusals.{noFrame, textTooLong, badLine, badFrame, badLength, noBaseConstructor}
+use Rattle.language.specs.Codes.{kindInput, kindNode, kindFirst, relationFirst, digitBase, lineFeed}
 use Rattle.language.specs.Syntax.{TypeDef, Relation, req, rlt, rle, Condition, Function, Input, Node, File, selfFree}
-use Rattle.language.specs.Format.{lineFeed}
 use Rattle.language.specs.Result.{Result, ok, no, bind, need, from, both, oneOf, when, choose}
 use Rattle.language.specs.Parser.{Read, got, bad, Parser, _>>=_, return, index, code, counted, decode}
 use Rattle.language.specs.Scope.{namedCount, bodyScope, outerScope}
@@ -23,7 +24,7 @@ relations = req ∷ rlt ∷ rle ∷ []
 
 unfoldable pub condition : ℕ → Parser Condition
 condition vars = do
-  r ← code 0x00 relations
+  r ← code relationFirst relations
   a ← size vars
   b ← size vars
   return (record { rel = r; left = a; right = b })
@@ -54,7 +55,7 @@ node channels known = do
 -- "bytes end early or go on": 4
 unfoldable pub whole : {A : Type 0} → ℕ → Read A → Result A
 whole frame (got a []) = ok a
-whole frame (got a (b ∷ bs)) = no 4 frame
+whole frame (got a (b ∷ bs)) = no badLength frame
 whole frame (bad n) = no n frame
 
 pub data Kind : Type 0 where
@@ -88,19 +89,19 @@ withNode f n = record { types = f .types; functions = f .functions; inputs = f .
 
 -- what stands behind the kind of a frame; "8 comes at the frame's end"
 unfoldable pub readKind : ℕ → ℕ → File → List ℕ → Kind → Result File
-readKind channels frame f bs typeKind = bind (whole frame (typeDef f bs)) (λ d. need (selfFree d) 8 frame (ok (withType f d)))
+readKind channels frame f bs typeKind = bind (whole frame (typeDef f bs)) (λ d. need (selfFree d) noBaseConstructor frame (ok (withType f d)))
 readKind channels frame f bs functionKind = bind (whole frame (function f bs)) (λ F. ok (withFunction f F))
 readKind channels frame f bs inputKind = bind (whole frame (input f bs)) (λ i. ok (withInput f i))
 readKind channels frame f bs nodeKind = bind (whole frame (node channels f bs)) (λ n. ok (withNode f n))
 
 -- "kind unknown, out of order or one too many": 3
 unfoldable pub readFrame : ℕ → ℕ → File → List ℕ → Result File
-readFrame channels frame f [] = no 4 frame
-readFrame channels frame f (k ∷ bs) = from (decode 0x01 kinds k) 3 frame (λ kind. need (inOrder kind f) 3 frame (readKind channels frame f bs kind))
+readFrame channels frame f [] = no badLength frame
+readFrame channels frame f (k ∷ bs) = from (decode kindFirst kinds k) badFrame frame (λ kind. need (inOrder kind f) badFrame frame (readKind channels frame f bs kind))
 
 -- frames in file order; "no node (frame: one after the last)"
 unfoldable pub readFrames : ℕ → ℕ → File → List (List ℕ) → Result File
-readFrames channels frame f [] = choose (isEmpty (f .nodes)) (no 3 frame) (ok f)
+readFrames channels frame f [] = choose (isEmpty (f .nodes)) (no badFrame frame) (ok f)
 readFrames channels frame f (l ∷ ls) = bind (readFrame channels frame f l) (λ g. readFrames channels (suc frame) g ls)
 
 -- ---- text
@@ -122,7 +123,7 @@ unfoldable pub digit : ℕ → Option ℕ
 digit c = choose (both (leb 0x30 c) (leb c 0x39)) (some (c - 0x30)) (when (both (leb 0x41 c) (leb c 0x46)) (c - 0x37))
 
 unfoldable pub pair : Option ℕ → Option ℕ → Option (List ℕ) → Option (List ℕ)
-pair (some a) (some b) (some l) = some ((a * 16 + b) ∷ l)
+pair (some a) (some b) (some l) = some ((a * digitBase + b) ∷ l)
 pair (some a) (some b) none = none
 pair (some a) none l = none
 pair none b l = none
@@ -139,13 +140,13 @@ lineBytes (c ∷ l) = pairs (c ∷ l)
 
 -- the first bad line is named, and a last line without LF is one
 unfoldable pub framesOf : ℕ → List (List ℕ) → List ℕ → Result (List (List ℕ))
-framesOf frame [] rest = need (isEmpty rest) 2 frame (ok [])
-framesOf frame (l ∷ ls) rest = from (lineBytes l) 2 frame (λ bs. bind (framesOf (suc frame) ls rest) (λ fs. ok (bs ∷ fs)))
+framesOf frame [] rest = need (isEmpty rest) badLine frame (ok [])
+framesOf frame (l ∷ ls) rest = from (lineBytes l) badLine frame (λ bs. bind (framesOf (suc frame) ls rest) (λ fs. ok (bs ∷ fs)))
 
 -- channels are counted over the "frames that begin with 03 or 04"
 unfoldable pub isChannel : List ℕ → Bool
 isChannel [] = false
-isChannel (k ∷ bs) = oneOf (eqb k 0x03) (eqb k 0x04)
+isChannel (k ∷ bs) = oneOf (eqb k kindInput) (eqb k kindNode)
 
 unfoldable pub channelCount : List (List ℕ) → ℕ
 channelCount [] = 0
@@ -155,4 +156,4 @@ abbrev pub emptyFile : File
 emptyFile = record { types = []; functions = []; inputs = []; nodes = [] }
 
 unfoldable pub readFile : List ℕ → Result File
-readFile t = need (leb (length t) textMost) 1 0 (bind (framesOf 1 (linesOf t .ended) (linesOf t .rest)) (λ fs. readFrames (channelCount fs) 1 emptyFile fs))
+readFile t = need (leb (length t) textMost) textTooLong noFrame (bind (framesOf 1 (linesOf t .ended) (linesOf t .rest)) (λ fs. readFrames (channelCount fs) 1 emptyFile fs))

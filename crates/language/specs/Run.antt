@@ -7,6 +7,7 @@ use mathlib.Core.Path.{_≡_}
 use lib.ListN.{length}
 use Rattle.language.specs.Syntax.{File, declaredTypes}
 use Rattle.language.specs.Result.{ok}
+use Rattle.language.specs.Refusals.{noFrame, badInputLine}
 use Rattle.language.specs.Reader.{readFile}
 use Rattle.language.specs.Estimate.{Estimate}
 use Rattle.language.specs.Cells.{channelCells}
@@ -71,7 +72,7 @@ pub record Holds (P : File) (cells : ℕ) (ws : List ℕ) (vs : List Tree) : Typ
 -- "Every answer to a line is 0 or 19": 0 for an allowed line, 19 for any other
 abbrev pub lineVerdict : Option (List Tree) → Verdict
 lineVerdict (some vs) = done
-lineVerdict none = refusal 19 0
+lineVerdict none = refusal badInputLine noFrame
 
 abbrev pub called : List ℕ → List ℕ → Call → Iterated
 called t ws c = iterate t (c .board) ws (c .scratch) (c .slots) (c .line)

@@ -21,11 +21,19 @@ use index::functions::put_places;
 use index::one_if;
 use index::types::self_free;
 use index::types::type_def;
+use language::codes::KIND_FUNCTION;
+use language::codes::KIND_INPUT;
+use language::codes::KIND_NODE;
+use language::codes::KIND_TYPE;
 use language::limits::FUNCTIONS_MOST;
 use language::limits::INPUTS_MOST;
 use language::limits::NODES_MOST;
 use language::limits::TEXT_MOST;
 use language::limits::TYPES_MOST;
+use language::refusals::BAD_FRAME;
+use language::refusals::BAD_LENGTH;
+use language::refusals::NO_BASE_CONSTRUCTOR;
+use text::BYTE_DIGITS;
 use text::Cursor;
 use text::Number;
 use text::Step;
@@ -149,25 +157,25 @@ fn function_frame(line: &[u8], index: &mut [u32; INDEX_WORDS], known: Counts) ->
 fn in_order(kind: u32, known: Counts) -> bool
     ensures { λ r. ⌜ Ordered kind known r ⌝ }
 {
-    if kind == 4 {
+    if kind == KIND_NODE {
         return (known.nodes as usize) < NODES_MOST;
     }
     if known.nodes != 0 {
         return false;
     }
-    if kind == 3 {
+    if kind == KIND_INPUT {
         return (known.inputs as usize) < INPUTS_MOST;
     }
     if known.inputs != 0 {
         return false;
     }
-    if kind == 2 {
+    if kind == KIND_FUNCTION {
         return (known.functions as usize) < FUNCTIONS_MOST;
     }
     if known.functions != 0 {
         return false;
     }
-    if kind == 1 {
+    if kind == KIND_TYPE {
         return (known.types as usize) < TYPES_MOST;
     }
     false
@@ -179,8 +187,8 @@ fn ended(line: &[u8], r: Step, n: Counts) -> Frame
 {
     match r {
         Step::Next(c) => {
-            if c.at < line.len() / 2 {
-                return Frame::Refused(4);
+            if c.at < line.len() / BYTE_DIGITS {
+                return Frame::Refused(BAD_LENGTH);
             }
             Frame::Taken(n)
         }
@@ -194,10 +202,10 @@ fn one_more(n: Counts, kind: u32) -> Counts
     ensures { λ r. ⌜ r ≡ oneMore kind n ⌝ }
 {
     Counts {
-        types: n.types + one_if(kind == 1),
-        functions: n.functions + one_if(kind == 2),
-        inputs: n.inputs + one_if(kind == 3),
-        nodes: n.nodes + one_if(kind == 4),
+        types: n.types + one_if(kind == KIND_TYPE),
+        functions: n.functions + one_if(kind == KIND_FUNCTION),
+        inputs: n.inputs + one_if(kind == KIND_INPUT),
+        nodes: n.nodes + one_if(kind == KIND_NODE),
     }
 }
 
@@ -209,14 +217,14 @@ fn type_frame(line: &[u8], index: &mut [u32; INDEX_WORDS], known: Counts) -> Fra
     let start = Cursor { at: 1 };
     let t = known.types;
     let r = type_def(line, index, start, t);
-    let x = ended(line, r, one_more(known, 1));
+    let x = ended(line, r, one_more(known, KIND_TYPE));
     let Frame::Taken(_) = x else {
         return x;
     };
     if self_free(index, t) {
         return x;
     }
-    Frame::Refused(8)
+    Frame::Refused(NO_BASE_CONSTRUCTOR)
 }
 
 // One frame.
@@ -227,20 +235,20 @@ pub fn frame(line: &[u8], index: &mut [u32; INDEX_WORDS], known: Counts, all: u3
     let start = Cursor { at: 0 };
     let x = start.byte(line);
     let Number::Is(f) = x else {
-        return Frame::Refused(4);
+        return Frame::Refused(BAD_LENGTH);
     };
     let kind = f.value;
     if !in_order(kind, known) {
-        return Frame::Refused(3);
+        return Frame::Refused(BAD_FRAME);
     }
-    if kind == 1 {
+    if kind == KIND_TYPE {
         return type_frame(line, index, known);
     }
     let n = one_more(known, kind);
-    if kind == 2 {
+    if kind == KIND_FUNCTION {
         return ended(line, function_frame(line, index, known), n);
     }
-    if kind == 3 {
+    if kind == KIND_INPUT {
         return ended(line, input_frame(line, index, known), n);
     }
     ended(line, node_frame(line, index, known, all), n)

@@ -12,6 +12,7 @@ use index::Counts;
 use index::INDEX_WORDS;
 use index::clear;
 use index::put_counts;
+use language::refusals::BAD_FRAME;
 use lines::judge;
 use lines::line_of;
 use text::lines::Judged;
@@ -53,7 +54,7 @@ fn finish(index: &mut [u32; INDEX_WORDS], known: Counts, next: u32) -> Reading
     ensures { λ r. ⌜ Finished known next (now (index .entry)) r (now (index .exit)) ⌝ }
 {
     if known.nodes == 0 {
-        return Reading::Fault(3, next);
+        return Reading::Fault(BAD_FRAME, next);
     }
     put_counts(index, known);
     Reading::Done

@@ -8,6 +8,9 @@ use index::INDEX_WORDS;
 use index::frames::frame_length;
 use index::frames::put_frame;
 use language::limits::TEXT_MOST;
+use language::refusals::BAD_LINE;
+use language::refusals::NO_FRAME;
+use language::refusals::TEXT_TOO_LONG;
 use text::lines::Judged;
 use text::lines::LineEnd;
 use text::lines::channel;
@@ -21,7 +24,7 @@ pub fn judge(text: &[u8], index: &mut [u32; INDEX_WORDS]) -> Judged
     ensures { λ r. ⌜ Judges (now (text .entry)) (now (index .entry)) r (now (index .exit)) ⌝ }
 {
     if TEXT_MOST < text.len() {
-        return Judged::Refused(1, 0);
+        return Judged::Refused(TEXT_TOO_LONG, NO_FRAME);
     }
     let mut at: usize = 0;
     let mut lines: u32 = 0;
@@ -29,7 +32,7 @@ pub fn judge(text: &[u8], index: &mut [u32; INDEX_WORDS]) -> Judged
     while at < text.len() {
         let x = line_end(text, at);
         let LineEnd::At(end) = x else {
-            return Judged::Refused(2, lines + 1);
+            return Judged::Refused(BAD_LINE, lines + 1);
         };
         put_frame(index, lines, at as u32, (end - at) as u32);
         channels += channel(&text[at..end]);

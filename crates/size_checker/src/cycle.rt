@@ -27,6 +27,12 @@ use language::limits::FIELDS_MOST;
 use language::limits::INSTANCES_MOST;
 use language::limits::SIZE_VARIABLES_MOST;
 use language::limits::VARIABLES_MOST;
+use language::refusals::BAD_CODE;
+use language::refusals::OUTSIDE_LIMITS;
+use language::refusals::SIZE_OUTSIDE;
+use language::refusals::SIZES_DISAGREE;
+use language::refusals::TOO_MANY_INSTANCES;
+use language::refusals::TYPES_DISAGREE;
 use size_steps::Counted;
 use size_steps::Counting;
 use size_steps::Entering;
@@ -89,7 +95,7 @@ pub fn expr(
     ensures { λ r. ⌜ Sizes ExprPart (lent (now (text .entry)) (now (index .entry))) (buffers (now (list .entry)) (now (scope .entry)) (now (sizes .entry))) p r (buffers (now (list .exit)) (now (scope .exit)) (now (sizes .exit))) ⌝ }
 {
     if p.levels == 0 {
-        return Sizing::Refused(7, p.line + 1);
+        return Sizing::Refused(OUTSIDE_LIMITS, p.line + 1);
     }
     let at = p.at;
     let line = frame_line(text, index, p.line);
@@ -131,7 +137,7 @@ fn compound(
         Form::Case(t) => case_of(text, index, list, hints, scope, sizes, p, t),
         Form::Adjust => adjust(text, index, list, hints, scope, sizes, p),
         Form::Fit(k) => fit(text, index, list, hints, scope, sizes, p, k),
-        _ => Sizing::Refused(5, p.line + 1),
+        _ => Sizing::Refused(BAD_CODE, p.line + 1),
     }
 }
 
@@ -189,7 +195,7 @@ fn choice(
         return z;
     };
     if !agree(d, b) {
-        return Sizing::Refused(11, p.line + 1);
+        return Sizing::Refused(SIZES_DISAGREE, p.line + 1);
     }
     chosen(a, b, d)
 }
@@ -353,7 +359,7 @@ fn body(
     ensures { λ r. ⌜ EntersNew e (lent (now (text .entry)) (now (index .entry))) (buffers (now (list .entry)) (now (scope .entry)) (now (sizes .entry))) p r (buffers (now (list .exit)) (now (scope .exit)) (now (sizes .exit))) ⌝ }
 {
     if INSTANCES_MOST <= p.used as usize {
-        return Sizing::Refused(14, p.line + 1);
+        return Sizing::Refused(TOO_MANY_INSTANCES, p.line + 1);
     }
     add(list, hints, p.used, e.function, sizes);
     let q = body_place(index, p, e);
@@ -363,7 +369,7 @@ fn body(
     };
     let kind = e.kind;
     if !is_kind(a, kind) {
-        return Sizing::Refused(11, q.line + 1);
+        return Sizing::Refused(SIZES_DISAGREE, q.line + 1);
     }
     let numbers = a.numbers;
     finish(list, p.used, numbers);
@@ -417,13 +423,13 @@ fn case_of(
     };
     let kind = a.kind;
     let SizedType::Named(_, m) = kind else {
-        return Sizing::Refused(9, p.line + 1);
+        return Sizing::Refused(TYPES_DISAGREE, p.line + 1);
     };
     let written = a.next;
     let line = frame_line(text, index, p.line);
     let y = type_at(line, written, sizes);
     let TypeAt::Is(wanted, next) = y else {
-        return Sizing::Refused(10, p.line + 1);
+        return Sizing::Refused(SIZE_OUTSIDE, p.line + 1);
     };
     let s = subject(t, m, wanted);
     let q = moved(p, next, a.used);
@@ -526,7 +532,7 @@ fn at_splits(
             return x;
         };
         if !is_kind(a, kind) {
-            return Sizing::Refused(11, p.line + 1);
+            return Sizing::Refused(SIZES_DISAGREE, p.line + 1);
         }
         all = larger(all, a);
         more = next_split(sizes, p.sizes as usize, own);
@@ -551,7 +557,7 @@ fn adjust(
     let line = frame_line(text, index, p.line);
     let s = size_at(line, at, sizes);
     let SizeAt::Is(k, next) = s else {
-        return Sizing::Refused(10, p.line + 1);
+        return Sizing::Refused(SIZE_OUTSIDE, p.line + 1);
     };
     let q = moved(p, next, p.used);
     let x = expr(text, index, list, hints, scope, sizes, q);
@@ -560,10 +566,10 @@ fn adjust(
     };
     let kind = a.kind;
     let SizedType::Named(t, j) = kind else {
-        return Sizing::Refused(9, p.line + 1);
+        return Sizing::Refused(TYPES_DISAGREE, p.line + 1);
     };
     if k < j {
-        return Sizing::Refused(11, p.line + 1);
+        return Sizing::Refused(SIZES_DISAGREE, p.line + 1);
     }
     adjusted(t, k, a)
 }
@@ -588,7 +594,7 @@ fn fit(
     };
     let kind = a.kind;
     let SizedType::Named(t, _) = kind else {
-        return Sizing::Refused(9, p.line + 1);
+        return Sizing::Refused(TYPES_DISAGREE, p.line + 1);
     };
     let word = word_of(SizedType::Named(t, k as u8));
     put(scope, p.variables as usize, word);
@@ -603,7 +609,7 @@ fn fit(
         return z;
     };
     if !agree(d, b) {
-        return Sizing::Refused(11, p.line + 1);
+        return Sizing::Refused(SIZES_DISAGREE, p.line + 1);
     }
     fitted(a, b, d)
 }

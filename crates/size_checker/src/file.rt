@@ -25,6 +25,9 @@ use language::limits::NODES_MOST;
 use language::limits::SIZE_VARIABLES_MOST;
 use language::limits::TYPES_MOST;
 use language::limits::VARIABLES_MOST;
+use language::refusals::NO_FRAME;
+use language::refusals::NO_REFUSAL;
+use language::refusals::SIZES_DISAGREE;
 use size_steps::Checked;
 use size_steps::Counted;
 use size_steps::Counting;
@@ -109,7 +112,7 @@ fn channel(
         return x;
     };
     if !is_kind(a, channel_type(index, c)) {
-        return Sizing::Refused(11, p.line + 1);
+        return Sizing::Refused(SIZES_DISAGREE, p.line + 1);
     }
     x
 }
@@ -180,7 +183,7 @@ fn initials(
 {
     clear(list);
     if !limited(counts) {
-        return Counting::Refused(0, 0);
+        return Counting::Refused(NO_REFUSAL, NO_FRAME);
     }
     channels_from(text, index, list, hints, counts, 0, INITIAL_WORD, 0)
 }

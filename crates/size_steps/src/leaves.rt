@@ -18,6 +18,10 @@ use index::functions::measure_start;
 use index::functions::result_start;
 use index::word_at;
 use language::limits::SIZE_MOST;
+use language::refusals::CONDITION_FAILS;
+use language::refusals::MEASURE_NOT_LESS;
+use language::refusals::SIZE_OUTSIDE;
+use language::refusals::SIZES_DISAGREE;
 use sizes::SizedType;
 use sizes::TypeAt;
 use sizes::conditions_hold;
@@ -69,15 +73,15 @@ pub fn prepare(
 {
     let line = frame_line(text, index, p.types + f);
     if !conditions_hold(line, conditions_start(index, f), sizes) {
-        return Entering::Refused(12, p.line + 1);
+        return Entering::Refused(CONDITION_FAILS, p.line + 1);
     }
     let w = weight(line, measure_start(index, f), sizes);
     if !falls(p, f, w) {
-        return Entering::Refused(13, p.line + 1);
+        return Entering::Refused(MEASURE_NOT_LESS, p.line + 1);
     }
     let x = type_at(line, result_start(index, f), sizes);
     let TypeAt::Is(kind, _) = x else {
-        return Entering::Refused(10, p.types + f + 1);
+        return Entering::Refused(SIZE_OUTSIDE, p.types + f + 1);
     };
     Entering::Ready(Entry {
         function: f,
@@ -95,10 +99,10 @@ pub fn made(index: &[u32; INDEX_WORDS], row: &[u32], p: Place, a: Counted, t: u3
 {
     let size = own_sum(index, row, t, c);
     if SIZE_MOST <= size {
-        return Sizing::Refused(10, p.line + 1);
+        return Sizing::Refused(SIZE_OUTSIDE, p.line + 1);
     }
     if !fields_agree(index, row, t, c) {
-        return Sizing::Refused(11, p.line + 1);
+        return Sizing::Refused(SIZES_DISAGREE, p.line + 1);
     }
     let fields = a.numbers;
     let next = a.next;

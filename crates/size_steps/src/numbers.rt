@@ -18,6 +18,9 @@ use estimate::in_call;
 use estimate::nothing;
 use estimate::one_cell;
 use estimate::with_slots;
+use language::codes::OPERATOR_TIMES;
+use language::refusals::NO_FRAME;
+use language::refusals::NO_REFUSAL;
 use sizes::SizedType;
 use sizes::same;
 use sizes::word_of;
@@ -39,7 +42,7 @@ pub fn leaf(kind: SizedType, numbers: Estimate, p: Place) -> Sizing
 pub fn operator_type(o: u32) -> SizedType
     ensures { λ r. ⌜ OperatorType o r ⌝ }
 {
-    if o <= 2 {
+    if o <= OPERATOR_TIMES {
         return SizedType::Int;
     }
     SizedType::Bool
@@ -257,7 +260,7 @@ pub fn refused(x: Counting) -> Sizing
     ensures { λ r. ⌜ r ≡ refusedOf x ⌝ }
 {
     match x {
-        Counting::Are(_) => Sizing::Refused(0, 0),
+        Counting::Are(_) => Sizing::Refused(NO_REFUSAL, NO_FRAME),
         Counting::Refused(n, frame) => Sizing::Refused(n, frame),
     }
 }
@@ -267,7 +270,7 @@ pub fn refused_all(x: Sizing) -> Counting
     ensures { λ r. ⌜ r ≡ refusedAll x ⌝ }
 {
     match x {
-        Sizing::Is(_) => Counting::Refused(0, 0),
+        Sizing::Is(_) => Counting::Refused(NO_REFUSAL, NO_FRAME),
         Sizing::Refused(n, frame) => Counting::Refused(n, frame),
     }
 }
@@ -277,7 +280,7 @@ pub fn not_entered(x: Entering) -> Sizing
     ensures { λ r. ⌜ r ≡ notEntered x ⌝ }
 {
     match x {
-        Entering::Ready(_) => Sizing::Refused(0, 0),
+        Entering::Ready(_) => Sizing::Refused(NO_REFUSAL, NO_FRAME),
         Entering::Refused(n, frame) => Sizing::Refused(n, frame),
     }
 }

@@ -6,6 +6,12 @@ ghost use Prim.Native.Nat.{_<_, _≤_};
 ghost use Rattle.language.specs.Limits.{byteRange, nestingMost};
 ghost use Rattle.language.specs.Sizes.{sameType};
 ghost use Rattle.sizes.specs.Promises.{Reads, Told, LeafWorked, WorksOut, SizeGiven, TypeGiven, Compares, Judges, HoldAll, Hold, Weighs, WeighsAll, meaning, WordOf, FromWord};
+use language::codes::RELATION_EQUAL;
+use language::codes::RELATION_LESS;
+use language::codes::SIZE_NUMBER;
+use language::codes::SIZE_SUM;
+use language::codes::TYPE_BOOL;
+use language::codes::TYPE_INT;
 use language::limits::NESTING_MOST;
 use language::limits::SIZE_MOST;
 use text::Cursor;
@@ -74,7 +80,7 @@ fn leaf(line: &[u8], c: Cursor, sizes: &[u8], code: u32) -> Worked
     let f = read(line, c);
     let k = f.value;
     let next = f.next;
-    if code == 0x01 {
+    if code == SIZE_NUMBER {
         return Worked {
             added: k as u64,
             taken: 0,
@@ -104,14 +110,14 @@ fn work_out(line: &[u8], c: Cursor, sizes: &[u8], levels: u32) -> Worked
     let f = read(line, c);
     let code = f.value;
     let first = f.next;
-    if code < 0x03 {
+    if code < SIZE_SUM {
         return leaf(line, first, sizes, code);
     }
     let x = work_out(line, first, sizes, levels - 1);
     let second = x.next;
     let y = work_out(line, second, sizes, levels - 1);
     let next = y.next;
-    if code == 0x03 {
+    if code == SIZE_SUM {
         return Worked {
             added: x.added + y.added,
             taken: x.taken + y.taken,
@@ -150,10 +156,10 @@ pub fn type_at(line: &[u8], c: Cursor, sizes: &[u8]) -> TypeAt
     let f = read(line, c);
     let code = f.value;
     let behind = f.next;
-    if code == 0x00 {
+    if code == TYPE_BOOL {
         return TypeAt::Is(SizedType::Bool, behind);
     }
-    if code == 0x01 {
+    if code == TYPE_INT {
         return TypeAt::Is(SizedType::Int, behind);
     }
     let g = read(line, behind);
@@ -170,10 +176,10 @@ pub fn type_at(line: &[u8], c: Cursor, sizes: &[u8]) -> TypeAt
 fn compare(code: u32, a: u64, b: u64) -> bool
     ensures { λ r. ⌜ Compares code a b r ⌝ }
 {
-    if code == 0x00 {
+    if code == RELATION_EQUAL {
         return a == b;
     }
-    if code == 0x01 {
+    if code == RELATION_LESS {
         return a < b;
     }
     a <= b
@@ -252,8 +258,8 @@ pub fn word_of(x: SizedType) -> u32
     ensures { λ r. ⌜ WordOf x r ⌝ }
 {
     match x {
-        SizedType::Bool => 0,
-        SizedType::Int => 1,
+        SizedType::Bool => TYPE_BOOL,
+        SizedType::Int => TYPE_INT,
         SizedType::Named(t, k) => TYPE_STEP * (t as u32 + 1) + k as u32,
     }
 }
@@ -262,7 +268,7 @@ pub fn word_of(x: SizedType) -> u32
 pub fn type_of(word: u32) -> SizedType
     ensures { λ r. ⌜ FromWord word r ⌝ }
 {
-    if word == 0 {
+    if word == TYPE_BOOL {
         return SizedType::Bool;
     }
     if word < TYPE_STEP {

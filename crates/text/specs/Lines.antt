@@ -7,7 +7,7 @@ use mathlib.Core.Path.{_≡_}
 use lib.ListN.{length, drop, replicate}
 use lib.Dec.{eqb, ltb, leb}
 use Rattle.language.specs.Limits.{textMost}
-use Rattle.language.specs.Format.{lineFeed}
+use Rattle.language.specs.Codes.{lineFeed}
 use Rattle.language.specs.Result.{Result, ok, no, need, both, choose}
 use Rattle.language.specs.Reader.{digit, lineBytes, linesOf, framesOf, isChannel, channelCount}
 use Rattle.text.specs.declared.lines.LineEnd.{LineEnd}

@@ -10,7 +10,7 @@ use lib.Seq.{drop-cons, take-suc, getD-drop}
 use lib.Dec.{eqb}
 use borrow.Author.Tests.{eq-eqb, ne-eqb}
 use Rattle.language.specs.Result.{choose}
-use Rattle.language.specs.Format.{lineFeed}
+use Rattle.language.specs.Codes.{lineFeed}
 use Rattle.language.specs.Reader.{linesOf, longer}
 use Rattle.text.specs.Lines.{firstLine}
 

@@ -12,7 +12,7 @@ use lib.Dec.{eqb, ltb, leb}
 use borrow.Author.Tests.{le-leb, lt-leb, leb-true, eq-eqb, ne-eqb, ltb-true, ltb-false}
 use Rattle.language.specs.Limits.{byteRange, textMost}
 use Rattle.language.specs.Result.{Result, ok, no, bind, need, from, both, oneOf, choose}
-use Rattle.language.specs.Format.{lineFeed}
+use Rattle.language.specs.Codes.{lineFeed}
 use Rattle.language.specs.Parser.{byte, bad}
 use Rattle.language.specs.Reader.{lineBytes, isChannel, channelCount, readFile, readFrames, emptyFile}
 use Rattle.text.specs.declared.Found.{Found}

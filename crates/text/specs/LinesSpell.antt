@@ -12,7 +12,7 @@ use lib.Dec.{eqb, ltb}
 use borrow.Author.Tests.{eq-eqb, ne-eqb, eqb-true, lt-ltb, le-ltb}
 use Rattle.language.specs.Limits.{byteRange}
 use Rattle.language.specs.Result.{both, when, choose}
-use Rattle.language.specs.Format.{lineFeed}
+use Rattle.language.specs.Codes.{lineFeed}
 use Rattle.language.specs.Reader.{digit, pair, pairs, lineBytes}
 use Rattle.text.specs.declared.lines.LineEnd.the-variants.{At, Bad}
 use Rattle.text.specs.Bytes.{digitValue, bytesOf}

@@ -8,21 +8,56 @@ ghost use Rattle.language.specs.Parser.{byte as byteRead, index as indexRead, c
 ghost use Rattle.language.specs.ReadExpr.{int as intRead, sizeAt, result as resultRead, plain, declared as declaredRead, field as fieldRead};
 ghost use Rattle.text.specs.Bytes.{digitValue, bytesFrom, ReadsNumber, Passes, Below, stepOf, forget, mapRead, plainWord, declaredWord, fieldWord};
 ghost use Rattle.text.specs.Codes.{codePlace, placeIn, namedWord};
+use language::codes::DIGIT_BASE;
+use language::codes::FIELD_FIRST;
+use language::codes::FIELD_FORMS;
+use language::codes::FIELD_OTHER;
+use language::codes::SIZE_FIRST;
+use language::codes::SIZE_FORMS;
+use language::codes::SIZE_NUMBER;
+use language::codes::SIZE_VARIABLE;
+use language::codes::TYPE_FIRST;
+use language::codes::TYPE_FORMS;
+use language::codes::TYPE_NAMED;
+use language::limits::BYTE_RANGE;
 use language::limits::NESTING_MOST;
 use language::limits::SIZE_MOST;
+use language::refusals::BAD_CODE;
+use language::refusals::BAD_INDEX;
+use language::refusals::BAD_LENGTH;
+use language::refusals::OUTSIDE_LIMITS;
 
 // A named type as a word: its number and one, times this, and its size.
 pub const TYPE_STEP: u32 = 256;
 
-// An Int takes so many bytes.
+// A byte is spelled by so many digits, and an Int takes so many bytes.
+pub const BYTE_DIGITS: usize = 2;
+
 pub const INT_BYTES: usize = 4;
+
+// What the bytes of an Int before its last are worth.
+const FIRST_BYTE: u32 = BYTE_RANGE * SECOND_BYTE;
+
+const SECOND_BYTE: u32 = BYTE_RANGE * THIRD_BYTE;
+
+const THIRD_BYTE: u32 = BYTE_RANGE;
+
+// A letter is so far behind this character as it is in the alphabet, and spells nine more: `A` ten.
+const LETTERS_FROM: u32 = 64;
+
+const LETTER_ADDS: u32 = 9;
+
+// The forms of a size, counted from the first code.
+const NUMBER_PLACE: u32 = SIZE_NUMBER - SIZE_FIRST;
+
+const VARIABLE_PLACE: u32 = SIZE_VARIABLE - SIZE_FIRST;
 
 // The value of an upper-case hexadecimal digit; of any other character some number below 16.
 pub fn digit(c: u8) -> u32
     ensures { λ r. ⌜ (r ≡ digitValue c) × (r < 16) ⌝ }
 {
     let code = c as u32;
-    (code % 16 + 9 * (code / 64)) % 16
+    (code % DIGIT_BASE + LETTER_ADDS * (code / LETTERS_FROM)) % DIGIT_BASE
 }
 
 // A place in a frame: the number of bytes before it. Each read hands it back moved on.
@@ -66,12 +101,12 @@ impl Cursor {
         ensures { λ r. ⌜ ReadsNumber (now (line .entry)) (self .at) r (byteRead (bytesFrom (now (line .entry)) (self .at))) × Below byteRange r ⌝ }
     {
         let at = self.at;
-        if line.len() / 2 <= at {
-            return Number::Refused(4);
+        if line.len() / BYTE_DIGITS <= at {
+            return Number::Refused(BAD_LENGTH);
         }
-        let high = digit(line[2 * at]);
-        let low = digit(line[2 * at + 1]);
-        let value = high * 16 + low;
+        let high = digit(line[BYTE_DIGITS * at]);
+        let low = digit(line[BYTE_DIGITS * at + 1]);
+        let value = high * DIGIT_BASE + low;
         Number::Is(Found {
             value: value,
             next: Cursor { at: at + 1 },
@@ -88,7 +123,7 @@ impl Cursor {
         };
         let i = f.value;
         if bound <= i {
-            return Number::Refused(6);
+            return Number::Refused(BAD_INDEX);
         }
         x
     }
@@ -103,10 +138,10 @@ impl Cursor {
         };
         let n = f.value;
         if n < least {
-            return Number::Refused(7);
+            return Number::Refused(OUTSIDE_LIMITS);
         }
         if most < n {
-            return Number::Refused(7);
+            return Number::Refused(OUTSIDE_LIMITS);
         }
         x
     }
@@ -122,11 +157,11 @@ impl Cursor {
         let b = f.value;
         let c = f.next;
         if b < first {
-            return Number::Refused(5);
+            return Number::Refused(BAD_CODE);
         }
         let i = b - first;
         if size <= i {
-            return Number::Refused(5);
+            return Number::Refused(BAD_CODE);
         }
         Number::Is(Found { value: i, next: c })
     }
@@ -140,7 +175,7 @@ impl Cursor {
             return x;
         };
         if !room {
-            return Number::Refused(7);
+            return Number::Refused(OUTSIDE_LIMITS);
         }
         x
     }
@@ -168,7 +203,7 @@ impl Cursor {
         let Number::Is(k) = w else {
             return w;
         };
-        let value = f.value * 16777216 + g.value * 65536 + h.value * 256 + k.value;
+        let value = f.value * FIRST_BYTE + g.value * SECOND_BYTE + h.value * THIRD_BYTE + k.value;
         let next = k.next;
         Number::Is(Found {
             value: value,
@@ -181,12 +216,12 @@ impl Cursor {
         ensures { λ r. ⌜ Passes (now (line .entry)) (self .at) r (forget (intRead (bytesFrom (now (line .entry)) (self .at)))) ⌝ }
     {
         let at = self.at;
-        let bytes = line.len() / 2;
+        let bytes = line.len() / BYTE_DIGITS;
         if bytes < INT_BYTES {
-            return Step::Stop(4);
+            return Step::Stop(BAD_LENGTH);
         }
         if bytes - INT_BYTES < at {
-            return Step::Stop(4);
+            return Step::Stop(BAD_LENGTH);
         }
         Step::Next(Cursor { at: at + INT_BYTES })
     }
@@ -196,20 +231,20 @@ impl Cursor {
         ensures { λ r. ⌜ Passes (now (line .entry)) (self .at) r (forget (sizeAt levels vars (bytesFrom (now (line .entry)) (self .at)))) ⌝ }
     {
         if levels == 0 {
-            let none = self.code_in(line, false, 0x01, 4);
+            let none = self.code_in(line, false, SIZE_FIRST, SIZE_FORMS);
             return step_of(none);
         }
-        let x = self.code_in(line, true, 0x01, 4);
+        let x = self.code_in(line, true, SIZE_FIRST, SIZE_FORMS);
         let Number::Is(f) = x else {
             return step_of(x);
         };
         let form = f.value;
         let c = f.next;
-        if form == 0 {
+        if form == NUMBER_PLACE {
             let k = c.byte(line);
             return step_of(k);
         }
-        if form == 1 {
+        if form == VARIABLE_PLACE {
             let i = c.index(line, vars);
             return step_of(i);
         }
@@ -224,13 +259,13 @@ impl Cursor {
     pub fn result(self, line: &[u8], types: u32, vars: u32) -> Step
         ensures { λ r. ⌜ Passes (now (line .entry)) (self .at) r (forget (resultRead types vars (bytesFrom (now (line .entry)) (self .at)))) ⌝ }
     {
-        let x = self.code(line, 0x00, 3);
+        let x = self.code(line, TYPE_FIRST, TYPE_FORMS);
         let Number::Is(f) = x else {
             return step_of(x);
         };
         let form = f.value;
         let c = f.next;
-        if form < 2 {
+        if form < TYPE_NAMED {
             return Step::Next(c);
         }
         let t = c.index(line, types);
@@ -245,12 +280,12 @@ impl Cursor {
     pub fn parameter(self, line: &[u8], types: u32) -> Number
         ensures { λ r. ⌜ ReadsNumber (now (line .entry)) (self .at) r (mapRead plainWord (plain types (bytesFrom (now (line .entry)) (self .at)))) × Below (2 ^ 17) r ⌝ }
     {
-        let x = self.code(line, 0x00, 3);
+        let x = self.code(line, TYPE_FIRST, TYPE_FORMS);
         let Number::Is(f) = x else {
             return x;
         };
         let form = f.value;
-        if form < 2 {
+        if form < TYPE_NAMED {
             return x;
         }
         let c = f.next;
@@ -292,12 +327,12 @@ impl Cursor {
     pub fn declared(self, line: &[u8], types: u32) -> Number
         ensures { λ r. ⌜ ReadsNumber (now (line .entry)) (self .at) r (mapRead declaredWord (declaredRead types (bytesFrom (now (line .entry)) (self .at)))) × Below (2 ^ 17) r ⌝ }
     {
-        let x = self.code(line, 0x00, 3);
+        let x = self.code(line, TYPE_FIRST, TYPE_FORMS);
         let Number::Is(f) = x else {
             return x;
         };
         let form = f.value;
-        if form < 2 {
+        if form < TYPE_NAMED {
             return x;
         }
         let c = f.next;
@@ -308,12 +343,12 @@ impl Cursor {
     pub fn field(self, line: &[u8], types: u32) -> Number
         ensures { λ r. ⌜ ReadsNumber (now (line .entry)) (self .at) r (mapRead fieldWord (fieldRead types (bytesFrom (now (line .entry)) (self .at)))) × Below (2 ^ 17) r ⌝ }
     {
-        let x = self.code(line, 0x00, 4);
+        let x = self.code(line, FIELD_FIRST, FIELD_FORMS);
         let Number::Is(f) = x else {
             return x;
         };
         let form = f.value;
-        if form < 3 {
+        if form < FIELD_OTHER {
             return x;
         }
         let c = f.next;

@@ -5,9 +5,22 @@ ghost use Prim.Native.Nat.{_+_, _≤_, _<_};
 ghost use lib.ListN.{length, drop};
 ghost use Rattle.text.specs.Bytes.{bytesOf};
 ghost use Rattle.text.specs.Lines.{firstLine, digitMarks, digitPairs, PairsTo, lineEnd, channelsOf};
+use super::BYTE_DIGITS;
 use super::Cursor;
 use super::Number;
+use language::codes::KIND_INPUT;
+use language::codes::KIND_NODE;
+use language::codes::LINE_FEED;
 use language::limits::BYTE_RANGE;
+
+// So many digits are tested together, and their pairs stand so far behind the first.
+const EIGHT: usize = 4 * BYTE_DIGITS;
+
+const SECOND_PAIR: usize = BYTE_DIGITS;
+
+const THIRD_PAIR: usize = 2 * BYTE_DIGITS;
+
+const FOURTH_PAIR: usize = 3 * BYTE_DIGITS;
 
 // A text judged as a whole: how many of its lines are channels, or a refusal with its number and frame.
 pub enum Judged {
@@ -30,7 +43,7 @@ pub fn line_at<'a>(text: &'a [u8], at: usize) -> &'a [u8]
     }
     let mut end = at;
     while end < text.len() {
-        if text[end] == 10 {
+        if text[end] == LINE_FEED {
             return &text[at..end];
         }
         end += 1;
@@ -43,22 +56,22 @@ fn digit_marks() -> [u8; BYTE_RANGE as usize]
     ensures { λ r. ⌜ r ≡ digitMarks ⌝ }
 {
     let mut marks = [0u8; BYTE_RANGE as usize];
-    marks[48] = 1;
-    marks[49] = 1;
-    marks[50] = 1;
-    marks[51] = 1;
-    marks[52] = 1;
-    marks[53] = 1;
-    marks[54] = 1;
-    marks[55] = 1;
-    marks[56] = 1;
-    marks[57] = 1;
-    marks[65] = 1;
-    marks[66] = 1;
-    marks[67] = 1;
-    marks[68] = 1;
-    marks[69] = 1;
-    marks[70] = 1;
+    marks[b'0' as usize] = 1;
+    marks[b'1' as usize] = 1;
+    marks[b'2' as usize] = 1;
+    marks[b'3' as usize] = 1;
+    marks[b'4' as usize] = 1;
+    marks[b'5' as usize] = 1;
+    marks[b'6' as usize] = 1;
+    marks[b'7' as usize] = 1;
+    marks[b'8' as usize] = 1;
+    marks[b'9' as usize] = 1;
+    marks[b'A' as usize] = 1;
+    marks[b'B' as usize] = 1;
+    marks[b'C' as usize] = 1;
+    marks[b'D' as usize] = 1;
+    marks[b'E' as usize] = 1;
+    marks[b'F' as usize] = 1;
     marks
 }
 
@@ -76,9 +89,9 @@ fn eight_digits(text: &[u8], digits: &[u8], at: usize) -> bool
     ensures { λ r. ⌜ (r ≡ true → PairsTo (now (text .entry)) at (at + 8)) ⌝ }
 {
     let first = pair_mark(text, digits, at);
-    let second = pair_mark(text, digits, at + 2);
-    let third = pair_mark(text, digits, at + 4);
-    let fourth = pair_mark(text, digits, at + 6);
+    let second = pair_mark(text, digits, at + SECOND_PAIR);
+    let third = pair_mark(text, digits, at + THIRD_PAIR);
+    let fourth = pair_mark(text, digits, at + FOURTH_PAIR);
     first & second & third & fourth != 0
 }
 
@@ -88,11 +101,11 @@ fn eights_end(text: &[u8], digits: &[u8], at: usize) -> usize
     ensures { λ r. ⌜ PairsTo (now (text .entry)) at r ⌝ }
 {
     let mut end = at;
-    while 8 <= text.len() - end {
+    while EIGHT <= text.len() - end {
         if !eight_digits(text, digits, end) {
             return end;
         }
-        end += 8;
+        end += EIGHT;
     }
     end
 }
@@ -112,7 +125,7 @@ fn pairs_end(text: &[u8], at: usize) -> usize
         if digits[text[end + 1] as usize] == 0 {
             return end;
         }
-        end += 2;
+        end += BYTE_DIGITS;
     }
     end
 }
@@ -128,7 +141,7 @@ pub fn line_end(text: &[u8], at: usize) -> LineEnd
     if text.len() <= end {
         return LineEnd::Bad;
     }
-    if text[end] != 10 {
+    if text[end] != LINE_FEED {
         return LineEnd::Bad;
     }
     if end == at {
@@ -146,10 +159,10 @@ pub fn channel(line: &[u8]) -> u32
         return 0;
     };
     let kind = f.value;
-    if kind == 3 {
+    if kind == KIND_INPUT {
         return 1;
     }
-    if kind == 4 {
+    if kind == KIND_NODE {
         return 1;
     }
     0

@@ -8,7 +8,8 @@ use native.Mathlib.Omega.{arith}
 use lib.Dec.{ltb, eqb}
 use borrow.Author.Tests.{eqb-true, ne-eqb}
 use Rattle.language.specs.Result.{ok, bind, need, from, choose}
-use Rattle.language.specs.Format.{spellAll, pickDigit, digitOf, pairOf, lineFeed, lineText}
+use Rattle.language.specs.Codes.{lineFeed}
+use Rattle.language.specs.Format.{spellAll, pickDigit, digitOf, pairOf, lineText}
 use Rattle.language.specs.Within.{All, all-nil, all-cons}
 use Rattle.language.specs.Reader.{Lines, longer, linesOf, lineBytes, isEmpty, framesOf}
 use Rattle.theory.specs.Tests.{Whenever, w-none, whenever-map}
