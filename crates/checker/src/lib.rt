@@ -13,6 +13,13 @@ use language::limits::CALLS_MOST;
 use language::limits::CELLS_MOST;
 use language::limits::INSTANCES_MOST;
 use language::limits::SLOTS_MOST;
+use language::refusals::ENVIRONMENT_SHORT;
+use language::refusals::HEAP_SHORT;
+use language::refusals::NO_FRAME;
+use language::refusals::NO_REFUSAL;
+use language::refusals::NOT_LENT;
+use language::refusals::STACK_SHORT;
+use language::refusals::TYPES_DISAGREE;
 use plain_types::plain_types;
 use reader::Reading;
 use reader::read;
@@ -58,7 +65,7 @@ fn bounds(number: u32, x: Estimate) -> Answer
 {
     Answer {
         number: number,
-        frame: 0,
+        frame: NO_FRAME,
         heap: x.heap,
         environment: x.env,
         stack: x.stack,
@@ -70,7 +77,7 @@ pub fn read_answer(x: Reading) -> Answer
     ensures { λ r. ⌜ r ≡ readAnswer x ⌝ }
 {
     match x {
-        Reading::Done => refusal(0, 0),
+        Reading::Done => refusal(NO_REFUSAL, NO_FRAME),
         Reading::Fault(n, f) => refusal(n, f),
     }
 }
@@ -80,7 +87,7 @@ fn sizing_refusal(x: Counting) -> Answer
     ensures { λ r. ⌜ r ≡ sizingRefusal x ⌝ }
 {
     match x {
-        Counting::Are(_) => refusal(0, 0),
+        Counting::Are(_) => refusal(NO_REFUSAL, NO_FRAME),
         Counting::Refused(n, f) => refusal(n, f),
     }
 }
@@ -123,15 +130,15 @@ fn judge(b: Board, x: Estimate) -> Answer
     ensures { λ r. ⌜ Judges b x r ⌝ }
 {
     if b.cells < x.heap {
-        return bounds(15, x);
+        return bounds(HEAP_SHORT, x);
     }
     if b.slots < x.env {
-        return bounds(16, x);
+        return bounds(ENVIRONMENT_SHORT, x);
     }
     if b.calls < x.stack {
-        return bounds(17, x);
+        return bounds(STACK_SHORT, x);
     }
-    bounds(0, x)
+    bounds(NO_REFUSAL, x)
 }
 
 // Checks a file that was read: plain types, what is lent, sizes, and what the board has.
@@ -140,13 +147,13 @@ fn check_read(text: &[u8], index: &[u32; INDEX_WORDS], b: Board, list: &mut [u32
     ensures { λ r. ⌜ Checks (now (text .entry)) b (now (list .entry)) r (now (list .exit)) ⌝ }
 {
     let frame = plain_types(text, index);
-    if frame != 0 {
+    if frame != NO_FRAME {
         clear(list);
-        return refusal(9, frame);
+        return refusal(TYPES_DISAGREE, frame);
     }
     if !lent(b, list.len()) {
         clear(list);
-        return refusal(18, 0);
+        return refusal(NOT_LENT, NO_FRAME);
     }
     let x = sized_file(text, index, list);
     let Counting::Are(k) = x else {
@@ -154,7 +161,7 @@ fn check_read(text: &[u8], index: &[u32; INDEX_WORDS], b: Board, list: &mut [u32
         return sizing_refusal(x);
     };
     let r = judge(b, needed(index, k.numbers));
-    if r.number != 0 {
+    if r.number != NO_REFUSAL {
         clear(list);
     }
     r
