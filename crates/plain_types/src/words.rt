@@ -12,6 +12,9 @@ use index::functions::result_start;
 use index::put;
 use index::types::OWN_FIELD;
 use index::types::field_word;
+use language::codes::OPERATOR_AND;
+use language::codes::OPERATOR_EQUAL;
+use language::codes::TYPE_NAMED;
 use language::limits::NESTING_MOST;
 use language::limits::SIZE_VARIABLES_MOST;
 use language::limits::VARIABLES_MOST;
@@ -115,7 +118,7 @@ pub fn line_behind_types(index: &[u32; INDEX_WORDS], i: u32) -> u32
 pub fn operand(o: u32) -> PlainType
     ensures { λ r. ⌜ r ≡ operandOf o ⌝ }
 {
-    if o < 6 {
+    if o < OPERATOR_AND {
         return PlainType::Int;
     }
     PlainType::Bool
@@ -125,7 +128,7 @@ pub fn operand(o: u32) -> PlainType
 pub fn outcome(o: u32) -> PlainType
     ensures { λ r. ⌜ r ≡ outcomeOf o ⌝ }
 {
-    if o < 3 {
+    if o < OPERATOR_EQUAL {
         return PlainType::Int;
     }
     PlainType::Bool
@@ -175,7 +178,7 @@ pub fn result_type(line: &[u8], c: Cursor) -> Typing
     };
     let form = f.value;
     let d = f.next;
-    if form < 2 {
+    if form < TYPE_NAMED {
         return answer(type_of(form), d);
     }
     let y = d.byte(line);
