@@ -14,25 +14,25 @@ use borrow.Author.Tests.{lt-ltb, le-ltb, ltb-true}
 use Rattle.language.specs.Limits.{sizeMost}
 use Rattle.language.specs.Result.{both, when}
 use Rattle.theory.specs.Lists.{none-is-not-some, both-left, both-right}
-use Rattle.splits.specs.Next.{gives, lastAs, before, next}
-use Rattle.splits.specs.Moves.{Moves, Giver}
+use Rattle.splits.specs.Next.{mayMove, lastAs, before, next}
+use Rattle.splits.specs.Moves.{Moves, Pivot}
 
 -- ---- the test of two sizes
-pub gives-too-little : (k p : ℕ) → p ≤ 1 → false ≡ gives k p
-unfolding gives both
-gives-too-little k p h = rw (le-ltb 1 p h)
+pub may-move-too-little : (k p : ℕ) → p ≤ 1 → false ≡ mayMove k p
+unfolding mayMove both
+may-move-too-little k p h = rw (le-ltb 1 p h)
 
-pub gives-if-below : (k p : ℕ) → 1 < p → ltb k sizeMost ≡ gives k p
-unfolding gives both
-gives-if-below k p h = rw (lt-ltb 1 p h)
+pub may-move-if-below : (k p : ℕ) → 1 < p → ltb k sizeMost ≡ mayMove k p
+unfolding mayMove both
+may-move-if-below k p h = rw (lt-ltb 1 p h)
 
-gives-small : (k p : ℕ) → gives k p ≡ true → k < sizeMost
-unfolding gives
-gives-small k p e = ltb-true k sizeMost (both-right (ltb 1 p) (ltb k sizeMost) e)
+may-move-small : (k p : ℕ) → mayMove k p ≡ true → k < sizeMost
+unfolding mayMove
+may-move-small k p e = ltb-true k sizeMost (both-right (ltb 1 p) (ltb k sizeMost) e)
 
-gives-some : (k p : ℕ) → gives k p ≡ true → 1 < p
-unfolding gives
-gives-some k p e = ltb-true 1 p (both-left (ltb 1 p) (ltb k sizeMost) e)
+may-move-some : (k p : ℕ) → mayMove k p ≡ true → 1 < p
+unfolding mayMove
+may-move-some k p e = ltb-true 1 p (both-left (ltb 1 p) (ltb k sizeMost) e)
 
 -- ---- the next of sizes behind others
 next-behind : (xs ks : List ℕ) {js : List ℕ} → next ks ≡ some js → next (xs ++ ks) ≡ some (xs ++ js)
@@ -41,11 +41,11 @@ next-behind [] ks e = e
 next-behind (x ∷ xs) ks e = ap (before x (xs ++ ks)) (next-behind xs ks e)
 
 -- two sizes of which the second gives, or does not
-next-given : (k p : ℕ) (ks : List ℕ) → next (p ∷ ks) ≡ none → gives k p ≡ true → next (k ∷ p ∷ ks) ≡ some (suc k ∷ lastAs (p - 1) (1 ∷ ks))
+next-given : (k p : ℕ) (ks : List ℕ) → next (p ∷ ks) ≡ none → mayMove k p ≡ true → next (k ∷ p ∷ ks) ≡ some (suc k ∷ lastAs (p - 1) (1 ∷ ks))
 unfolding next before when
 next-given k p ks e g = ap (before k (p ∷ ks)) e ∙ rw g
 
-next-quiet : (k p : ℕ) (ks : List ℕ) → next (p ∷ ks) ≡ none → gives k p ≡ false → next (k ∷ p ∷ ks) ≡ none
+next-quiet : (k p : ℕ) (ks : List ℕ) → next (p ∷ ks) ≡ none → mayMove k p ≡ false → next (k ∷ p ∷ ks) ≡ none
 unfolding next before when
 next-quiet k p ks e g = ap (before k (p ∷ ks)) e ∙ rw g
 
@@ -75,7 +75,7 @@ module _ {sizes : List ℕ} {at end j : ℕ} (v : Looks sizes at end j) where
   from-j : next (getD sizes j 0 ∷ slice (suc j) end sizes) ≡ none
   from-j = sym (ap next (slice-cons j end sizes 0 (v .within) (v .room))) ∙ v .quiet
 
-  pub looks-on : at < j → gives (getD sizes (j - 1) 0) (getD sizes j 0) ≡ false → Looks sizes at end (j - 1)
+  pub looks-on : at < j → mayMove (getD sizes (j - 1) 0) (getD sizes j 0) ≡ false → Looks sizes at end (j - 1)
   looks-on h g = record {
     from = omega arith;
     within = omega (arith, v .within);
@@ -83,10 +83,10 @@ module _ {sizes : List ℕ} {at end j : ℕ} (v : Looks sizes at end j) where
     quiet = ap next (two-and-rest sizes end j (v .room) (omega arith) (v .within)) ∙ next-quiet _ _ _ from-j g;
   }
 
-  pub looks-found : gives (getD sizes (j - 1) 0) (getD sizes j 0) ≡ true → Giver sizes at end j
+  pub looks-found : mayMove (getD sizes (j - 1) 0) (getD sizes j 0) ≡ true → Pivot sizes at end j
   looks-found g = record { from = v .from; within = v .within; quiet = v .quiet; giving = λ _. g }
 
-  pub looks-end : j ≤ at → Giver sizes at end at
+  pub looks-end : j ≤ at → Pivot sizes at end at
   looks-end h =
       let first : j ≡ at = omega (arith, v .from) in
       record { from = omega arith; within = omega (arith, v .within); quiet = rw first at (v .quiet); giving = λ less. absurd (omega (arith, less)) }
@@ -123,30 +123,30 @@ stored-at : (xs ys zs : List ℕ) (k p q i j e : ℕ) → length xs ≡ i → su
 stored-at xs ys zs k p q i j e a b c = rw (sym c, sym b, sym a, add-one) (stored xs ys zs k p q)
 
 -- the place that gives is behind the first, its size more than 1, and the one before it may grow
-module _ {sizes : List ℕ} {at end j : ℕ} (g : Giver sizes at end j) (ne : j ≡ at → ⊥) where
-  pub giver-behind : at < j
-  giver-behind = omega (arith, g .from, ne)
+module _ {sizes : List ℕ} {at end j : ℕ} (g : Pivot sizes at end j) (ne : j ≡ at → ⊥) where
+  pub pivot-behind : at < j
+  pivot-behind = omega (arith, g .from, ne)
 
-  pub giver-grows : getD sizes (j - 1) 0 < sizeMost
-  giver-grows = gives-small _ _ (g .giving giver-behind)
+  pub pivot-grows : getD sizes (j - 1) 0 < sizeMost
+  pivot-grows = may-move-small _ _ (g .giving pivot-behind)
 
-  pub giver-some : 1 < getD sizes j 0
-  giver-some = gives-some _ _ (g .giving giver-behind)
+  pub pivot-some : 1 < getD sizes j 0
+  pivot-some = may-move-some _ _ (g .giving pivot-behind)
 
 -- the places of the second and the third store are still in the list
-module _ {sizes : List ℕ} {at end j : ℕ} (g : Giver sizes at end j) (room : end ≤ length sizes) where
+module _ {sizes : List ℕ} {at end j : ℕ} (g : Pivot sizes at end j) (room : end ≤ length sizes) where
   pub second-within : (k : ℕ) → j < length (set sizes (j - 1) k)
   second-within k = lt-length-set sizes (j - 1) k (omega (arith, g .within))
 
   pub third-within : (k p : ℕ) → end - 1 < length (set (set sizes (j - 1) k) j p)
   third-within k p = lt-length-set (set sizes (j - 1) k) j p (lt-length-set sizes (j - 1) k (omega (arith, g .within)))
 
-module _ (sizes : List ℕ) (at end j : ℕ) (room : end ≤ length sizes) (h : at < j) (g : Giver sizes at end j) where
+module _ (sizes : List ℕ) (at end j : ℕ) (room : end ≤ length sizes) (h : at < j) (g : Pivot sizes at end j) where
   abbrev size : ℕ
   size = getD sizes (j - 1) 0
 
-  abbrev giver : ℕ
-  giver = getD sizes j 0
+  abbrev lowered : ℕ
+  lowered = getD sizes j 0
 
   -- the sizes before the one that grows, within the split; those behind the one that gives
   abbrev early : List ℕ
@@ -156,26 +156,26 @@ module _ (sizes : List ℕ) (at end j : ℕ) (room : end ≤ length sizes) (h : 
   late = slice (suc j) end sizes
 
   abbrev made : List ℕ
-  made = early ++ (suc size ∷ lastAs (giver - 1) (1 ∷ late))
+  made = early ++ (suc size ∷ lastAs (lowered - 1) (1 ∷ late))
 
   next-made : next (slice at end sizes) ≡ some made
   next-made =
       ap next (sym (slice-and-slice at (j - 1) end sizes (omega arith) (omega (arith, g .within)) room) ∙ ap (λ l. early ++ l) (two-and-rest sizes end j room (omega arith) (g .within)))
-      ∙ next-behind early (size ∷ giver ∷ late) (next-given size giver late (sym (ap next (slice-cons j end sizes 0 (g .within) room)) ∙ g .quiet) (g .giving h))
+      ∙ next-behind early (size ∷ lowered ∷ late) (next-given size lowered late (sym (ap next (slice-cons j end sizes 0 (g .within) room)) ∙ g .quiet) (g .giving h))
 
-  parts : sizes ≡ take (j - 1) sizes ++ (size ∷ giver ∷ (late ++ drop end sizes))
+  parts : sizes ≡ take (j - 1) sizes ++ (size ∷ lowered ∷ (late ++ drop end sizes))
   parts =
       sym (take-append-drop (j - 1) sizes)
       ∙ ap (λ l. take (j - 1) sizes ++ l)
       (sym (slice-and-drop (j - 1) end sizes (omega (arith, g .within)) room) ∙ ap (λ l. l ++ drop end sizes) (two-and-rest sizes end j room (omega arith) (g .within)))
 
-  sizes-made : set (set (set sizes (j - 1) (size + 1)) j 1) (end - 1) (giver - 1) ≡ take at sizes ++ made ++ drop end sizes
+  sizes-made : set (set (set sizes (j - 1) (size + 1)) j 1) (end - 1) (lowered - 1) ≡ take at sizes ++ made ++ drop end sizes
   sizes-made =
-      ap (λ l. set (set (set l (j - 1) (size + 1)) j 1) (end - 1) (giver - 1)) parts
-      ∙ stored-at (take (j - 1) sizes) late (drop end sizes) size giver (giver - 1) (j - 1) j (end - 1) (length-take-le (j - 1) sizes (omega (arith, g .within))) (omega arith) (omega (arith, length-slice (suc j) end sizes room, g .within))
-      ∙ ap (λ l. l ++ (suc size ∷ (lastAs (giver - 1) (1 ∷ late) ++ drop end sizes))) (sym (take-and-slice at (j - 1) sizes (omega arith)))
-      ∙ sym (append-assoc (take at sizes ++ early) (suc size ∷ lastAs (giver - 1) (1 ∷ late)) (drop end sizes))
-      ∙ ap (λ l. l ++ drop end sizes) (append-assoc (take at sizes) early (suc size ∷ lastAs (giver - 1) (1 ∷ late)))
+      ap (λ l. set (set (set l (j - 1) (size + 1)) j 1) (end - 1) (lowered - 1)) parts
+      ∙ stored-at (take (j - 1) sizes) late (drop end sizes) size lowered (lowered - 1) (j - 1) j (end - 1) (length-take-le (j - 1) sizes (omega (arith, g .within))) (omega arith) (omega (arith, length-slice (suc j) end sizes room, g .within))
+      ∙ ap (λ l. l ++ (suc size ∷ (lastAs (lowered - 1) (1 ∷ late) ++ drop end sizes))) (sym (take-and-slice at (j - 1) sizes (omega arith)))
+      ∙ sym (append-assoc (take at sizes ++ early) (suc size ∷ lastAs (lowered - 1) (1 ∷ late)) (drop end sizes))
+      ∙ ap (λ l. l ++ drop end sizes) (append-assoc (take at sizes) early (suc size ∷ lastAs (lowered - 1) (1 ∷ late)))
 
 -- ---- the promise, return by return
 module _ (sizes : List ℕ) (at r : ℕ) where
@@ -189,10 +189,10 @@ module _ (sizes : List ℕ) (at r : ℕ) where
   unfolding next
   moves-nothing e = moves-not (rw e refl)
 
-  pub moves-none : (j : ℕ) → Giver sizes at (at + r) j → j ≡ at → Moves sizes at r false sizes
+  pub moves-none : (j : ℕ) → Pivot sizes at (at + r) j → j ≡ at → Moves sizes at r false sizes
   moves-none j g e = moves-not (ap next (sym (drop-of-take at r sizes)) ∙ (rw e at (g .quiet)))
 
-  pub moves-on : (j : ℕ) → at + r ≤ length sizes → Giver sizes at (at + r) j → (j ≡ at → ⊥) →
+  pub moves-on : (j : ℕ) → at + r ≤ length sizes → Pivot sizes at (at + r) j → (j ≡ at → ⊥) →
       Moves sizes at r true (set (set (set sizes (j - 1) (getD sizes (j - 1) 0 + 1)) j 1) (at + r - 1) (getD sizes j 0 - 1))
   moves-on j room g ne = record {
     moves = λ {js} _ e. (refl, sizes-made sizes at (at + r) j room less g ∙ ap (λ ks. take at sizes ++ ks ++ drop (at + r) sizes) (same js e));
@@ -201,7 +201,7 @@ module _ (sizes : List ℕ) (at r : ℕ) where
   }
     where
       less : at < j
-      less = giver-behind g ne
+      less = pivot-behind g ne
 
       is : next (take r (drop at sizes)) ≡ some (made sizes at (at + r) j room less g)
       is = ap next (sym (drop-of-take at r sizes)) ∙ next-made sizes at (at + r) j room less g

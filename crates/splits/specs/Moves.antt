@@ -6,7 +6,7 @@ use mathlib.Core.Option.{none, some}
 use mathlib.Core.Path.{_≡_}
 use lib.ListN.{length, getD, take, drop}
 use lib.Seq.{slice}
-use Rattle.splits.specs.Next.{firstOf, gives, next}
+use Rattle.splits.specs.Next.{firstOf, mayMove, next}
 
 -- the first split written, if there is one and there is room for it; else nothing
 pub record Starts (sizes : List ℕ) (at r n : ℕ) (sizes′ : List ℕ) : Type 0 where
@@ -21,8 +21,8 @@ pub record Moves (sizes : List ℕ) (at r : ℕ) (moved : Bool) (sizes′ : List
   pub beyond : length sizes < at + r → (moved ≡ false) × (sizes′ ≡ sizes)
 
 -- the rightmost place j that gives to the one before it, or the first place
-pub record Giver (sizes : List ℕ) (at end j : ℕ) : Type 0 where
+pub record Pivot (sizes : List ℕ) (at end j : ℕ) : Type 0 where
   pub from : at ≤ j
   pub within : j < end
   pub quiet : next (slice j end sizes) ≡ none
-  pub giving : at < j → gives (getD sizes (j - 1) 0) (getD sizes j 0) ≡ true
+  pub giving : at < j → mayMove (getD sizes (j - 1) 0) (getD sizes j 0) ≡ true

@@ -15,8 +15,8 @@ firstOf zero n = []
 firstOf (suc r) n = replicate r 1 ++ ((n - r) ∷ [])
 
 -- a size k can be one more at the cost of the size p behind it
-unfoldable pub gives : ℕ → ℕ → Bool
-gives k p = both (ltb 1 p) (ltb k sizeMost)
+unfoldable pub mayMove : ℕ → ℕ → Bool
+mayMove k p = both (ltb 1 p) (ltb k sizeMost)
 
 -- the last size made p
 unfoldable pub lastAs : ℕ → List ℕ → List ℕ
@@ -28,7 +28,7 @@ lastAs p (k ∷ j ∷ ks) = k ∷ lastAs p (j ∷ ks)
 unfoldable pub before : ℕ → List ℕ → Option (List ℕ) → Option (List ℕ)
 before k ks (some js) = some (k ∷ js)
 before k [] none = none
-before k (p ∷ ks) none = when (gives k p) (suc k ∷ lastAs (p - 1) (1 ∷ ks))
+before k (p ∷ ks) none = when (mayMove k p) (suc k ∷ lastAs (p - 1) (1 ∷ ks))
 
 unfoldable pub next : List ℕ → Option (List ℕ)
 next [] = none

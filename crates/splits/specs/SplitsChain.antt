@@ -13,7 +13,7 @@ use Rattle.language.specs.Limits.{sizeMost}
 use Rattle.language.specs.Result.{both, when}
 use Rattle.language.specs.Splits.{firsts, splitsOf, splits}
 use Rattle.theory.specs.Lists.{both-true}
-use Rattle.splits.specs.Next.{firstOf, gives, lastAs, before, next, Chain, last, more}
+use Rattle.splits.specs.Next.{firstOf, mayMove, lastAs, before, next, Chain, last, more}
 
 -- ---- a stretch of the chain, up to ls
 data Stretch : List ℕ → List (List ℕ) → List ℕ → Type 0 where
@@ -38,7 +38,7 @@ lastOf : ℕ → ℕ → List ℕ
 lastOf r n = (n - r) ∷ replicate r 1
 
 last-has-no-next : (k r : ℕ) → next (k ∷ replicate r 1) ≡ none
-unfolding next before gives both when
+unfolding next before mayMove both when
 last-has-no-next k zero = refl
 last-has-no-next k (suc r) = ap (before k (replicate (suc r) 1)) (last-has-no-next 1 r)
 
@@ -47,16 +47,16 @@ unfolding lastAs
 ones-with-last p zero = refl
 ones-with-last p (suc r) = ap (λ ks. 1 ∷ ks) (ones-with-last p r)
 
-gives-more : (k p : ℕ) → 1 < p → k < sizeMost → gives k p ≡ true
-unfolding gives
-gives-more k p h less = both-true (lt-ltb 1 p h) (lt-ltb k sizeMost less)
+may-move-more : (k p : ℕ) → 1 < p → k < sizeMost → mayMove k p ≡ true
+unfolding mayMove
+may-move-more k p h less = both-true (lt-ltb 1 p h) (lt-ltb k sizeMost less)
 
 -- after the last split behind p comes the first one behind p + 1
 over-the-last : (p r q : ℕ) → r < q → p < sizeMost → next (p ∷ lastOf r (suc q)) ≡ some (suc p ∷ firstOf (suc r) q)
 unfolding next before when firstOf lastOf
 over-the-last p r q h less =
     ap (before p (lastOf r (suc q))) (last-has-no-next (suc q - r) r)
-    ∙ ap (λ b. when b (suc p ∷ lastAs (suc q - r - 1) (replicate (suc r) 1))) (gives-more p (suc q - r) (omega arith) less)
+    ∙ ap (λ b. when b (suc p ∷ lastAs (suc q - r - 1) (replicate (suc r) 1))) (may-move-more p (suc q - r) (omega arith) less)
     ∙ ap (λ ks. some (suc p ∷ ks)) (ones-with-last (suc q - r - 1) r)
     ∙ ap (λ k. some (suc p ∷ (replicate r 1 ++ (k ∷ [])))) (omega arith)
 

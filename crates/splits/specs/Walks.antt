@@ -13,7 +13,7 @@ use Rattle.language.specs.Limits.{sizeMost}
 use Rattle.language.specs.Splits.{splits}
 use Rattle.theory.specs.Lists.{false-is-not-true}
 use Rattle.theory.specs.Tests.{Whenever, w-some, w-none, whenever-when, whenever-is}
-use Rattle.splits.specs.Next.{firstOf, gives, lastAs, before, next, Chain, last, more}
+use Rattle.splits.specs.Next.{firstOf, mayMove, lastAs, before, next, Chain, last, more}
 use Rattle.splits.specs.Moves.{Starts, Moves}
 use Rattle.splits.specs.StartLaws.{first-long}
 use Rattle.splits.specs.SplitsChain.{splits-chain}
@@ -29,7 +29,7 @@ before-long : (k : ℕ) (ks : List ℕ) (o : Option (List ℕ)) → Whenever (λ
 unfolding before
 before-long k ks (some js) (w-some e) = w-some (ap suc e)
 before-long k [] none w = w-none
-before-long k (p ∷ ks) none w = whenever-when (gives k p) _ (λ _. ap suc (last-as-long (p - 1) (1 ∷ ks)))
+before-long k (p ∷ ks) none w = whenever-when (mayMove k p) _ (λ _. ap suc (last-as-long (p - 1) (1 ∷ ks)))
 
 as-long : (ks : List ℕ) → Whenever (λ js. length js ≡ length ks) (next ks)
 unfolding next

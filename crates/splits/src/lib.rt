@@ -2,8 +2,8 @@
 ghost use mathlib.Core.Path.{_≡_};
 ghost use Prim.Native.Nat.{_<_, _≤_};
 ghost use lib.ListN.{length};
-ghost use Rattle.splits.specs.Next.{gives as givesTo};
-ghost use Rattle.splits.specs.Moves.{Starts, Moves, Giver};
+ghost use Rattle.splits.specs.Next.{mayMove};
+ghost use Rattle.splits.specs.Moves.{Starts, Moves, Pivot};
 use language::limits::SIZE_MOST;
 
 // Writes the first split of n into r sizes at a place: 1, 1, .., and what is left; nothing if there is none or no room.
@@ -32,8 +32,8 @@ pub fn first_split(sizes: &mut [u8], at: usize, r: u32, n: u8)
 }
 
 // Whether a size can be one more at the cost of the one behind it.
-fn gives(size: u8, behind: u8) -> bool
-    ensures { λ r. ⌜ r ≡ givesTo size behind ⌝ }
+fn may_move(size: u8, behind: u8) -> bool
+    ensures { λ r. ⌜ r ≡ mayMove size behind ⌝ }
 {
     if behind <= 1 {
         return false;
@@ -41,14 +41,14 @@ fn gives(size: u8, behind: u8) -> bool
     (size as u32) < SIZE_MOST
 }
 
-// The rightmost place that gives to the one before it; the first place if none does.
-fn giver(sizes: &[u8], at: usize, end: usize) -> usize
+// The rightmost place whose size may be lowered and the one before it raised; the first place if there is none.
+fn pivot(sizes: &[u8], at: usize, end: usize) -> usize
     requires { ⌜ (at < end) × (end ≤ length (now sizes)) ⌝ }
-    ensures { λ j. ⌜ Giver (now (sizes .entry)) at end j ⌝ }
+    ensures { λ j. ⌜ Pivot (now (sizes .entry)) at end j ⌝ }
 {
     let mut j = end - 1;
     while at < j {
-        if gives(sizes[j - 1], sizes[j]) {
+        if may_move(sizes[j - 1], sizes[j]) {
             return j;
         }
         j -= 1;
@@ -70,7 +70,7 @@ pub fn next_split(sizes: &mut [u8], at: usize, r: u32) -> bool
         return false;
     }
     let end = at + (r as usize);
-    let j = giver(sizes, at, end);
+    let j = pivot(sizes, at, end);
     if j == at {
         return false;
     }
