@@ -12,7 +12,7 @@ use Rattle.language.specs.Result.{Result, ok, no, bind, need, from, both
 use Rattle.language.specs.Syntax.{Constructor, Ty, tbool, tint, tnamed, owns, Expr, ebool, eint, evar, enow, elast, elet, eif, eop, ecall, econ, ecase, eadj, efit, Exprs, enil, econs}
 use Rattle.language.specs.Syntax.{Function, Node, File, constructorsOf, functionFrame, channelFrame, declaredTypes, initialValues}
 use Rattle.language.specs.PlainTypes.{operandType, opType}
-use Rattle.language.specs.Sizes.{typeSize, typeAt, conditionsHold, sum, weight, sizesOf, parameterTypes, fieldTypes, ownSizes, sameType, sameTypes, sameSizes}
+use Rattle.language.specs.Sizes.{typeSize, typeAt, conditionsHold, sum, summedMeasure, sizesOf, parameterTypes, fieldTypes, ownSizes, sameType, sameTypes, sameSizes}
 use Rattle.language.specs.Splits.{splits}
 use Rattle.language.specs.Estimate.{Estimate, nothing, oneCell, after, either, withSlots, inCall}
 use Rattle.language.specs.Typing.{Place, outside, inside, channelsAt, frameAt, falls, baseType}
@@ -71,7 +71,7 @@ module _ (P : File) (enter : Enter) where
     -- "A call checks arguments, conditions, for a self-call that the summed measure falls, the result size, then enters its body"
     sized (ecall g es) p Γ Δ L = bind (sizeds es p Γ Δ L) (λ q. from (look (P .functions) g) badIndex (frameAt P p) (λ F. let ks = sizesOf (q .types) in
         need (sameTypes (parameterTypes (F .parameters) ks) (q .types)) typesDisagree (frameAt P p) (need (conditionsHold ks (F .conditions)) conditionFails (frameAt P p)
-        (need (falls p g (weight (F .measure) ks)) measureNotLess (frameAt P p) (from (typeAt ks (F .result)) sizeOutside (functionFrame P g) (λ τ. bind (enter (frameAt P p) g F ks τ (q .list)) (λ r.
+        (need (falls p g (summedMeasure (F .measure) ks)) measureNotLess (frameAt P p) (from (typeAt ks (F .result)) sizeOutside (functionFrame P g) (λ τ. bind (enter (frameAt P p) g F ks τ (q .list)) (λ r.
         ok (record { type = τ; numbers = withSlots (length (F .parameters)) (after (q .numbers) (inCall (r .numbers))); list = r .list }))))))))
     -- "10 precedes 11"
     sized (econ t i es) p Γ Δ L = bind (sizeds es p Γ Δ L) (λ q. from (look (constructorsOf P t) i) badIndex (frameAt P p) (λ fs. let ks = ownSizes fs (q .types) in
@@ -114,7 +114,7 @@ foundOr none L r = r
 unfoldable pub enterAt : File → ℕ → ℕ → Enter
 enterAt P most zero frame g F ks τ L = foundOr (find L g ks) L (no tooManyInstances frame)
 enterAt P most (suc left) frame g F ks τ L =
-    let body : Result Counted = need (ltb (length L) most) tooManyInstances frame (bind (sized P (enterAt P most left) (F .body) (inside g (weight (F .measure) ks)) (parameterTypes (F .parameters) ks) ks (L ++ (record { function = g; sizes = ks; numbers = nothing } ∷ [])))
+    let body : Result Counted = need (ltb (length L) most) tooManyInstances frame (bind (sized P (enterAt P most left) (F .body) (inside g (summedMeasure (F .measure) ks)) (parameterTypes (F .parameters) ks) ks (L ++ (record { function = g; sizes = ks; numbers = nothing } ∷ [])))
     (λ q. need (sameType (q .type) τ) sizesDisagree (functionFrame P g) (ok (record { numbers = q .numbers; list = set (q .list) (length L) (record { function = g; sizes = ks; numbers = q .numbers }) })))) in
     foundOr (find L g ks) L body
 

@@ -50,9 +50,9 @@ sum [] = 0
 sum (k ∷ ks) = k + sum ks
 
 -- the summed measure of a function at the sizes of its named arguments; repeats count twice
-unfoldable pub weight : List ℕ → List ℕ → ℕ
-weight [] ks = 0
-weight (i ∷ is) ks = getD ks i 0 + weight is ks
+unfoldable pub summedMeasure : List ℕ → List ℕ → ℕ
+summedMeasure [] ks = 0
+summedMeasure (i ∷ is) ks = getD ks i 0 + summedMeasure is ks
 
 -- ---- scopes of types
 -- the sizes of the named types among these, in order: those of an instance

@@ -13,7 +13,7 @@ use Rattle.language.specs.Result.{choose}
 use Rattle.language.specs.Syntax.{Constructor, Plain, pbool, pint, pnamed, Ty, tbool, tint, tnamed, Size, ResultType, Op, owns, Expr, ebool, eint, evar, enow, elast, elet, eif, eop, ecall, econ, ecase, eadj, efit, Exprs, enil, econs}
 use Rattle.language.specs.Syntax.{Function, Node, File, constructorsOf, functionFrame, channelFrame, declaredTypes, initialValues}
 use Rattle.language.specs.PlainTypes.{operandType, opType}
-use Rattle.language.specs.Sizes.{typeSize, typeAt, conditionsHold, sum, weight, sizesOf, parameterTypes, fieldTypes, ownSizes}
+use Rattle.language.specs.Sizes.{typeSize, typeAt, conditionsHold, sum, summedMeasure, sizesOf, parameterTypes, fieldTypes, ownSizes}
 use Rattle.language.specs.Splits.{splits}
 use Rattle.language.specs.Estimate.{Estimate, nothing, oneCell, after, either, withSlots, inCall}
 
@@ -59,8 +59,8 @@ module _ (P : File) where
           σ ≡ baseType (operandType o) → Typing p Γ Δ a σ m → Typing p Γ Δ b σ n → τ ≡ baseType (opType o) → x ≡ after (after m n) oneCell → Typing p Γ Δ (eop o a b) τ x
       t-call : {p : Place} {Γ : List Ty} {Δ : List ℕ} {g : ℕ} {es : Exprs} {τs : List Ty} {ks : List ℕ} {F : Function} {τ : Ty} {m n x : Estimate} →
           Typings p Γ Δ es τs m → look (P .functions) g ≡ some F → sizesOf τs ≡ ks → parameterTypes (F .parameters) ks ≡ τs →
-          conditionsHold ks (F .conditions) ≡ true → falls p g (weight (F .measure) ks) ≡ true → typeAt ks (F .result) ≡ some τ →
-          Typing (inside g (weight (F .measure) ks)) (parameterTypes (F .parameters) ks) ks (F .body) τ n →
+          conditionsHold ks (F .conditions) ≡ true → falls p g (summedMeasure (F .measure) ks) ≡ true → typeAt ks (F .result) ≡ some τ →
+          Typing (inside g (summedMeasure (F .measure) ks)) (parameterTypes (F .parameters) ks) ks (F .body) τ n →
           x ≡ withSlots (length (F .parameters)) (after m (inCall n)) → Typing p Γ Δ (ecall g es) τ x
       t-ctor : {p : Place} {Γ : List Ty} {Δ : List ℕ} {t i : ℕ} {es : Exprs} {τs : List Ty} {fs : Constructor} {ks : List ℕ} {k : ℕ} {m x : Estimate} →
           Typings p Γ Δ es τs m → look (constructorsOf P t) i ≡ some fs → ownSizes fs τs ≡ ks → sum ks < sizeMost → fieldTypes t fs ks ≡ τs → k ≡ 1 + sum ks →

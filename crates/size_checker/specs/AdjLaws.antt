@@ -35,7 +35,7 @@ use Rattle.size_checker.specs.Promises.{Lent, Buffers, Here, Sizes, Expr
 use Rattle.size_checker.specs.Parts.{AdjPart}
 use Rattle.size_checker.specs.HereLaws.{ends-at, here-moved, suc-same}
 use Rattle.size_checker.specs.TurnLaws.{sizes-at, part-agrees, sizes-scope, in-frame, grown-is}
-use Rattle.size_checker.specs.KindLaws.{named-kind, NotNamed, bounded-at, named-type}
+use Rattle.size_checker.specs.NamedTypes.{named-type, NotNamed, bounded-at, named-type}
 
 -- ---- a size by the way its answer went
 is-size : {x : Option ℕ} {end k : ℕ} {next : Cursor} {r : SizeAt} → AgreesSize x end r → r ≡ SizeIs k next → (x ≡ some k) × (next .at ≡ end)
@@ -86,37 +86,37 @@ module _ {t : Lent} {b : Buffers} {p : Place} {line : List ℕ} {s : SizeAt} (g 
     }
 
     -- the expression is of no named type: this was judged before
-    pub adj-plain : {a : Checked} {n frame : ℕ} → x ≡ Is a → NotNamed (a .kind) → Sizes AdjPart t b p (Refused n frame) b₁
+    pub adj-plain : {a : Checked} {n frame : ℕ} → x ≡ Is a → NotNamed (a .ty) → Sizes AdjPart t b p (Refused n frame) b₁
     unfolding sized
     adj-plain {a} d₂ plain = record {
       says = λ P S q Γ Δ L left h end e part. let i = part .head in let size = is-size (size-here h (i .within) (i .spelled)) d in
           rw (i .is) (from-some 10 _ _ (size .0)
           (bind-is _ (part-agrees behind (here-sized h) (i .spelled₂) (i .within₂) (size .1) (suc-same (i .deep))) d₂ (λ z c.
-          named-before _ _ _ (λ y j named. absurd (plain y j (named-kind (a .kind) (c .type ∙ named)))))));
+          named-before _ _ _ (λ y j named. absurd (plain y j (named-type (a .ty) (c .type ∙ named)))))));
       grows = not-grown;
       kept = kept-moved (behind .kept);
     }
 
-    module _ {a : Checked} {y j : ℕ} (d₂ : x ≡ Is a) (kind : a .kind ≡ Named y j) where
+    module _ {a : Checked} {y j : ℕ} (d₂ : x ≡ Is a) (ty : a .ty ≡ Named y j) where
       pub adj-lowered : k < j → Sizes AdjPart t b p (Refused 11 (p .line + 1)) b₁
       unfolding sized
       adj-lowered less = record {
         says = λ P S q Γ Δ L left h end e part. let i = part .head in let size = is-size (size-here h (i .within) (i .spelled)) d in
             rw (i .is) (from-some 10 _ _ (size .0)
             (bind-is _ (part-agrees behind (here-sized h) (i .spelled₂) (i .within₂) (size .1) (suc-same (i .deep))) d₂ (λ z c.
-            named-before _ _ _ (λ y′ j′ named. let same = named-type kind (c .type) named in
+            named-before _ _ _ (λ y′ j′ named. let same = named-type ty (c .type) named in
             need-fails _ (lt-leb j′ k (omega (arith, less, same .1))) (in-frame 11 h)))));
         grows = not-grown;
         kept = kept-moved (behind .kept);
       }
 
-      pub adj-done : {f : Sizing} → j ≤ k → f ≡ Is (record { kind = Named y k; numbers = a .numbers; next = a .next; used = a .used }) → Sizes AdjPart t b p f b₁
+      pub adj-done : {f : Sizing} → j ≤ k → f ≡ Is (record { ty = Named y k; numbers = a .numbers; next = a .next; used = a .used }) → Sizes AdjPart t b p f b₁
       unfolding sized
       adj-done le is = record {
         says = λ P S q Γ Δ L left h end e part. let i = part .head in let size = is-size (size-here h (i .within) (i .spelled)) d in
             rw (i .is) (from-some 10 _ _ (size .0)
             (bind-is _ (part-agrees behind (here-sized h) (i .spelled₂) (i .within₂) (size .1) (suc-same (i .deep))) d₂ (λ z c.
-            named-before _ _ _ (λ y′ j′ named. let same = named-type kind (c .type) named in
+            named-before _ _ _ (λ y′ j′ named. let same = named-type ty (c .type) named in
             need-holds 11 _ (le-leb j′ k (omega (arith, le, same .1)))
             (agrees is (record { type = ap (λ n. tnamed n k) (sym (same .0)); small = bounded-at (c .small) named (size-most (g .bound) d .1); numbers = c .numbers; ends = c .ends ∙ sym (ends-at part (i .is) (i .long)); holds = c .holds }))))));
         grows = grown-is is (grows-to (behind .grows) d₂);

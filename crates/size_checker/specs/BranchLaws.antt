@@ -66,14 +66,14 @@ split-most (suc r) n le most = all-map (λ ks s. all-map (λ (k : ℕ) less. ome
 module _ {s : Subject} {k own : ℕ} {t : Lent} {b : Buffers} {p : Place} (told : (own ≡ ownWord t (s .of) k % byteRange) × (own < byteRange)) where
   -- ---- the subject is too small for the constructor
   pub branch-skipped : {line : List ℕ} {next : Cursor} {o : Place} {numbers : Estimate} {r : Sizing} → s .size ≤ own → line ≡ framePart (t .text) (framesOf (t .index)) (p .line) →
-      Skips line (typesOf (t .index)) (functionsOf (t .index)) (p .at) (p .levels) next → o ≡ movedTo p next (p .used) → Makes nothing numbers → r ≡ leafOf (s .kind) numbers o → SizesBranch s k t b p r b
+      Skips line (typesOf (t .index)) (functionsOf (t .index)) (p .at) (p .levels) next → o ≡ movedTo p next (p .used) → Makes nothing numbers → r ≡ leafOf (s .ty) numbers o → SizesBranch s k t b p r b
   unfolding choose
   branch-skipped {next} {numbers} small cut skips moved made is = record {
     says = λ P S q Γ Δ L left h fs w there end e part.
         let over = skips .says _ e (known-shapes (h .indexed) (wider-known _ _ (h .site .known))) (part .within) (rw (part-is-line (h .indexed) (p .line) (h .site .line) cut) (part .spelled)) in
-        rw (le-leb (s .size) (owns fs) (omega (arith, small, owns-told k (h .indexed) (w .of) there told))) (agrees (is ∙ ap (leafOf (s .kind) numbers) moved)
-        (record { type = refl; small = w .kind; numbers = made .says; ends = over ∙ sym (part .ends); holds = h .holds }));
-    grows = grown-is (is ∙ ap (leafOf (s .kind) numbers) moved) (omega arith);
+        rw (le-leb (s .size) (owns fs) (omega (arith, small, owns-told k (h .indexed) (w .of) there told))) (agrees (is ∙ ap (leafOf (s .ty) numbers) moved)
+        (record { type = refl; small = w .ty; numbers = made .says; ends = over ∙ sym (part .ends); holds = h .holds }));
+    grows = grown-is (is ∙ ap (leafOf (s .ty) numbers) moved) (omega arith);
     kept = kept-all;
   }
 

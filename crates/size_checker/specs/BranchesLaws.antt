@@ -85,7 +85,7 @@ apart {line} {p} {S} {end} cs {bs} k less part =
 
 -- ---- no constructor is left
 pub branches-none : {s : Subject} {k n : ℕ} {t : Lent} {b : Buffers} {p : Place} {numbers : Estimate} {r : Sizing} → (n ≡ getD (typesOf (t .index)) (typeWords * s .of) 0 % byteRange) × (n < byteRange) → n ≤ k → Makes nothing numbers →
-    r ≡ leafOf (s .kind) numbers p → SizesBranches s k t b p r b
+    r ≡ leafOf (s .ty) numbers p → SizesBranches s k t b p r b
 unfolding sizedBranches exprsBytes
 branches-none {s} {k} {t} {b} {p} {numbers} told few made is = record {
   says = λ P S q Γ Δ L left h w end bs part.
@@ -93,7 +93,7 @@ branches-none {s} {k} {t} {b} {p} {numbers} told few made is = record {
       let empty = no-branches (part .within) none in
       rw (none, empty) (agrees is (record {
         type = refl;
-        small = w .kind;
+        small = w .ty;
         numbers = made .says;
         holds = h .holds;
         ends = sym (part .ends ∙ ap (λ (l : Exprs). p .at .at + length (exprsBytes l)) empty ∙ add-zero _);
@@ -110,7 +110,7 @@ module _ {s : Subject} {k n : ℕ} {t : Lent} {b b₁ : Buffers} {p : Place} {x 
   pub branches-first : {m frame : ℕ} → x ≡ Refused m frame → SizesBranches s k t b p x b₁
   branches-first d = record {
     says = λ P S q Γ Δ L left h w end bs part. let i = apart-at h w part in
-        rw (i .is, i .splits, branches-then P (entering P left) (i .first) (i .others) (i .fields) (drop (suc k) (constructorsOf P (s .of))) q Γ Δ (s .of) (s .size) (meaning (s .kind)) L)
+        rw (i .is, i .splits, branches-then P (entering P left) (i .first) (i .others) (i .fields) (drop (suc k) (constructorsOf P (s .of))) q Γ Δ (s .of) (s .size) (meaning (s .ty)) L)
         (bind-no _ (v .says P S q Γ Δ L left h (i .fields) w (i .there) _ (i .first) (i .part)) d d);
     grows = v .grows;
     kept = v .kept;
@@ -128,8 +128,8 @@ module _ {s : Subject} {k n : ℕ} {t : Lent} {b b₁ : Buffers} {p : Place} {x 
     branches-grows = grows-same (grows-to (v .grows) d) (under .grows)
 
     rest-at : {P : File} {S : Scope} {q : Stand} {Γ : List Ty} {Δ : List ℕ} {L : List Instance} {left end : ℕ} {bs : Exprs} {z : CountedDef} → Here t b p P S q Γ Δ L left → Wanted P s →
-        (i : Apart (lineAt (t .text) (p .line)) p S end (constructorsOf P (s .of)) bs k) → CheckedAs P (p .at .at + length (exprBytes (i .first))) (b₁ .list) a (ofType (meaning (s .kind)) z) →
-        Agrees P (ofType (meaning (s .kind))) end (b₂ .list) y (sizedBranches P (entering P left) (i .others) (drop (suc k) (constructorsOf P (s .of))) q Γ Δ (s .of) (s .size) (meaning (s .kind)) (z .list))
+        (i : Apart (lineAt (t .text) (p .line)) p S end (constructorsOf P (s .of)) bs k) → CheckedAs P (p .at .at + length (exprBytes (i .first))) (b₁ .list) a (ofType (meaning (s .ty)) z) →
+        Agrees P (ofType (meaning (s .ty))) end (b₂ .list) y (sizedBranches P (entering P left) (i .others) (drop (suc k) (constructorsOf P (s .of))) q Γ Δ (s .of) (s .size) (meaning (s .ty)) (z .list))
     rest-at {P} {S} {q} {Γ} {Δ} {left} {end} {z} h w i c =
         under .says P S q Γ Δ (z .list) left (here-moved h (a .next) (v .kept) (c .holds) (grows-to (v .grows) d)) w end (i .others)
         (record { spelled = rw (c .ends) (i .rest); within = i .within; ends = i .ends ∙ ap (λ n. n + length (exprsBytes (i .others))) (sym (c .ends)) })
@@ -137,18 +137,18 @@ module _ {s : Subject} {k n : ℕ} {t : Lent} {b b₁ : Buffers} {p : Place} {x 
     pub branches-rest : {m frame : ℕ} → y ≡ Refused m frame → SizesBranches s k t b p y b₂
     branches-rest d′ = record {
       says = λ P S q Γ Δ L left h w end bs part. let i = apart-at h w part in
-          rw (i .is, i .splits, branches-then P (entering P left) (i .first) (i .others) (i .fields) (drop (suc k) (constructorsOf P (s .of))) q Γ Δ (s .of) (s .size) (meaning (s .kind)) L)
+          rw (i .is, i .splits, branches-then P (entering P left) (i .first) (i .others) (i .fields) (drop (suc k) (constructorsOf P (s .of))) q Γ Δ (s .of) (s .size) (meaning (s .ty)) L)
           (bind-is _ (v .says P S q Γ Δ L left h (i .fields) w (i .there) _ (i .first) (i .part)) d (λ z c.
           bind-no _ (rest-at h w i c) d′ d′));
       grows = branches-grows;
       kept = branches-kept;
     }
 
-    pub branches-done : {f : Checked} {numbers : Estimate} {r : Sizing} → y ≡ Is f → Combines either (a .numbers) (f .numbers) numbers → r ≡ Is (record { kind = f .kind; numbers = numbers; next = f .next; used = f .used }) →
+    pub branches-done : {f : Checked} {numbers : Estimate} {r : Sizing} → y ≡ Is f → Combines either (a .numbers) (f .numbers) numbers → r ≡ Is (record { ty = f .ty; numbers = numbers; next = f .next; used = f .used }) →
         SizesBranches s k t b p r b₂
     branches-done d′ all ends = record {
       says = λ P S q Γ Δ L left h w end bs part. let i = apart-at h w part in
-          rw (i .is, i .splits, branches-then P (entering P left) (i .first) (i .others) (i .fields) (drop (suc k) (constructorsOf P (s .of))) q Γ Δ (s .of) (s .size) (meaning (s .kind)) L)
+          rw (i .is, i .splits, branches-then P (entering P left) (i .first) (i .others) (i .fields) (drop (suc k) (constructorsOf P (s .of))) q Γ Δ (s .of) (s .size) (meaning (s .ty)) L)
           (bind-is _ (v .says P S q Γ Δ L left h (i .fields) w (i .there) _ (i .first) (i .part)) d (λ z c.
           bind-is _ (rest-at h w i c) d′ (λ y g.
           agrees ends (record { type = g .type; small = g .small; numbers = all .says _ _ (c .numbers) (g .numbers); ends = g .ends; holds = g .holds }))));

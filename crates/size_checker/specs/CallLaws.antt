@@ -10,7 +10,7 @@ use Rattle.language.specs.Limits.{byteRange, sizeVariablesMost, variablesMost}
 use Rattle.language.specs.Result.{Result, need, from}
 use Rattle.language.specs.Syntax.{Ty, Function, File, functionFrame}
 use Rattle.language.specs.Estimate.{after, withSlots, inCall}
-use Rattle.language.specs.Sizes.{typeAt, conditionsHold, weight, sizesOf}
+use Rattle.language.specs.Sizes.{typeAt, conditionsHold, summedMeasure, sizesOf}
 use Rattle.language.specs.Typing.{Place as Stand, frameAt, falls}
 use Rattle.language.specs.Checker.{Sized, Sizeds, sized}
 use Rattle.estimate.specs.declared.Estimate.{Estimate}
@@ -41,7 +41,7 @@ pub record EntryIs (f n m : ℕ) (e : Entry) : Type 0 where
   pub function : e .function ≡ f
   pub variables : e .variables ≡ n
   pub sizes : e .sizes ≡ m
-  pub small : Bounded (meaning (e .kind))
+  pub small : Bounded (meaning (e .ty))
 
 pub entry-is : {f n m : ℕ} {y : Entering} {e : Entry} → EntryOf f n m y → y ≡ Ready e → EntryIs f n m e
 entry-is {f} {n} {m} {e} (entry-of {e = g} i j k s) d = subst (EntryIs f n m) (let same : g ≡ e = cc in same) (record { function = i; variables = j; sizes = k; small = s })
@@ -53,16 +53,16 @@ entry-numbers v d less few fewer = let i = entry-is v d in record { function = o
 -- an entry that is ready, for a file
 record IsReady (P : File) (o : Stand) (f n m : ℕ) (F : Function) (ks : List ℕ) (e : Entry) : Type 0 where
   conditions : conditionsHold ks (F .conditions) ≡ true
-  falling : falls o f (weight (F .measure) ks) ≡ true
-  result : typeAt ks (F .result) ≡ some (meaning (e .kind))
+  falling : falls o f (summedMeasure (F .measure) ks) ≡ true
+  result : typeAt ks (F .result) ≡ some (meaning (e .ty))
   function : e .function ≡ f
-  weighs : e .weight ≡ weight (F .measure) ks
+  measures : e .measure ≡ summedMeasure (F .measure) ks
   variables : e .variables ≡ n
   sizes : e .sizes ≡ m
 
 ready-of : {P : File} {o : Stand} {p : Place} {f n m : ℕ} {F : Function} {ks : List ℕ} {y : Entering} {e : Entry} → Prepared P o p f n m F ks y → y ≡ Ready e → IsReady P o f n m F ks e
 ready-of {P} {o} {f} {n} {m} {F} {ks} {e} (ready {e = j} d c g r i w k l) d′ = subst (IsReady P o f n m F ks) (let both : Ready j ≡ Ready e = sym d ∙ d′ in let same : j ≡ e = cc in same)
-    (record { conditions = c; falling = g; result = r; function = i; weighs = w; variables = k; sizes = l })
+    (record { conditions = c; falling = g; result = r; function = i; measures = w; variables = k; sizes = l })
 ready-of (no-condition d c) d′ = absurd (let both = sym d ∙ d′ in let z : _≡_ {A = ℕ} 0 1 = cc in omega arith)
 ready-of (no-fall d c g) d′ = absurd (let both = sym d ∙ d′ in let z : _≡_ {A = ℕ} 0 1 = cc in omega arith)
 ready-of (no-size d c g r) d′ = absurd (let both = sym d ∙ d′ in let z : _≡_ {A = ℕ} 0 1 = cc in omega arith)
@@ -115,7 +115,7 @@ module _ (p : Place) (a : Counted) {t : Lent} {list row named named′ : List �
     where
       refusing : {P : File} {o : Stand} {F : Function} {ks : List ℕ} {next : ℕ} {words : List ℕ} (κ : Ty → Result Sized) → frameAt P o ≡ suc (p .line) → p .types ≡ length (P .types) →
           Prepared P o (movedTo p (a .next) (a .used)) f n m F ks y →
-          Agrees P itself next words r (need (conditionsHold ks (F .conditions)) 12 (frameAt P o) (need (falls o f (weight (F .measure) ks)) 13 (frameAt P o) (from (typeAt ks (F .result)) 10 (functionFrame P f) κ)))
+          Agrees P itself next words r (need (conditionsHold ks (F .conditions)) 12 (frameAt P o) (need (falls o f (summedMeasure (F .measure) ks)) 13 (frameAt P o) (from (typeAt ks (F .result)) 10 (functionFrame P f) κ)))
       refusing κ at types (ready e c g r i j k l) = absurd (let z : _≡_ {A = ℕ} 0 1 = cc in omega arith)
       refusing κ at types (no-condition e c) = need-fails _ c (answer ∙ ap notEntered e ∙ ap (Refused 12) (sym at))
       refusing κ at types (no-fall e c g) = need-holds _ _ c (need-fails _ g (answer ∙ ap notEntered e ∙ ap (Refused 13) (sym at)))
@@ -134,7 +134,7 @@ module _ (p : Place) (a : Counted) {t : Lent} {list row named named′ : List �
       given : Given P e F (sizesOf (z .types)) row named′
       given = let r = is-ready in let j = argued {F = F} (g .count) (g .few) zeros (g .counted) (g .agree) u in record {
         function = ap (look (P .functions)) (r .function) ∙ g .function;
-        weighs = r .weighs;
+        measures = r .measures;
         variables = r .variables ∙ g .count;
         sizeCount = r .sizes ∙ j .sizeCount;
         named = j .named;
@@ -145,8 +145,8 @@ module _ (p : Place) (a : Counted) {t : Lent} {list row named named′ : List �
         result = entry-is (w .of) d .small;
       }
 
-      entered-as : Agrees P (ofType (meaning (e .kind))) (a .next .at) (b .list) x (entering P left (frameAt P o) f F (sizesOf (z .types)) (meaning (e .kind)) (z .list))
-      entered-as = subst₂ (λ frame h. Agrees P (ofType (meaning (e .kind))) (a .next .at) (b .list) x (entering P left frame h F (sizesOf (z .types)) (meaning (e .kind)) (z .list))) (sym (g .frame)) (is-ready .function)
+      entered-as : Agrees P (ofType (meaning (e .ty))) (a .next .at) (b .list) x (entering P left (frameAt P o) f F (sizesOf (z .types)) (meaning (e .ty)) (z .list))
+      entered-as = subst₂ (λ frame h. Agrees P (ofType (meaning (e .ty))) (a .next .at) (b .list) x (entering P left frame h F (sizesOf (z .types)) (meaning (e .ty)) (z .list))) (sym (g .frame)) (is-ready .function)
           (entry .says P F (sizesOf (z .types)) (z .list) left (g .indexed) (g .typeCount) (g .counted .holds) (g .deep) given)
 
     pub apply-body : {k frame : ℕ} → x ≡ Refused k frame → Applies f n a t list row p x (b .list)
@@ -157,7 +157,7 @@ module _ (p : Place) (a : Counted) {t : Lent} {list row named named′ : List �
     }
 
     pub apply-done : {k : Checked} {inside both numbers : Estimate} {r : Sizing} → x ≡ Is k → Changes inCall (k .numbers) inside → Combines after (a .numbers) inside both → Changes (withSlots n) both numbers →
-        r ≡ Is (record { kind = k .kind; numbers = numbers; next = k .next; used = k .used }) → Applies f n a t list row p r (b .list)
+        r ≡ Is (record { ty = k .ty; numbers = numbers; next = k .next; used = k .used }) → Applies f n a t list row p r (b .list)
     apply-done {numbers} d′ one two three answer = record {
       says = λ P o F z left next g. let r = is-ready g in
           need-holds 12 _ (r .conditions) (need-holds 13 _ (r .falling) (from-some 10 _ _ (r .result) (bind-is _ (entered-as g) d′ (λ y c.

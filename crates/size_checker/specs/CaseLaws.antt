@@ -40,7 +40,7 @@ use Rattle.size_checker.specs.Parts.{CasePart}
 use Rattle.size_steps.specs.Leaves.{subjectOf}
 use Rattle.size_checker.specs.HereLaws.{part-at, ends-at, here-moved, suc-same}
 use Rattle.size_checker.specs.TurnLaws.{behind-first, here-behind, sizes-scope, in-frame, grown-is}
-use Rattle.size_checker.specs.KindLaws.{named-kind, NotNamed, bounded-size}
+use Rattle.size_checker.specs.NamedTypes.{named-type, NotNamed, bounded-size}
 
 -- a named type
 named-is : {B : Type 0} {P : File} {viewed : B → Sized} {next : ℕ} {words : List ℕ} {r : Sizing} {τ : Ty} {t k : ℕ} (frame : ℕ) (κ : ℕ → ℕ → Result B) → τ ≡ tnamed t k → Agrees P viewed next words r (κ t k) → Agrees P viewed next words r (named τ frame κ)
@@ -58,18 +58,18 @@ module _ {t : Lent} {b b₁ : Buffers} {p : Place} {x : Sizing} (v : Sizes ExprP
   }
 
   module _ {a : Checked} (d : x ≡ Is a) where
-    pub case-plain : {u n frame : ℕ} → NotNamed (a .kind) → Sizes (CasePart u) t b p (Refused n frame) b₁
+    pub case-plain : {u n frame : ℕ} → NotNamed (a .ty) → Sizes (CasePart u) t b p (Refused n frame) b₁
     unfolding sized
     case-plain other = record {
       says = λ P S q Γ Δ L left h end e part. let i = part .head in
           rw (i .is) (bind-is _ (v .says P S q Γ Δ L left h _ (i .first) (part-at p (i .spelled) (i .within) refl (suc-same (i .deep)))) d (λ z c.
-          named-before _ _ _ (λ w k is. absurd (other w k (named-kind (a .kind) (c .type ∙ is))))));
+          named-before _ _ _ (λ w k is. absurd (other w k (named-type (a .ty) (c .type ∙ is))))));
       grows = not-grown;
       kept = v .kept;
     }
 
     -- the type that is wanted of the branches
-    module _ {w m : ℕ} {line : List ℕ} {y : TypeAt} (is : a .kind ≡ Named w m) (cut : line ≡ framePart (t .text) (framesOf (t .index)) (p .line)) (g : TypeGiven line (a .next) (b₁ .sizes) y) where
+    module _ {w m : ℕ} {line : List ℕ} {y : TypeAt} (is : a .ty ≡ Named w m) (cut : line ≡ framePart (t .text) (framesOf (t .index)) (p .line)) (g : TypeGiven line (a .next) (b₁ .sizes) y) where
       -- what was read, where the definition reads it
       result-read : {P : File} {S : Scope} {q : Stand} {Γ : List Ty} {Δ : List ℕ} {L : List Instance} {left types at : ℕ} {z : Sized} {r : ResultType} → Here t b p P S q Γ Δ L left → CheckedAs P at (b₁ .list) a z →
           Spells resultBytes (lineAt (t .text) (p .line)) at r → WithinResult types (S .sizes) r → AgreesType (typeAt Δ r) (at + length (resultBytes r)) y
@@ -108,7 +108,7 @@ module _ {t : Lent} {b b₁ : Buffers} {p : Place} {x : Sizing} (v : Sizes ExprP
         branches-at {P} {S} {q} {Γ} {Δ} {left} {levels} {at} {bs} {s} h r c read spelled less within levels-are =
             let there = type-given given read .1 in
             under .says P S q Γ Δ (s .list) left (here-moved h next (v .kept) (c .holds) (grows-to (v .grows) d))
-            (record { of = omega (arith, less, ap length (h .site .known .types)); size = bounded-size (c .small) (sym (c .type) ∙ ap meaning is); kind = one-byte-bounded (type-within given (g .bound)) })
+            (record { of = omega (arith, less, ap length (h .site .known .types)); size = bounded-size (c .small) (sym (c .type) ∙ ap meaning is); ty = one-byte-bounded (type-within given (g .bound)) })
             (at + length (resultBytes r) + length (exprsBytes bs)) bs
             (record { spelled = rw there spelled; within = rw (levels-are, sym (h .site .known .types)) within; ends = ap (λ n. n + length (exprsBytes bs)) (sym there) })
 
@@ -124,7 +124,7 @@ module _ {t : Lent} {b b₁ : Buffers} {p : Place} {x : Sizing} (v : Sizes ExprP
           kept = case-kept;
         }
 
-        pub case-done : {k : Checked} {numbers : Estimate} {f : Sizing} → z ≡ Is k → Combines after (a .numbers) (k .numbers) numbers → f ≡ Is (record { kind = k .kind; numbers = numbers; next = k .next; used = k .used }) →
+        pub case-done : {k : Checked} {numbers : Estimate} {f : Sizing} → z ≡ Is k → Combines after (a .numbers) (k .numbers) numbers → f ≡ Is (record { ty = k .ty; numbers = numbers; next = k .next; used = k .used }) →
             Sizes (CasePart u) t b p f b₂
         unfolding sized
         case-done d′ all ends = record {

@@ -123,19 +123,19 @@ module _ {t : Lent} {list scope sizes : List ℕ} {n : Counts} {c word at used :
         (part-at (outerPlace n c at used) (subst (λ m. Spells exprBytes (lineAt (t .text) m) (getD (channelsOf (t .index)) (channelWords * c + word) 0) e) line-is (s .spelled)) (s .within) here refl)
 
     -- the type that was found, against the declared one
-    test-is : {σ : Ty} {kind : SizedType} {r : Bool} (found : SizedType) → ChannelTyped (t .index) c kind → r ≡ sameType (meaning found) (meaning kind) → meaning found ≡ σ → sameType σ τ ≡ r
+    test-is : {σ : Ty} {ty : SizedType} {r : Bool} (found : SizedType) → ChannelTyped (t .index) c ty → r ≡ sameType (meaning found) (meaning ty) → meaning found ≡ σ → sameType σ τ ≡ r
     test-is found typed same type = ap₂ sameType (sym type) (sym (channel-typed {t = t} i c (s .declared) typed)) ∙ sym same
 
   pub channel-refused : {m frame : ℕ} → x ≡ Refused m frame → SizesChannel t list n c word used x (b .list)
   unfolding sizedChannel
   channel-refused d = record { says = λ P i k C named e τ s L h. bind-no _ (channel-agrees P i k C named e τ s L h) d d }
 
-  module _ {a : Checked} {kind : SizedType} {r : Bool} (d : x ≡ Is a) (typed : ChannelTyped (t .index) c kind) (same : r ≡ sameType (meaning (a .kind)) (meaning kind)) where
+  module _ {a : Checked} {ty : SizedType} {r : Bool} (d : x ≡ Is a) (typed : ChannelTyped (t .index) c ty) (same : r ≡ sameType (meaning (a .ty)) (meaning ty)) where
     pub channel-differs : r ≡ false → SizesChannel t list n c word used (Refused 11 (p .line + 1)) (b .list)
     unfolding sizedChannel
     channel-differs no-match = record {
       says = λ P i k C named e τ s L h. bind-is _ (channel-agrees P i k C named e τ s L h) d (λ y g.
-          need-fails _ (test-is P i k C named e τ s L h (a .kind) typed same (g .type) ∙ no-match)
+          need-fails _ (test-is P i k C named e τ s L h (a .ty) typed same (g .type) ∙ no-match)
           (ap (λ z. Refused 11 (z .line + 1)) place ∙ ap (λ m. Refused 11 (m + 1)) (sym (line-is P i k C named e τ s L h))));
     }
 
@@ -143,9 +143,9 @@ module _ {t : Lent} {list scope sizes : List ℕ} {n : Counts} {c word at used :
     unfolding sizedChannel
     channel-done match answer = record {
       says = λ P i k C named e τ s L h. bind-is _ (channel-agrees P i k C named e τ s L h) d (λ y g.
-          need-holds 11 (channelFrame P c) (test-is P i k C named e τ s L h (a .kind) typed same (g .type) ∙ match)
+          need-holds 11 (channelFrame P c) (test-is P i k C named e τ s L h (a .ty) typed same (g .type) ∙ match)
           (agrees answer (record {
-            type = g .type ∙ same-type _ _ (test-is P i k C named e τ s L h (a .kind) typed same (g .type) ∙ match);
+            type = g .type ∙ same-type _ _ (test-is P i k C named e τ s L h (a .ty) typed same (g .type) ∙ match);
             small = channel-bounded {t = t} i c (s .declared);
             numbers = g .numbers;
             ends = g .ends;

@@ -13,7 +13,7 @@ use Rattle.language.specs.Result.{Result, ok, no, bind, need}
 use Rattle.language.specs.Syntax.{Plain, pbool, pint, pnamed, Ty, Function, File, functionFrame}
 use Rattle.language.specs.Format.{exprBytes}
 use Rattle.language.specs.Within.{All}
-use Rattle.language.specs.Sizes.{weight, parameterTypes, sameType}
+use Rattle.language.specs.Sizes.{summedMeasure, parameterTypes, sameType}
 use Rattle.language.specs.Scope.{namedCount}
 use Rattle.language.specs.Estimate.{Estimate as Exact, nothing}
 use Rattle.language.specs.Typing.{inside, channelsAt, frameAt}
@@ -87,11 +87,11 @@ not-found absent e = refl
 
 -- ---- enter
 module _ {e : Entry} {t : Lent} {b : Buffers} {p : Place} {x : Search} (f : Finds (b .list) (p .used) (e .function) (b .sizes) x) where
-  pub enter-found : {numbers : Estimate} {r : Sizing} → x ≡ Found numbers → r ≡ leafOf (e .kind) numbers p → Enters e t b p r b
+  pub enter-found : {numbers : Estimate} {r : Sizing} → x ≡ Found numbers → r ≡ leafOf (e .ty) numbers p → Enters e t b p r b
   enter-found d answer = record {
     says = λ P F ks L left i types h deep v.
         let y = was-found (f .says L ks (h .listed) (h .count) (h .once) (v .padded) (same-arity h v)) d in
-        rw (entered-before P (suc (p .line)) (e .function) F ks (meaning (e .kind)) L left (y .is))
+        rw (entered-before P (suc (p .line)) (e .function) F ks (meaning (e .ty)) L left (y .is))
         (agrees answer (record { type = refl; small = v .result; numbers = y .stands; ends = refl; holds = h }));
     grows = grown-as answer (omega arith);
   }
@@ -114,7 +114,7 @@ parameters-long (pnamed t ∷ ps) (k ∷ ks) = ap suc (parameters-long ps ks)
 -- ---- what is known where a body starts
 module _ {P : File} {e : Entry} {F : Function} {ks scope sizes : List ℕ} (v : Given P e F ks scope sizes) where
   pub body-site : (p : Place) (index : List ℕ) → p .types ≡ length (P .types) → (k : BodyKnown P F) →
-      Site P (k .scope) (inside (e .function) (weight (F .measure) ks)) (parameterTypes (F .parameters) ks) ks scope sizes (bodyOf index p e)
+      Site P (k .scope) (inside (e .function) (summedMeasure (F .measure) ks)) (parameterTypes (F .parameters) ks) ks scope sizes (bodyOf index p e)
   unfolding channelsAt frameAt
   body-site p index types k = record {
     known = k .known;
@@ -122,7 +122,7 @@ module _ {P : File} {e : Entry} {F : Function} {ks scope sizes : List ℕ} (v : 
     typeCount = types;
     frame = omega (arith, types);
     line = omega (arith, types, look-less (P .functions) (e .function) (v .function));
-    around = around-one {f = e .function} {w = weight (F .measure) ks} (add-one (e .function)) (v .weighs);
+    around = around-one {f = e .function} {w = summedMeasure (F .measure) ks} (add-one (e .function)) (v .measures);
     variables = v .variables ∙ sym (parameters-long (F .parameters) ks);
     variablesIn = k .variables ∙ sym (parameters-long (F .parameters) ks);
     types = v .types;
@@ -139,7 +139,7 @@ module _ {P : File} {e : Entry} {F : Function} {ks scope sizes : List ℕ} (v : 
 module _ (e : Entry) {t : Lent} {b : Buffers} (p : Place) where
   pub body-full : instancesMost ≤ p .used → EntersNew e t b p (Refused 14 (p .line + 1)) b
   body-full full = record {
-    says = λ P F ks L left i types h deep v new. rw (no-room P (suc (p .line)) (e .function) F ks (meaning (e .kind)) L left new (omega (arith, full, h .count))) (refused (ap (Refused 14) (add-one (p .line))));
+    says = λ P F ks L left i types h deep v new. rw (no-room P (suc (p .line)) (e .function) F ks (meaning (e .ty)) L left new (omega (arith, full, h .count))) (refused (ap (Refused 14) (add-one (p .line))));
     grows = not-grown;
   }
 
@@ -158,7 +158,7 @@ module _ (e : Entry) {t : Lent} {b : Buffers} (p : Place) where
       known : BodyKnown P F
       known = body-known (i .within) (e .function) (v .function)
 
-      here : Here t (buffers list (b .scope) (b .sizes)) (bodyOf (t .index) p e) P (known .scope) (inside (e .function) (weight (F .measure) ks)) (parameterTypes (F .parameters) ks) ks (L ++ (entered (e .function) ks nothing ∷ [])) (left - 1)
+      here : Here t (buffers list (b .scope) (b .sizes)) (bodyOf (t .index) p e) P (known .scope) (inside (e .function) (summedMeasure (F .measure) ks)) (parameterTypes (F .parameters) ks) ks (L ++ (entered (e .function) ks nothing ∷ [])) (left - 1)
       here = record {
         indexed = i;
         site = body-site v p (t .index) types known;
@@ -174,13 +174,13 @@ module _ (e : Entry) {t : Lent} {b : Buffers} (p : Place) where
       }
 
       body-agrees : Agrees P itself (bodyAt (functionsOf (t .index)) (e .function) + length (exprBytes (F .body))) (b₁ .list) x (bodyRun P (entering P (left - 1)) (e .function) F ks L)
-      body-agrees = inner .says P (known .scope) (inside (e .function) (weight (F .measure) ks)) (parameterTypes (F .parameters) ks) ks (L ++ (entered (e .function) ks nothing ∷ [])) (left - 1) here _ (F .body) part
+      body-agrees = inner .says P (known .scope) (inside (e .function) (summedMeasure (F .measure) ks)) (parameterTypes (F .parameters) ks) ks (L ++ (entered (e .function) ks nothing ∷ [])) (left - 1) here _ (F .body) part
 
       body-keeps : Sat (λ (y : Sized). Extends (L ++ (entered (e .function) ks nothing ∷ [])) (y .list)) (bodyRun P (entering P (left - 1)) (e .function) F ks L)
       body-keeps = sized-keeps P (entering P (left - 1)) (enters-keep P instancesMost (left - 1)) (F .body) _ _ _ _
 
-      entered-here : entering P left (suc (p .line)) (e .function) F ks (meaning (e .kind)) L ≡ bind (bodyRun P (entering P (left - 1)) (e .function) F ks L) (leaving P (suc (p .line)) (e .function) F ks (meaning (e .kind)) L)
-      entered-here = entered-now P (suc (p .line)) (e .function) F ks (meaning (e .kind)) L left (left - 1) (omega (arith, deep, room, h .count)) new (omega (arith, room, h .count))
+      entered-here : entering P left (suc (p .line)) (e .function) F ks (meaning (e .ty)) L ≡ bind (bodyRun P (entering P (left - 1)) (e .function) F ks L) (leaving P (suc (p .line)) (e .function) F ks (meaning (e .ty)) L)
+      entered-here = entered-now P (suc (p .line)) (e .function) F ks (meaning (e .ty)) L left (left - 1) (omega (arith, deep, room, h .count)) new (omega (arith, room, h .count))
 
     pub body-refused : {n frame : ℕ} → x ≡ Refused n frame → EntersNew e t b p x b₁
     body-refused d = record {
@@ -188,19 +188,19 @@ module _ (e : Entry) {t : Lent} {b : Buffers} (p : Place) where
       grows = body-grows;
     }
 
-    module _ {k : Checked} {r : Bool} (d : x ≡ Is k) (same : r ≡ sameType (meaning (k .kind)) (meaning (e .kind))) where
+    module _ {k : Checked} {r : Bool} (d : x ≡ Is k) (same : r ≡ sameType (meaning (k .ty)) (meaning (e .ty))) where
       pub body-differs : r ≡ false → EntersNew e t b p (Refused 11 (q .line + 1)) b₁
       body-differs no-match = record {
         says = λ P F ks L left i types h deep v new. rw (entered-here P F ks L left i types h deep v new) (bind-is _ (body-agrees P F ks L left i types h deep v new) d (λ y c.
-            need-fails _ (ap (λ τ. sameType τ (meaning (e .kind))) (sym (c .type)) ∙ sym same ∙ no-match) (ap (λ z. Refused 11 (z .line + 1)) at ∙ ap (λ n. Refused 11 (n + e .function + 1)) types)));
+            need-fails _ (ap (λ τ. sameType τ (meaning (e .ty))) (sym (c .type)) ∙ sym same ∙ no-match) (ap (λ z. Refused 11 (z .line + 1)) at ∙ ap (λ n. Refused 11 (n + e .function + 1)) types)));
         grows = not-grown;
       }
 
-      pub body-done : {list′ : List ℕ} {m : Place} {z : Sizing} → r ≡ true → Finishes (b₁ .list) (p .used) (k .numbers) list′ → m ≡ movedTo p (p .at) (k .used) → z ≡ leafOf (e .kind) (k .numbers) m →
+      pub body-done : {list′ : List ℕ} {m : Place} {z : Sizing} → r ≡ true → Finishes (b₁ .list) (p .used) (k .numbers) list′ → m ≡ movedTo p (p .at) (k .used) → z ≡ leafOf (e .ty) (k .numbers) m →
           EntersNew e t b p z (buffers list′ (b₁ .scope) (b₁ .sizes))
-      body-done {list′} match fin moved answer = let whole = answer ∙ ap (leafOf (e .kind) (k .numbers)) moved in record {
+      body-done {list′} match fin moved answer = let whole = answer ∙ ap (leafOf (e .ty) (k .numbers)) moved in record {
         says = λ P F ks L left i types h deep v new. rw (entered-here P F ks L left i types h deep v new) (bind-knows _ (body-agrees P F ks L left i types h deep v new) (body-keeps P F ks L left i types h deep v new) d (λ y g c.
-            need-holds 11 (functionFrame P (e .function)) (ap (λ τ. sameType τ (meaning (e .kind))) (sym (c .type)) ∙ sym same ∙ match)
+            need-holds 11 (functionFrame P (e .function)) (ap (λ τ. sameType τ (meaning (e .ty))) (sym (c .type)) ∙ sym same ∙ match)
             (agrees whole (record {
               type = refl;
               small = v .result;

@@ -93,12 +93,12 @@ expr-deep none = record {
 }
 
 -- ---- a leaf, which ends behind its head
-module _ {x : Sizing} {kind : SizedType} {numbers : Estimate} {r : Place} (p : Place) (next : Cursor) (down : r ≡ downTo p next) (is : x ≡ leafOf kind numbers r) where
-  leaf-is : x ≡ leafOf kind numbers (downTo p next)
-  leaf-is = is ∙ ap (leafOf kind numbers) down
+module _ {x : Sizing} {ty : SizedType} {numbers : Estimate} {r : Place} (p : Place) (next : Cursor) (down : r ≡ downTo p next) (is : x ≡ leafOf ty numbers r) where
+  leaf-is : x ≡ leafOf ty numbers (downTo p next)
+  leaf-is = is ∙ ap (leafOf ty numbers) down
 
   leaf-grows : Grows (p .used) x
-  leaf-grows = rw leaf-is (grown {k = record { kind = kind; numbers = numbers; next = next; used = p .used }} (omega arith))
+  leaf-grows = rw leaf-is (grown {k = record { ty = ty; numbers = numbers; next = next; used = p .used }} (omega arith))
 
 -- ---- the parts of a form, as they stand behind its head
 form-part : {p : Place} {next : Cursor} {l : List ℕ} {S : Scope} {end : ℕ} {e : Expr} (Of : List ℕ → ℕ → ℕ → ℕ → Scope → Expr → Type 0) → ExprPart l p S end e → Of l (p .at .at) (next .at) (p .levels) S e → FormPart Of l (downTo p next) S end e
@@ -132,7 +132,7 @@ module _ {t : Lent} {b : Buffers} {p : Place} {line : List ℕ} {h : Head} (cut 
     kept = kept-all;
   }
 
-  pub expr-variable : {x : Sizing} {kind : SizedType} {numbers : Estimate} {v : ℕ} → h .form ≡ Variable v → Typed (b .scope) v kind → x ≡ leafOf kind numbers r → Makes nothing numbers → Sizes ExprPart t b p x b
+  pub expr-variable : {x : Sizing} {ty : SizedType} {numbers : Estimate} {v : ℕ} → h .form ≡ Variable v → Typed (b .scope) v ty → x ≡ leafOf ty numbers r → Makes nothing numbers → Sizes ExprPart t b p x b
   unfolding sized
   expr-variable {v} form type is none = record {
     says = λ P S q Γ Δ L left k end e part. let i = var-head (read-here k) (part .spelled) (part .within) form in
@@ -142,7 +142,7 @@ module _ {t : Lent} {b : Buffers} {p : Place} {line : List ℕ} {h : Head} (cut 
     kept = kept-all;
   }
 
-  pub expr-now : {x : Sizing} {kind : SizedType} {numbers : Estimate} {c : ℕ} → h .form ≡ Now c → ChannelTyped (t .index) c kind → x ≡ leafOf kind numbers r → Makes nothing numbers → Sizes ExprPart t b p x b
+  pub expr-now : {x : Sizing} {ty : SizedType} {numbers : Estimate} {c : ℕ} → h .form ≡ Now c → ChannelTyped (t .index) c ty → x ≡ leafOf ty numbers r → Makes nothing numbers → Sizes ExprPart t b p x b
   unfolding sized
   expr-now {c} form type is none = record {
     says = λ P S q Γ Δ L left k end e part. let i = now-head (read-here k) (part .spelled) (part .within) form in
@@ -152,7 +152,7 @@ module _ {t : Lent} {b : Buffers} {p : Place} {line : List ℕ} {h : Head} (cut 
     kept = kept-all;
   }
 
-  pub expr-last : {x : Sizing} {kind : SizedType} {numbers : Estimate} {c : ℕ} → h .form ≡ Last c → ChannelTyped (t .index) c kind → x ≡ leafOf kind numbers r → Makes nothing numbers → Sizes ExprPart t b p x b
+  pub expr-last : {x : Sizing} {ty : SizedType} {numbers : Estimate} {c : ℕ} → h .form ≡ Last c → ChannelTyped (t .index) c ty → x ≡ leafOf ty numbers r → Makes nothing numbers → Sizes ExprPart t b p x b
   unfolding sized
   expr-last {c} form type is none = record {
     says = λ P S q Γ Δ L left k end e part. let i = last-head (read-here k) (part .spelled) (part .within) form in

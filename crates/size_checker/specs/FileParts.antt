@@ -44,7 +44,7 @@ pub data Limited (n : Counts) : Bool → Type 0 where
 
 -- ---- where an expression of channel c stands
 abbrev pub outerPlace : Counts → ℕ → ℕ → ℕ → Place
-outerPlace n c at used = record { at = record { at = at }; levels = nestingMost; types = n .types; line = n .types + n .functions + c; around = 0; weight = 0; variables = 0; sizes = 0; used = used }
+outerPlace n c at used = record { at = record { at = at }; levels = nestingMost; types = n .types; line = n .types + n .functions + c; around = 0; measure = 0; variables = 0; sizes = 0; used = used }
 
 -- ---- one expression of channel c, at the place that a word of the channel's entry tells; its declared type is τ
 pub record Standing (t : Lent) (P : File) (word c : ℕ) (e : Expr) (τ : Ty) : Type 0 where

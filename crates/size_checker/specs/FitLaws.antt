@@ -28,7 +28,7 @@ use Rattle.size_checker.specs.Promises.{Lent, Buffers, Here, Sizes, Expr
 use Rattle.size_checker.specs.Parts.{FitPart}
 use Rattle.size_checker.specs.HereLaws.{Fits, fits-of, ends-at, here-bound, suc-same}
 use Rattle.size_checker.specs.TurnLaws.{sizes-at, part-agrees, Behind, behind-first, behind-next, next-kept, next-grows, here-behind, boundIn, boundAt, bound-at, under-kept, under-grows, behind-under, in-frame, grown-is}
-use Rattle.size_checker.specs.KindLaws.{named-kind, NotNamed, bounded-at, named-type}
+use Rattle.size_checker.specs.NamedTypes.{named-type, NotNamed, bounded-at, named-type}
 
 module _ (k : ℕ) {t : Lent} {b b₁ : Buffers} {p : Place} {x : Sizing} (v : Sizes ExprPart t b p x b₁) where
   pub fit-subject : {n frame : ℕ} → x ≡ Refused n frame → Sizes (FitPart k) t b p x b₁
@@ -41,18 +41,18 @@ module _ (k : ℕ) {t : Lent} {b b₁ : Buffers} {p : Place} {x : Sizing} (v : S
   }
 
   -- the subject is of no named type: this was judged before
-  pub fit-plain : {a : Checked} {n frame : ℕ} → x ≡ Is a → NotNamed (a .kind) → Sizes (FitPart k) t b p (Refused n frame) b₁
+  pub fit-plain : {a : Checked} {n frame : ℕ} → x ≡ Is a → NotNamed (a .ty) → Sizes (FitPart k) t b p (Refused n frame) b₁
   unfolding sized
   fit-plain {a} d plain = record {
     says = λ P S q Γ Δ L left h end e part. let i = part .head in
         rw (i .is) (bind-is _ (part-agrees v h (i .spelled) (i .within) refl (suc-same (i .deep))) d (λ z c.
-        named-before _ _ _ (λ u j named. absurd (plain u j (named-kind (a .kind) (c .type ∙ named))))));
+        named-before _ _ _ (λ u j named. absurd (plain u j (named-type (a .ty) (c .type ∙ named))))));
     grows = not-grown;
     kept = v .kept;
   }
 
 -- the variable bound, and the first arm under it
-module _ (k : ℕ) {t : Lent} {b b₁ : Buffers} {p : Place} {x : Sizing} (v : Sizes ExprPart t b p x b₁) {a : Checked} {u j word : ℕ} {m o : Place} {y : Sizing} {b₂ : Buffers} (room : variablesMost ≤ length (b₁ .scope)) (d : x ≡ Is a) (kind : a .kind ≡ Named u j)
+module _ (k : ℕ) {t : Lent} {b b₁ : Buffers} {p : Place} {x : Sizing} (v : Sizes ExprPart t b p x b₁) {a : Checked} {u j word : ℕ} {m o : Place} {y : Sizing} {b₂ : Buffers} (room : variablesMost ≤ length (b₁ .scope)) (d : x ≡ Is a) (ty : a .ty ≡ Named u j)
     (is : word ≡ declaredWord (tnamed u k)) (moved : m ≡ movedTo p (a .next) (a .used)) (wide : o ≡ widened m 1 0) (w : Sizes ExprPart t (boundIn b₁ p word) o y b₂) where
   second : Sizes ExprPart t (boundIn b₁ p word) (boundAt p a) y b₂
   second = sizes-at (bound-at p a moved wide) w
@@ -62,7 +62,7 @@ module _ (k : ℕ) {t : Lent} {b b₁ : Buffers} {p : Place} {x : Sizing} (v : S
 
   here-fit : {P : File} {S : Scope} {q : Stand} {Γ : List Ty} {Δ : List ℕ} {L : List Instance} {left next : ℕ} {z : Sized} {u′ j′ : ℕ} → Here t b p P S q Γ Δ L left → CheckedAs P next (b₁ .list) a z → z .type ≡ tnamed u′ j′ → Bound k → Fits (wider 1 0 S) →
       Here t (boundIn b₁ p word) (boundAt p a) P (wider 1 0 S) q (Γ ++ (tnamed u′ k ∷ [])) Δ (z .list) left
-  here-fit h c named bound fits = here-bound (here-behind h one c) room fits (bounded-at (c .small) named (bound .1)) (is ∙ ap (λ n. declaredWord (tnamed n k)) (sym (named-type kind (c .type) named .0)))
+  here-fit h c named bound fits = here-bound (here-behind h one c) room fits (bounded-at (c .small) named (bound .1)) (is ∙ ap (λ n. declaredWord (tnamed n k)) (sym (named-type ty (c .type) named .0)))
 
   pub fit-first : {n frame : ℕ} → y ≡ Refused n frame → Sizes (FitPart k) t b p y b₂
   unfolding sized
@@ -95,7 +95,7 @@ module _ (k : ℕ) {t : Lent} {b b₁ : Buffers} {p : Place} {x : Sizing} (v : S
       kept = next-kept two third;
     }
 
-    module _ {f : Checked} {r : Bool} (d₃ : z ≡ Is f) (same : r ≡ sameType (meaning (f .kind)) (meaning (l .kind))) where
+    module _ {f : Checked} {r : Bool} (d₃ : z ≡ Is f) (same : r ≡ sameType (meaning (f .ty)) (meaning (l .ty))) where
       pub fit-differ : r ≡ false → Sizes (FitPart k) t b p (Refused 11 (p .line + 1)) b₃
       unfolding sized
       fit-differ differ = record {
@@ -110,7 +110,7 @@ module _ (k : ℕ) {t : Lent} {b b₁ : Buffers} {p : Place} {x : Sizing} (v : S
       }
 
       pub fit-done : {slots arms numbers : Estimate} {g : Sizing} → r ≡ true → Changes (withSlots 1) (l .numbers) slots → Combines either slots (f .numbers) arms → Combines after (a .numbers) arms numbers →
-          g ≡ Is (record { kind = f .kind; numbers = numbers; next = f .next; used = f .used }) → Sizes (FitPart k) t b p g b₃
+          g ≡ Is (record { ty = f .ty; numbers = numbers; next = f .next; used = f .used }) → Sizes (FitPart k) t b p g b₃
       unfolding sized
       fit-done agree held arms all gives = record {
         says = λ P S q Γ Δ L left h end e part. let i = part .head in

@@ -67,7 +67,7 @@ module _ {t : Lent} {b b₁ : Buffers} {p : Place} {x : Sizing} (v : Sizes ExprP
         kept = next-kept two third;
       }
 
-      module _ {l : Checked} {r : Bool} (d₃ : z ≡ Is l) (same : r ≡ sameType (meaning (l .kind)) (meaning (k .kind))) where
+      module _ {l : Checked} {r : Bool} (d₃ : z ≡ Is l) (same : r ≡ sameType (meaning (l .ty)) (meaning (k .ty))) where
         pub if-differ : r ≡ false → Sizes IfPart t b p (Refused 11 (p .line + 1)) b₃
         unfolding sized
         if-differ differ = record {
@@ -82,7 +82,7 @@ module _ {t : Lent} {b b₁ : Buffers} {p : Place} {x : Sizing} (v : Sizes ExprP
         }
 
         pub if-done : {arms numbers : Estimate} {f : Sizing} → r ≡ true → Combines either (k .numbers) (l .numbers) arms → Combines after (a .numbers) arms numbers →
-            f ≡ Is (record { kind = l .kind; numbers = numbers; next = l .next; used = l .used }) → Sizes IfPart t b p f b₃
+            f ≡ Is (record { ty = l .ty; numbers = numbers; next = l .next; used = l .used }) → Sizes IfPart t b p f b₃
         unfolding sized
         if-done agree held all is = record {
           says = λ P S q Γ Δ L left h end e part. let i = part .head in

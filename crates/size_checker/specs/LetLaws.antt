@@ -31,7 +31,7 @@ module _ {t : Lent} {b b₁ : Buffers} {p : Place} {x : Sizing} (v : Sizes ExprP
   }
 
   -- the variable bound, and the second part under it
-  module _ {a : Checked} {word : ℕ} {m o : Place} {y : Sizing} {b₂ : Buffers} (room : variablesMost ≤ length (b₁ .scope)) (d : x ≡ Is a) (is : word ≡ declaredWord (meaning (a .kind)))
+  module _ {a : Checked} {word : ℕ} {m o : Place} {y : Sizing} {b₂ : Buffers} (room : variablesMost ≤ length (b₁ .scope)) (d : x ≡ Is a) (is : word ≡ declaredWord (meaning (a .ty)))
       (moved : m ≡ movedTo p (a .next) (a .used)) (wide : o ≡ widened m 1 0) (u : Sizes ExprPart t (boundIn b₁ p word) o y b₂) where
     under : Sizes ExprPart t (boundIn b₁ p word) (boundAt p a) y b₂
     under = sizes-at (bound-at p a moved wide) u
@@ -50,7 +50,7 @@ module _ {t : Lent} {b b₁ : Buffers} {p : Place} {x : Sizing} (v : Sizes ExprP
     }
 
     pub let-done : {k : Checked} {slots numbers : Estimate} {f : Sizing} → y ≡ Is k → Changes (withSlots 1) (k .numbers) slots → Combines after (a .numbers) slots numbers →
-        f ≡ Is (record { kind = k .kind; numbers = numbers; next = k .next; used = k .used }) → Sizes LetPart t b p f b₂
+        f ≡ Is (record { ty = k .ty; numbers = numbers; next = k .next; used = k .used }) → Sizes LetPart t b p f b₂
     unfolding sized
     let-done d₂ held all f = record {
       says = λ P S q Γ Δ L left h end e part. let i = part .head in

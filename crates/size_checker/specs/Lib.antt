@@ -14,7 +14,7 @@ pub mod SplitsLaws
 pub mod TurnLaws
 pub mod IfLaws
 pub mod OpLaws
-pub mod KindLaws
+pub mod NamedTypes
 pub mod FitLaws
 pub mod AdjLaws
 pub mod TypesTold

@@ -61,8 +61,8 @@ module _ {t : Lent} {b b₁ : Buffers} {p : Place} {x : Sizing} (v : Sizes ExprP
       kept = next-kept one second;
     }
 
-    pub op-done : {o : ℕ} {k : Checked} {kind : SizedType} {parts cell numbers : Estimate} {f : Sizing} → y ≡ Is k → OperatorType o kind → Combines after (a .numbers) (k .numbers) parts → Makes oneCell cell → Combines after parts cell numbers →
-        f ≡ Is (record { kind = kind; numbers = numbers; next = k .next; used = k .used }) → Sizes (OpPart o) t b p f b₂
+    pub op-done : {o : ℕ} {k : Checked} {ty : SizedType} {parts cell numbers : Estimate} {f : Sizing} → y ≡ Is k → OperatorType o ty → Combines after (a .numbers) (k .numbers) parts → Makes oneCell cell → Combines after parts cell numbers →
+        f ≡ Is (record { ty = ty; numbers = numbers; next = k .next; used = k .used }) → Sizes (OpPart o) t b p f b₂
     unfolding sized
     op-done d₂ gives both new all is = record {
       says = λ P S q Γ Δ L left h end e part. let i = part .head in

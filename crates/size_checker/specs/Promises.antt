@@ -13,7 +13,7 @@ use Rattle.language.specs.Syntax.{Constructor, Ty, owns, Expr, Exprs, Function,
 use Rattle.language.specs.Format.{exprBytes, exprsBytes}
 use Rattle.language.specs.Scope.{Scope, wider, namedCount}
 use Rattle.language.specs.Within.{All, WithinExpr, WithinExprs, WithinBranches}
-use Rattle.language.specs.Sizes.{typeAt, conditionsHold, weight, sizesOf, parameterTypes, fieldTypes, sameType, sameTypes}
+use Rattle.language.specs.Sizes.{typeAt, conditionsHold, summedMeasure, sizesOf, parameterTypes, fieldTypes, sameType, sameTypes}
 use Rattle.language.specs.Splits.{splits}
 use Rattle.language.specs.Estimate.{nothing, after, withSlots, inCall}
 use Rattle.language.specs.Typing.{Place as Stand, frameAt, falls}
@@ -106,13 +106,13 @@ pub record SizesAll (t : Lent) (b : Buffers) (p : Place) (i n : ℕ) (row : List
 pub record Wanted (P : File) (s : Subject) : Type 0 where
   pub of : s .of < length (P .types)
   pub size : s .size ≤ sizeMost
-  pub kind : Bounded (meaning (s .kind))
+  pub ty : Bounded (meaning (s .ty))
 
 -- the branches of a case from constructor k on
 pub record SizesBranches (s : Subject) (k : ℕ) (t : Lent) (b : Buffers) (p : Place) (r : Sizing) (b′ : Buffers) : Type 0 where
   pub says : (P : File) (S : Scope) (q : Stand) (Γ : List Ty) (Δ : List ℕ) (L : List Instance) (left : ℕ) → Here t b p P S q Γ Δ L left → Wanted P s →
       (end : ℕ) (bs : Exprs) → BranchesPart (lineAt (t .text) (p .line)) p S (drop k (constructorsOf P (s .of))) end bs →
-      Agrees P (ofType (meaning (s .kind))) end (b′ .list) r (sizedBranches P (entering P left) bs (drop k (constructorsOf P (s .of))) q Γ Δ (s .of) (s .size) (meaning (s .kind)) L)
+      Agrees P (ofType (meaning (s .ty))) end (b′ .list) r (sizedBranches P (entering P left) bs (drop k (constructorsOf P (s .of))) q Γ Δ (s .of) (s .size) (meaning (s .ty)) L)
   pub grows : Grows (p .used) r
   pub kept : Kept p (b .scope) (b .sizes) (b′ .scope) (b′ .sizes)
 
@@ -137,7 +137,7 @@ pub record BranchPart (line : List ℕ) (p : Place) (S : Scope) (fs : Constructo
 pub record SizesBranch (s : Subject) (k : ℕ) (t : Lent) (b : Buffers) (p : Place) (r : Sizing) (b′ : Buffers) : Type 0 where
   pub says : (P : File) (S : Scope) (q : Stand) (Γ : List Ty) (Δ : List ℕ) (L : List Instance) (left : ℕ) → Here t b p P S q Γ Δ L left →
       (fs : Constructor) → Wanted P s → look (constructorsOf P (s .of)) k ≡ some fs → (end : ℕ) (e : Expr) → BranchPart (lineAt (t .text) (p .line)) p S fs end e →
-      Agrees P (ofType (meaning (s .kind))) end (b′ .list) r (oneBranch P (entering P left) e fs q Γ Δ (s .of) (s .size) (meaning (s .kind)) L)
+      Agrees P (ofType (meaning (s .ty))) end (b′ .list) r (oneBranch P (entering P left) e fs q Γ Δ (s .of) (s .size) (meaning (s .ty)) L)
   pub grows : Grows (p .used) r
   pub kept : Kept p (b .scope) (b .sizes) (b′ .scope) (b′ .sizes)
 
@@ -149,14 +149,14 @@ pub record SizesSplits (s : Subject) (k : ℕ) (t : Lent) (b : Buffers) (p : Pla
   pub says : (P : File) (S : Scope) (q : Stand) (Γ : List Ty) (Δ : List ℕ) (L : List Instance) (left : ℕ) → Here t b p P S q Γ Δ L left →
       (fs : Constructor) → Wanted P s → look (constructorsOf P (s .of)) k ≡ some fs → (end : ℕ) (e : Expr) → BranchPart (lineAt (t .text) (p .line)) p S fs end e →
       (kss : List (List ℕ)) → Chain (take (owns fs) (drop (p .sizes) (b .sizes))) kss → All (All UpToMost) kss →
-      Agrees P (ofType (meaning (s .kind))) end (b′ .list) r (branchAt P (entering P left) e fs q Γ Δ (s .of) (meaning (s .kind)) kss L)
+      Agrees P (ofType (meaning (s .ty))) end (b′ .list) r (branchAt P (entering P left) e fs q Γ Δ (s .of) (meaning (s .ty)) kss L)
   pub grows : Grows (p .used) r
   pub kept : Kept p (b .scope) (b .sizes) (b′ .scope) (b′ .sizes)
 
 -- ---- entering a body, whose scope holds the parameters' types and the sizes of the named ones
 pub record Given (P : File) (e : Entry) (F : Function) (ks : List ℕ) (scope sizes : List ℕ) : Type 0 where
   pub function : look (P .functions) (e .function) ≡ some F
-  pub weighs : e .weight ≡ weight (F .measure) ks
+  pub measures : e .measure ≡ summedMeasure (F .measure) ks
   pub variables : e .variables ≡ length (F .parameters)
   pub sizeCount : e .sizes ≡ length ks
   pub named : length ks ≡ namedCount (F .parameters)
@@ -164,23 +164,23 @@ pub record Given (P : File) (e : Entry) (F : Function) (ks : List ℕ) (scope si
   pub small : All Bounded (parameterTypes (F .parameters) ks)
   pub front : take (e .sizes) sizes ≡ ks
   pub padded : SizesAre sizes ks
-  pub result : Bounded (meaning (e .kind))
+  pub result : Bounded (meaning (e .ty))
 
 pub record Enters (e : Entry) (t : Lent) (b : Buffers) (p : Place) (r : Sizing) (b′ : Buffers) : Type 0 where
   pub says : (P : File) (F : Function) (ks : List ℕ) (L : List Instance) (left : ℕ) → IndexedFile t P → p .types ≡ length (P .types) → Holds P (b .list) (p .used) L → instancesMost ≤ left + length L →
-      Given P e F ks (b .scope) (b .sizes) → Agrees P (ofType (meaning (e .kind))) (p .at .at) (b′ .list) r (entering P left (suc (p .line)) (e .function) F ks (meaning (e .kind)) L)
+      Given P e F ks (b .scope) (b .sizes) → Agrees P (ofType (meaning (e .ty))) (p .at .at) (b′ .list) r (entering P left (suc (p .line)) (e .function) F ks (meaning (e .ty)) L)
   pub grows : Grows (p .used) r
 
 -- a body that was not entered before
 pub record EntersNew (e : Entry) (t : Lent) (b : Buffers) (p : Place) (r : Sizing) (b′ : Buffers) : Type 0 where
   pub says : (P : File) (F : Function) (ks : List ℕ) (L : List Instance) (left : ℕ) → IndexedFile t P → p .types ≡ length (P .types) → Holds P (b .list) (p .used) L → instancesMost ≤ left + length L →
       Given P e F ks (b .scope) (b .sizes) → find L (e .function) ks ≡ none →
-      Agrees P (ofType (meaning (e .kind))) (p .at .at) (b′ .list) r (entering P left (suc (p .line)) (e .function) F ks (meaning (e .kind)) L)
+      Agrees P (ofType (meaning (e .ty))) (p .at .at) (b′ .list) r (entering P left (suc (p .line)) (e .function) F ks (meaning (e .ty)) L)
   pub grows : Grows (p .used) r
 
 -- ---- a call whose arguments were checked: what the definition does behind them
 abbrev pub applied : File → Enter → Stand → ℕ → Function → Sizeds → Result SizedDef
-applied P enter o g F z = need (conditionsHold (sizesOf (z .types)) (F .conditions)) 12 (frameAt P o) (need (falls o g (weight (F .measure) (sizesOf (z .types)))) 13 (frameAt P o)
+applied P enter o g F z = need (conditionsHold (sizesOf (z .types)) (F .conditions)) 12 (frameAt P o) (need (falls o g (summedMeasure (F .measure) (sizesOf (z .types)))) 13 (frameAt P o)
     (from (typeAt (sizesOf (z .types)) (F .result)) 10 (functionFrame P g) (λ τ. bind (enter (frameAt P o) g F (sizesOf (z .types)) τ (z .list)) (λ r.
     ok (record { type = τ; numbers = withSlots (length (F .parameters)) (after (z .numbers) (inCall (r .numbers))); list = r .list })))))
 
@@ -189,7 +189,7 @@ pub record Argues (t : Lent) (p : Place) (f n : ℕ) (a : Counted) (list row : L
   pub indexed : IndexedFile t P
   pub typeCount : p .types ≡ length (P .types)
   pub frame : frameAt P o ≡ suc (p .line)
-  pub around : Around (p .around) (p .weight) o
+  pub around : Around (p .around) (p .measure) o
   pub function : look (P .functions) f ≡ some F
   pub count : n ≡ length (F .parameters)
   pub few : n ≤ parametersMost

@@ -101,7 +101,7 @@ module _ {t : Lent} {b : Buffers} {p : Place} {i n : ℕ} (row : List ℕ) where
     })
 
     -- its word in the row, and the others behind it
-    module _ {a : Checked} {word : ℕ} {m : Place} {y : Counting} {b₂ : Buffers} {row₁ row₂ : List ℕ} (d : x ≡ Is a) (is : word ≡ declaredWord (meaning (a .kind)))
+    module _ {a : Checked} {word : ℕ} {m : Place} {y : Counting} {b₂ : Buffers} {row₁ row₂ : List ℕ} (d : x ≡ Is a) (is : word ≡ declaredWord (meaning (a .ty)))
         (wrote : row₁ ≡ set row i word) (moved : m ≡ movedTo p (a .next) (a .used)) (u : SizesAll t b₁ m (i + 1) n row₁ y b₂ row₂) where
       behind : SizesAll t b₁ (movedTo p (a .next) (a .used)) (i + 1) n (set row i word) y b₂ row₂
       behind = subst₂ (λ z l. SizesAll t b₁ z (i + 1) n l y b₂ row₂) moved wrote u

@@ -89,8 +89,8 @@ module _ {P : File} {f : List ℕ → List Instance → Result CountedDef} {r at
   stops m (past before e) agree d = rw e (beyond before)
 
   -- all splits are done
-  done : {τ : Ty} {kind : SizedType} {numbers : Held} (m : ℕ) → Progress P f r at end b all false a → Changes (withSlots m) (all .numbers) numbers → meaning kind ≡ τ → Bounded τ →
-      Agrees P (ofType τ) end (b .list) (Is (record { kind = kind; numbers = numbers; next = all .next; used = all .used })) (bind a (slotted m))
+  done : {τ : Ty} {ty : SizedType} {numbers : Held} (m : ℕ) → Progress P f r at end b all false a → Changes (withSlots m) (all .numbers) numbers → meaning ty ≡ τ → Bounded τ →
+      Agrees P (ofType τ) end (b .list) (Is (record { ty = ty; numbers = numbers; next = all .next; used = all .used })) (bind a (slotted m))
   unfolding bind
   done m (going t e chain most stands holds) held is small = false-is-not-true t
   done m (ended t e stands holds place) held is small = rw e (agrees refl (record { type = is; small = small; numbers = held .says _ stands; ends = place; holds = holds }))
@@ -115,45 +115,45 @@ turn-away : (f : List ℕ → List Instance → Result CountedDef) (M : List Ins
 turn-away f M x chain e is = let first = first-of chain in turned-away f _ (first .rest) M x (e ∙ ap (λ (l : List (List ℕ)). bind (atSplits l f M) (joined x)) (first .is)) is
 
 -- b: the buffers behind the part; the next split is then written over this one, if there is one
-module _ {P : File} {τ : Ty} {end : ℕ} {b : Buffers} {now : Checked} {held numbers : Held} (both : Combines either held (now .numbers) numbers) (kind : SizedType)
+module _ {P : File} {τ : Ty} {end : ℕ} {b : Buffers} {now : Checked} {held numbers : Held} (both : Combines either held (now .numbers) numbers) (ty : SizedType)
     (f : List ℕ → List Instance → Result CountedDef) (r at : ℕ) (room : at + r ≤ length (b .sizes)) (rest : List (List ℕ)) (x : Estimate) (M : List Instance) {a : Result CountedDef}
     (e : a ≡ bind (atSplits rest f M) (joined x)) (chain : Chain (take r (drop at (b .sizes))) rest) (most : All (All UpToMost) rest) (stands : Stands held x) where
   turn-on : {sizes : List ℕ} (g : Result CountedDef) → f (take r (drop at (b .sizes))) M ≡ g → Answered P (ofType τ) end (b .list) now g → Moves (b .sizes) at r true sizes →
-      Progress P f r at end (buffers (b .list) (b .scope) sizes) (record { kind = kind; numbers = numbers; next = now .next; used = now .used }) true a
+      Progress P f r at end (buffers (b .list) (b .scope) sizes) (record { ty = ty; numbers = numbers; next = now .next; used = now .used }) true a
   turn-on (ok q) is (answered c) m =
       let w = walk-moves room chain m in
       going refl (turned f _ (w .rest) M x (e ∙ ap (λ (l : List (List ℕ)). bind (atSplits l f M) (joined x)) (w .is)) q is) (w .chain) (all-rest (subst (All (All UpToMost)) (w .is) most)) (both .says _ _ stands (c .numbers)) (c .holds)
   turn-on (no n frame) is (unanswered before) m = past before (turn-away f M x chain e is)
 
   turn-last : {sizes : List ℕ} (g : Result CountedDef) → f (take r (drop at (b .sizes))) M ≡ g → Answered P (ofType τ) end (b .list) now g → Moves (b .sizes) at r false sizes →
-      Progress P f r at end (buffers (b .list) (b .scope) sizes) (record { kind = kind; numbers = numbers; next = now .next; used = now .used }) false a
+      Progress P f r at end (buffers (b .list) (b .scope) sizes) (record { ty = ty; numbers = numbers; next = now .next; used = now .used }) false a
   turn-last (ok q) is (answered c) m =
       let w = walk-ends room chain m in
       ended refl (turned f _ [] M x (e ∙ ap (λ (l : List (List ℕ)). bind (atSplits l f M) (joined x)) (w .0)) q is ∙ turned-last f (q .list) (either x (q .numbers))) (both .says _ _ stands (c .numbers)) (c .holds) (c .ends)
   turn-last (no n frame) is (unanswered before) m = past before (turn-away f M x chain e is)
 
   turn : {sizes : List ℕ} (moved : Bool) → Answered P (ofType τ) end (b .list) now (f (take r (drop at (b .sizes))) M) → Moves (b .sizes) at r moved sizes →
-      Progress P f r at end (buffers (b .list) (b .scope) sizes) (record { kind = kind; numbers = numbers; next = now .next; used = now .used }) moved a
+      Progress P f r at end (buffers (b .list) (b .scope) sizes) (record { ty = ty; numbers = numbers; next = now .next; used = now .used }) moved a
   turn true u m = turn-on (f (take r (drop at (b .sizes))) M) refl u m
   turn false u m = turn-last (f (take r (drop at (b .sizes))) M) refl u m
 
 -- from what is known before the turn; b: the buffers before it
-turns : {P : File} {τ : Ty} {end : ℕ} {b b₁ : Buffers} {all now : Checked} {numbers : Held} (kind : SizedType) (f : List ℕ → List Instance → Result CountedDef) (r at : ℕ) {a : Result CountedDef} {sizes : List ℕ} (moved : Bool) →
+turns : {P : File} {τ : Ty} {end : ℕ} {b b₁ : Buffers} {all now : Checked} {numbers : Held} (ty : SizedType) (f : List ℕ → List Instance → Result CountedDef) (r at : ℕ) {a : Result CountedDef} {sizes : List ℕ} (moved : Bool) →
     Progress P f r at end b all true a → Combines either (all .numbers) (now .numbers) numbers → at + r ≤ length (b₁ .sizes) → take r (drop at (b₁ .sizes)) ≡ take r (drop at (b .sizes)) →
     ((M : List Instance) → Holds P (b .list) (all .used) M → All UpToMost (take r (drop at (b .sizes))) → Answered P (ofType τ) end (b₁ .list) now (f (take r (drop at (b .sizes))) M)) → Moves (b₁ .sizes) at r moved sizes →
-    Progress P f r at end (buffers (b₁ .list) (b₁ .scope) sizes) (record { kind = kind; numbers = numbers; next = now .next; used = now .used }) moved a
-turns {τ} {now} kind f r at moved (going {rest} {x} {M} t e chain most stands holds) both room same answer m =
+    Progress P f r at end (buffers (b₁ .list) (b₁ .scope) sizes) (record { ty = ty; numbers = numbers; next = now .next; used = now .used }) moved a
+turns {τ} {now} ty f r at moved (going {rest} {x} {M} t e chain most stands holds) both room same answer m =
     let first = first-of chain in
-    turn {τ = τ} {now = now} both kind f r at room rest x M e (rw same chain) most stands moved (rw same (answer M holds (all-first (subst (All (All UpToMost)) (first .is) most)))) m
-turns kind f r at moved (ended t e stands holds place) both room same answer m = false-is-not-true (sym t)
-turns kind f r at moved (past before e) both room same answer m = past before e
+    turn {τ = τ} {now = now} both ty f r at room rest x M e (rw same chain) most stands moved (rw same (answer M holds (all-first (subst (All (All UpToMost)) (first .is) most)))) m
+turns ty f r at moved (ended t e stands holds place) both room same answer m = false-is-not-true (sym t)
+turns ty f r at moved (past before e) both room same answer m = past before e
 
 -- the type of the branch's expression is the one that is wanted
-agreed : {P : File} {end : ℕ} {words : List ℕ} {k : Checked} {g : Result Sized} {τ : Ty} (frame : ℕ) → Answered P itself end words k g → sameType (meaning (k .kind)) τ ≡ true → Bounded τ →
+agreed : {P : File} {end : ℕ} {words : List ℕ} {k : Checked} {g : Result Sized} {τ : Ty} (frame : ℕ) → Answered P itself end words k g → sameType (meaning (k .ty)) τ ≡ true → Bounded τ →
     Answered P (ofType τ) end words k (bind g (λ x. need (sameType (x .type) τ) 11 frame (ok (record { numbers = x .numbers; list = x .list }))))
 unfolding bind need
 agreed {k} {τ} frame (answered c) same small =
-    rw (sym (c .type), same) (answered (record { type = same-type (meaning (k .kind)) τ same; small = small; numbers = c .numbers; ends = c .ends; holds = c .holds }))
+    rw (sym (c .type), same) (answered (record { type = same-type (meaning (k .ty)) τ same; small = small; numbers = c .numbers; ends = c .ends; holds = c .holds }))
 agreed frame (unanswered before) same small = unanswered before
 
 -- ---- the loop's body: the fields bound, and the branch's expression under them
@@ -189,39 +189,39 @@ module _ {s : Subject} {k n own : ℕ} {t : Lent} {b₀ b b₁ : Buffers} {p m o
     kept = turn-kept;
   }
 
-  module _ {a : Checked} {same : Bool} (d : x ≡ Is a) (tested : same ≡ sameType (meaning (a .kind)) (meaning (s .kind))) where
+  module _ {a : Checked} {same : Bool} (d : x ≡ Is a) (tested : same ≡ sameType (meaning (a .ty)) (meaning (s .ty))) where
     pub splits-differ : same ≡ false → SizesSplits s k t b₀ p (Refused 11 (p .line + 1)) b₁
     splits-differ other = record {
       says = λ P S q Γ Δ L left h fs wanted there end e part kss chain most.
           stops (length fs) (w .says P S q Γ Δ L left h fs wanted there end e part kss chain most) (λ M holds sizes. bind-is _ (inside-branch h wanted there part holds sizes) d (λ y c.
-          need-fails _ (ap (λ (τ : Ty). sameType τ (meaning (s .kind))) (sym (c .type)) ∙ sym tested ∙ other) (in-frame 11 h))) refl;
+          need-fails _ (ap (λ (τ : Ty). sameType τ (meaning (s .ty))) (sym (c .type)) ∙ sym tested ∙ other) (in-frame 11 h))) refl;
       grows = not-grown;
       kept = turn-kept;
     }
 
     -- the numbers so far and those of this split, and the next split
     pub splits-turn : {numbers : Held} {now : Checked} {next : Bool} {sizes : List ℕ} → same ≡ true → sizeVariablesMost ≤ length (b₁ .sizes) → Combines either (all .numbers) (a .numbers) numbers →
-        now ≡ record { kind = all .kind; numbers = numbers; next = a .next; used = a .used } → Moves (b₁ .sizes) (p .sizes) own next sizes → Walks s k t b₀ p next (buffers (b₁ .list) (b₁ .scope) sizes) now
+        now ≡ record { ty = all .ty; numbers = numbers; next = a .next; used = a .used } → Moves (b₁ .sizes) (p .sizes) own next sizes → Walks s k t b₀ p next (buffers (b₁ .list) (b₁ .scope) sizes) now
     unfolding wider
     splits-turn {next} agree sizeRoom₁ both is moves = rw is (record {
       says = λ P S q Γ Δ L left h fs wanted there end e part kss chain most.
           let owned : own ≡ owns fs = owns-told k (h .indexed) (wanted .of) there told in
           let fits = fits-of (part .within) in
-          turns (all .kind) _ (owns fs) (p .sizes) next (w .says P S q Γ Δ L left h fs wanted there end e part kss chain most) both
+          turns (all .ty) _ (owns fs) (p .sizes) next (w .says P S q Γ Δ L left h fs wanted there end e part kss chain most) both
           (omega (arith, sizeRoom₁, fits .sizes, h .site .sizesIn, h .site .sizeCount)) (rw owned at (same-split p n own moved wide (v .kept)))
-          (λ M holds sizes. agreed _ (answer-is (inside-branch h wanted there part holds sizes) d) (sym tested ∙ agree) (wanted .kind)) (rw owned at moves);
-      kind = w .kind;
+          (λ M holds sizes. agreed _ (answer-is (inside-branch h wanted there part holds sizes) d) (sym tested ∙ agree) (wanted .ty)) (rw owned at moves);
+      ty = w .ty;
       grown = grows-to turn-grows d;
       kept = kept-then turn-kept (record { variables = refl; sizesToo = moves-keep moves .low });
     })
 
 -- ---- the loop is left
 pub splits-done : {s : Subject} {k n : ℕ} {t : Lent} {b₀ b : Buffers} {p : Place} {all : Checked} {numbers : Held} {r : Sizing} → Walks s k t b₀ p false b all → (n ≡ fieldsWord t (s .of) k % byteRange) × (n < byteRange) →
-    Changes (withSlots n) (all .numbers) numbers → r ≡ Is (record { kind = all .kind; numbers = numbers; next = all .next; used = all .used }) → SizesSplits s k t b₀ p r b
+    Changes (withSlots n) (all .numbers) numbers → r ≡ Is (record { ty = all .ty; numbers = numbers; next = all .next; used = all .used }) → SizesSplits s k t b₀ p r b
 splits-done {s} {k} w count held is = record {
   says = λ P S q Γ Δ L left h fs wanted there end e part kss chain most.
       let fields = fields-counted (told-fields (h .indexed) (s .of) k (wanted .of) there) count in
-      rw is (done (length fs) (w .says P S q Γ Δ L left h fs wanted there end e part kss chain most) (rw fields at held) (ap meaning (w .kind)) (wanted .kind));
+      rw is (done (length fs) (w .says P S q Γ Δ L left h fs wanted there end e part kss chain most) (rw fields at held) (ap meaning (w .ty)) (wanted .ty));
   grows = grown-is is (w .grown);
   kept = w .kept;
 }

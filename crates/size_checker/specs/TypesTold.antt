@@ -70,5 +70,5 @@ module _ {t : Lent} {P : File} (h : IndexedFile t P) where
   channel-bounded c e = bounded-declared (h .within .fewTypes) (declared-in c e .within)
 
   -- what the index has is the declared type
-  pub channel-typed : (c : ℕ) {τ : Ty} {kind : SizedType} → look (declaredTypes P) c ≡ some τ → ChannelTyped (t .index) c kind → meaning kind ≡ τ
+  pub channel-typed : (c : ℕ) {τ : Ty} {ty : SizedType} → look (declaredTypes P) c ≡ some τ → ChannelTyped (t .index) c ty → meaning ty ≡ τ
   channel-typed c {τ} e v = v .says τ (bounded-small (channel-bounded c e)) (sym (declared-in c e .told))

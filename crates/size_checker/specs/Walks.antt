@@ -39,15 +39,15 @@ pub record Walks (s : Subject) (k : ℕ) (t : Lent) (b₀ : Buffers) (p : Place)
   pub says : (P : File) (S : Scope) (q : Stand) (Γ : List Ty) (Δ : List ℕ) (L : List Instance) (left : ℕ) → Here t b₀ p P S q Γ Δ L left →
       (fs : Constructor) → Wanted P s → look (constructorsOf P (s .of)) k ≡ some fs → (end : ℕ) (e : Expr) → BranchPart (lineAt (t .text) (p .line)) p S fs end e →
       (kss : List (List ℕ)) → Chain (take (owns fs) (drop (p .sizes) (b₀ .sizes))) kss → All (All UpToMost) kss →
-      Progress P (atSplit P (entering P left) e fs q Γ Δ (s .of) (meaning (s .kind))) (owns fs) (p .sizes) end b all more (atSplits kss (atSplit P (entering P left) e fs q Γ Δ (s .of) (meaning (s .kind))) L)
-  pub kind : all .kind ≡ s .kind
+      Progress P (atSplit P (entering P left) e fs q Γ Δ (s .of) (meaning (s .ty))) (owns fs) (p .sizes) end b all more (atSplits kss (atSplit P (entering P left) e fs q Γ Δ (s .of) (meaning (s .ty))) L)
+  pub ty : all .ty ≡ s .ty
   pub grown : p .used ≤ all .used
   pub kept : Kept p (b₀ .scope) (b₀ .sizes) (b .scope) (b .sizes)
 
-pub walks-start : {s : Subject} {k : ℕ} {t : Lent} {b : Buffers} {p : Place} {numbers : Held} {all : Checked} → Makes nothing numbers → all ≡ record { kind = s .kind; numbers = numbers; next = p .at; used = p .used } → Walks s k t b p true b all
+pub walks-start : {s : Subject} {k : ℕ} {t : Lent} {b : Buffers} {p : Place} {numbers : Held} {all : Checked} → Makes nothing numbers → all ≡ record { ty = s .ty; numbers = numbers; next = p .at; used = p .used } → Walks s k t b p true b all
 walks-start made is = rw is (record {
   says = λ P S q Γ Δ L left h fs w there end e part kss chain most. going {x = nothing} refl (joined-none _) chain most (made .says) (h .holds);
-  kind = refl;
+  ty = refl;
   grown = omega arith;
   kept = kept-all;
 })

@@ -51,8 +51,8 @@ use size_steps::numbers::called;
 use size_steps::numbers::cased;
 use size_steps::numbers::chosen;
 use size_steps::numbers::fitted;
-use size_steps::numbers::is_kind;
-use size_steps::numbers::kind_word;
+use size_steps::numbers::is_type;
+use size_steps::numbers::type_word;
 use size_steps::numbers::larger;
 use size_steps::numbers::leaf;
 use size_steps::numbers::none;
@@ -158,7 +158,7 @@ fn binding(
     let Sizing::Is(a) = x else {
         return x;
     };
-    put(scope, p.variables as usize, kind_word(a));
+    put(scope, p.variables as usize, type_word(a));
     let q = widen(behind(p, a), 1, 0);
     let y = expr(text, index, list, hints, scope, sizes, q);
     let Sizing::Is(b) = y else {
@@ -249,7 +249,7 @@ fn several(
     let Sizing::Is(a) = x else {
         return refused_all(x);
     };
-    put(row, i as usize, kind_word(a));
+    put(row, i as usize, type_word(a));
     let y = several(
         text,
         index,
@@ -336,9 +336,9 @@ fn enter(
     ensures { λ r. ⌜ Enters e (lent (now (text .entry)) (now (index .entry))) (buffers (now (list .entry)) (now (scope .entry)) (now (sizes .entry))) p r (buffers (now (list .exit)) (now (scope .exit)) (now (sizes .exit))) ⌝ }
 {
     let x = find(list, hints, p.used, e.function, sizes);
-    let kind = e.kind;
+    let ty = e.ty;
     match x {
-        Search::Found(numbers) => leaf(kind, numbers, p),
+        Search::Found(numbers) => leaf(ty, numbers, p),
         Search::Absent => body(text, index, list, hints, scope, sizes, p, e),
     }
 }
@@ -367,14 +367,14 @@ fn body(
     let Sizing::Is(a) = x else {
         return x;
     };
-    let kind = e.kind;
-    if !is_kind(a, kind) {
+    let ty = e.ty;
+    if !is_type(a, ty) {
         return Sizing::Refused(SIZES_DISAGREE, q.line + 1);
     }
     let numbers = a.numbers;
     finish(list, p.used, numbers);
     let at = p.at;
-    leaf(kind, numbers, moved(p, at, a.used))
+    leaf(ty, numbers, moved(p, at, a.used))
 }
 
 // `19`: a constructor and its fields.
@@ -421,8 +421,8 @@ fn case_of(
     let Sizing::Is(a) = x else {
         return x;
     };
-    let kind = a.kind;
-    let SizedType::Named(_, m) = kind else {
+    let ty = a.ty;
+    let SizedType::Named(_, m) = ty else {
         return Sizing::Refused(TYPES_DISAGREE, p.line + 1);
     };
     let written = a.next;
@@ -457,8 +457,8 @@ fn branches(
     ensures { λ r. ⌜ SizesBranches s k (lent (now (text .entry)) (now (index .entry))) (buffers (now (list .entry)) (now (scope .entry)) (now (sizes .entry))) p r (buffers (now (list .exit)) (now (scope .exit)) (now (sizes .exit))) ⌝ }
 {
     if constructors(index, s.of) <= k {
-        let kind = s.kind;
-        return leaf(kind, nothing(), p);
+        let ty = s.ty;
+        return leaf(ty, nothing(), p);
     }
     let x = branch(text, index, list, hints, scope, sizes, p, s, k);
     let Sizing::Is(a) = x else {
@@ -493,10 +493,10 @@ fn branch(
     let m = s.size;
     if (m as u32) <= own {
         let at = p.at;
-        let kind = s.kind;
+        let ty = s.ty;
         let line = frame_line(text, index, p.line);
         let next = skip(line, index, at, p.levels);
-        return leaf(kind, nothing(), moved(p, next, p.used));
+        return leaf(ty, nothing(), moved(p, next, p.used));
     }
     first_split(sizes, p.sizes as usize, own, m - 1);
     at_splits(text, index, list, hints, scope, sizes, p, s, k)
@@ -521,8 +521,8 @@ fn at_splits(
     let n = fields(index, s.of, k);
     let own = own_fields(index, s.of, k);
     let at = p.at;
-    let kind = s.kind;
-    let mut all = nothing_yet(kind, p);
+    let ty = s.ty;
+    let mut all = nothing_yet(ty, p);
     let mut more = true;
     while more {
         bind_fields(index, scope, sizes, s.of, k, p.variables, p.sizes);
@@ -531,7 +531,7 @@ fn at_splits(
         let Sizing::Is(a) = x else {
             return x;
         };
-        if !is_kind(a, kind) {
+        if !is_type(a, ty) {
             return Sizing::Refused(SIZES_DISAGREE, p.line + 1);
         }
         all = larger(all, a);
@@ -564,8 +564,8 @@ fn adjust(
     let Sizing::Is(a) = x else {
         return x;
     };
-    let kind = a.kind;
-    let SizedType::Named(t, j) = kind else {
+    let ty = a.ty;
+    let SizedType::Named(t, j) = ty else {
         return Sizing::Refused(TYPES_DISAGREE, p.line + 1);
     };
     if k < j {
@@ -592,8 +592,8 @@ fn fit(
     let Sizing::Is(a) = x else {
         return x;
     };
-    let kind = a.kind;
-    let SizedType::Named(t, _) = kind else {
+    let ty = a.ty;
+    let SizedType::Named(t, _) = ty else {
         return Sizing::Refused(TYPES_DISAGREE, p.line + 1);
     };
     let word = word_of(SizedType::Named(t, k as u8));

@@ -34,7 +34,7 @@ use size_steps::Counting;
 use size_steps::Place;
 use size_steps::Sizing;
 use size_steps::leaves::channel_type;
-use size_steps::numbers::is_kind;
+use size_steps::numbers::is_type;
 use size_steps::numbers::refused_all;
 use text::Cursor;
 
@@ -70,7 +70,7 @@ fn outer_place(n: Counts, c: u32, at: usize, used: u32) -> Place
         types: n.types,
         line: n.types + n.functions + c,
         around: 0,
-        weight: 0,
+        measure: 0,
         variables: 0,
         sizes: 0,
         used: used,
@@ -111,7 +111,7 @@ fn channel(
     let Sizing::Is(a) = x else {
         return x;
     };
-    if !is_kind(a, channel_type(index, c)) {
+    if !is_type(a, channel_type(index, c)) {
         return Sizing::Refused(SIZES_DISAGREE, p.line + 1);
     }
     x

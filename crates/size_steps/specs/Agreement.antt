@@ -47,7 +47,7 @@ pub data Before : ℕ → Type 0 where
   before-9 : Before 9
 
 pub record CheckedAs (P : File) (next : ℕ) (words : List ℕ) (k : Checked) (x : Sized) : Type 0 where
-  pub type : meaning (k .kind) ≡ x .type
+  pub type : meaning (k .ty) ≡ x .type
   pub small : Bounded (x .type)
   pub numbers : Stands (k .numbers) (x .numbers)
   pub ends : k .next .at ≡ next

@@ -17,7 +17,7 @@ use Rattle.language.specs.ReadExpr.{declared as declaredRead}
 use Rattle.language.specs.Within.{WithinDeclared}
 use Rattle.language.specs.Scope.{namedCount}
 use Rattle.language.specs.PlainTypes.{opType}
-use Rattle.language.specs.Sizes.{typeAt, conditionsHold, sum, weight, ownSizes}
+use Rattle.language.specs.Sizes.{typeAt, conditionsHold, sum, summedMeasure, ownSizes}
 use Rattle.language.specs.Estimate.{after, oneCell}
 use Rattle.language.specs.Typing.{Place as Stand, outside, inside, frameAt, falls, baseType}
 use Rattle.language.specs.Checker.{Sizeds}
@@ -40,8 +40,8 @@ use Rattle.sizes.specs.declared.SizedType.{SizedType}
 use Rattle.sizes.specs.declared.SizedType.the-variants.{Bool as BoolIs, Int as IntIs, Named}
 use Rattle.sizes.specs.declared.TypeAt.{TypeAt}
 use Rattle.sizes.specs.declared.TypeAt.the-variants.{Is as TypeIs, Outside as TypeOutside}
-use Rattle.sizes.specs.Promises.{meaning, FromWord, Hold, Weighs, AgreesType, TypeGiven}
-use Rattle.sizes.specs.Prefixes.{type-in-scope, conditions-in-scope, weight-in-scope}
+use Rattle.sizes.specs.Promises.{meaning, FromWord, Hold, SumsMeasure, AgreesType, TypeGiven}
+use Rattle.sizes.specs.Prefixes.{type-in-scope, conditions-in-scope, measure-in-scope}
 use Rattle.sizes.specs.TypeLaws.{type-given, type-not-given, type-within}
 use Rattle.sizes.specs.Rows.{ToldRow, OwnSum, FieldsAgree}
 use Rattle.sizes.specs.ToldLaws.{told-fields}
@@ -97,7 +97,7 @@ module _ {p : Place} {f w : ℕ} where
   unfolding falls
   falls-outside z = record { says = go }
     where
-      go : (q : Stand) → Around (p .around) (p .weight) q → true ≡ falls q f w
+      go : (q : Stand) → Around (p .around) (p .measure) q → true ≡ falls q f w
       go (outside frame C) (around-none e) = refl
       go (inside g v) (around-one e i) = absurd (omega (arith, z, e))
 
@@ -105,15 +105,15 @@ module _ {p : Place} {f w : ℕ} where
   unfolding falls choose
   falls-other inner other = record { says = go }
     where
-      go : (q : Stand) → Around (p .around) (p .weight) q → true ≡ falls q f w
+      go : (q : Stand) → Around (p .around) (p .measure) q → true ≡ falls q f w
       go (outside frame C) (around-none e) = refl
       go (inside g v) (around-one e i) = rw (ne-eqb g f (λ same. other (omega (arith, e, same)))) refl
 
-  pub falls-self : (p .around ≡ 0 → ⊥) → p .around - 1 ≡ f → Falls p f w (ltb w (p .weight))
+  pub falls-self : (p .around ≡ 0 → ⊥) → p .around - 1 ≡ f → Falls p f w (ltb w (p .measure))
   unfolding falls choose
   falls-self inner self = record { says = go }
     where
-      go : (q : Stand) → Around (p .around) (p .weight) q → ltb w (p .weight) ≡ falls q f w
+      go : (q : Stand) → Around (p .around) (p .measure) q → ltb w (p .measure) ≡ falls q f w
       go (outside frame C) (around-none e) = absurd (inner e)
       go (inside g v) (around-one e i) = rw (eq-eqb g f (omega (arith, e, self)), i) refl
 
@@ -133,12 +133,12 @@ module _ (text index sizes : List ℕ) {line : List ℕ} (p : Place) (f : ℕ) (
         subst (λ l. Hold l c sizes r) line-is h .says (namedCount (F .parameters)) (F .conditions) (rw here (g .conditionCount)) (w .conditions) (rw here (g .conditions))
         ∙ sym (conditions-in-scope sizes (w .conditions)) ∙ ap (λ l. conditionsHold l (F .conditions)) sizes-are
 
-    weight-is : {c : Cursor} {r : ℕ} → c .at ≡ measureAt (functionsOf index) f → Weighs line c sizes r → r ≡ weight (F .measure) ks
-    weight-is {c} {r} here h =
+    measure-is : {c : Cursor} {r : ℕ} → c .at ≡ measureAt (functionsOf index) f → SumsMeasure line c sizes r → r ≡ summedMeasure (F .measure) ks
+    measure-is {c} {r} here h =
         let g = i .eachFunction f is in
         let w = function-within (i .within) f is in
-        subst (λ l. Weighs l c sizes r) line-is h .says (F .measure) (rw here (g .measureCount)) (rw here (g .measure))
-        ∙ sym (weight-in-scope sizes (w .measure)) ∙ ap (weight (F .measure)) sizes-are
+        subst (λ l. SumsMeasure l c sizes r) line-is h .says (F .measure) (rw here (g .measureCount)) (rw here (g .measure))
+        ∙ sym (measure-in-scope sizes (w .measure)) ∙ ap (summedMeasure (F .measure)) sizes-are
 
     type-is-at : {c : Cursor} {r : TypeAt} → c .at ≡ resultAt (functionsOf index) f → TypeGiven line c sizes r → AgreesType (typeAt ks (F .result)) (c .at + length (resultBytes (F .result))) r
     type-is-at {c} {r} here h =
@@ -154,13 +154,13 @@ module _ (text index sizes : List ℕ) {line : List ℕ} (p : Place) (f : ℕ) (
       of = no-entry;
     }
 
-    module _ {c₂ : Cursor} {w : ℕ} {down : Bool} (true-holds : holds ≡ true) (here₂ : c₂ .at ≡ measureAt (functionsOf index) f) (g : Weighs line c₂ sizes w) (d : Falls p f w down) where
+    module _ {c₂ : Cursor} {w : ℕ} {down : Bool} (true-holds : holds ≡ true) (here₂ : c₂ .at ≡ measureAt (functionsOf index) f) (g : SumsMeasure line c₂ sizes w) (d : Falls p f w down) where
       module _ {P : File} {F : Function} {ks : List ℕ} (i : Indexed text index P) (count : p .types ≡ length (P .types)) (is : look (P .functions) f ≡ some F) (s : SizesFor F ks sizes) where
         holds-there : conditionsHold ks (F .conditions) ≡ true
         holds-there = sym (conditions-are i count is s here h) ∙ true-holds
 
-        falls-there : {q : Stand} {b : Bool} → Around (p .around) (p .weight) q → down ≡ b → falls q f (weight (F .measure) ks) ≡ b
-        falls-there {q} around e = ap (falls q f) (sym (weight-is i count is s here₂ g)) ∙ sym (d .says q around) ∙ e
+        falls-there : {q : Stand} {b : Bool} → Around (p .around) (p .measure) q → down ≡ b → falls q f (summedMeasure (F .measure) ks) ≡ b
+        falls-there {q} around e = ap (falls q f) (sym (measure-is i count is s here₂ g)) ∙ sym (d .says q around) ∙ e
 
       pub prepare-no-fall : {n m : ℕ} → down ≡ false → Prepares text index sizes p f n m (NotEntered 13 (p .line + 1))
       prepare-no-fall fails = record {
@@ -175,21 +175,21 @@ module _ (text index sizes : List ℕ) {line : List ℕ} (p : Place) (f : ℕ) (
           of = no-entry;
         }
 
-        pub prepare-ready : {n m : ℕ} {kind : SizedType} {next : Cursor} → x ≡ TypeIs kind next → Prepares text index sizes p f n m (Ready (record { function = f; weight = w; kind = kind; variables = n; sizes = m }))
+        pub prepare-ready : {n m : ℕ} {ty : SizedType} {next : Cursor} → x ≡ TypeIs ty next → Prepares text index sizes p f n m (Ready (record { function = f; measure = w; ty = ty; variables = n; sizes = m }))
         prepare-ready e = record {
           says = λ P q F ks i count around is s.
-              ready refl (holds-there i count is s) (falls-there i count is s around goes) (type-given e (type-is-at i count is s here₃ t) .0) refl (weight-is i count is s here₂ g) refl refl;
+              ready refl (holds-there i count is s) (falls-there i count is s around goes) (type-given e (type-is-at i count is s here₃ t) .0) refl (measure-is i count is s here₂ g) refl refl;
           of = entry-of refl refl refl (one-byte-bounded (type-within e (t .bound)));
         }
 
 -- ---- body_place
 abbrev placeOf : Cursor → ℕ → ℕ → ℕ → ℕ → ℕ → ℕ → ℕ → ℕ → Place
-placeOf at levels types line around weight variables sizes used =
-    record { at = at; levels = levels; types = types; line = line; around = around; weight = weight; variables = variables; sizes = sizes; used = used }
+placeOf at levels types line around summedMeasure variables sizes used =
+    record { at = at; levels = levels; types = types; line = line; around = around; measure = summedMeasure; variables = variables; sizes = sizes; used = used }
 
-pub place-at : {at : Cursor} {n levels types line around weight variables sizes used : ℕ} → at .at ≡ n →
-    placeOf at levels types line around weight variables sizes used ≡ placeOf (record { at = n }) levels types line around weight variables sizes used
-place-at {levels} {types} {line} {around} {weight} {variables} {sizes} {used} is = ap (λ n. placeOf (record { at = n }) levels types line around weight variables sizes used) is
+pub place-at : {at : Cursor} {n levels types line around summedMeasure variables sizes used : ℕ} → at .at ≡ n →
+    placeOf at levels types line around summedMeasure variables sizes used ≡ placeOf (record { at = n }) levels types line around summedMeasure variables sizes used
+place-at {levels} {types} {line} {around} {summedMeasure} {variables} {sizes} {used} is = ap (λ n. placeOf (record { at = n }) levels types line around summedMeasure variables sizes used) is
 
 -- ---- made
 told-row : {row words row₀ : List ℕ} {a : Counted} {P : File} {next : ℕ} {x : Sizeds} (fs : Constructor) → length (x .types) ≡ length fs → CountedAs P next words 0 row₀ row a x → ToldRow row (length fs) (x .types)
@@ -221,7 +221,7 @@ module _ (index : List ℕ) {row : List ℕ} {p : Place} {a : Counted} {t c size
     }
 
     pub made-done : {one numbers : Estimate} → r ≡ true → t < byteRange → Made oneCell one → Combines after (a .numbers) one numbers →
-        Makes index row p a t c (Is (record { kind = Named t (size + 1); numbers = numbers; next = a .next; used = a .used }))
+        Makes index row p a t c (Is (record { ty = Named t (size + 1); numbers = numbers; next = a .next; used = a .used }))
     made-done {numbers} e small one all = record {
       says = λ text P q fs next words row₀ x i at less is long k.
           let whole = sum-is index o fs i less is long k in
@@ -234,7 +234,7 @@ module _ (index : List ℕ) {row : List ℕ} {p : Place} {a : Counted} {t c size
             ends = k .ends;
             holds = k .holds;
           })));
-      grows = grown {k = record { kind = Named t (size + 1); numbers = numbers; next = a .next; used = a .used }} (omega arith);
+      grows = grown {k = record { ty = Named t (size + 1); numbers = numbers; next = a .next; used = a .used }} (omega arith);
     }
 
 -- ---- one part, and those behind it or their refusal

@@ -12,7 +12,7 @@ use Rattle.language.specs.Syntax.{Constructor, Ty, tnamed, Op, Function, File, 
 use Rattle.language.specs.Format.{opCode}
 use Rattle.language.specs.Scope.{namedCount}
 use Rattle.language.specs.PlainTypes.{opType}
-use Rattle.language.specs.Sizes.{typeAt, conditionsHold, sum, weight, fieldTypes, ownSizes, sameTypes}
+use Rattle.language.specs.Sizes.{typeAt, conditionsHold, sum, summedMeasure, fieldTypes, ownSizes, sameTypes}
 use Rattle.language.specs.Estimate.{after, oneCell}
 use Rattle.language.specs.Typing.{Place as Stand, frameAt, falls, baseType}
 use Rattle.language.specs.Checker.{Sizeds}
@@ -37,7 +37,7 @@ use Rattle.size_steps.specs.Sites.{Bounded, Around}
 use Rattle.size_steps.specs.Agreement.{CountedAs, Agrees, itself, Grows}
 
 abbrev pub leafOf : SizedType → Estimate → Place → Sizing
-leafOf kind numbers p = Is (record { kind = kind; numbers = numbers; next = p .at; used = p .used })
+leafOf ty numbers p = Is (record { ty = ty; numbers = numbers; next = p .at; used = p .used })
 
 -- a refusal among parts is one of the whole
 abbrev pub refusedOf : Counting → Sizing
@@ -65,11 +65,11 @@ pub record OperatorType (o : ℕ) (r : SizedType) : Type 0 where
   pub says : (op : Op) → opCode op ≡ o → meaning r ≡ baseType (opType op)
 
 pub record Falls (p : Place) (f w : ℕ) (r : Bool) : Type 0 where
-  pub says : (q : Stand) → Around (p .around) (p .weight) q → r ≡ falls q f w
+  pub says : (q : Stand) → Around (p .around) (p .measure) q → r ≡ falls q f w
 
 -- the subject of a case
 abbrev pub subjectOf : ℕ → ℕ → SizedType → Subject
-subjectOf t m kind = record { of = t; size = m; kind = kind }
+subjectOf t m ty = record { of = t; size = m; ty = ty }
 
 -- where the body of an entry stands
 abbrev pub bodyOf : List ℕ → Place → Entry → Place
@@ -79,7 +79,7 @@ bodyOf index p e = record {
   types = p .types;
   line = p .types + e .function;
   around = e .function + 1;
-  weight = e .weight;
+  measure = e .measure;
   variables = e .variables;
   sizes = e .sizes;
   used = p .used + 1;
@@ -87,15 +87,15 @@ bodyOf index p e = record {
 
 -- ---- a call whose arguments were checked: conditions, measure and result size in turn; F the function, ks the sizes
 pub data Prepared (P : File) (q : Stand) (p : Place) (f n m : ℕ) (F : Function) (ks : List ℕ) (r : Entering) : Type 0 where
-  ready : {e : Entry} → r ≡ Ready e → conditionsHold ks (F .conditions) ≡ true → falls q f (weight (F .measure) ks) ≡ true → typeAt ks (F .result) ≡ some (meaning (e .kind)) →
-      e .function ≡ f → e .weight ≡ weight (F .measure) ks → e .variables ≡ n → e .sizes ≡ m → Prepared P q p f n m F ks r
+  ready : {e : Entry} → r ≡ Ready e → conditionsHold ks (F .conditions) ≡ true → falls q f (summedMeasure (F .measure) ks) ≡ true → typeAt ks (F .result) ≡ some (meaning (e .ty)) →
+      e .function ≡ f → e .measure ≡ summedMeasure (F .measure) ks → e .variables ≡ n → e .sizes ≡ m → Prepared P q p f n m F ks r
   no-condition : r ≡ Refused 12 (suc (p .line)) → conditionsHold ks (F .conditions) ≡ false → Prepared P q p f n m F ks r
-  no-fall : r ≡ Refused 13 (suc (p .line)) → conditionsHold ks (F .conditions) ≡ true → falls q f (weight (F .measure) ks) ≡ false → Prepared P q p f n m F ks r
-  no-size : r ≡ Refused 10 (suc (p .types + f)) → conditionsHold ks (F .conditions) ≡ true → falls q f (weight (F .measure) ks) ≡ true → typeAt ks (F .result) ≡ none → Prepared P q p f n m F ks r
+  no-fall : r ≡ Refused 13 (suc (p .line)) → conditionsHold ks (F .conditions) ≡ true → falls q f (summedMeasure (F .measure) ks) ≡ false → Prepared P q p f n m F ks r
+  no-size : r ≡ Refused 10 (suc (p .types + f)) → conditionsHold ks (F .conditions) ≡ true → falls q f (summedMeasure (F .measure) ks) ≡ true → typeAt ks (F .result) ≡ none → Prepared P q p f n m F ks r
 
 -- on any bytes an entry is of the function that was called
 pub data EntryOf (f n m : ℕ) : Entering → Type 0 where
-  entry-of : {e : Entry} → e .function ≡ f → e .variables ≡ n → e .sizes ≡ m → Bounded (meaning (e .kind)) → EntryOf f n m (Ready e)
+  entry-of : {e : Entry} → e .function ≡ f → e .variables ≡ n → e .sizes ≡ m → Bounded (meaning (e .ty)) → EntryOf f n m (Ready e)
   no-entry : {number frame : ℕ} → EntryOf f n m (Refused number frame)
 
 -- the sizes of the named arguments come first among the sizes
@@ -104,7 +104,7 @@ pub record SizesFor (F : Function) (ks sizes : List ℕ) : Type 0 where
   pub front : take (length ks) sizes ≡ ks
 
 pub record Prepares (text index sizes : List ℕ) (p : Place) (f n m : ℕ) (r : Entering) : Type 0 where
-  pub says : (P : File) (q : Stand) (F : Function) (ks : List ℕ) → Indexed text index P → p .types ≡ length (P .types) → Around (p .around) (p .weight) q →
+  pub says : (P : File) (q : Stand) (F : Function) (ks : List ℕ) → Indexed text index P → p .types ≡ length (P .types) → Around (p .around) (p .measure) q →
       look (P .functions) f ≡ some F → SizesFor F ks sizes → Prepared P q p f n m F ks r
   pub of : EntryOf f n m r
 

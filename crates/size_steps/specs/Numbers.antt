@@ -17,10 +17,10 @@ use Rattle.size_steps.specs.Leaves.{OperatorType}
 
 -- b with other numbers
 abbrev pub countedAs : Checked → Estimate → Sizing
-countedAs b numbers = Is (record { kind = b .kind; numbers = numbers; next = b .next; used = b .used })
+countedAs b numbers = Is (record { ty = b .ty; numbers = numbers; next = b .next; used = b .used })
 
 abbrev pub adjustedTo : ℕ → ℕ → Checked → Sizing
-adjustedTo t k a = Is (record { kind = Named t k; numbers = a .numbers; next = a .next; used = a .used })
+adjustedTo t k a = Is (record { ty = Named t k; numbers = a .numbers; next = a .next; used = a .used })
 
 pub record LetNumbers (a b : Checked) (r : Sizing) : Type 0 where
   pub slots : Estimate
@@ -37,15 +37,15 @@ pub record IfNumbers (a b d : Checked) (r : Sizing) : Type 0 where
   pub is : r ≡ countedAs d numbers
 
 pub record OpNumbers (o : ℕ) (a b : Checked) (r : Sizing) : Type 0 where
-  pub kind : SizedType
+  pub ty : SizedType
   pub operands : Estimate
   pub cell : Estimate
   pub numbers : Estimate
-  pub typed : OperatorType o kind
+  pub typed : OperatorType o ty
   pub both : Combines after (a .numbers) (b .numbers) operands
   pub one : Makes oneCell cell
   pub all : Combines after operands cell numbers
-  pub is : r ≡ Is (record { kind = kind; numbers = numbers; next = b .next; used = b .used })
+  pub is : r ≡ Is (record { ty = ty; numbers = numbers; next = b .next; used = b .used })
 
 pub record CallNumbers (n : ℕ) (a : Counted) (b : Checked) (r : Sizing) : Type 0 where
   pub inner : Estimate
@@ -69,7 +69,7 @@ pub record EitherNumbers (a b : Checked) (r : Sizing) : Type 0 where
 pub record LargerNumbers (all a r : Checked) : Type 0 where
   pub numbers : Estimate
   pub both : Combines either (all .numbers) (a .numbers) numbers
-  pub is : r ≡ record { kind = all .kind; numbers = numbers; next = a .next; used = a .used }
+  pub is : r ≡ record { ty = all .ty; numbers = numbers; next = a .next; used = a .used }
 
 pub record SlotNumbers (n : ℕ) (all : Checked) (r : Sizing) : Type 0 where
   pub numbers : Estimate
@@ -101,7 +101,7 @@ pub data OneMoreOf (a : Checked) : Counting → Counting → Type 0 where
   more-refused : {n frame : ℕ} → OneMoreOf a (RefusedAll n frame) (RefusedAll n frame)
 
 -- nothing so far
-pub record NothingYet (kind : SizedType) (p : Place) (r : Checked) : Type 0 where
+pub record NothingYet (ty : SizedType) (p : Place) (r : Checked) : Type 0 where
   pub numbers : Estimate
   pub none : Makes nothing numbers
-  pub is : r ≡ record { kind = kind; numbers = numbers; next = p .at; used = p .used }
+  pub is : r ≡ record { ty = ty; numbers = numbers; next = p .at; used = p .used }

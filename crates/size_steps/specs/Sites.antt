@@ -41,15 +41,15 @@ one-byte-bounded (named-small p q) = bounded-named p (q .1)
 -- ---- the same place elsewhere in the line, one level down, with more in scope
 abbrev pub movedTo : Place → Cursor → ℕ → Place
 movedTo p at used =
-    record { at = at; levels = p .levels; types = p .types; line = p .line; around = p .around; weight = p .weight; variables = p .variables; sizes = p .sizes; used = used }
+    record { at = at; levels = p .levels; types = p .types; line = p .line; around = p .around; measure = p .measure; variables = p .variables; sizes = p .sizes; used = used }
 
 abbrev pub downTo : Place → Cursor → Place
 downTo p at =
-    record { at = at; levels = p .levels - 1; types = p .types; line = p .line; around = p .around; weight = p .weight; variables = p .variables; sizes = p .sizes; used = p .used }
+    record { at = at; levels = p .levels - 1; types = p .types; line = p .line; around = p .around; measure = p .measure; variables = p .variables; sizes = p .sizes; used = p .used }
 
 abbrev pub widened : Place → ℕ → ℕ → Place
 widened p v s =
-    record { at = p .at; levels = p .levels; types = p .types; line = p .line; around = p .around; weight = p .weight; variables = p .variables + v; sizes = p .sizes + s; used = p .used }
+    record { at = p .at; levels = p .levels; types = p .types; line = p .line; around = p .around; measure = p .measure; variables = p .variables + v; sizes = p .sizes + s; used = p .used }
 
 -- ---- what keeps the numbers of a place small on any bytes: each level adds fewer variables than a byte counts. deep: the levels
 -- that are still to be counted, one more inside a form whose head was read
@@ -64,9 +64,9 @@ pub record Room (deep scopeLength sizesLength : ℕ) (p : Place) : Type 0 where
   pub sizes : p .sizes + byteRange * deep < 2 ^ 16
 
 -- ---- the function around it, and its summed measure
-pub data Around (around weight : ℕ) : Stand → Type 0 where
-  around-none : {frame : ℕ} {C : List Ty} → around ≡ 0 → Around around weight (outside frame C)
-  around-one : {f w : ℕ} → around ≡ suc f → weight ≡ w → Around around weight (inside f w)
+pub data Around (around summedMeasure : ℕ) : Stand → Type 0 where
+  around-none : {frame : ℕ} {C : List Ty} → around ≡ 0 → Around around summedMeasure (outside frame C)
+  around-one : {f w : ℕ} → around ≡ suc f → summedMeasure ≡ w → Around around summedMeasure (inside f w)
 
 -- the channels that may be named there are the file's
 abbrev pub ChannelsOf : File → Stand → Type 0
@@ -79,7 +79,7 @@ pub record Site (P : File) (S : Scope) (q : Stand) (Γ : List Ty) (Δ : List ℕ
   pub typeCount : p .types ≡ length (P .types)
   pub frame : frameAt P q ≡ suc (p .line)
   pub line : p .line < lineCount P
-  pub around : Around (p .around) (p .weight) q
+  pub around : Around (p .around) (p .measure) q
   pub variables : p .variables ≡ length Γ
   pub variablesIn : S .variables ≡ length Γ
   pub types : take (p .variables) scope ≡ map declaredWord Γ

@@ -29,7 +29,7 @@ use sizes::rows::fields_agree;
 use sizes::rows::own_sum;
 use sizes::type_at;
 use sizes::type_of;
-use sizes::weight;
+use sizes::summed_measure;
 
 // The type whose word stands in a row, 0 beyond it.
 pub fn type_in(row: &[u32], i: usize) -> SizedType
@@ -55,7 +55,7 @@ pub fn falls(p: Place, f: u32, w: u32) -> bool
     if p.around - 1 != f {
         return true;
     }
-    w < p.weight
+    w < p.measure
 }
 
 // A call whose arguments were checked: its conditions, for a self-call that the measure falls, and the size of its result.
@@ -75,18 +75,18 @@ pub fn prepare(
     if !conditions_hold(line, conditions_start(index, f), sizes) {
         return Entering::Refused(CONDITION_FAILS, p.line + 1);
     }
-    let w = weight(line, measure_start(index, f), sizes);
+    let w = summed_measure(line, measure_start(index, f), sizes);
     if !falls(p, f, w) {
         return Entering::Refused(MEASURE_NOT_LESS, p.line + 1);
     }
     let x = type_at(line, result_start(index, f), sizes);
-    let TypeAt::Is(kind, _) = x else {
+    let TypeAt::Is(ty, _) = x else {
         return Entering::Refused(SIZE_OUTSIDE, p.types + f + 1);
     };
     Entering::Ready(Entry {
         function: f,
-        weight: w,
-        kind: kind,
+        measure: w,
+        ty: ty,
         variables: n,
         sizes: m,
     })
@@ -108,7 +108,7 @@ pub fn made(index: &[u32; INDEX_WORDS], row: &[u32], p: Place, a: Counted, t: u3
     let next = a.next;
     let numbers = after(fields, one_cell());
     Sizing::Is(Checked {
-        kind: SizedType::Named(t as u8, (size + 1) as u8),
+        ty: SizedType::Named(t as u8, (size + 1) as u8),
         numbers: numbers,
         next: next,
         used: a.used,

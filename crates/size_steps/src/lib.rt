@@ -17,7 +17,7 @@ pub struct Place {
     pub types: u32,
     pub line: u32,
     pub around: u32,
-    pub weight: u32,
+    pub measure: u32,
     pub variables: u32,
     pub sizes: u32,
     pub used: u32,
@@ -25,7 +25,7 @@ pub struct Place {
 
 // A checked expression: its type beside its three numbers, the cursor behind it, and the instances entered by then.
 pub struct Checked {
-    pub kind: SizedType,
+    pub ty: SizedType,
     pub numbers: Estimate,
     pub next: Cursor,
     pub used: u32,
@@ -52,8 +52,8 @@ pub enum Counting {
 // how many of them are of named types.
 pub struct Entry {
     pub function: u32,
-    pub weight: u32,
-    pub kind: SizedType,
+    pub measure: u32,
+    pub ty: SizedType,
     pub variables: u32,
     pub sizes: u32,
 }
@@ -67,5 +67,5 @@ pub enum Entering {
 pub struct Subject {
     pub of: u32,
     pub size: u8,
-    pub kind: SizedType,
+    pub ty: SizedType,
 }

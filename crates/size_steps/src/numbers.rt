@@ -26,12 +26,12 @@ use sizes::same;
 use sizes::word_of;
 
 // A constant, a variable or a channel, which ends where the place is.
-pub fn leaf(kind: SizedType, numbers: Estimate, p: Place) -> Sizing
-    ensures { λ r. ⌜ r ≡ leafOf kind numbers p ⌝ }
+pub fn leaf(ty: SizedType, numbers: Estimate, p: Place) -> Sizing
+    ensures { λ r. ⌜ r ≡ leafOf ty numbers p ⌝ }
 {
     let at = p.at;
     Sizing::Is(Checked {
-        kind: kind,
+        ty: ty,
         numbers: numbers,
         next: at,
         used: p.used,
@@ -52,10 +52,10 @@ pub fn operator_type(o: u32) -> SizedType
 fn counted(b: Checked, numbers: Estimate) -> Sizing
     ensures { λ r. ⌜ r ≡ countedAs b numbers ⌝ }
 {
-    let kind = b.kind;
+    let ty = b.ty;
     let next = b.next;
     Sizing::Is(Checked {
-        kind: kind,
+        ty: ty,
         numbers: numbers,
         next: next,
         used: b.used,
@@ -63,27 +63,27 @@ fn counted(b: Checked, numbers: Estimate) -> Sizing
 }
 
 // The word of a checked expression's type.
-pub fn kind_word(a: Checked) -> u32
-    ensures { λ r. ⌜ WordOf (a .kind) r ⌝ }
+pub fn type_word(a: Checked) -> u32
+    ensures { λ r. ⌜ WordOf (a .ty) r ⌝ }
 {
-    let kind = a.kind;
-    word_of(kind)
+    let ty = a.ty;
+    word_of(ty)
 }
 
 // Whether a checked expression is of this type.
-pub fn is_kind(a: Checked, kind: SizedType) -> bool
-    ensures { λ r. ⌜ r ≡ sameType (meaning (a .kind)) (meaning kind) ⌝ }
+pub fn is_type(a: Checked, ty: SizedType) -> bool
+    ensures { λ r. ⌜ r ≡ sameType (meaning (a .ty)) (meaning ty) ⌝ }
 {
-    let found = a.kind;
-    same(found, kind)
+    let found = a.ty;
+    same(found, ty)
 }
 
 // Whether two checked expressions are of the same type.
 pub fn agree(a: Checked, b: Checked) -> bool
-    ensures { λ r. ⌜ r ≡ sameType (meaning (a .kind)) (meaning (b .kind)) ⌝ }
+    ensures { λ r. ⌜ r ≡ sameType (meaning (a .ty)) (meaning (b .ty)) ⌝ }
 {
-    let kind = b.kind;
-    is_kind(a, kind)
+    let ty = b.ty;
+    is_type(a, ty)
 }
 
 // A let: a, and then b with a slot more.
@@ -115,9 +115,9 @@ pub fn operated(o: u32, a: Checked, b: Checked) -> Sizing
     let second = b.numbers;
     let next = b.next;
     let numbers = after(after(first, second), one_cell());
-    let kind = operator_type(o);
+    let ty = operator_type(o);
     Sizing::Is(Checked {
-        kind: kind,
+        ty: ty,
         numbers: numbers,
         next: next,
         used: b.used,
@@ -160,11 +160,11 @@ pub fn larger(all: Checked, a: Checked) -> Checked
 {
     let first = all.numbers;
     let second = a.numbers;
-    let kind = all.kind;
+    let ty = all.ty;
     let next = a.next;
     let numbers = either(first, second);
     Checked {
-        kind: kind,
+        ty: ty,
         numbers: numbers,
         next: next,
         used: a.used,
@@ -187,7 +187,7 @@ pub fn adjusted(t: u8, k: u8, a: Checked) -> Sizing
     let numbers = a.numbers;
     let next = a.next;
     Sizing::Is(Checked {
-        kind: SizedType::Named(t, k),
+        ty: SizedType::Named(t, k),
         numbers: numbers,
         next: next,
         used: a.used,
@@ -243,12 +243,12 @@ pub fn one_more(a: Checked, y: Counting) -> Counting
 }
 
 // A branch of this type before its first split.
-pub fn nothing_yet(kind: SizedType, p: Place) -> Checked
-    ensures { λ r. ⌜ NothingYet kind p r ⌝ }
+pub fn nothing_yet(ty: SizedType, p: Place) -> Checked
+    ensures { λ r. ⌜ NothingYet ty p r ⌝ }
 {
     let at = p.at;
     Checked {
-        kind: kind,
+        ty: ty,
         numbers: nothing(),
         next: at,
         used: p.used,
@@ -286,12 +286,12 @@ pub fn not_entered(x: Entering) -> Sizing
 }
 
 // The subject of a case.
-pub fn subject(t: u32, m: u8, kind: SizedType) -> Subject
-    ensures { λ r. ⌜ r ≡ subjectOf t m kind ⌝ }
+pub fn subject(t: u32, m: u8, ty: SizedType) -> Subject
+    ensures { λ r. ⌜ r ≡ subjectOf t m ty ⌝ }
 {
     Subject {
         of: t,
         size: m,
-        kind: kind,
+        ty: ty,
     }
 }

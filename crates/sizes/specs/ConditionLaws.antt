@@ -12,7 +12,7 @@ use Rattle.language.specs.Result.{both}
 use Rattle.language.specs.Syntax.{Relation, req, rlt, rle, Condition}
 use Rattle.language.specs.Format.{spellAll, sizeBytes, relationCode, conditionBytes}
 use Rattle.language.specs.Within.{All, all-cons, WithinCondition}
-use Rattle.language.specs.Sizes.{added, taken, compare, conditionHolds, conditionsHold, weight}
+use Rattle.language.specs.Sizes.{added, taken, compare, conditionHolds, conditionsHold, summedMeasure}
 use Rattle.text.specs.declared.Cursor.{Cursor}
 use Rattle.text.specs.declared.Found.{Found}
 use Rattle.text.specs.Bytes.{bytesOf}
@@ -20,7 +20,7 @@ use Rattle.encoding.specs.Spells.{Spells, spells-within, spells-first, spells-n
 use Rattle.encoding.specs.TypeInversions.{condition-parts}
 use Rattle.sizes.specs.declared.Worked.{Worked}
 use Rattle.sizes.specs.declared.Judged.{Judged}
-use Rattle.sizes.specs.Promises.{Reads, Told, WorksOut, Compares, Judges, HoldAll, Hold, WeighsAll, Weighs}
+use Rattle.sizes.specs.Promises.{Reads, Told, WorksOut, Compares, Judges, HoldAll, Hold, SumsMeasures, SumsMeasure}
 
 -- ---- relations
 pub compare-equal : {code a b : ℕ} → code ≡ 0 → Compares code a b (eqb a b)
@@ -110,7 +110,7 @@ module _ (line : List ℕ) (c : Cursor) (Δ : List ℕ) where
     }
 
     -- ---- measures
-    pub measures-counted : {r : ℕ} → WeighsAll line (f .next) Δ (f .value) r → Weighs line c Δ r
+    pub measures-counted : {r : ℕ} → SumsMeasures line (f .next) Δ (f .value) r → SumsMeasure line c Δ r
     measures-counted u = record {
       says = λ is count z.
           let here : c .at < length (bytesOf line) = omega (arith, z .within) in
@@ -118,19 +118,19 @@ module _ (line : List ℕ) (c : Cursor) (Δ : List ℕ) where
       less = omega (arith, u .less, v .less);
     }
 
-  pub measures-none : {n : ℕ} → n ≡ 0 → WeighsAll line c Δ n 0
-  unfolding weight
+  pub measures-none : {n : ℕ} → n ≡ 0 → SumsMeasures line c Δ n 0
+  unfolding summedMeasure
   measures-none {n} q = record { says = says; less = omega arith }
     where
-      says : (is : List ℕ) → n ≡ length is → Spells themselves line (c .at) is → 0 ≡ weight is Δ
+      says : (is : List ℕ) → n ≡ length is → Spells themselves line (c .at) is → 0 ≡ summedMeasure is Δ
       says [] e z = refl
       says (i ∷ is) e z = absurd (omega (arith, e, q))
 
-  pub measures-more : {n : ℕ} {f : Found} {k r : ℕ} → (n ≡ 0 → ⊥) → Reads line c f → Told Δ (f .value) k → WeighsAll line (f .next) Δ (n - 1) r → WeighsAll line c Δ n (k + r)
-  unfolding weight
+  pub measures-more : {n : ℕ} {f : Found} {k r : ℕ} → (n ≡ 0 → ⊥) → Reads line c f → Told Δ (f .value) k → SumsMeasures line (f .next) Δ (n - 1) r → SumsMeasures line c Δ n (k + r)
+  unfolding summedMeasure
   measures-more {n} {f} {k} {r} more v u t = record { says = says; less = omega (arith, more, u .less, t .less) }
     where
-      says : (is : List ℕ) → n ≡ length is → Spells themselves line (c .at) is → k + r ≡ weight is Δ
+      says : (is : List ℕ) → n ≡ length is → Spells themselves line (c .at) is → k + r ≡ summedMeasure is Δ
       says [] e z = absurd (more e)
       says (i ∷ is) e z =
           let here : c .at < length (bytesOf line) = omega (arith, spells-within z) in
@@ -139,5 +139,5 @@ module _ (line : List ℕ) (c : Cursor) (Δ : List ℕ) where
           let left : n - 1 ≡ length is = omega (arith, e) in
           ap₂ _+_ (u .is ∙ ap (λ j. getD Δ j 0) first) (t .says is left (subst (λ m. Spells themselves line m is) (sym (v .next here)) behind))
 
-pub measures-fit : {line Δ : List ℕ} {c : Cursor} {n i k r : ℕ} → n < byteRange → Told Δ i k → WeighsAll line c Δ (n - 1) r → k + r < 2 ^ 32
+pub measures-fit : {line Δ : List ℕ} {c : Cursor} {n i k r : ℕ} → n < byteRange → Told Δ i k → SumsMeasures line c Δ (n - 1) r → k + r < 2 ^ 32
 measures-fit less u t = omega (arith, less, u .less, t .less)

@@ -8,7 +8,7 @@ use lib.Seq.{getD-take}
 use Rattle.language.specs.Result.{both, chain}
 use Rattle.language.specs.Syntax.{tnamed, Size, ResultType, Condition}
 use Rattle.language.specs.Within.{All, all-nil, all-cons, WithinSize, w-lit, w-svar, w-plus, w-minus, WithinResult, w-rbool, w-rint, w-rnamed, WithinCondition}
-use Rattle.language.specs.Sizes.{added, taken, typeSize, typeAt, conditionHolds, conditionsHold, weight}
+use Rattle.language.specs.Sizes.{added, taken, typeSize, typeAt, conditionHolds, conditionsHold, summedMeasure}
 
 module _ (Δ : List ℕ) {vars : ℕ} where
   mutual
@@ -45,7 +45,7 @@ module _ (Δ : List ℕ) {vars : ℕ} where
   conditions-in-scope all-nil = refl
   conditions-in-scope (all-cons w ws) = ap₂ both (condition-in-scope w) (conditions-in-scope ws)
 
-  pub weight-in-scope : {is : List ℕ} → All (λ i. i < vars) is → weight is (take vars Δ) ≡ weight is Δ
-  unfolding weight
-  weight-in-scope all-nil = refl
-  weight-in-scope (all-cons {a = i} less ws) = ap₂ _+_ (getD-take vars Δ i 0 less) (weight-in-scope ws)
+  pub measure-in-scope : {is : List ℕ} → All (λ i. i < vars) is → summedMeasure is (take vars Δ) ≡ summedMeasure is Δ
+  unfolding summedMeasure
+  measure-in-scope all-nil = refl
+  measure-in-scope (all-cons {a = i} less ws) = ap₂ _+_ (getD-take vars Δ i 0 less) (measure-in-scope ws)

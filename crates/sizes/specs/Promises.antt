@@ -10,7 +10,7 @@ use Rattle.language.specs.Limits.{byteRange, nestingMost}
 use Rattle.language.specs.Syntax.{Ty, tbool, tint, tnamed, Size, ResultType, Relation, Condition}
 use Rattle.language.specs.Format.{spellAll, sizeBytes, resultBytes, relationCode, conditionBytes}
 use Rattle.language.specs.Within.{All, Bound, WithinSize, WithinResult, WithinCondition}
-use Rattle.language.specs.Sizes.{added, taken, typeSize, typeAt, compare, conditionHolds, conditionsHold, weight}
+use Rattle.language.specs.Sizes.{added, taken, typeSize, typeAt, compare, conditionHolds, conditionsHold, summedMeasure}
 use Rattle.text.specs.declared.Cursor.{Cursor}
 use Rattle.text.specs.declared.Found.{Found}
 use Rattle.text.specs.Bytes.{bytesOf, declaredWord}
@@ -120,11 +120,11 @@ pub record Hold (line : List ℕ) (c : Cursor) (Δ : List ℕ) (r : Bool) : Type
   pub says : (vars : ℕ) (κs : List Condition) → byteAt line (c .at) ≡ length κs → All (WithinCondition vars) κs → Spells (spellAll conditionBytes) line (c .at + 1) κs → r ≡ conditionsHold Δ κs
 
 -- ---- measures
-pub record WeighsAll (line : List ℕ) (c : Cursor) (Δ : List ℕ) (n r : ℕ) : Type 0 where
-  pub says : (is : List ℕ) → n ≡ length is → Spells themselves line (c .at) is → r ≡ weight is Δ
+pub record SumsMeasures (line : List ℕ) (c : Cursor) (Δ : List ℕ) (n r : ℕ) : Type 0 where
+  pub says : (is : List ℕ) → n ≡ length is → Spells themselves line (c .at) is → r ≡ summedMeasure is Δ
   pub less : r ≤ 255 * n
 
 -- their count stands at the cursor
-pub record Weighs (line : List ℕ) (c : Cursor) (Δ : List ℕ) (r : ℕ) : Type 0 where
-  pub says : (is : List ℕ) → byteAt line (c .at) ≡ length is → Spells themselves line (c .at + 1) is → r ≡ weight is Δ
+pub record SumsMeasure (line : List ℕ) (c : Cursor) (Δ : List ℕ) (r : ℕ) : Type 0 where
+  pub says : (is : List ℕ) → byteAt line (c .at) ≡ length is → Spells themselves line (c .at + 1) is → r ≡ summedMeasure is Δ
   pub less : r < 2 ^ 16

@@ -5,7 +5,7 @@ ghost use mathlib.Core.Path.{_≡_};
 ghost use Prim.Native.Nat.{_<_, _≤_};
 ghost use Rattle.language.specs.Limits.{byteRange, nestingMost};
 ghost use Rattle.language.specs.Sizes.{sameType};
-ghost use Rattle.sizes.specs.Promises.{Reads, Told, LeafWorked, WorksOut, SizeGiven, TypeGiven, Compares, Judges, HoldAll, Hold, Weighs, WeighsAll, meaning, WordOf, FromWord};
+ghost use Rattle.sizes.specs.Promises.{Reads, Told, LeafWorked, WorksOut, SizeGiven, TypeGiven, Compares, Judges, HoldAll, Hold, SumsMeasure, SumsMeasures, meaning, WordOf, FromWord};
 use language::codes::RELATION_EQUAL;
 use language::codes::RELATION_LESS;
 use language::codes::SIZE_NUMBER;
@@ -231,7 +231,7 @@ pub fn conditions_hold(line: &[u8], c: Cursor, sizes: &[u8]) -> bool
 // The sum of so many sizes, the variables one after the other.
 fn measures(line: &[u8], c: Cursor, sizes: &[u8], n: u32) -> u32
     requires { ⌜ n < byteRange ⌝ }
-    ensures { λ r. ⌜ WeighsAll (now (line .entry)) c (now (sizes .entry)) n r ⌝ }
+    ensures { λ r. ⌜ SumsMeasures (now (line .entry)) c (now (sizes .entry)) n r ⌝ }
 {
     if n == 0 {
         return 0;
@@ -244,8 +244,8 @@ fn measures(line: &[u8], c: Cursor, sizes: &[u8], n: u32) -> u32
 }
 
 // The summed measure of a function; c stands at its count.
-pub fn weight(line: &[u8], c: Cursor, sizes: &[u8]) -> u32
-    ensures { λ r. ⌜ Weighs (now (line .entry)) c (now (sizes .entry)) r ⌝ }
+pub fn summed_measure(line: &[u8], c: Cursor, sizes: &[u8]) -> u32
+    ensures { λ r. ⌜ SumsMeasure (now (line .entry)) c (now (sizes .entry)) r ⌝ }
 {
     let f = read(line, c);
     let n = f.value;

@@ -8,7 +8,7 @@ use lib.ListN.{length, getElem? as look}
 use borrow.Author.Tests.{ltb-true, leb-true, leb-false, eqb-true}
 use Rattle.language.specs.Result.{Result}
 use Rattle.language.specs.Syntax.{Constructor, Ty, Size, ResultType, Op, tnamed, owns, Expr, ebool, eint, evar, enow, elast, elet, eif, eop, ecall, econ, ecase, eadj, efit, Exprs, enil, econs, Function, File, constructorsOf}
-use Rattle.language.specs.Sizes.{typeAt, weight, sizesOf, parameterTypes, fieldTypes}
+use Rattle.language.specs.Sizes.{typeAt, summedMeasure, sizesOf, parameterTypes, fieldTypes}
 use Rattle.language.specs.Splits.{splits}
 use Rattle.language.specs.Estimate.{Estimate, nothing}
 use Rattle.language.specs.Typing.{Place, inside, Typing, Typings, Branches, AtSplits}
@@ -80,7 +80,7 @@ module _ (P : File) (enter : Enter) (most left : ℕ) where
 
   pub record EntersDerived : Type 0 where
     pub enters : (frame g : ℕ) (F : Function) (ks : List ℕ) (τ : Ty) → look (P .functions) g ≡ some F → typeAt ks (F .result) ≡ some τ →
-        CountsRun P most left (inside g (suc (weight (F .measure) ks))) (BodyTyping P g F ks τ) (enter frame g F ks τ)
+        CountsRun P most left (inside g (suc (summedMeasure (F .measure) ks))) (BodyTyping P g F ks τ) (enter frame g F ks τ)
 
 -- one branch at each of these splits
 splits-derived : {P : File} {most left : ℕ} {p : Place} {Γ : List Ty} {Δ : List ℕ} {t : ℕ} {fs : Constructor} {b : Expr} {τ : Ty} (f : List ℕ → List Instance → Result Counted) (kss : List (List ℕ)) →
@@ -141,7 +141,7 @@ module _ {P : File} {enter : Enter} {most left : ℕ} {p : Place} {Γ : List Ty}
   call-derived {g} en a f = record {
     runs = λ L rd. bind-outcome (f .runs L rd) (λ q _ x. from-outcome _ _ _ (λ _. tt) (λ F l. let ks = sizesOf (q .types) in
         need-outcome _ _ _ (λ _. tt) (λ i. need-outcome _ _ _ (λ _. tt) (λ c. need-outcome _ _ _ (λ _. tt) (λ less. from-outcome _ _ _ (λ _. tt) (λ τ fits.
-        bind-outcome (en .enters _ g F ks τ l fits .runs (q .list) (ready-called g (weight (F .measure) ks) a less (ready-grown (x .grown) rd))) (λ r _ y.
+        bind-outcome (en .enters _ g F ks τ l fits .runs (q .list) (ready-called g (summedMeasure (F .measure) ks) a less (ready-grown (x .grown) rd))) (λ r _ y.
         accepted (record { typing = t-call (x .typing) l refl (same-types _ _ i) c less fits (y .typing) refl; grown = grown-then (x .grown) (y .grown) }))))))));
   }
 
@@ -241,10 +241,10 @@ module _ (P : File) (enter : Enter) (most left : ℕ) (en : EntersDerived P ente
 
 -- ---- bodies
 body-derived : {P : File} {enter : Enter} {most left : ℕ} {F : Function} (g : ℕ) (ks : List ℕ) (L : List Instance) → Ordered P → EntersDerived P enter most left →
-    look (P .functions) g ≡ some F → find L g ks ≡ none → length L < most → ReadyAt P most (suc left) (inside g (suc (weight (F .measure) ks))) L →
+    look (P .functions) g ≡ some F → find L g ks ≡ none → length L < most → ReadyAt P most (suc left) (inside g (suc (summedMeasure (F .measure) ks))) L →
     Outcome (Types P most left (BodyTyping P g F ks) (L ++ (entered g ks nothing ∷ []))) Whatever (bodyRun P enter g F ks L)
 body-derived {P} {enter} {most} {left} {F} g ks L ordered en l new less rd =
-    derived P enter most left en (F .body) (inside g (weight (F .measure) ks)) (parameterTypes (F .parameters) ks) ks (ordered .calls g F l) .runs _ (ready-entered done-lasts g ks l new less tt rd)
+    derived P enter most left en (F .body) (inside g (summedMeasure (F .measure) ks)) (parameterTypes (F .parameters) ks) ks (ordered .calls g F l) .runs _ (ready-entered done-lasts g ks l new less tt rd)
 
 module _ (P : File) (most : ℕ) (ordered : Ordered P) where
   pub enters-derived : (left : ℕ) → EntersDerived P (enterAt P most left) most left
@@ -272,7 +272,7 @@ pub record EnteredNext (g : ℕ) (ks : List ℕ) (L M : List Instance) : Type 0 
   pub is : M ≡ L ++ (entered g ks numbers ∷ inner)
 
 pub entered-next : {P : File} {most left : ℕ} {F : Function} (frame g : ℕ) (ks : List ℕ) (τ : Ty) (L : List Instance) → Ordered P → look (P .functions) g ≡ some F → find L g ks ≡ none →
-    ReadyAt P most (suc left) (inside g (suc (weight (F .measure) ks))) L → Outcome (λ (q : Counted). EnteredNext g ks L (q .list)) Whatever (enterAt P most (suc left) frame g F ks τ L)
+    ReadyAt P most (suc left) (inside g (suc (summedMeasure (F .measure) ks))) L → Outcome (λ (q : Counted). EnteredNext g ks L (q .list)) Whatever (enterAt P most (suc left) frame g F ks τ L)
 unfolding enterAt
 entered-next {P} {most} {left} frame g ks τ L ordered l new rd = foundOr-outcome (find L g ks) L (λ n e. none-is-not-some (sym new ∙ e))
     (λ _. need-outcome _ _ _ (λ _. tt) (λ less. bind-outcome (body-derived g ks L ordered (enters-derived P most ordered left) l new (ltb-true _ _ less) rd)

@@ -5,7 +5,7 @@ use mathlib.Core.Option.{Option, none, some}
 use mathlib.Core.Path.{_≡_, refl}
 use Rattle.language.specs.Result.{Result, ok, bind, need}
 use Rattle.language.specs.Syntax.{Constructor, Ty, tbool, tint, tnamed, Expr, Function, File}
-use Rattle.language.specs.Sizes.{weight, parameterTypes, fieldTypes, sameType}
+use Rattle.language.specs.Sizes.{summedMeasure, parameterTypes, fieldTypes, sameType}
 use Rattle.language.specs.Estimate.{Estimate, nothing}
 use Rattle.language.specs.Typing.{Place, inside, frameAt}
 use Rattle.language.specs.Checker.{Instance, Sized, Counted, Enter, named, sized, foundOr}
@@ -37,4 +37,4 @@ atSplit P enter p Γ Δ t fs b τ ks M = bind (sized P enter b p (Γ ++ fieldTyp
 
 -- the body of function g at sizes ks, from the list with its record on
 abbrev pub bodyRun : File → Enter → ℕ → Function → List ℕ → List Instance → Result Sized
-bodyRun P enter g F ks L = sized P enter (F .body) (inside g (weight (F .measure) ks)) (parameterTypes (F .parameters) ks) ks (L ++ (entered g ks nothing ∷ []))
+bodyRun P enter g F ks L = sized P enter (F .body) (inside g (summedMeasure (F .measure) ks)) (parameterTypes (F .parameters) ks) ks (L ++ (entered g ks nothing ∷ []))

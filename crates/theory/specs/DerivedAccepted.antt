@@ -11,7 +11,7 @@ use Rattle.language.specs.Limits.{sizeMost}
 use Rattle.language.specs.Result.{Result}
 use Rattle.language.specs.Syntax.{Constructor, Ty, Size, ResultType, Op, tbool, tint, tnamed, owns, Expr, ebool, eint, evar, enow, elast, elet, eif, eop, ecall, econ, ecase, eadj, efit, Exprs, enil, econs, Function, File, constructorsOf}
 use Rattle.language.specs.PlainTypes.{operandType, opType}
-use Rattle.language.specs.Sizes.{typeSize, typeAt, conditionsHold, sum, weight, sizesOf, parameterTypes, fieldTypes, ownSizes}
+use Rattle.language.specs.Sizes.{typeSize, typeAt, conditionsHold, sum, summedMeasure, sizesOf, parameterTypes, fieldTypes, ownSizes}
 use Rattle.language.specs.Splits.{splits}
 use Rattle.language.specs.Estimate.{Estimate, nothing, oneCell, after, either, withSlots, inCall}
 use Rattle.language.specs.Typing.{Place, inside, channelsAt, falls, baseType, Typing, Typings, Branches, AtSplits}
@@ -89,7 +89,7 @@ module _ (P : File) (enter : Enter) (K : Key → Type 0) (most left : ℕ) where
 pub record EntersAgree (P : File) (enter : Enter) (most left : ℕ) : Type 1 where
   pub enters : (K : Key → Type 0) (frame g : ℕ) (F : Function) (ks : List ℕ) (τ : Ty) (n : Estimate) → look (P .functions) g ≡ some F → typeAt ks (F .result) ≡ some τ →
       (d : BodyTyping P g F ks τ n) →
-      K (key g ks) → All K (instancesOf d) → AgreesCount P K most left (inside g (suc (weight (F .measure) ks))) n (key g ks ∷ instancesOf d) (enter frame g F ks τ)
+      K (key g ks) → All K (instancesOf d) → AgreesCount P K most left (inside g (suc (summedMeasure (F .measure) ks))) n (key g ks ∷ instancesOf d) (enter frame g F ks τ)
 
 module _ {P : File} {K : Key → Type 0} {most left : ℕ} where
   pub listed-not : {L : List Instance} → Tidy K most left L → Listed P K most left L [] L
@@ -148,15 +148,15 @@ module _ {P : File} {enter : Enter} {K : Key → Type 0} {most left : ℕ} {p : 
   }
 
   call-agrees : {g : ℕ} {es : Exprs} {F : Function} {τs : List Ty} {ks : List ℕ} {τ : Ty} {m n : Estimate} {is js : List Key} → AgreesAll P enter K most left p Γ Δ es τs m is → Allowed p g →
-      look (P .functions) g ≡ some F → sizesOf τs ≡ ks → parameterTypes (F .parameters) ks ≡ τs → conditionsHold ks (F .conditions) ≡ true → falls p g (weight (F .measure) ks) ≡ true →
+      look (P .functions) g ≡ some F → sizesOf τs ≡ ks → parameterTypes (F .parameters) ks ≡ τs → conditionsHold ks (F .conditions) ≡ true → falls p g (summedMeasure (F .measure) ks) ≡ true →
       typeAt ks (F .result) ≡ some τ →
-      ((frame : ℕ) → AgreesCount P K most left (inside g (suc (weight (F .measure) ks))) n js (enter frame g F ks τ)) →
+      ((frame : ℕ) → AgreesCount P K most left (inside g (suc (summedMeasure (F .measure) ks))) n js (enter frame g F ks τ)) →
       Agrees P enter K most left p Γ Δ (ecall g es) τ (withSlots (length (F .parameters)) (after m (inCall n))) (is ++ js)
   unfolding sized
   call-agrees {g} {F} {ks} f a l s i c less fits en = record {
     runs = λ L rd. bind-outcome (f .runs L rd) (λ q _ x. from-holds _ _ _ l (let at : sizesOf (q .types) ≡ ks = ap sizesOf (x .types) ∙ s in rw at
         (need-holds _ _ (types-same (i ∙ sym (x .types))) (need-holds _ _ c (need-holds _ _ less (from-holds _ _ _ fits
-        (bind-outcome (en _ .runs (q .list) (ready-called g (weight (F .measure) ks) a less (ready-grown (x .listed .grown) rd))) (λ r _ y.
+        (bind-outcome (en _ .runs (q .list) (ready-called g (summedMeasure (F .measure) ks) a less (ready-grown (x .listed .grown) rd))) (λ r _ y.
         accepted (record { type = refl; numbers = rw (x .numbers, y .numbers); listed = listed-then (x .listed) (y .listed) })))))))));
   }
 

@@ -8,7 +8,7 @@ use lib.ListN.{length, set, length-map, getElem? as look}
 use borrow.Author.Tests.{ltb-true, ltb-false}
 use Rattle.language.specs.Result.{ok}
 use Rattle.language.specs.Syntax.{Ty, Function, File}
-use Rattle.language.specs.Sizes.{typeAt, weight}
+use Rattle.language.specs.Sizes.{typeAt, summedMeasure}
 use Rattle.language.specs.Estimate.{Estimate, nothing}
 use Rattle.language.specs.Typing.{Place, inside}
 use Rattle.language.specs.Checker.{Instance, Sized, Enter, find, enterAt}
@@ -37,7 +37,7 @@ same-bodies {P} {G} {σ} C g ks p q h =
 -- an instance that was found
 found-agrees : {P : File} {K : Key → Type 0} {most left : ℕ} {F : Function} {τ : Ty} {m n : Estimate} (g : ℕ) (ks : List ℕ) (L : List Instance) → look (P .functions) g ≡ some F →
     typeAt ks (F .result) ≡ some τ →
-    (d : BodyTyping P g F ks τ n) → ReadyFor P K most left (inside g (suc (weight (F .measure) ks))) L → find L g ks ≡ some m →
+    (d : BodyTyping P g F ks τ n) → ReadyFor P K most left (inside g (suc (summedMeasure (F .measure) ks))) L → find L g ks ≡ some m →
     SameCount P K most left n (key g ks ∷ instancesOf d) L (record { numbers = m; list = L })
 found-agrees {F} {τ} {n} g ks L l fits d rd e =
     let s = found-is-finished g ks L l (rd .known) e in
@@ -88,13 +88,13 @@ filled-agrees {q} g ks L s x =
 
 module _ {P : File} {enter : Enter} {most left : ℕ} (ordered : Ordered P) (en : EntersAgree P enter most left) where
   body-agrees : {F : Function} {τ : Ty} {n : Estimate} (K : Key → Type 0) (g : ℕ) (ks : List ℕ) (L : List Instance) → look (P .functions) g ≡ some F → find L g ks ≡ none → length L < most →
-      (d : BodyTyping P g F ks τ n) → K (key g ks) → All K (instancesOf d) → ReadyFor P K most (suc left) (inside g (suc (weight (F .measure) ks))) L →
+      (d : BodyTyping P g F ks τ n) → K (key g ks) → All K (instancesOf d) → ReadyFor P K most (suc left) (inside g (suc (summedMeasure (F .measure) ks))) L →
       Outcome (Same P K most left τ n (instancesOf d) (L ++ (entered g ks nothing ∷ []))) (TooMany K most) (bodyRun P enter g F ks L)
   body-agrees {F} K g ks L l new less d wanted all rd = agrees en K d (ordered .calls g F l) all .runs _ (ready-entered sole-lasts g ks l new less wanted rd)
 
   body-sole : {K : Key → Type 0} {F : Function} {τ : Ty} {q : Sized} (g : ℕ) (ks : List ℕ) (L : List Instance) → look (P .functions) g ≡ some F → typeAt ks (F .result) ≡ some τ →
       find L g ks ≡ none → length L < most →
-      ReadyFor P K most (suc left) (inside g (suc (weight (F .measure) ks))) L →
+      ReadyFor P K most (suc left) (inside g (suc (summedMeasure (F .measure) ks))) L →
       bodyRun P enter g F ks L ≡ ok q →
       Sole P (set (q .list) (length L) (entered g ks (q .numbers))) (entered g ks (q .numbers))
   body-sole g ks L l fits new less rd e = left-sole g ks L l fits (λ n d. when-accepted (body-agrees AnyKey g ks L l new less d tt (all-in _ (λ k i. tt)) (ready-any rd)) e)

@@ -12,7 +12,7 @@ use lib.Dec.{eqb}
 use borrow.Author.Tests.{ltb-true, eqb-true, eqb-false, eq-eqb}
 use Rattle.language.specs.Result.{both, choose}
 use Rattle.language.specs.Syntax.{Function, File}
-use Rattle.language.specs.Sizes.{weight, sameSizes}
+use Rattle.language.specs.Sizes.{summedMeasure, sameSizes}
 use Rattle.language.specs.Estimate.{Estimate, nothing}
 use Rattle.language.specs.Typing.{Place, inside, falls}
 use Rattle.language.specs.Checker.{Instance, find}
@@ -28,7 +28,7 @@ use Rattle.theory.specs.Instances.{Key, key, entered, keyOf, keysOf}
 -- an instance in progress at a place: of a later function, or of the same one at no smaller measure
 pub data Over (P : File) (r : Instance) : Place → Type 0 where
   over-later : {f v : ℕ} → f < r .function → Over P r (inside f v)
-  over-same : {f v : ℕ} {F : Function} → look (P .functions) (r .function) ≡ some F → r .function ≡ f → v ≤ weight (F .measure) (r .sizes) → Over P r (inside f v)
+  over-same : {f v : ℕ} {F : Function} → look (P .functions) (r .function) ≡ some F → r .function ≡ f → v ≤ summedMeasure (F .measure) (r .sizes) → Over P r (inside f v)
 
 -- a record of the list at a place: finished, as D says, or in progress
 pub data Known (P : File) (D : Instance → Type 0) (p : Place) (r : Instance) : Type 0 where
@@ -54,11 +54,11 @@ over-called {P} {r} g w a e (over-same {f} {v} l same le) = go (eqb f g) refl
 
 -- so an instance in progress is not the one called
 pub called-not-in-progress : {P : File} {F : Function} {r : Instance} {g : ℕ} {ks : List ℕ} →
-    look (P .functions) g ≡ some F → r .function ≡ g → r .sizes ≡ ks → Over P r (inside g (suc (weight (F .measure) ks))) → ⊥
+    look (P .functions) g ≡ some F → r .function ≡ g → r .sizes ≡ ks → Over P r (inside g (suc (summedMeasure (F .measure) ks))) → ⊥
 called-not-in-progress l p q (over-later less) = omega arith
 called-not-in-progress {F} {r} {ks} l p q (over-same {F = G} i same le) =
     let z : G ≡ F = cc in
-    let y : weight (G .measure) (r .sizes) ≡ weight (F .measure) ks = rw (z, q) in
+    let y : summedMeasure (G .measure) (r .sizes) ≡ summedMeasure (F .measure) ks = rw (z, q) in
     omega arith
 
 -- ---- the list as a whole
@@ -157,17 +157,17 @@ not-found-is-new g ks (r ∷ L) e (in-tail i) = go (both (eqb (r .function) g) (
 
 -- An instance being checked is never looked up: what a call finds is finished.
 pub found-is-finished : {P : File} {D : Instance → Type 0} {F : Function} {n : Estimate} (g : ℕ) (ks : List ℕ) (L : List Instance) →
-    look (P .functions) g ≡ some F → All (Known P D (inside g (suc (weight (F .measure) ks)))) L → find L g ks ≡ some n → D (entered g ks n)
+    look (P .functions) g ≡ some F → All (Known P D (inside g (suc (summedMeasure (F .measure) ks)))) L → find L g ks ≡ some n → D (entered g ks n)
 found-is-finished {P} {D} {F} {n} g ks L l known e = go (all-member known (found-stands g ks L e))
   where
-    go : Known P D (inside g (suc (weight (F .measure) ks))) (entered g ks n) → D (entered g ks n)
+    go : Known P D (inside g (suc (summedMeasure (F .measure) ks))) (entered g ks n) → D (entered g ks n)
     go (finished d) = d
     go (inProgress o) = absurd (called-not-in-progress l refl refl o)
 
 -- ---- entering a body: a record more, in progress; and leaving it: the record is filled in
 module _ {P : File} {D : List Instance → Instance → Type 0} {K : Key → Type 0} {most left : ℕ} (lasting : Lasting D) where
   pub ready-entered : {F : Function} {L : List Instance} (g : ℕ) (ks : List ℕ) → look (P .functions) g ≡ some F → find L g ks ≡ none → length L < most → K (key g ks) →
-      Ready P D K most (suc left) (inside g (suc (weight (F .measure) ks))) L → Ready P D K most left (inside g (weight (F .measure) ks)) (L ++ (entered g ks nothing ∷ []))
+      Ready P D K most (suc left) (inside g (suc (summedMeasure (F .measure) ks))) L → Ready P D K most left (inside g (summedMeasure (F .measure) ks)) (L ++ (entered g ks nothing ∷ []))
   ready-entered {F} {L} g ks l new less wanted rd = record {
     known = all-append (all-map (λ r. known-map (lasting .lasts L M (λ k. keys-left L (this ∷ [])) r) down) (rd .known)) (all-cons (inProgress (over-same l refl (omega arith))) all-nil);
     tidy = record {
@@ -184,9 +184,9 @@ module _ {P : File} {D : List Instance → Instance → Type 0} {K : Key → Typ
       M : List Instance
       M = L ++ (this ∷ [])
 
-      down : {r : Instance} → Over P r (inside g (suc (weight (F .measure) ks))) → Over P r (inside g (weight (F .measure) ks))
+      down : {r : Instance} → Over P r (inside g (suc (summedMeasure (F .measure) ks))) → Over P r (inside g (summedMeasure (F .measure) ks))
       down (over-later less) = over-later less
-      down (over-same e s le) = over-same {v = weight (F .measure) ks} e s (omega arith)
+      down (over-same e s le) = over-same {v = summedMeasure (F .measure) ks} e s (omega arith)
 
 -- leaving a body: its record, the one after L, gets its numbers
 record Filled (L M more : List Instance) (s : Instance) : Type 0 where

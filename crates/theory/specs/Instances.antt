@@ -2,7 +2,7 @@
 use Prim.Native.Nat.{ℕ}
 use mathlib.Core.List.{List, [], _∷_, _++_, map}
 use Rattle.language.specs.Syntax.{Ty, Expr, Exprs, Constructor, Function, Node, File}
-use Rattle.language.specs.Sizes.{weight, parameterTypes}
+use Rattle.language.specs.Sizes.{summedMeasure, parameterTypes}
 use Rattle.language.specs.Estimate.{Estimate}
 use Rattle.language.specs.Typing.{Place, inside, Typing, Typings, Branches, AtSplits, Initials, Updates, WellSized}
 use Rattle.language.specs.Typing.{t-bool, t-int, t-var, t-node, t-atlast, t-let, t-if, t-op, t-call, t-ctor, t-case, t-adj, t-fit, ts-nil, ts-cons, t-none, t-skip, t-branch, s-none, s-cons, c-none, c-init, c-last, c-node}
@@ -28,7 +28,7 @@ keysOf L = map keyOf L
 
 -- a derivation of the body of function g at sizes ks
 abbrev pub BodyTyping : File → ℕ → Function → List ℕ → Ty → Estimate → Type 0
-BodyTyping P g F ks τ n = Typing P (inside g (weight (F .measure) ks)) (parameterTypes (F .parameters) ks) ks (F .body) τ n
+BodyTyping P g F ks τ n = Typing P (inside g (summedMeasure (F .measure) ks)) (parameterTypes (F .parameters) ks) ks (F .body) τ n
 
 -- in the order of the calls, with repeats
 module _ {P : File} where

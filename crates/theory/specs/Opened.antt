@@ -8,7 +8,7 @@ use Rattle.language.specs.Parser.{andThen, must, fromOption, byte, index, count
 use Rattle.language.specs.ReadExpr.{bound, fieldBehind, field, plainBehind, plain, declaredBehind, declared, sizeBehind, sizeAt, resultBehind, result, int, exprs, branches, exprBehind, exprAt}
 use Rattle.language.specs.Reader.{typeDef, condition, function, input, node, whole, isEmpty, inOrder, withType, withFunction, withInput, withNode, readKind, readFrame, readFrames, longer, linesOf, digit, pair, pairs, lineBytes, framesOf, isChannel, channelCount, readFile}
 use Rattle.language.specs.PlainTypes.{plainField, plainResult, plainDeclared, samePlain, samePlains, operandType, opType, isPlain, arePlain, isNamed, plainOf, plainsOf, plainBranches, isInitial, areInitial, plainFunction, plainInitial, plainInput, plainNode, plainTypes}
-use Rattle.language.specs.Sizes.{added, taken, typeSize, typeAt, compare, conditionHolds, conditionsHold, sum, weight, sizesOf, parameterTypes, fieldTypes, sizeOfType, ownSizes, sameType, sameTypes, sameSizes}
+use Rattle.language.specs.Sizes.{added, taken, typeSize, typeAt, compare, conditionHolds, conditionsHold, sum, summedMeasure, sizesOf, parameterTypes, fieldTypes, sizeOfType, ownSizes, sameType, sameTypes, sameSizes}
 use Rattle.language.specs.Splits.{firsts, splitsOf, splits}
 use Rattle.language.specs.Typing.{channelsAt, frameAt, falls, baseType}
 use Rattle.language.specs.Checker.{named, atSplits, sized, sizeds, sizedBranches, find, foundOr, enterAt, sizedChannel, sizedInitials, sizedUpdates, sizedFile}
@@ -30,7 +30,7 @@ reading = 0
 
 -- plain types, the size checker and the numbers needed
 unfoldable pub sizing : ℕ
-unfolding plainField plainResult plainDeclared samePlain samePlains operandType opType isPlain arePlain isNamed plainOf plainsOf plainBranches isInitial areInitial plainFunction plainInitial plainInput plainNode plainTypes added taken typeSize typeAt compare conditionHolds conditionsHold sum weight sizesOf parameterTypes fieldTypes sizeOfType ownSizes sameType sameTypes sameSizes firsts splitsOf splits channelsAt frameAt falls baseType named atSplits sized sizeds sizedBranches find foundOr enterAt sizedChannel sizedInitials sizedUpdates sizedFile appendTrees lookTree treeCells treesCells constantFits isConstructor namedAs treeSize ownTreeSum treesWithin fits fieldsFit maxTo otherCells ownCells nextCells cellsTable cellsAt cellsFrom cellsNamed cellsOf channelCells inputCells updatesNumbers numbersNeeded
+unfolding plainField plainResult plainDeclared samePlain samePlains operandType opType isPlain arePlain isNamed plainOf plainsOf plainBranches isInitial areInitial plainFunction plainInitial plainInput plainNode plainTypes added taken typeSize typeAt compare conditionHolds conditionsHold sum summedMeasure sizesOf parameterTypes fieldTypes sizeOfType ownSizes sameType sameTypes sameSizes firsts splitsOf splits channelsAt frameAt falls baseType named atSplits sized sizeds sizedBranches find foundOr enterAt sizedChannel sizedInitials sizedUpdates sizedFile appendTrees lookTree treeCells treesCells constantFits isConstructor namedAs treeSize ownTreeSum treesWithin fits fieldsFit maxTo otherCells ownCells nextCells cellsTable cellsAt cellsFrom cellsNamed cellsOf channelCells inputCells updatesNumbers numbersNeeded
 sizing = 0
 
 -- the state, the line, the evaluator and the calls

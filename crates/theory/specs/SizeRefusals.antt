@@ -10,7 +10,7 @@ use borrow.Author.Tests.{eq-eqb}
 use Rattle.language.specs.Result.{Result, from}
 use Rattle.language.specs.Syntax.{Constructor, Plain, pbool, pint, pnamed, Ty, tnamed, Size, ResultType, Op, owns, Expr, ebool, eint, evar, enow, elast, elet, eif, eop, ecall, econ, ecase, eadj, efit, Exprs, enil, econs, Function, File, constructorsOf}
 use Rattle.language.specs.PlainTypes.{plainResult, plainDeclared, operandType, opType}
-use Rattle.language.specs.Sizes.{weight, sizesOf, parameterTypes, fieldTypes, sizeOfType}
+use Rattle.language.specs.Sizes.{summedMeasure, sizesOf, parameterTypes, fieldTypes, sizeOfType}
 use Rattle.language.specs.Splits.{splits}
 use Rattle.language.specs.Typing.{Place, inside, channelsAt}
 use Rattle.language.specs.Checker.{Instance, Sized, Sizeds, Counted, atSplits, Enter, sized, sizeds, sizedBranches, find, enterAt}
@@ -199,6 +199,6 @@ module _ {P : File} (most : ℕ) (W : WellPlain P) where
   enters-plainly (suc left) = record {
     enters = λ frame g F ks τ L l. foundOr-outcome (find L g ks) L (λ n e. tt)
         (λ new. need-outcome _ _ _ (λ _. sizes-only (omega arith) (omega arith)) (λ _.
-        bind-outcome (plainly (enters-plainly left) (W .bodies g F l) (inside g (weight (F .measure) ks)) (parameterTypes (F .parameters) ks) ks refl (parameters-plain (F .parameters) ks) .runs _)
+        bind-outcome (plainly (enters-plainly left) (W .bodies g F l) (inside g (summedMeasure (F .measure) ks)) (parameterTypes (F .parameters) ks) ks refl (parameters-plain (F .parameters) ks) .runs _)
         (λ q _ x. need-outcome _ _ _ (λ _. sizes-only (omega arith) (omega arith)) (λ _. accepted tt))));
   }

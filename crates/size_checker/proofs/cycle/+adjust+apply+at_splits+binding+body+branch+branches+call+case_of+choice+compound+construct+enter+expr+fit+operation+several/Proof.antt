@@ -16,7 +16,7 @@ use Rattle.heads.specs.declared.Form.{Form}
 use Rattle.heads.specs.declared.Form.the-variants.{Bool as BoolForm, Int, Variable, Now, Last, Let, If, Operator, Call, Construct, Case, Adjust, Fit, Missing}
 use Rattle.sizes.proofs.SizedType.{enum}
 use Rattle.sizes.specs.declared.SizedType.{SizedType}
-use Rattle.size_checker.specs.KindLaws.{NotNamed}
+use Rattle.size_checker.specs.NamedTypes.{NotNamed}
 use Rattle.size_steps.specs.Leaves.{Operands}
 use Rattle.language.specs.Limits.{byteRange}
 use Rattle.size_checker.specs.ExprLaws.{isLeaf, hasParts, expr-deep, expr-bool, expr-int, expr-variable, expr-now, expr-last, expr-compound, now-counted, last-counted, compound-is, compound-none, operands-of}
@@ -118,8 +118,8 @@ use Rattle.size_steps.proofs.leaves.channel_type.Reads as channel-type-reads
 use Rattle.size_steps.proofs.numbers.chosen.Reads as chosen-reads
 use Rattle.size_steps.proofs.places.down.Reads as down-reads
 use Rattle.size_steps.proofs.numbers.fitted.Reads as fitted-reads
-use Rattle.size_steps.proofs.numbers.is_kind.Reads as is-kind-reads
-use Rattle.size_steps.proofs.numbers.kind_word.Reads as kind-word-reads
+use Rattle.size_steps.proofs.numbers.is_type.Reads as is-type-reads
+use Rattle.size_steps.proofs.numbers.type_word.Reads as type-word-reads
 use Rattle.size_steps.proofs.numbers.larger.Reads as larger-reads
 use Rattle.size_steps.proofs.numbers.leaf.Reads as leaf-reads
 use Rattle.size_steps.proofs.leaves.made.Reads as made-reads
@@ -564,7 +564,7 @@ adjust-returns-2 : (t : ℕ) → adjust-lts.Need-returns-2 (
 ) (adjust-at t) adjust.Post
 adjust-returns-2 t c = adj-refused (c .before .before .before .before .before .before .before .before .before .before .before .before .before .before .before .before .before .size-at .ensures) (c .before .before .before .before .before .before .before .before .before .before .before .before .before .before .before .before .before .before .before .frame-line .ensures) (c .before .before .before .before .before .before .before .before .before .before .before .before .before .before .before .s .given .1) (c .before .before .before .before .before .before .before .before .before .before .before .before .before .moved .ensures) (c .before .before .before .before .before .before .before .before .expr .ensures) (c .enum-told2 .given .1)
 
-adjust-enum-known-kind : (t : ℕ) → adjust-lts.Need-enum-known-kind (
+adjust-enum-known-ty : (t : ℕ) → adjust-lts.Need-enum-known-ty (
   frame-line-reads.Asked,
   frame-line-reads.Learnt,
   size-at-reads.Asked,
@@ -576,7 +576,7 @@ adjust-enum-known-kind : (t : ℕ) → adjust-lts.Need-enum-known-kind (
   adjusted-reads.Asked,
   adjusted-reads.Learnt,
 ) (adjust-at t) adjust.Post
-adjust-enum-known-kind t c = (c .match3 .keys1)
+adjust-enum-known-ty t c = (c .match3 .keys1)
 
 adjust-add-t29 : (t : ℕ) → adjust-lts.Need-add-t29 (
   frame-line-reads.Asked,
@@ -716,7 +716,7 @@ adjust-returns-4 : (t : ℕ) → adjust-lts.Need-returns-4 (
   adjusted-reads.Asked,
   adjusted-reads.Learnt,
 ) (adjust-at t) adjust.Post
-adjust-returns-4 t c = adj-lowered (c .before .before .before .before .before .before .before .before .before .before .before .before .before .before .before .before .before .before .before .before .before .before .before .size-at .ensures) (c .before .before .before .before .before .before .before .before .before .before .before .before .before .before .before .before .before .before .before .before .before .before .before .before .before .frame-line .ensures) (c .before .before .before .before .before .before .before .before .before .before .before .before .before .before .before .before .before .before .before .before .before .s .given .1) (c .before .before .before .before .before .before .before .before .before .before .before .before .before .before .before .before .before .before .before .moved .ensures) (c .before .before .before .before .before .before .before .before .before .before .before .before .before .before .expr .ensures) (c .before .before .before .before .before .before .x .given .1) (c .before .before .before .kind .given .1) (c .before .if1 .taken)
+adjust-returns-4 t c = adj-lowered (c .before .before .before .before .before .before .before .before .before .before .before .before .before .before .before .before .before .before .before .before .before .before .before .size-at .ensures) (c .before .before .before .before .before .before .before .before .before .before .before .before .before .before .before .before .before .before .before .before .before .before .before .before .before .frame-line .ensures) (c .before .before .before .before .before .before .before .before .before .before .before .before .before .before .before .before .before .before .before .before .before .s .given .1) (c .before .before .before .before .before .before .before .before .before .before .before .before .before .before .before .before .before .before .before .moved .ensures) (c .before .before .before .before .before .before .before .before .before .before .before .before .before .before .expr .ensures) (c .before .before .before .before .before .before .x .given .1) (c .before .before .before .ty .given .1) (c .before .if1 .taken)
 
 adjust-adjusted-requires : (t : ℕ) → adjust-lts.Need-adjusted-requires (
   frame-line-reads.Asked,
@@ -786,7 +786,7 @@ adjust-returns-5 : (t : ℕ) → adjust-lts.Need-returns-5 (
   adjusted-reads.Asked,
   adjusted-reads.Learnt,
 ) (adjust-at t) adjust.Post
-adjust-returns-5 t c = adj-done (c .before .before .before .before .before .before .before .before .before .before .before .before .before .before .before .before .before .before .before .before .before .before .before .size-at .ensures) (c .before .before .before .before .before .before .before .before .before .before .before .before .before .before .before .before .before .before .before .before .before .before .before .before .before .frame-line .ensures) (c .before .before .before .before .before .before .before .before .before .before .before .before .before .before .before .before .before .before .before .before .before .s .given .1) (c .before .before .before .before .before .before .before .before .before .before .before .before .before .before .before .before .before .before .before .moved .ensures) (c .before .before .before .before .before .before .before .before .before .before .before .before .before .before .expr .ensures) (c .before .before .before .before .before .before .x .given .1) (c .before .before .before .kind .given .1) (c .before .if1 .left) (c .adjusted .ensures)
+adjust-returns-5 t c = adj-done (c .before .before .before .before .before .before .before .before .before .before .before .before .before .before .before .before .before .before .before .before .before .before .before .size-at .ensures) (c .before .before .before .before .before .before .before .before .before .before .before .before .before .before .before .before .before .before .before .before .before .before .before .before .before .frame-line .ensures) (c .before .before .before .before .before .before .before .before .before .before .before .before .before .before .before .before .before .before .before .before .before .s .given .1) (c .before .before .before .before .before .before .before .before .before .before .before .before .before .before .before .before .before .before .before .moved .ensures) (c .before .before .before .before .before .before .before .before .before .before .before .before .before .before .expr .ensures) (c .before .before .before .before .before .before .x .given .1) (c .before .before .before .ty .given .1) (c .before .if1 .left) (c .adjusted .ensures)
 
 apply-slice-aggregate-named-sizes : (t : ℕ) → apply-lts.Need-slice-aggregate-named-sizes (
   named-sizes-reads.Asked,
@@ -1125,11 +1125,11 @@ apply-returns-3 : (t : ℕ) → apply-lts.Need-returns-3 (
 apply-returns-3 t c = apply-done (c .before .before .before .before .before .before .before .before .before .before .before .before .before .before .before .before .before .before .before .before .before .before .before .before .before .before .before .before .args .p) (c .before .before .before .before .before .before .before .before .before .before .before .before .before .before .before .before .before .before .before .before .before .before .before .before .before .before .before .before .args .a) refl (c .before .before .before .before .before .before .before .before .before .before .before .before .before .before .before .before .before .before .before .before .before .before .named-sizes .ensures) (c .before .before .before .before .before .before .before .before .before .before .before .before .before .before .before .before .before .before .before .moved .ensures) (c .before .before .before .before .before .before .before .before .before .before .before .before .before .before .before .before .before .prepare .ensures) (c .before .before .before .before .before .before .before .before .before .before .before .before .before .before .before .y .given .1) (c .before .before .before .before .before .before .before .before .before .enter .ensures) (c .before .before .z .given .1) (c .called .ensures .body) (c .called .ensures .both) (c .called .ensures .all) (c .called .ensures .is)
 
 abbrev at-splits-Inv-loop : at-splits-lts.InvT-loop
-at-splits-Inv-loop text index list₀ hints₀ scope₀ sizes₀ p s k n own at kind all₀ more₀ list hints scope sizes all more =
+at-splits-Inv-loop text index list₀ hints₀ scope₀ sizes₀ p s k n own at ty all₀ more₀ list hints scope sizes all more =
     Walks s k (lent text index) (buffers list₀ scope₀ sizes₀) p more (buffers list scope sizes) all × ((length list ≡ length list₀) × ((length scope ≡ length scope₀) × (length sizes ≡ length sizes₀)))
 
 abbrev at-splits-μ-loop : at-splits-lts.MeasureT-loop
-at-splits-μ-loop text index list₀ hints₀ scope₀ sizes₀ p s k n own at kind all₀ more₀ list hints scope sizes all more =
+at-splits-μ-loop text index list₀ hints₀ scope₀ sizes₀ p s k n own at ty all₀ more₀ list hints scope sizes all more =
     walkLeft more (take own (drop (p .sizes) sizes))
 
 at-splits-fields-requires : (t : ℕ) → at-splits-lts.Need-fields-requires (
@@ -1147,8 +1147,8 @@ at-splits-fields-requires : (t : ℕ) → at-splits-lts.Need-fields-requires (
   widen-reads.Learnt,
   expr-below t,
   expr.Post,
-  is-kind-reads.Asked,
-  is-kind-reads.Learnt,
+  is-type-reads.Asked,
+  is-type-reads.Learnt,
   larger-reads.Asked,
   larger-reads.Learnt,
   next-split-reads.Asked,
@@ -1173,8 +1173,8 @@ at-splits-own-fields-requires : (t : ℕ) → at-splits-lts.Need-own-fields-requ
   widen-reads.Learnt,
   expr-below t,
   expr.Post,
-  is-kind-reads.Asked,
-  is-kind-reads.Learnt,
+  is-type-reads.Asked,
+  is-type-reads.Learnt,
   larger-reads.Asked,
   larger-reads.Learnt,
   next-split-reads.Asked,
@@ -1199,8 +1199,8 @@ at-splits-nothing-yet-requires : (t : ℕ) → at-splits-lts.Need-nothing-yet-re
   widen-reads.Learnt,
   expr-below t,
   expr.Post,
-  is-kind-reads.Asked,
-  is-kind-reads.Learnt,
+  is-type-reads.Asked,
+  is-type-reads.Learnt,
   larger-reads.Asked,
   larger-reads.Learnt,
   next-split-reads.Asked,
@@ -1225,8 +1225,8 @@ at-splits-loop-holds : (t : ℕ) → at-splits-lts.Need-loop-holds (
   widen-reads.Learnt,
   expr-below t,
   expr.Post,
-  is-kind-reads.Asked,
-  is-kind-reads.Learnt,
+  is-type-reads.Asked,
+  is-type-reads.Learnt,
   larger-reads.Asked,
   larger-reads.Learnt,
   next-split-reads.Asked,
@@ -1251,8 +1251,8 @@ at-splits-bind-fields-requires : (t : ℕ) → at-splits-lts.Need-bind-fields-re
   widen-reads.Learnt,
   expr-below t,
   expr.Post,
-  is-kind-reads.Asked,
-  is-kind-reads.Learnt,
+  is-type-reads.Asked,
+  is-type-reads.Learnt,
   larger-reads.Asked,
   larger-reads.Learnt,
   next-split-reads.Asked,
@@ -1277,8 +1277,8 @@ at-splits-moved-requires : (t : ℕ) → at-splits-lts.Need-moved-requires (
   widen-reads.Learnt,
   expr-below t,
   expr.Post,
-  is-kind-reads.Asked,
-  is-kind-reads.Learnt,
+  is-type-reads.Asked,
+  is-type-reads.Learnt,
   larger-reads.Asked,
   larger-reads.Learnt,
   next-split-reads.Asked,
@@ -1303,8 +1303,8 @@ at-splits-widen-requires : (t : ℕ) → at-splits-lts.Need-widen-requires (
   widen-reads.Learnt,
   expr-below t,
   expr.Post,
-  is-kind-reads.Asked,
-  is-kind-reads.Learnt,
+  is-type-reads.Asked,
+  is-type-reads.Learnt,
   larger-reads.Asked,
   larger-reads.Learnt,
   next-split-reads.Asked,
@@ -1329,8 +1329,8 @@ at-splits-expr-requires : (t : ℕ) → at-splits-lts.Need-expr-requires (
   widen-reads.Learnt,
   expr-below t,
   expr.Post,
-  is-kind-reads.Asked,
-  is-kind-reads.Learnt,
+  is-type-reads.Asked,
+  is-type-reads.Learnt,
   larger-reads.Asked,
   larger-reads.Learnt,
   next-split-reads.Asked,
@@ -1355,8 +1355,8 @@ at-splits-enum-known-x : (t : ℕ) → at-splits-lts.Need-enum-known-x (
   widen-reads.Learnt,
   expr-below t,
   expr.Post,
-  is-kind-reads.Asked,
-  is-kind-reads.Learnt,
+  is-type-reads.Asked,
+  is-type-reads.Learnt,
   larger-reads.Asked,
   larger-reads.Learnt,
   next-split-reads.Asked,
@@ -1381,8 +1381,8 @@ at-splits-enum-told : (t : ℕ) → at-splits-lts.Need-enum-told (
   widen-reads.Learnt,
   expr-below t,
   expr.Post,
-  is-kind-reads.Asked,
-  is-kind-reads.Learnt,
+  is-type-reads.Asked,
+  is-type-reads.Learnt,
   larger-reads.Asked,
   larger-reads.Learnt,
   next-split-reads.Asked,
@@ -1407,8 +1407,8 @@ at-splits-same-length : (t : ℕ) → at-splits-lts.Need-same-length (
   widen-reads.Learnt,
   expr-below t,
   expr.Post,
-  is-kind-reads.Asked,
-  is-kind-reads.Learnt,
+  is-type-reads.Asked,
+  is-type-reads.Learnt,
   larger-reads.Asked,
   larger-reads.Learnt,
   next-split-reads.Asked,
@@ -1433,8 +1433,8 @@ at-splits-same-length-2 : (t : ℕ) → at-splits-lts.Need-same-length-2 (
   widen-reads.Learnt,
   expr-below t,
   expr.Post,
-  is-kind-reads.Asked,
-  is-kind-reads.Learnt,
+  is-type-reads.Asked,
+  is-type-reads.Learnt,
   larger-reads.Asked,
   larger-reads.Learnt,
   next-split-reads.Asked,
@@ -1459,8 +1459,8 @@ at-splits-same-length-3 : (t : ℕ) → at-splits-lts.Need-same-length-3 (
   widen-reads.Learnt,
   expr-below t,
   expr.Post,
-  is-kind-reads.Asked,
-  is-kind-reads.Learnt,
+  is-type-reads.Asked,
+  is-type-reads.Learnt,
   larger-reads.Asked,
   larger-reads.Learnt,
   next-split-reads.Asked,
@@ -1485,8 +1485,8 @@ at-splits-returns : (t : ℕ) → at-splits-lts.Need-returns (
   widen-reads.Learnt,
   expr-below t,
   expr.Post,
-  is-kind-reads.Asked,
-  is-kind-reads.Learnt,
+  is-type-reads.Asked,
+  is-type-reads.Learnt,
   larger-reads.Asked,
   larger-reads.Learnt,
   next-split-reads.Asked,
@@ -1496,7 +1496,7 @@ at-splits-returns : (t : ℕ) → at-splits-lts.Need-returns (
 ) (at-splits-at t) at-splits.Post at-splits-Inv-loop at-splits-μ-loop
 at-splits-returns t c = splits-part (walks-are (c .before .before .before .before .before .before .before .before .before .before .before .before .before .before .before .before .before .before .before .before .loop-test .taken) (c .before .before .before .before .before .before .before .before .before .before .before .before .before .before .before .before .before .before .before .before .before .loop .inv .0)) (c .before .before .before .before .before .before .before .before .before .before .before .before .before .before .before .before .before .before .before .before .before .before .before .before .before .fields .ensures) (c .before .before .before .before .before .before .before .before .before .before .before .before .before .before .before .before .before .before .before .before .before .before .before .before .own-fields .ensures) (scope-long (c .before .before .before .before .before .before .before .before .before .before .before .before .before .before .before .before .before .before .before .before .before .before .before .before .before .before .before .before .before .before .pre .1 .0) ((c .before .before .before .before .before .before .before .before .before .before .before .before .before .before .before .before .before .before .before .before .before .loop .inv .1 .1 .0))) (sizes-long (c .before .before .before .before .before .before .before .before .before .before .before .before .before .before .before .before .before .before .before .before .before .before .before .before .before .before .before .before .before .before .pre .1 .0) ((c .before .before .before .before .before .before .before .before .before .before .before .before .before .before .before .before .before .before .before .before .before .loop .inv .1 .1 .1))) (c .before .before .before .before .before .before .before .before .before .before .before .before .before .before .before .before .before .bind-fields .ensures) (c .before .before .before .before .before .before .before .before .before .before .before .before .before .before .moved .ensures) (c .before .before .before .before .before .before .before .before .before .before .before .before .before .widen .ensures) (c .before .before .before .before .before .before .before .before .expr .ensures) (c .enum-told .given .1)
 
-at-splits-is-kind-requires : (t : ℕ) → at-splits-lts.Need-is-kind-requires (
+at-splits-is-type-requires : (t : ℕ) → at-splits-lts.Need-is-type-requires (
   fields-reads.Asked,
   fields-reads.Learnt,
   own-fields-reads.Asked,
@@ -1511,8 +1511,8 @@ at-splits-is-kind-requires : (t : ℕ) → at-splits-lts.Need-is-kind-requires (
   widen-reads.Learnt,
   expr-below t,
   expr.Post,
-  is-kind-reads.Asked,
-  is-kind-reads.Learnt,
+  is-type-reads.Asked,
+  is-type-reads.Learnt,
   larger-reads.Asked,
   larger-reads.Learnt,
   next-split-reads.Asked,
@@ -1520,7 +1520,7 @@ at-splits-is-kind-requires : (t : ℕ) → at-splits-lts.Need-is-kind-requires (
   slotted-reads.Asked,
   slotted-reads.Learnt,
 ) (at-splits-at t) at-splits.Post at-splits-Inv-loop at-splits-μ-loop
-at-splits-is-kind-requires t c κs = tt
+at-splits-is-type-requires t c κs = tt
 
 at-splits-add-t34 : (t : ℕ) → at-splits-lts.Need-add-t34 (
   fields-reads.Asked,
@@ -1537,8 +1537,8 @@ at-splits-add-t34 : (t : ℕ) → at-splits-lts.Need-add-t34 (
   widen-reads.Learnt,
   expr-below t,
   expr.Post,
-  is-kind-reads.Asked,
-  is-kind-reads.Learnt,
+  is-type-reads.Asked,
+  is-type-reads.Learnt,
   larger-reads.Asked,
   larger-reads.Learnt,
   next-split-reads.Asked,
@@ -1563,8 +1563,8 @@ at-splits-same-length-4 : (t : ℕ) → at-splits-lts.Need-same-length-4 (
   widen-reads.Learnt,
   expr-below t,
   expr.Post,
-  is-kind-reads.Asked,
-  is-kind-reads.Learnt,
+  is-type-reads.Asked,
+  is-type-reads.Learnt,
   larger-reads.Asked,
   larger-reads.Learnt,
   next-split-reads.Asked,
@@ -1589,8 +1589,8 @@ at-splits-same-length-5 : (t : ℕ) → at-splits-lts.Need-same-length-5 (
   widen-reads.Learnt,
   expr-below t,
   expr.Post,
-  is-kind-reads.Asked,
-  is-kind-reads.Learnt,
+  is-type-reads.Asked,
+  is-type-reads.Learnt,
   larger-reads.Asked,
   larger-reads.Learnt,
   next-split-reads.Asked,
@@ -1615,8 +1615,8 @@ at-splits-same-length-6 : (t : ℕ) → at-splits-lts.Need-same-length-6 (
   widen-reads.Learnt,
   expr-below t,
   expr.Post,
-  is-kind-reads.Asked,
-  is-kind-reads.Learnt,
+  is-type-reads.Asked,
+  is-type-reads.Learnt,
   larger-reads.Asked,
   larger-reads.Learnt,
   next-split-reads.Asked,
@@ -1641,8 +1641,8 @@ at-splits-returns-2 : (t : ℕ) → at-splits-lts.Need-returns-2 (
   widen-reads.Learnt,
   expr-below t,
   expr.Post,
-  is-kind-reads.Asked,
-  is-kind-reads.Learnt,
+  is-type-reads.Asked,
+  is-type-reads.Learnt,
   larger-reads.Asked,
   larger-reads.Learnt,
   next-split-reads.Asked,
@@ -1650,7 +1650,7 @@ at-splits-returns-2 : (t : ℕ) → at-splits-lts.Need-returns-2 (
   slotted-reads.Asked,
   slotted-reads.Learnt,
 ) (at-splits-at t) at-splits.Post at-splits-Inv-loop at-splits-μ-loop
-at-splits-returns-2 t c = splits-differ (walks-are (c .before .before .before .before .before .before .before .before .before .before .before .before .before .before .before .before .before .before .before .before .before .before .before .before .loop-test .taken) (c .before .before .before .before .before .before .before .before .before .before .before .before .before .before .before .before .before .before .before .before .before .before .before .before .before .loop .inv .0)) (c .before .before .before .before .before .before .before .before .before .before .before .before .before .before .before .before .before .before .before .before .before .before .before .before .before .before .before .before .before .fields .ensures) (c .before .before .before .before .before .before .before .before .before .before .before .before .before .before .before .before .before .before .before .before .before .before .before .before .before .before .before .before .own-fields .ensures) (scope-long (c .before .before .before .before .before .before .before .before .before .before .before .before .before .before .before .before .before .before .before .before .before .before .before .before .before .before .before .before .before .before .before .before .before .before .pre .1 .0) ((c .before .before .before .before .before .before .before .before .before .before .before .before .before .before .before .before .before .before .before .before .before .before .before .before .before .loop .inv .1 .1 .0))) (sizes-long (c .before .before .before .before .before .before .before .before .before .before .before .before .before .before .before .before .before .before .before .before .before .before .before .before .before .before .before .before .before .before .before .before .before .before .pre .1 .0) ((c .before .before .before .before .before .before .before .before .before .before .before .before .before .before .before .before .before .before .before .before .before .before .before .before .before .loop .inv .1 .1 .1))) (c .before .before .before .before .before .before .before .before .before .before .before .before .before .before .before .before .before .before .before .before .before .bind-fields .ensures) (c .before .before .before .before .before .before .before .before .before .before .before .before .before .before .before .before .before .before .moved .ensures) (c .before .before .before .before .before .before .before .before .before .before .before .before .before .before .before .before .before .widen .ensures) (c .before .before .before .before .before .before .before .before .before .before .before .before .expr .ensures) (c .before .before .before .before .x .given .1) (c .before .before .is-kind .ensures) (not-true _ (c .before .if1 .taken))
+at-splits-returns-2 t c = splits-differ (walks-are (c .before .before .before .before .before .before .before .before .before .before .before .before .before .before .before .before .before .before .before .before .before .before .before .before .loop-test .taken) (c .before .before .before .before .before .before .before .before .before .before .before .before .before .before .before .before .before .before .before .before .before .before .before .before .before .loop .inv .0)) (c .before .before .before .before .before .before .before .before .before .before .before .before .before .before .before .before .before .before .before .before .before .before .before .before .before .before .before .before .before .fields .ensures) (c .before .before .before .before .before .before .before .before .before .before .before .before .before .before .before .before .before .before .before .before .before .before .before .before .before .before .before .before .own-fields .ensures) (scope-long (c .before .before .before .before .before .before .before .before .before .before .before .before .before .before .before .before .before .before .before .before .before .before .before .before .before .before .before .before .before .before .before .before .before .before .pre .1 .0) ((c .before .before .before .before .before .before .before .before .before .before .before .before .before .before .before .before .before .before .before .before .before .before .before .before .before .loop .inv .1 .1 .0))) (sizes-long (c .before .before .before .before .before .before .before .before .before .before .before .before .before .before .before .before .before .before .before .before .before .before .before .before .before .before .before .before .before .before .before .before .before .before .pre .1 .0) ((c .before .before .before .before .before .before .before .before .before .before .before .before .before .before .before .before .before .before .before .before .before .before .before .before .before .loop .inv .1 .1 .1))) (c .before .before .before .before .before .before .before .before .before .before .before .before .before .before .before .before .before .before .before .before .before .bind-fields .ensures) (c .before .before .before .before .before .before .before .before .before .before .before .before .before .before .before .before .before .before .moved .ensures) (c .before .before .before .before .before .before .before .before .before .before .before .before .before .before .before .before .before .widen .ensures) (c .before .before .before .before .before .before .before .before .before .before .before .before .expr .ensures) (c .before .before .before .before .x .given .1) (c .before .before .is-type .ensures) (not-true _ (c .before .if1 .taken))
 
 at-splits-larger-requires : (t : ℕ) → at-splits-lts.Need-larger-requires (
   fields-reads.Asked,
@@ -1667,8 +1667,8 @@ at-splits-larger-requires : (t : ℕ) → at-splits-lts.Need-larger-requires (
   widen-reads.Learnt,
   expr-below t,
   expr.Post,
-  is-kind-reads.Asked,
-  is-kind-reads.Learnt,
+  is-type-reads.Asked,
+  is-type-reads.Learnt,
   larger-reads.Asked,
   larger-reads.Learnt,
   next-split-reads.Asked,
@@ -1693,8 +1693,8 @@ at-splits-cast-next-split : (t : ℕ) → at-splits-lts.Need-cast-next-split (
   widen-reads.Learnt,
   expr-below t,
   expr.Post,
-  is-kind-reads.Asked,
-  is-kind-reads.Learnt,
+  is-type-reads.Asked,
+  is-type-reads.Learnt,
   larger-reads.Asked,
   larger-reads.Learnt,
   next-split-reads.Asked,
@@ -1719,8 +1719,8 @@ at-splits-next-split-requires : (t : ℕ) → at-splits-lts.Need-next-split-requ
   widen-reads.Learnt,
   expr-below t,
   expr.Post,
-  is-kind-reads.Asked,
-  is-kind-reads.Learnt,
+  is-type-reads.Asked,
+  is-type-reads.Learnt,
   larger-reads.Asked,
   larger-reads.Learnt,
   next-split-reads.Asked,
@@ -1745,8 +1745,8 @@ at-splits-loop-less : (t : ℕ) → at-splits-lts.Need-loop-less (
   widen-reads.Learnt,
   expr-below t,
   expr.Post,
-  is-kind-reads.Asked,
-  is-kind-reads.Learnt,
+  is-type-reads.Asked,
+  is-type-reads.Learnt,
   larger-reads.Asked,
   larger-reads.Learnt,
   next-split-reads.Asked,
@@ -1771,8 +1771,8 @@ at-splits-loop-again : (t : ℕ) → at-splits-lts.Need-loop-again (
   widen-reads.Learnt,
   expr-below t,
   expr.Post,
-  is-kind-reads.Asked,
-  is-kind-reads.Learnt,
+  is-type-reads.Asked,
+  is-type-reads.Learnt,
   larger-reads.Asked,
   larger-reads.Learnt,
   next-split-reads.Asked,
@@ -1780,7 +1780,7 @@ at-splits-loop-again : (t : ℕ) → at-splits-lts.Need-loop-again (
   slotted-reads.Asked,
   slotted-reads.Learnt,
 ) (at-splits-at t) at-splits.Post at-splits-Inv-loop at-splits-μ-loop
-at-splits-loop-again t c = (splits-turn (walks-are (c .before .before .before .before .before .before .before .before .before .before .before .before .before .before .before .before .before .before .before .before .before .before .before .before .before .before .before .before .before .loop-test .taken) (c .before .before .before .before .before .before .before .before .before .before .before .before .before .before .before .before .before .before .before .before .before .before .before .before .before .before .before .before .before .before .loop .inv .0)) (c .before .before .before .before .before .before .before .before .before .before .before .before .before .before .before .before .before .before .before .before .before .before .before .before .before .before .before .before .before .before .before .before .before .before .fields .ensures) (c .before .before .before .before .before .before .before .before .before .before .before .before .before .before .before .before .before .before .before .before .before .before .before .before .before .before .before .before .before .before .before .before .before .own-fields .ensures) (scope-long (c .before .before .before .before .before .before .before .before .before .before .before .before .before .before .before .before .before .before .before .before .before .before .before .before .before .before .before .before .before .before .before .before .before .before .before .before .before .before .before .pre .1 .0) ((c .before .before .before .before .before .before .before .before .before .before .before .before .before .before .before .before .before .before .before .before .before .before .before .before .before .before .before .before .before .before .loop .inv .1 .1 .0))) (sizes-long (c .before .before .before .before .before .before .before .before .before .before .before .before .before .before .before .before .before .before .before .before .before .before .before .before .before .before .before .before .before .before .before .before .before .before .before .before .before .before .before .pre .1 .0) ((c .before .before .before .before .before .before .before .before .before .before .before .before .before .before .before .before .before .before .before .before .before .before .before .before .before .before .before .before .before .before .loop .inv .1 .1 .1))) (c .before .before .before .before .before .before .before .before .before .before .before .before .before .before .before .before .before .before .before .before .before .before .before .before .before .before .bind-fields .ensures) (c .before .before .before .before .before .before .before .before .before .before .before .before .before .before .before .before .before .before .before .before .before .before .before .moved .ensures) (c .before .before .before .before .before .before .before .before .before .before .before .before .before .before .before .before .before .before .before .before .before .before .widen .ensures) (c .before .before .before .before .before .before .before .before .before .before .before .before .before .before .before .before .before .expr .ensures) (c .before .before .before .before .before .before .before .before .before .x .given .1) (c .before .before .before .before .before .before .before .is-kind .ensures) (not-false _ (c .before .before .before .before .before .before .if1 .left)) (sizes-long (c .before .before .before .before .before .before .before .before .before .before .before .before .before .before .before .before .before .before .before .before .before .before .before .before .before .before .before .before .before .before .before .before .before .before .before .before .before .before .before .pre .1 .0) ((c .before .before .before .before .before .before .before .before .before .before .before .before .before .before .before .before .before .expr .kept .1 .1 .1 .1 .1 .0) ∙ (c .before .before .before .before .before .before .before .before .before .before .before .before .before .before .before .before .before .before .before .before .before .before .before .before .before .before .before .before .before .before .loop .inv .1 .1 .1))) (c .before .before .before .before .before .larger .ensures .both) (c .before .before .before .before .before .larger .ensures .is) (c .before .before .next-split .ensures), (((c .before .before .before .before .before .before .before .before .before .before .before .before .before .before .before .before .before .expr .kept .1 .1 .0) ∙ (c .before .before .before .before .before .before .before .before .before .before .before .before .before .before .before .before .before .before .before .before .before .before .before .before .before .before .before .before .before .before .loop .inv .1 .0)), (((c .before .before .before .before .before .before .before .before .before .before .before .before .before .before .before .before .before .expr .kept .1 .1 .1 .1 .0) ∙ (c .before .before .before .before .before .before .before .before .before .before .before .before .before .before .before .before .before .before .before .before .before .before .before .before .before .before .bind-fields .kept .1 .0) ∙ (c .before .before .before .before .before .before .before .before .before .before .before .before .before .before .before .before .before .before .before .before .before .before .before .before .before .before .before .before .before .before .loop .inv .1 .1 .0)), (c .before .before .next-split .kept .0) ∙ ((c .before .before .before .before .before .before .before .before .before .before .before .before .before .before .before .before .before .expr .kept .1 .1 .1 .1 .1 .0) ∙ (c .before .before .before .before .before .before .before .before .before .before .before .before .before .before .before .before .before .before .before .before .before .before .before .before .before .before .before .before .before .before .loop .inv .1 .1 .1)))))
+at-splits-loop-again t c = (splits-turn (walks-are (c .before .before .before .before .before .before .before .before .before .before .before .before .before .before .before .before .before .before .before .before .before .before .before .before .before .before .before .before .before .loop-test .taken) (c .before .before .before .before .before .before .before .before .before .before .before .before .before .before .before .before .before .before .before .before .before .before .before .before .before .before .before .before .before .before .loop .inv .0)) (c .before .before .before .before .before .before .before .before .before .before .before .before .before .before .before .before .before .before .before .before .before .before .before .before .before .before .before .before .before .before .before .before .before .before .fields .ensures) (c .before .before .before .before .before .before .before .before .before .before .before .before .before .before .before .before .before .before .before .before .before .before .before .before .before .before .before .before .before .before .before .before .before .own-fields .ensures) (scope-long (c .before .before .before .before .before .before .before .before .before .before .before .before .before .before .before .before .before .before .before .before .before .before .before .before .before .before .before .before .before .before .before .before .before .before .before .before .before .before .before .pre .1 .0) ((c .before .before .before .before .before .before .before .before .before .before .before .before .before .before .before .before .before .before .before .before .before .before .before .before .before .before .before .before .before .before .loop .inv .1 .1 .0))) (sizes-long (c .before .before .before .before .before .before .before .before .before .before .before .before .before .before .before .before .before .before .before .before .before .before .before .before .before .before .before .before .before .before .before .before .before .before .before .before .before .before .before .pre .1 .0) ((c .before .before .before .before .before .before .before .before .before .before .before .before .before .before .before .before .before .before .before .before .before .before .before .before .before .before .before .before .before .before .loop .inv .1 .1 .1))) (c .before .before .before .before .before .before .before .before .before .before .before .before .before .before .before .before .before .before .before .before .before .before .before .before .before .before .bind-fields .ensures) (c .before .before .before .before .before .before .before .before .before .before .before .before .before .before .before .before .before .before .before .before .before .before .before .moved .ensures) (c .before .before .before .before .before .before .before .before .before .before .before .before .before .before .before .before .before .before .before .before .before .before .widen .ensures) (c .before .before .before .before .before .before .before .before .before .before .before .before .before .before .before .before .before .expr .ensures) (c .before .before .before .before .before .before .before .before .before .x .given .1) (c .before .before .before .before .before .before .before .is-type .ensures) (not-false _ (c .before .before .before .before .before .before .if1 .left)) (sizes-long (c .before .before .before .before .before .before .before .before .before .before .before .before .before .before .before .before .before .before .before .before .before .before .before .before .before .before .before .before .before .before .before .before .before .before .before .before .before .before .before .pre .1 .0) ((c .before .before .before .before .before .before .before .before .before .before .before .before .before .before .before .before .before .expr .kept .1 .1 .1 .1 .1 .0) ∙ (c .before .before .before .before .before .before .before .before .before .before .before .before .before .before .before .before .before .before .before .before .before .before .before .before .before .before .before .before .before .before .loop .inv .1 .1 .1))) (c .before .before .before .before .before .larger .ensures .both) (c .before .before .before .before .before .larger .ensures .is) (c .before .before .next-split .ensures), (((c .before .before .before .before .before .before .before .before .before .before .before .before .before .before .before .before .before .expr .kept .1 .1 .0) ∙ (c .before .before .before .before .before .before .before .before .before .before .before .before .before .before .before .before .before .before .before .before .before .before .before .before .before .before .before .before .before .before .loop .inv .1 .0)), (((c .before .before .before .before .before .before .before .before .before .before .before .before .before .before .before .before .before .expr .kept .1 .1 .1 .1 .0) ∙ (c .before .before .before .before .before .before .before .before .before .before .before .before .before .before .before .before .before .before .before .before .before .before .before .before .before .before .bind-fields .kept .1 .0) ∙ (c .before .before .before .before .before .before .before .before .before .before .before .before .before .before .before .before .before .before .before .before .before .before .before .before .before .before .before .before .before .before .loop .inv .1 .1 .0)), (c .before .before .next-split .kept .0) ∙ ((c .before .before .before .before .before .before .before .before .before .before .before .before .before .before .before .before .before .expr .kept .1 .1 .1 .1 .1 .0) ∙ (c .before .before .before .before .before .before .before .before .before .before .before .before .before .before .before .before .before .before .before .before .before .before .before .before .before .before .before .before .before .before .loop .inv .1 .1 .1)))))
 
 at-splits-slotted-requires : (t : ℕ) → at-splits-lts.Need-slotted-requires (
   fields-reads.Asked,
@@ -1797,8 +1797,8 @@ at-splits-slotted-requires : (t : ℕ) → at-splits-lts.Need-slotted-requires (
   widen-reads.Learnt,
   expr-below t,
   expr.Post,
-  is-kind-reads.Asked,
-  is-kind-reads.Learnt,
+  is-type-reads.Asked,
+  is-type-reads.Learnt,
   larger-reads.Asked,
   larger-reads.Learnt,
   next-split-reads.Asked,
@@ -1823,8 +1823,8 @@ at-splits-same-length-7 : (t : ℕ) → at-splits-lts.Need-same-length-7 (
   widen-reads.Learnt,
   expr-below t,
   expr.Post,
-  is-kind-reads.Asked,
-  is-kind-reads.Learnt,
+  is-type-reads.Asked,
+  is-type-reads.Learnt,
   larger-reads.Asked,
   larger-reads.Learnt,
   next-split-reads.Asked,
@@ -1849,8 +1849,8 @@ at-splits-same-length-8 : (t : ℕ) → at-splits-lts.Need-same-length-8 (
   widen-reads.Learnt,
   expr-below t,
   expr.Post,
-  is-kind-reads.Asked,
-  is-kind-reads.Learnt,
+  is-type-reads.Asked,
+  is-type-reads.Learnt,
   larger-reads.Asked,
   larger-reads.Learnt,
   next-split-reads.Asked,
@@ -1875,8 +1875,8 @@ at-splits-same-length-9 : (t : ℕ) → at-splits-lts.Need-same-length-9 (
   widen-reads.Learnt,
   expr-below t,
   expr.Post,
-  is-kind-reads.Asked,
-  is-kind-reads.Learnt,
+  is-type-reads.Asked,
+  is-type-reads.Learnt,
   larger-reads.Asked,
   larger-reads.Learnt,
   next-split-reads.Asked,
@@ -1901,8 +1901,8 @@ at-splits-returns-3 : (t : ℕ) → at-splits-lts.Need-returns-3 (
   widen-reads.Learnt,
   expr-below t,
   expr.Post,
-  is-kind-reads.Asked,
-  is-kind-reads.Learnt,
+  is-type-reads.Asked,
+  is-type-reads.Learnt,
   larger-reads.Asked,
   larger-reads.Learnt,
   next-split-reads.Asked,
@@ -1915,8 +1915,8 @@ at-splits-returns-3 t c = splits-done (walks-are (c .before .loop-test .left) (c
 binding-expr-requires : (t : ℕ) → binding-lts.Need-expr-requires (
   expr-below t,
   expr.Post,
-  kind-word-reads.Asked,
-  kind-word-reads.Learnt,
+  type-word-reads.Asked,
+  type-word-reads.Learnt,
   put-reads.Asked,
   put-reads.Learnt,
   behind-reads.Asked,
@@ -1931,8 +1931,8 @@ binding-expr-requires t c κs = (load-same _ 900 (c .before .before .before .bef
 binding-enum-known-x : (t : ℕ) → binding-lts.Need-enum-known-x (
   expr-below t,
   expr.Post,
-  kind-word-reads.Asked,
-  kind-word-reads.Learnt,
+  type-word-reads.Asked,
+  type-word-reads.Learnt,
   put-reads.Asked,
   put-reads.Learnt,
   behind-reads.Asked,
@@ -1947,8 +1947,8 @@ binding-enum-known-x t c = (c .match .keys1)
 binding-enum-told : (t : ℕ) → binding-lts.Need-enum-told (
   expr-below t,
   expr.Post,
-  kind-word-reads.Asked,
-  kind-word-reads.Learnt,
+  type-word-reads.Asked,
+  type-word-reads.Learnt,
   put-reads.Asked,
   put-reads.Learnt,
   behind-reads.Asked,
@@ -1963,8 +1963,8 @@ binding-enum-told t c = (c .match .keys2)
 binding-same-length : (t : ℕ) → binding-lts.Need-same-length (
   expr-below t,
   expr.Post,
-  kind-word-reads.Asked,
-  kind-word-reads.Learnt,
+  type-word-reads.Asked,
+  type-word-reads.Learnt,
   put-reads.Asked,
   put-reads.Learnt,
   behind-reads.Asked,
@@ -1979,8 +1979,8 @@ binding-same-length t c = (c .before .before .before .before .before .before .be
 binding-same-length-2 : (t : ℕ) → binding-lts.Need-same-length-2 (
   expr-below t,
   expr.Post,
-  kind-word-reads.Asked,
-  kind-word-reads.Learnt,
+  type-word-reads.Asked,
+  type-word-reads.Learnt,
   put-reads.Asked,
   put-reads.Learnt,
   behind-reads.Asked,
@@ -1995,8 +1995,8 @@ binding-same-length-2 t c = (c .before .before .before .before .before .before .
 binding-same-length-3 : (t : ℕ) → binding-lts.Need-same-length-3 (
   expr-below t,
   expr.Post,
-  kind-word-reads.Asked,
-  kind-word-reads.Learnt,
+  type-word-reads.Asked,
+  type-word-reads.Learnt,
   put-reads.Asked,
   put-reads.Learnt,
   behind-reads.Asked,
@@ -2011,8 +2011,8 @@ binding-same-length-3 t c = (c .before .before .before .before .before .before .
 binding-returns : (t : ℕ) → binding-lts.Need-returns (
   expr-below t,
   expr.Post,
-  kind-word-reads.Asked,
-  kind-word-reads.Learnt,
+  type-word-reads.Asked,
+  type-word-reads.Learnt,
   put-reads.Asked,
   put-reads.Learnt,
   behind-reads.Asked,
@@ -2027,8 +2027,8 @@ binding-returns t c = let-first (c .before .before .before .before .before .befo
 binding-cast-put : (t : ℕ) → binding-lts.Need-cast-put (
   expr-below t,
   expr.Post,
-  kind-word-reads.Asked,
-  kind-word-reads.Learnt,
+  type-word-reads.Asked,
+  type-word-reads.Learnt,
   put-reads.Asked,
   put-reads.Learnt,
   behind-reads.Asked,
@@ -2040,11 +2040,11 @@ binding-cast-put : (t : ℕ) → binding-lts.Need-cast-put (
 ) (binding-at t) binding.Post
 binding-cast-put t c = omega arith
 
-binding-kind-word-requires : (t : ℕ) → binding-lts.Need-kind-word-requires (
+binding-type-word-requires : (t : ℕ) → binding-lts.Need-type-word-requires (
   expr-below t,
   expr.Post,
-  kind-word-reads.Asked,
-  kind-word-reads.Learnt,
+  type-word-reads.Asked,
+  type-word-reads.Learnt,
   put-reads.Asked,
   put-reads.Learnt,
   behind-reads.Asked,
@@ -2054,13 +2054,13 @@ binding-kind-word-requires : (t : ℕ) → binding-lts.Need-kind-word-requires (
   with-let-reads.Asked,
   with-let-reads.Learnt,
 ) (binding-at t) binding.Post
-binding-kind-word-requires t c κs = tt
+binding-type-word-requires t c κs = tt
 
 binding-put-requires : (t : ℕ) → binding-lts.Need-put-requires (
   expr-below t,
   expr.Post,
-  kind-word-reads.Asked,
-  kind-word-reads.Learnt,
+  type-word-reads.Asked,
+  type-word-reads.Learnt,
   put-reads.Asked,
   put-reads.Learnt,
   behind-reads.Asked,
@@ -2075,8 +2075,8 @@ binding-put-requires t c κs = tt
 binding-behind-requires : (t : ℕ) → binding-lts.Need-behind-requires (
   expr-below t,
   expr.Post,
-  kind-word-reads.Asked,
-  kind-word-reads.Learnt,
+  type-word-reads.Asked,
+  type-word-reads.Learnt,
   put-reads.Asked,
   put-reads.Learnt,
   behind-reads.Asked,
@@ -2091,8 +2091,8 @@ binding-behind-requires t c κs = tt
 binding-widen-requires : (t : ℕ) → binding-lts.Need-widen-requires (
   expr-below t,
   expr.Post,
-  kind-word-reads.Asked,
-  kind-word-reads.Learnt,
+  type-word-reads.Asked,
+  type-word-reads.Learnt,
   put-reads.Asked,
   put-reads.Learnt,
   behind-reads.Asked,
@@ -2107,8 +2107,8 @@ binding-widen-requires t c κs = room-widens (c .before .before .before .before 
 binding-expr-requires-2 : (t : ℕ) → binding-lts.Need-expr-requires-2 (
   expr-below t,
   expr.Post,
-  kind-word-reads.Asked,
-  kind-word-reads.Learnt,
+  type-word-reads.Asked,
+  type-word-reads.Learnt,
   put-reads.Asked,
   put-reads.Learnt,
   behind-reads.Asked,
@@ -2123,8 +2123,8 @@ binding-expr-requires-2 t c κs = (load-wide _ 900 (c .before .before .before .b
 binding-enum-known-y : (t : ℕ) → binding-lts.Need-enum-known-y (
   expr-below t,
   expr.Post,
-  kind-word-reads.Asked,
-  kind-word-reads.Learnt,
+  type-word-reads.Asked,
+  type-word-reads.Learnt,
   put-reads.Asked,
   put-reads.Learnt,
   behind-reads.Asked,
@@ -2139,8 +2139,8 @@ binding-enum-known-y t c = (c .match2 .keys1)
 binding-enum-told-2 : (t : ℕ) → binding-lts.Need-enum-told-2 (
   expr-below t,
   expr.Post,
-  kind-word-reads.Asked,
-  kind-word-reads.Learnt,
+  type-word-reads.Asked,
+  type-word-reads.Learnt,
   put-reads.Asked,
   put-reads.Learnt,
   behind-reads.Asked,
@@ -2155,8 +2155,8 @@ binding-enum-told-2 t c = (c .match2 .keys2)
 binding-same-length-4 : (t : ℕ) → binding-lts.Need-same-length-4 (
   expr-below t,
   expr.Post,
-  kind-word-reads.Asked,
-  kind-word-reads.Learnt,
+  type-word-reads.Asked,
+  type-word-reads.Learnt,
   put-reads.Asked,
   put-reads.Learnt,
   behind-reads.Asked,
@@ -2171,8 +2171,8 @@ binding-same-length-4 t c = (c .before .before .before .before .before .before .
 binding-same-length-5 : (t : ℕ) → binding-lts.Need-same-length-5 (
   expr-below t,
   expr.Post,
-  kind-word-reads.Asked,
-  kind-word-reads.Learnt,
+  type-word-reads.Asked,
+  type-word-reads.Learnt,
   put-reads.Asked,
   put-reads.Learnt,
   behind-reads.Asked,
@@ -2187,8 +2187,8 @@ binding-same-length-5 t c = (c .before .before .before .before .before .before .
 binding-same-length-6 : (t : ℕ) → binding-lts.Need-same-length-6 (
   expr-below t,
   expr.Post,
-  kind-word-reads.Asked,
-  kind-word-reads.Learnt,
+  type-word-reads.Asked,
+  type-word-reads.Learnt,
   put-reads.Asked,
   put-reads.Learnt,
   behind-reads.Asked,
@@ -2203,8 +2203,8 @@ binding-same-length-6 t c = (c .before .before .before .before .before .before .
 binding-returns-2 : (t : ℕ) → binding-lts.Need-returns-2 (
   expr-below t,
   expr.Post,
-  kind-word-reads.Asked,
-  kind-word-reads.Learnt,
+  type-word-reads.Asked,
+  type-word-reads.Learnt,
   put-reads.Asked,
   put-reads.Learnt,
   behind-reads.Asked,
@@ -2214,13 +2214,13 @@ binding-returns-2 : (t : ℕ) → binding-lts.Need-returns-2 (
   with-let-reads.Asked,
   with-let-reads.Learnt,
 ) (binding-at t) binding.Post
-binding-returns-2 t c = let-second (c .before .before .before .before .before .before .before .before .before .before .before .before .before .before .before .before .before .before .before .before .before .before .before .before .before .before .before .before .before .before .expr .ensures) (scope-long (c .before .before .before .before .before .before .before .before .before .before .before .before .before .before .before .before .before .before .before .before .before .before .before .before .before .before .before .before .before .before .before .before .before .before .before .before .before .before .before .pre .1) ((c .before .before .before .before .before .before .before .before .before .before .before .before .before .before .before .before .before .before .before .before .before .before .before .before .before .before .before .before .before .before .expr .kept .1 .1 .1 .1 .0))) (c .before .before .before .before .before .before .before .before .before .before .before .before .before .before .before .before .before .before .before .before .before .before .x .given .1) (c .before .before .before .before .before .before .before .before .before .before .before .before .before .before .before .before .before .before .kind-word .ensures .is) (c .before .before .before .before .before .before .before .before .before .before .before .before .before .before .behind .ensures) (c .before .before .before .before .before .before .before .before .before .before .before .before .before .widen .ensures) (put-is (c .before .before .before .before .before .before .before .before .before .before .before .before .before .before .before .before .before .put .ensures) (c .before .before .before .before .before .before .before .before .expr2 .ensures)) (c .enum-told2 .given .1)
+binding-returns-2 t c = let-second (c .before .before .before .before .before .before .before .before .before .before .before .before .before .before .before .before .before .before .before .before .before .before .before .before .before .before .before .before .before .before .expr .ensures) (scope-long (c .before .before .before .before .before .before .before .before .before .before .before .before .before .before .before .before .before .before .before .before .before .before .before .before .before .before .before .before .before .before .before .before .before .before .before .before .before .before .before .pre .1) ((c .before .before .before .before .before .before .before .before .before .before .before .before .before .before .before .before .before .before .before .before .before .before .before .before .before .before .before .before .before .before .expr .kept .1 .1 .1 .1 .0))) (c .before .before .before .before .before .before .before .before .before .before .before .before .before .before .before .before .before .before .before .before .before .before .x .given .1) (c .before .before .before .before .before .before .before .before .before .before .before .before .before .before .before .before .before .before .type-word .ensures .is) (c .before .before .before .before .before .before .before .before .before .before .before .before .before .before .behind .ensures) (c .before .before .before .before .before .before .before .before .before .before .before .before .before .widen .ensures) (put-is (c .before .before .before .before .before .before .before .before .before .before .before .before .before .before .before .before .before .put .ensures) (c .before .before .before .before .before .before .before .before .expr2 .ensures)) (c .enum-told2 .given .1)
 
 binding-with-let-requires : (t : ℕ) → binding-lts.Need-with-let-requires (
   expr-below t,
   expr.Post,
-  kind-word-reads.Asked,
-  kind-word-reads.Learnt,
+  type-word-reads.Asked,
+  type-word-reads.Learnt,
   put-reads.Asked,
   put-reads.Learnt,
   behind-reads.Asked,
@@ -2235,8 +2235,8 @@ binding-with-let-requires t c κs = tt
 binding-same-length-7 : (t : ℕ) → binding-lts.Need-same-length-7 (
   expr-below t,
   expr.Post,
-  kind-word-reads.Asked,
-  kind-word-reads.Learnt,
+  type-word-reads.Asked,
+  type-word-reads.Learnt,
   put-reads.Asked,
   put-reads.Learnt,
   behind-reads.Asked,
@@ -2251,8 +2251,8 @@ binding-same-length-7 t c = (c .before .before .before .before .before .before .
 binding-same-length-8 : (t : ℕ) → binding-lts.Need-same-length-8 (
   expr-below t,
   expr.Post,
-  kind-word-reads.Asked,
-  kind-word-reads.Learnt,
+  type-word-reads.Asked,
+  type-word-reads.Learnt,
   put-reads.Asked,
   put-reads.Learnt,
   behind-reads.Asked,
@@ -2267,8 +2267,8 @@ binding-same-length-8 t c = (c .before .before .before .before .before .before .
 binding-same-length-9 : (t : ℕ) → binding-lts.Need-same-length-9 (
   expr-below t,
   expr.Post,
-  kind-word-reads.Asked,
-  kind-word-reads.Learnt,
+  type-word-reads.Asked,
+  type-word-reads.Learnt,
   put-reads.Asked,
   put-reads.Learnt,
   behind-reads.Asked,
@@ -2283,8 +2283,8 @@ binding-same-length-9 t c = (c .before .before .before .before .before .before .
 binding-returns-3 : (t : ℕ) → binding-lts.Need-returns-3 (
   expr-below t,
   expr.Post,
-  kind-word-reads.Asked,
-  kind-word-reads.Learnt,
+  type-word-reads.Asked,
+  type-word-reads.Learnt,
   put-reads.Asked,
   put-reads.Learnt,
   behind-reads.Asked,
@@ -2294,7 +2294,7 @@ binding-returns-3 : (t : ℕ) → binding-lts.Need-returns-3 (
   with-let-reads.Asked,
   with-let-reads.Learnt,
 ) (binding-at t) binding.Post
-binding-returns-3 t c = let-done (c .before .before .before .before .before .before .before .before .before .before .before .before .before .before .before .before .before .before .before .before .before .before .before .before .before .before .before .before .before .before .before .before .expr .ensures) (scope-long (c .before .before .before .before .before .before .before .before .before .before .before .before .before .before .before .before .before .before .before .before .before .before .before .before .before .before .before .before .before .before .before .before .before .before .before .before .before .before .before .before .before .pre .1) ((c .before .before .before .before .before .before .before .before .before .before .before .before .before .before .before .before .before .before .before .before .before .before .before .before .before .before .before .before .before .before .before .before .expr .kept .1 .1 .1 .1 .0))) (c .before .before .before .before .before .before .before .before .before .before .before .before .before .before .before .before .before .before .before .before .before .before .before .before .x .given .1) (c .before .before .before .before .before .before .before .before .before .before .before .before .before .before .before .before .before .before .before .before .kind-word .ensures .is) (c .before .before .before .before .before .before .before .before .before .before .before .before .before .before .before .before .behind .ensures) (c .before .before .before .before .before .before .before .before .before .before .before .before .before .before .before .widen .ensures) (put-is (c .before .before .before .before .before .before .before .before .before .before .before .before .before .before .before .before .before .before .before .put .ensures) (c .before .before .before .before .before .before .before .before .before .before .expr2 .ensures)) (c .before .before .y .given .1) (c .with-let .ensures .held) (c .with-let .ensures .all) (c .with-let .ensures .is)
+binding-returns-3 t c = let-done (c .before .before .before .before .before .before .before .before .before .before .before .before .before .before .before .before .before .before .before .before .before .before .before .before .before .before .before .before .before .before .before .before .expr .ensures) (scope-long (c .before .before .before .before .before .before .before .before .before .before .before .before .before .before .before .before .before .before .before .before .before .before .before .before .before .before .before .before .before .before .before .before .before .before .before .before .before .before .before .before .before .pre .1) ((c .before .before .before .before .before .before .before .before .before .before .before .before .before .before .before .before .before .before .before .before .before .before .before .before .before .before .before .before .before .before .before .before .expr .kept .1 .1 .1 .1 .0))) (c .before .before .before .before .before .before .before .before .before .before .before .before .before .before .before .before .before .before .before .before .before .before .before .before .x .given .1) (c .before .before .before .before .before .before .before .before .before .before .before .before .before .before .before .before .before .before .before .before .type-word .ensures .is) (c .before .before .before .before .before .before .before .before .before .before .before .before .before .before .before .before .behind .ensures) (c .before .before .before .before .before .before .before .before .before .before .before .before .before .before .before .widen .ensures) (put-is (c .before .before .before .before .before .before .before .before .before .before .before .before .before .before .before .before .before .before .before .put .ensures) (c .before .before .before .before .before .before .before .before .before .before .expr2 .ensures)) (c .before .before .y .given .1) (c .with-let .ensures .held) (c .with-let .ensures .all) (c .with-let .ensures .is)
 
 body-cast-if1 : (t : ℕ) → body-lts.Need-cast-if1 (
   add-reads.Asked,
@@ -2303,8 +2303,8 @@ body-cast-if1 : (t : ℕ) → body-lts.Need-cast-if1 (
   body-place-reads.Learnt,
   expr-below t,
   expr.Post,
-  is-kind-reads.Asked,
-  is-kind-reads.Learnt,
+  is-type-reads.Asked,
+  is-type-reads.Learnt,
   finish-reads.Asked,
   finish-reads.Learnt,
   moved-reads.Asked,
@@ -2321,8 +2321,8 @@ body-add-t17 : (t : ℕ) → body-lts.Need-add-t17 (
   body-place-reads.Learnt,
   expr-below t,
   expr.Post,
-  is-kind-reads.Asked,
-  is-kind-reads.Learnt,
+  is-type-reads.Asked,
+  is-type-reads.Learnt,
   finish-reads.Asked,
   finish-reads.Learnt,
   moved-reads.Asked,
@@ -2339,8 +2339,8 @@ body-returns : (t : ℕ) → body-lts.Need-returns (
   body-place-reads.Learnt,
   expr-below t,
   expr.Post,
-  is-kind-reads.Asked,
-  is-kind-reads.Learnt,
+  is-type-reads.Asked,
+  is-type-reads.Learnt,
   finish-reads.Asked,
   finish-reads.Learnt,
   moved-reads.Asked,
@@ -2357,8 +2357,8 @@ body-add-requires : (t : ℕ) → body-lts.Need-add-requires (
   body-place-reads.Learnt,
   expr-below t,
   expr.Post,
-  is-kind-reads.Asked,
-  is-kind-reads.Learnt,
+  is-type-reads.Asked,
+  is-type-reads.Learnt,
   finish-reads.Asked,
   finish-reads.Learnt,
   moved-reads.Asked,
@@ -2375,8 +2375,8 @@ body-body-place-requires : (t : ℕ) → body-lts.Need-body-place-requires (
   body-place-reads.Learnt,
   expr-below t,
   expr.Post,
-  is-kind-reads.Asked,
-  is-kind-reads.Learnt,
+  is-type-reads.Asked,
+  is-type-reads.Learnt,
   finish-reads.Asked,
   finish-reads.Learnt,
   moved-reads.Asked,
@@ -2393,8 +2393,8 @@ body-expr-requires : (t : ℕ) → body-lts.Need-expr-requires (
   body-place-reads.Learnt,
   expr-below t,
   expr.Post,
-  is-kind-reads.Asked,
-  is-kind-reads.Learnt,
+  is-type-reads.Asked,
+  is-type-reads.Learnt,
   finish-reads.Asked,
   finish-reads.Learnt,
   moved-reads.Asked,
@@ -2411,8 +2411,8 @@ body-enum-known-x : (t : ℕ) → body-lts.Need-enum-known-x (
   body-place-reads.Learnt,
   expr-below t,
   expr.Post,
-  is-kind-reads.Asked,
-  is-kind-reads.Learnt,
+  is-type-reads.Asked,
+  is-type-reads.Learnt,
   finish-reads.Asked,
   finish-reads.Learnt,
   moved-reads.Asked,
@@ -2429,8 +2429,8 @@ body-enum-told : (t : ℕ) → body-lts.Need-enum-told (
   body-place-reads.Learnt,
   expr-below t,
   expr.Post,
-  is-kind-reads.Asked,
-  is-kind-reads.Learnt,
+  is-type-reads.Asked,
+  is-type-reads.Learnt,
   finish-reads.Asked,
   finish-reads.Learnt,
   moved-reads.Asked,
@@ -2447,8 +2447,8 @@ body-same-length : (t : ℕ) → body-lts.Need-same-length (
   body-place-reads.Learnt,
   expr-below t,
   expr.Post,
-  is-kind-reads.Asked,
-  is-kind-reads.Learnt,
+  is-type-reads.Asked,
+  is-type-reads.Learnt,
   finish-reads.Asked,
   finish-reads.Learnt,
   moved-reads.Asked,
@@ -2465,8 +2465,8 @@ body-same-length-2 : (t : ℕ) → body-lts.Need-same-length-2 (
   body-place-reads.Learnt,
   expr-below t,
   expr.Post,
-  is-kind-reads.Asked,
-  is-kind-reads.Learnt,
+  is-type-reads.Asked,
+  is-type-reads.Learnt,
   finish-reads.Asked,
   finish-reads.Learnt,
   moved-reads.Asked,
@@ -2483,8 +2483,8 @@ body-same-length-3 : (t : ℕ) → body-lts.Need-same-length-3 (
   body-place-reads.Learnt,
   expr-below t,
   expr.Post,
-  is-kind-reads.Asked,
-  is-kind-reads.Learnt,
+  is-type-reads.Asked,
+  is-type-reads.Learnt,
   finish-reads.Asked,
   finish-reads.Learnt,
   moved-reads.Asked,
@@ -2501,8 +2501,8 @@ body-returns-2 : (t : ℕ) → body-lts.Need-returns-2 (
   body-place-reads.Learnt,
   expr-below t,
   expr.Post,
-  is-kind-reads.Asked,
-  is-kind-reads.Learnt,
+  is-type-reads.Asked,
+  is-type-reads.Learnt,
   finish-reads.Asked,
   finish-reads.Learnt,
   moved-reads.Asked,
@@ -2512,15 +2512,15 @@ body-returns-2 : (t : ℕ) → body-lts.Need-returns-2 (
 ) (body-at t) body.Post
 body-returns-2 t c = body-refused _ _ (omega (arith, (c .before .before .before .before .before .before .before .before .before .before .before .before .before .before .before .before .before .before .before .before .if1 .left))) (c .before .before .before .before .before .before .before .before .before .before .before .before .before .before .before .before .add .ensures) (c .before .before .before .before .before .before .before .before .before .before .before .before .before .body-place .ensures) (c .before .before .before .before .before .before .before .before .expr .ensures) (c .enum-told .given .1)
 
-body-is-kind-requires : (t : ℕ) → body-lts.Need-is-kind-requires (
+body-is-type-requires : (t : ℕ) → body-lts.Need-is-type-requires (
   add-reads.Asked,
   add-reads.Learnt,
   body-place-reads.Asked,
   body-place-reads.Learnt,
   expr-below t,
   expr.Post,
-  is-kind-reads.Asked,
-  is-kind-reads.Learnt,
+  is-type-reads.Asked,
+  is-type-reads.Learnt,
   finish-reads.Asked,
   finish-reads.Learnt,
   moved-reads.Asked,
@@ -2528,7 +2528,7 @@ body-is-kind-requires : (t : ℕ) → body-lts.Need-is-kind-requires (
   leaf-reads.Asked,
   leaf-reads.Learnt,
 ) (body-at t) body.Post
-body-is-kind-requires t c κs = tt
+body-is-type-requires t c κs = tt
 
 body-add-t32 : (t : ℕ) → body-lts.Need-add-t32 (
   add-reads.Asked,
@@ -2537,8 +2537,8 @@ body-add-t32 : (t : ℕ) → body-lts.Need-add-t32 (
   body-place-reads.Learnt,
   expr-below t,
   expr.Post,
-  is-kind-reads.Asked,
-  is-kind-reads.Learnt,
+  is-type-reads.Asked,
+  is-type-reads.Learnt,
   finish-reads.Asked,
   finish-reads.Learnt,
   moved-reads.Asked,
@@ -2555,8 +2555,8 @@ body-same-length-4 : (t : ℕ) → body-lts.Need-same-length-4 (
   body-place-reads.Learnt,
   expr-below t,
   expr.Post,
-  is-kind-reads.Asked,
-  is-kind-reads.Learnt,
+  is-type-reads.Asked,
+  is-type-reads.Learnt,
   finish-reads.Asked,
   finish-reads.Learnt,
   moved-reads.Asked,
@@ -2573,8 +2573,8 @@ body-same-length-5 : (t : ℕ) → body-lts.Need-same-length-5 (
   body-place-reads.Learnt,
   expr-below t,
   expr.Post,
-  is-kind-reads.Asked,
-  is-kind-reads.Learnt,
+  is-type-reads.Asked,
+  is-type-reads.Learnt,
   finish-reads.Asked,
   finish-reads.Learnt,
   moved-reads.Asked,
@@ -2591,8 +2591,8 @@ body-same-length-6 : (t : ℕ) → body-lts.Need-same-length-6 (
   body-place-reads.Learnt,
   expr-below t,
   expr.Post,
-  is-kind-reads.Asked,
-  is-kind-reads.Learnt,
+  is-type-reads.Asked,
+  is-type-reads.Learnt,
   finish-reads.Asked,
   finish-reads.Learnt,
   moved-reads.Asked,
@@ -2609,8 +2609,8 @@ body-returns-3 : (t : ℕ) → body-lts.Need-returns-3 (
   body-place-reads.Learnt,
   expr-below t,
   expr.Post,
-  is-kind-reads.Asked,
-  is-kind-reads.Learnt,
+  is-type-reads.Asked,
+  is-type-reads.Learnt,
   finish-reads.Asked,
   finish-reads.Learnt,
   moved-reads.Asked,
@@ -2618,7 +2618,7 @@ body-returns-3 : (t : ℕ) → body-lts.Need-returns-3 (
   leaf-reads.Asked,
   leaf-reads.Learnt,
 ) (body-at t) body.Post
-body-returns-3 t c = body-differs _ _ (omega (arith, (c .before .before .before .before .before .before .before .before .before .before .before .before .before .before .before .before .before .before .before .before .before .before .before .before .if1 .left))) (c .before .before .before .before .before .before .before .before .before .before .before .before .before .before .before .before .before .before .before .before .add .ensures) (c .before .before .before .before .before .before .before .before .before .before .before .before .before .before .before .before .before .body-place .ensures) (c .before .before .before .before .before .before .before .before .before .before .before .before .expr .ensures) (c .before .before .before .before .x .given .1) (c .before .before .is-kind .ensures) (not-true _ (c .before .if2 .taken))
+body-returns-3 t c = body-differs _ _ (omega (arith, (c .before .before .before .before .before .before .before .before .before .before .before .before .before .before .before .before .before .before .before .before .before .before .before .before .if1 .left))) (c .before .before .before .before .before .before .before .before .before .before .before .before .before .before .before .before .before .before .before .before .add .ensures) (c .before .before .before .before .before .before .before .before .before .before .before .before .before .before .before .before .before .body-place .ensures) (c .before .before .before .before .before .before .before .before .before .before .before .before .expr .ensures) (c .before .before .before .before .x .given .1) (c .before .before .is-type .ensures) (not-true _ (c .before .if2 .taken))
 
 body-finish-requires : (t : ℕ) → body-lts.Need-finish-requires (
   add-reads.Asked,
@@ -2627,8 +2627,8 @@ body-finish-requires : (t : ℕ) → body-lts.Need-finish-requires (
   body-place-reads.Learnt,
   expr-below t,
   expr.Post,
-  is-kind-reads.Asked,
-  is-kind-reads.Learnt,
+  is-type-reads.Asked,
+  is-type-reads.Learnt,
   finish-reads.Asked,
   finish-reads.Learnt,
   moved-reads.Asked,
@@ -2645,8 +2645,8 @@ body-moved-requires : (t : ℕ) → body-lts.Need-moved-requires (
   body-place-reads.Learnt,
   expr-below t,
   expr.Post,
-  is-kind-reads.Asked,
-  is-kind-reads.Learnt,
+  is-type-reads.Asked,
+  is-type-reads.Learnt,
   finish-reads.Asked,
   finish-reads.Learnt,
   moved-reads.Asked,
@@ -2663,8 +2663,8 @@ body-leaf-requires : (t : ℕ) → body-lts.Need-leaf-requires (
   body-place-reads.Learnt,
   expr-below t,
   expr.Post,
-  is-kind-reads.Asked,
-  is-kind-reads.Learnt,
+  is-type-reads.Asked,
+  is-type-reads.Learnt,
   finish-reads.Asked,
   finish-reads.Learnt,
   moved-reads.Asked,
@@ -2681,8 +2681,8 @@ body-same-length-7 : (t : ℕ) → body-lts.Need-same-length-7 (
   body-place-reads.Learnt,
   expr-below t,
   expr.Post,
-  is-kind-reads.Asked,
-  is-kind-reads.Learnt,
+  is-type-reads.Asked,
+  is-type-reads.Learnt,
   finish-reads.Asked,
   finish-reads.Learnt,
   moved-reads.Asked,
@@ -2699,8 +2699,8 @@ body-same-length-8 : (t : ℕ) → body-lts.Need-same-length-8 (
   body-place-reads.Learnt,
   expr-below t,
   expr.Post,
-  is-kind-reads.Asked,
-  is-kind-reads.Learnt,
+  is-type-reads.Asked,
+  is-type-reads.Learnt,
   finish-reads.Asked,
   finish-reads.Learnt,
   moved-reads.Asked,
@@ -2717,8 +2717,8 @@ body-same-length-9 : (t : ℕ) → body-lts.Need-same-length-9 (
   body-place-reads.Learnt,
   expr-below t,
   expr.Post,
-  is-kind-reads.Asked,
-  is-kind-reads.Learnt,
+  is-type-reads.Asked,
+  is-type-reads.Learnt,
   finish-reads.Asked,
   finish-reads.Learnt,
   moved-reads.Asked,
@@ -2735,8 +2735,8 @@ body-returns-4 : (t : ℕ) → body-lts.Need-returns-4 (
   body-place-reads.Learnt,
   expr-below t,
   expr.Post,
-  is-kind-reads.Asked,
-  is-kind-reads.Learnt,
+  is-type-reads.Asked,
+  is-type-reads.Learnt,
   finish-reads.Asked,
   finish-reads.Learnt,
   moved-reads.Asked,
@@ -2744,7 +2744,7 @@ body-returns-4 : (t : ℕ) → body-lts.Need-returns-4 (
   leaf-reads.Asked,
   leaf-reads.Learnt,
 ) (body-at t) body.Post
-body-returns-4 t c = body-done _ _ (omega (arith, (c .before .before .before .before .before .before .before .before .before .before .before .before .before .before .before .before .before .before .before .before .before .before .before .before .before .before .before .before .before .before .before .if1 .left))) (c .before .before .before .before .before .before .before .before .before .before .before .before .before .before .before .before .before .before .before .before .before .before .before .before .before .before .before .add .ensures) (c .before .before .before .before .before .before .before .before .before .before .before .before .before .before .before .before .before .before .before .before .before .before .before .before .body-place .ensures) (c .before .before .before .before .before .before .before .before .before .before .before .before .before .before .before .before .before .before .before .expr .ensures) (c .before .before .before .before .before .before .before .before .before .before .before .x .given .1) (c .before .before .before .before .before .before .before .before .before .is-kind .ensures) (not-false _ (c .before .before .before .before .before .before .before .before .if2 .left)) (c .before .before .before .before .before .finish .ensures) (c .before .moved .ensures) (c .leaf .ensures)
+body-returns-4 t c = body-done _ _ (omega (arith, (c .before .before .before .before .before .before .before .before .before .before .before .before .before .before .before .before .before .before .before .before .before .before .before .before .before .before .before .before .before .before .before .if1 .left))) (c .before .before .before .before .before .before .before .before .before .before .before .before .before .before .before .before .before .before .before .before .before .before .before .before .before .before .before .add .ensures) (c .before .before .before .before .before .before .before .before .before .before .before .before .before .before .before .before .before .before .before .before .before .before .before .before .body-place .ensures) (c .before .before .before .before .before .before .before .before .before .before .before .before .before .before .before .before .before .before .before .expr .ensures) (c .before .before .before .before .before .before .before .before .before .before .before .x .given .1) (c .before .before .before .before .before .before .before .before .before .is-type .ensures) (not-false _ (c .before .before .before .before .before .before .before .before .if2 .left)) (c .before .before .before .before .before .finish .ensures) (c .before .moved .ensures) (c .leaf .ensures)
 
 branch-own-fields-requires : (t : ℕ) → branch-lts.Need-own-fields-requires (
   own-fields-reads.Asked,
@@ -3834,7 +3834,7 @@ case-of-returns : (t : ℕ) → case-of-lts.Need-returns (
 ) (case-of-at t) case-of.Post
 case-of-returns t c = case-first (c .before .before .before .before .before .before .before .before .expr .ensures) (c .enum-told .given .1)
 
-case-of-enum-known-kind : (t : ℕ) → case-of-lts.Need-enum-known-kind (
+case-of-enum-known-ty : (t : ℕ) → case-of-lts.Need-enum-known-ty (
   expr-below t,
   expr.Post,
   frame-line-reads.Asked,
@@ -3850,7 +3850,7 @@ case-of-enum-known-kind : (t : ℕ) → case-of-lts.Need-enum-known-kind (
   cased-reads.Asked,
   cased-reads.Learnt,
 ) (case-of-at t) case-of.Post
-case-of-enum-known-kind t c = (c .match2 .keys1)
+case-of-enum-known-ty t c = (c .match2 .keys1)
 
 case-of-add-t29 : (t : ℕ) → case-of-lts.Need-add-t29 (
   expr-below t,
@@ -4102,7 +4102,7 @@ case-of-returns-3 : (t : ℕ) → case-of-lts.Need-returns-3 (
   cased-reads.Asked,
   cased-reads.Learnt,
 ) (case-of-at t) case-of.Post
-case-of-returns-3 t c = case-outside (c .before .before .before .before .before .before .before .before .before .before .before .before .before .before .before .before .before .before .before .expr .ensures) (c .before .before .before .before .before .before .before .before .before .before .before .x .given .1) (c .before .before .before .before .before .before .before .before .kind .given .1) (c .before .before .before .before .before .frame-line .ensures) (c .before .before .before .type-at .ensures) (c .before .enum-told2 .given .1)
+case-of-returns-3 t c = case-outside (c .before .before .before .before .before .before .before .before .before .before .before .before .before .before .before .before .before .before .before .expr .ensures) (c .before .before .before .before .before .before .before .before .before .before .before .x .given .1) (c .before .before .before .before .before .before .before .before .ty .given .1) (c .before .before .before .before .before .frame-line .ensures) (c .before .before .before .type-at .ensures) (c .before .enum-told2 .given .1)
 
 case-of-subject-requires : (t : ℕ) → case-of-lts.Need-subject-requires (
   expr-below t,
@@ -4264,7 +4264,7 @@ case-of-returns-4 : (t : ℕ) → case-of-lts.Need-returns-4 (
   cased-reads.Asked,
   cased-reads.Learnt,
 ) (case-of-at t) case-of.Post
-case-of-returns-4 t c = case-branches (c .before .before .before .before .before .before .before .before .before .before .before .before .before .before .before .before .before .before .before .before .before .before .before .before .before .before .before .before .before .before .before .before .before .before .expr .ensures) (c .before .before .before .before .before .before .before .before .before .before .before .before .before .before .before .before .before .before .before .before .before .before .before .before .before .before .x .given .1) (c .before .before .before .before .before .before .before .before .before .before .before .before .before .before .before .before .before .before .before .before .before .before .before .kind .given .1) (c .before .before .before .before .before .before .before .before .before .before .before .before .before .before .before .before .before .before .before .before .frame-line .ensures) (c .before .before .before .before .before .before .before .before .before .before .before .before .before .before .before .before .before .before .type-at .ensures) (c .before .before .before .before .before .before .before .before .before .before .before .before .before .before .before .before .y .given .1) (c .before .before .before .before .before .before .before .before .before .before .before .before .before .moved .ensures) (c .before .before .before .before .before .before .before .before .before .before .before .before .before .before .subject .ensures) (c .before .before .before .before .before .before .before .before .branches .ensures) (c .enum-told3 .given .1)
+case-of-returns-4 t c = case-branches (c .before .before .before .before .before .before .before .before .before .before .before .before .before .before .before .before .before .before .before .before .before .before .before .before .before .before .before .before .before .before .before .before .before .before .expr .ensures) (c .before .before .before .before .before .before .before .before .before .before .before .before .before .before .before .before .before .before .before .before .before .before .before .before .before .before .x .given .1) (c .before .before .before .before .before .before .before .before .before .before .before .before .before .before .before .before .before .before .before .before .before .before .before .ty .given .1) (c .before .before .before .before .before .before .before .before .before .before .before .before .before .before .before .before .before .before .before .before .frame-line .ensures) (c .before .before .before .before .before .before .before .before .before .before .before .before .before .before .before .before .before .before .type-at .ensures) (c .before .before .before .before .before .before .before .before .before .before .before .before .before .before .before .before .y .given .1) (c .before .before .before .before .before .before .before .before .before .before .before .before .before .moved .ensures) (c .before .before .before .before .before .before .before .before .before .before .before .before .before .before .subject .ensures) (c .before .before .before .before .before .before .before .before .branches .ensures) (c .enum-told3 .given .1)
 
 case-of-cased-requires : (t : ℕ) → case-of-lts.Need-cased-requires (
   expr-below t,
@@ -4354,7 +4354,7 @@ case-of-returns-5 : (t : ℕ) → case-of-lts.Need-returns-5 (
   cased-reads.Asked,
   cased-reads.Learnt,
 ) (case-of-at t) case-of.Post
-case-of-returns-5 t c = case-done (c .before .before .before .before .before .before .before .before .before .before .before .before .before .before .before .before .before .before .before .before .before .before .before .before .before .before .before .before .before .before .before .before .before .before .before .before .expr .ensures) (c .before .before .before .before .before .before .before .before .before .before .before .before .before .before .before .before .before .before .before .before .before .before .before .before .before .before .before .before .x .given .1) (c .before .before .before .before .before .before .before .before .before .before .before .before .before .before .before .before .before .before .before .before .before .before .before .before .before .kind .given .1) (c .before .before .before .before .before .before .before .before .before .before .before .before .before .before .before .before .before .before .before .before .before .before .frame-line .ensures) (c .before .before .before .before .before .before .before .before .before .before .before .before .before .before .before .before .before .before .before .before .type-at .ensures) (c .before .before .before .before .before .before .before .before .before .before .before .before .before .before .before .before .before .before .y .given .1) (c .before .before .before .before .before .before .before .before .before .before .before .before .before .before .before .moved .ensures) (c .before .before .before .before .before .before .before .before .before .before .before .before .before .before .before .before .subject .ensures) (c .before .before .before .before .before .before .before .before .before .before .branches .ensures) (c .before .before .z .given .1) (c .cased .ensures .all) (c .cased .ensures .is)
+case-of-returns-5 t c = case-done (c .before .before .before .before .before .before .before .before .before .before .before .before .before .before .before .before .before .before .before .before .before .before .before .before .before .before .before .before .before .before .before .before .before .before .before .before .expr .ensures) (c .before .before .before .before .before .before .before .before .before .before .before .before .before .before .before .before .before .before .before .before .before .before .before .before .before .before .before .before .x .given .1) (c .before .before .before .before .before .before .before .before .before .before .before .before .before .before .before .before .before .before .before .before .before .before .before .before .before .ty .given .1) (c .before .before .before .before .before .before .before .before .before .before .before .before .before .before .before .before .before .before .before .before .before .before .frame-line .ensures) (c .before .before .before .before .before .before .before .before .before .before .before .before .before .before .before .before .before .before .before .before .type-at .ensures) (c .before .before .before .before .before .before .before .before .before .before .before .before .before .before .before .before .before .before .y .given .1) (c .before .before .before .before .before .before .before .before .before .before .before .before .before .before .before .moved .ensures) (c .before .before .before .before .before .before .before .before .before .before .before .before .before .before .before .before .subject .ensures) (c .before .before .before .before .before .before .before .before .before .before .branches .ensures) (c .before .before .z .given .1) (c .cased .ensures .all) (c .cased .ensures .is)
 
 choice-expr-requires : (t : ℕ) → choice-lts.Need-expr-requires (
   expr-below t,
@@ -6972,7 +6972,7 @@ fit-returns : (t : ℕ) → fit-lts.Need-returns (
 ) (fit-at t) fit.Post
 fit-returns t c = fit-subject _ (c .before .before .before .before .before .before .before .before .expr .ensures) (c .enum-told .given .1)
 
-fit-enum-known-kind : (t : ℕ) → fit-lts.Need-enum-known-kind (
+fit-enum-known-ty : (t : ℕ) → fit-lts.Need-enum-known-ty (
   expr-below t,
   expr.Post,
   word-of-reads.Asked,
@@ -6988,7 +6988,7 @@ fit-enum-known-kind : (t : ℕ) → fit-lts.Need-enum-known-kind (
   fitted-reads.Asked,
   fitted-reads.Learnt,
 ) (fit-at t) fit.Post
-fit-enum-known-kind t c = (c .match2 .keys1)
+fit-enum-known-ty t c = (c .match2 .keys1)
 
 fit-add-t27 : (t : ℕ) → fit-lts.Need-add-t27 (
   expr-below t,
@@ -7312,7 +7312,7 @@ fit-returns-3 : (t : ℕ) → fit-lts.Need-returns-3 (
   fitted-reads.Asked,
   fitted-reads.Learnt,
 ) (fit-at t) fit.Post
-fit-returns-3 t c = fit-first _ (c .before .before .before .before .before .before .before .before .before .before .before .before .before .before .before .before .before .before .before .before .before .before .before .before .before .before .before .before .before .before .before .before .before .expr .ensures) (scope-long (c .before .before .before .before .before .before .before .before .before .before .before .before .before .before .before .before .before .before .before .before .before .before .before .before .before .before .before .before .before .before .before .before .before .before .before .before .before .before .before .before .before .before .pre .1 .0) ((c .before .before .before .before .before .before .before .before .before .before .before .before .before .before .before .before .before .before .before .before .before .before .before .before .before .before .before .before .before .before .before .before .before .expr .kept .1 .1 .1 .1 .0))) (c .before .before .before .before .before .before .before .before .before .before .before .before .before .before .before .before .before .before .before .before .before .before .before .before .before .x .given .1) (c .before .before .before .before .before .before .before .before .before .before .before .before .before .before .before .before .before .before .before .before .before .before .kind .given .1) (c .before .before .before .before .before .before .before .before .before .before .before .before .before .before .before .before .before .before .before .before .word-of .ensures .is) (c .before .before .before .before .before .before .before .before .before .before .before .before .before .before .behind .ensures) (c .before .before .before .before .before .before .before .before .before .before .before .before .before .widen .ensures) (put-is (c .before .before .before .before .before .before .before .before .before .before .before .before .before .before .before .before .before .put .ensures) (c .before .before .before .before .before .before .before .before .expr2 .ensures)) (c .enum-told2 .given .1)
+fit-returns-3 t c = fit-first _ (c .before .before .before .before .before .before .before .before .before .before .before .before .before .before .before .before .before .before .before .before .before .before .before .before .before .before .before .before .before .before .before .before .before .expr .ensures) (scope-long (c .before .before .before .before .before .before .before .before .before .before .before .before .before .before .before .before .before .before .before .before .before .before .before .before .before .before .before .before .before .before .before .before .before .before .before .before .before .before .before .before .before .before .pre .1 .0) ((c .before .before .before .before .before .before .before .before .before .before .before .before .before .before .before .before .before .before .before .before .before .before .before .before .before .before .before .before .before .before .before .before .before .expr .kept .1 .1 .1 .1 .0))) (c .before .before .before .before .before .before .before .before .before .before .before .before .before .before .before .before .before .before .before .before .before .before .before .before .before .x .given .1) (c .before .before .before .before .before .before .before .before .before .before .before .before .before .before .before .before .before .before .before .before .before .before .ty .given .1) (c .before .before .before .before .before .before .before .before .before .before .before .before .before .before .before .before .before .before .before .before .word-of .ensures .is) (c .before .before .before .before .before .before .before .before .before .before .before .before .before .before .behind .ensures) (c .before .before .before .before .before .before .before .before .before .before .before .before .before .widen .ensures) (put-is (c .before .before .before .before .before .before .before .before .before .before .before .before .before .before .before .before .before .put .ensures) (c .before .before .before .before .before .before .before .before .expr2 .ensures)) (c .enum-told2 .given .1)
 
 fit-behind-requires-2 : (t : ℕ) → fit-lts.Need-behind-requires-2 (
   expr-below t,
@@ -7456,7 +7456,7 @@ fit-returns-4 : (t : ℕ) → fit-lts.Need-returns-4 (
   fitted-reads.Asked,
   fitted-reads.Learnt,
 ) (fit-at t) fit.Post
-fit-returns-4 t c = fit-other _ (c .before .before .before .before .before .before .before .before .before .before .before .before .before .before .before .before .before .before .before .before .before .before .before .before .before .before .before .before .before .before .before .before .before .before .before .before .before .before .before .before .before .before .before .before .before .before .before .before .expr .ensures) (scope-long (c .before .before .before .before .before .before .before .before .before .before .before .before .before .before .before .before .before .before .before .before .before .before .before .before .before .before .before .before .before .before .before .before .before .before .before .before .before .before .before .before .before .before .before .before .before .before .before .before .before .before .before .before .before .before .before .before .before .pre .1 .0) ((c .before .before .before .before .before .before .before .before .before .before .before .before .before .before .before .before .before .before .before .before .before .before .before .before .before .before .before .before .before .before .before .before .before .before .before .before .before .before .before .before .before .before .before .before .before .before .before .before .expr .kept .1 .1 .1 .1 .0))) (c .before .before .before .before .before .before .before .before .before .before .before .before .before .before .before .before .before .before .before .before .before .before .before .before .before .before .before .before .before .before .before .before .before .before .before .before .before .before .before .before .x .given .1) (c .before .before .before .before .before .before .before .before .before .before .before .before .before .before .before .before .before .before .before .before .before .before .before .before .before .before .before .before .before .before .before .before .before .before .before .before .before .kind .given .1) (c .before .before .before .before .before .before .before .before .before .before .before .before .before .before .before .before .before .before .before .before .before .before .before .before .before .before .before .before .before .before .before .before .before .before .before .word-of .ensures .is) (c .before .before .before .before .before .before .before .before .before .before .before .before .before .before .before .before .before .before .before .before .before .before .before .before .before .before .before .before .before .behind .ensures) (c .before .before .before .before .before .before .before .before .before .before .before .before .before .before .before .before .before .before .before .before .before .before .before .before .before .before .before .before .widen .ensures) (put-is (c .before .before .before .before .before .before .before .before .before .before .before .before .before .before .before .before .before .before .before .before .before .before .before .before .before .before .before .before .before .before .before .before .put .ensures) (c .before .before .before .before .before .before .before .before .before .before .before .before .before .before .before .before .before .before .before .before .before .before .before .expr2 .ensures)) (c .before .before .before .before .before .before .before .before .before .before .before .before .before .before .before .y .given .1) (c .before .before .before .before .before .before .before .before .before .before .before .before .before .behind2 .ensures) (c .before .before .before .before .before .before .before .before .expr3 .ensures) (c .enum-told3 .given .1)
+fit-returns-4 t c = fit-other _ (c .before .before .before .before .before .before .before .before .before .before .before .before .before .before .before .before .before .before .before .before .before .before .before .before .before .before .before .before .before .before .before .before .before .before .before .before .before .before .before .before .before .before .before .before .before .before .before .before .expr .ensures) (scope-long (c .before .before .before .before .before .before .before .before .before .before .before .before .before .before .before .before .before .before .before .before .before .before .before .before .before .before .before .before .before .before .before .before .before .before .before .before .before .before .before .before .before .before .before .before .before .before .before .before .before .before .before .before .before .before .before .before .before .pre .1 .0) ((c .before .before .before .before .before .before .before .before .before .before .before .before .before .before .before .before .before .before .before .before .before .before .before .before .before .before .before .before .before .before .before .before .before .before .before .before .before .before .before .before .before .before .before .before .before .before .before .before .expr .kept .1 .1 .1 .1 .0))) (c .before .before .before .before .before .before .before .before .before .before .before .before .before .before .before .before .before .before .before .before .before .before .before .before .before .before .before .before .before .before .before .before .before .before .before .before .before .before .before .before .x .given .1) (c .before .before .before .before .before .before .before .before .before .before .before .before .before .before .before .before .before .before .before .before .before .before .before .before .before .before .before .before .before .before .before .before .before .before .before .before .before .ty .given .1) (c .before .before .before .before .before .before .before .before .before .before .before .before .before .before .before .before .before .before .before .before .before .before .before .before .before .before .before .before .before .before .before .before .before .before .before .word-of .ensures .is) (c .before .before .before .before .before .before .before .before .before .before .before .before .before .before .before .before .before .before .before .before .before .before .before .before .before .before .before .before .before .behind .ensures) (c .before .before .before .before .before .before .before .before .before .before .before .before .before .before .before .before .before .before .before .before .before .before .before .before .before .before .before .before .widen .ensures) (put-is (c .before .before .before .before .before .before .before .before .before .before .before .before .before .before .before .before .before .before .before .before .before .before .before .before .before .before .before .before .before .before .before .before .put .ensures) (c .before .before .before .before .before .before .before .before .before .before .before .before .before .before .before .before .before .before .before .before .before .before .before .expr2 .ensures)) (c .before .before .before .before .before .before .before .before .before .before .before .before .before .before .before .y .given .1) (c .before .before .before .before .before .before .before .before .before .before .before .before .before .behind2 .ensures) (c .before .before .before .before .before .before .before .before .expr3 .ensures) (c .enum-told3 .given .1)
 
 fit-agree-requires : (t : ℕ) → fit-lts.Need-agree-requires (
   expr-below t,
@@ -7564,7 +7564,7 @@ fit-returns-5 : (t : ℕ) → fit-lts.Need-returns-5 (
   fitted-reads.Asked,
   fitted-reads.Learnt,
 ) (fit-at t) fit.Post
-fit-returns-5 t c = fit-differ _ (c .before .before .before .before .before .before .before .before .before .before .before .before .before .before .before .before .before .before .before .before .before .before .before .before .before .before .before .before .before .before .before .before .before .before .before .before .before .before .before .before .before .before .before .before .before .before .before .before .before .before .before .before .expr .ensures) (scope-long (c .before .before .before .before .before .before .before .before .before .before .before .before .before .before .before .before .before .before .before .before .before .before .before .before .before .before .before .before .before .before .before .before .before .before .before .before .before .before .before .before .before .before .before .before .before .before .before .before .before .before .before .before .before .before .before .before .before .before .before .before .before .pre .1 .0) ((c .before .before .before .before .before .before .before .before .before .before .before .before .before .before .before .before .before .before .before .before .before .before .before .before .before .before .before .before .before .before .before .before .before .before .before .before .before .before .before .before .before .before .before .before .before .before .before .before .before .before .before .before .expr .kept .1 .1 .1 .1 .0))) (c .before .before .before .before .before .before .before .before .before .before .before .before .before .before .before .before .before .before .before .before .before .before .before .before .before .before .before .before .before .before .before .before .before .before .before .before .before .before .before .before .before .before .before .before .x .given .1) (c .before .before .before .before .before .before .before .before .before .before .before .before .before .before .before .before .before .before .before .before .before .before .before .before .before .before .before .before .before .before .before .before .before .before .before .before .before .before .before .before .before .kind .given .1) (c .before .before .before .before .before .before .before .before .before .before .before .before .before .before .before .before .before .before .before .before .before .before .before .before .before .before .before .before .before .before .before .before .before .before .before .before .before .before .before .word-of .ensures .is) (c .before .before .before .before .before .before .before .before .before .before .before .before .before .before .before .before .before .before .before .before .before .before .before .before .before .before .before .before .before .before .before .before .before .behind .ensures) (c .before .before .before .before .before .before .before .before .before .before .before .before .before .before .before .before .before .before .before .before .before .before .before .before .before .before .before .before .before .before .before .before .widen .ensures) (put-is (c .before .before .before .before .before .before .before .before .before .before .before .before .before .before .before .before .before .before .before .before .before .before .before .before .before .before .before .before .before .before .before .before .before .before .before .before .put .ensures) (c .before .before .before .before .before .before .before .before .before .before .before .before .before .before .before .before .before .before .before .before .before .before .before .before .before .before .before .expr2 .ensures)) (c .before .before .before .before .before .before .before .before .before .before .before .before .before .before .before .before .before .before .before .y .given .1) (c .before .before .before .before .before .before .before .before .before .before .before .before .before .before .before .before .before .behind2 .ensures) (c .before .before .before .before .before .before .before .before .before .before .before .before .expr3 .ensures) (c .before .before .before .before .z .given .1) (c .before .before .agree .ensures) (not-true _ (c .before .if1 .taken))
+fit-returns-5 t c = fit-differ _ (c .before .before .before .before .before .before .before .before .before .before .before .before .before .before .before .before .before .before .before .before .before .before .before .before .before .before .before .before .before .before .before .before .before .before .before .before .before .before .before .before .before .before .before .before .before .before .before .before .before .before .before .before .expr .ensures) (scope-long (c .before .before .before .before .before .before .before .before .before .before .before .before .before .before .before .before .before .before .before .before .before .before .before .before .before .before .before .before .before .before .before .before .before .before .before .before .before .before .before .before .before .before .before .before .before .before .before .before .before .before .before .before .before .before .before .before .before .before .before .before .before .pre .1 .0) ((c .before .before .before .before .before .before .before .before .before .before .before .before .before .before .before .before .before .before .before .before .before .before .before .before .before .before .before .before .before .before .before .before .before .before .before .before .before .before .before .before .before .before .before .before .before .before .before .before .before .before .before .before .expr .kept .1 .1 .1 .1 .0))) (c .before .before .before .before .before .before .before .before .before .before .before .before .before .before .before .before .before .before .before .before .before .before .before .before .before .before .before .before .before .before .before .before .before .before .before .before .before .before .before .before .before .before .before .before .x .given .1) (c .before .before .before .before .before .before .before .before .before .before .before .before .before .before .before .before .before .before .before .before .before .before .before .before .before .before .before .before .before .before .before .before .before .before .before .before .before .before .before .before .before .ty .given .1) (c .before .before .before .before .before .before .before .before .before .before .before .before .before .before .before .before .before .before .before .before .before .before .before .before .before .before .before .before .before .before .before .before .before .before .before .before .before .before .before .word-of .ensures .is) (c .before .before .before .before .before .before .before .before .before .before .before .before .before .before .before .before .before .before .before .before .before .before .before .before .before .before .before .before .before .before .before .before .before .behind .ensures) (c .before .before .before .before .before .before .before .before .before .before .before .before .before .before .before .before .before .before .before .before .before .before .before .before .before .before .before .before .before .before .before .before .widen .ensures) (put-is (c .before .before .before .before .before .before .before .before .before .before .before .before .before .before .before .before .before .before .before .before .before .before .before .before .before .before .before .before .before .before .before .before .before .before .before .before .put .ensures) (c .before .before .before .before .before .before .before .before .before .before .before .before .before .before .before .before .before .before .before .before .before .before .before .before .before .before .before .expr2 .ensures)) (c .before .before .before .before .before .before .before .before .before .before .before .before .before .before .before .before .before .before .before .y .given .1) (c .before .before .before .before .before .before .before .before .before .before .before .before .before .before .before .before .before .behind2 .ensures) (c .before .before .before .before .before .before .before .before .before .before .before .before .expr3 .ensures) (c .before .before .before .before .z .given .1) (c .before .before .agree .ensures) (not-true _ (c .before .if1 .taken))
 
 fit-fitted-requires : (t : ℕ) → fit-lts.Need-fitted-requires (
   expr-below t,
@@ -7654,7 +7654,7 @@ fit-returns-6 : (t : ℕ) → fit-lts.Need-returns-6 (
   fitted-reads.Asked,
   fitted-reads.Learnt,
 ) (fit-at t) fit.Post
-fit-returns-6 t c = fit-done _ (c .before .before .before .before .before .before .before .before .before .before .before .before .before .before .before .before .before .before .before .before .before .before .before .before .before .before .before .before .before .before .before .before .before .before .before .before .before .before .before .before .before .before .before .before .before .before .before .before .before .before .before .before .expr .ensures) (scope-long (c .before .before .before .before .before .before .before .before .before .before .before .before .before .before .before .before .before .before .before .before .before .before .before .before .before .before .before .before .before .before .before .before .before .before .before .before .before .before .before .before .before .before .before .before .before .before .before .before .before .before .before .before .before .before .before .before .before .before .before .before .before .pre .1 .0) ((c .before .before .before .before .before .before .before .before .before .before .before .before .before .before .before .before .before .before .before .before .before .before .before .before .before .before .before .before .before .before .before .before .before .before .before .before .before .before .before .before .before .before .before .before .before .before .before .before .before .before .before .before .expr .kept .1 .1 .1 .1 .0))) (c .before .before .before .before .before .before .before .before .before .before .before .before .before .before .before .before .before .before .before .before .before .before .before .before .before .before .before .before .before .before .before .before .before .before .before .before .before .before .before .before .before .before .before .before .x .given .1) (c .before .before .before .before .before .before .before .before .before .before .before .before .before .before .before .before .before .before .before .before .before .before .before .before .before .before .before .before .before .before .before .before .before .before .before .before .before .before .before .before .before .kind .given .1) (c .before .before .before .before .before .before .before .before .before .before .before .before .before .before .before .before .before .before .before .before .before .before .before .before .before .before .before .before .before .before .before .before .before .before .before .before .before .before .before .word-of .ensures .is) (c .before .before .before .before .before .before .before .before .before .before .before .before .before .before .before .before .before .before .before .before .before .before .before .before .before .before .before .before .before .before .before .before .before .behind .ensures) (c .before .before .before .before .before .before .before .before .before .before .before .before .before .before .before .before .before .before .before .before .before .before .before .before .before .before .before .before .before .before .before .before .widen .ensures) (put-is (c .before .before .before .before .before .before .before .before .before .before .before .before .before .before .before .before .before .before .before .before .before .before .before .before .before .before .before .before .before .before .before .before .before .before .before .before .put .ensures) (c .before .before .before .before .before .before .before .before .before .before .before .before .before .before .before .before .before .before .before .before .before .before .before .before .before .before .before .expr2 .ensures)) (c .before .before .before .before .before .before .before .before .before .before .before .before .before .before .before .before .before .before .before .y .given .1) (c .before .before .before .before .before .before .before .before .before .before .before .before .before .before .before .before .before .behind2 .ensures) (c .before .before .before .before .before .before .before .before .before .before .before .before .expr3 .ensures) (c .before .before .before .before .z .given .1) (c .before .before .agree .ensures) (not-false _ (c .before .if1 .left)) (c .fitted .ensures .held) (c .fitted .ensures .both) (c .fitted .ensures .all) (c .fitted .ensures .is)
+fit-returns-6 t c = fit-done _ (c .before .before .before .before .before .before .before .before .before .before .before .before .before .before .before .before .before .before .before .before .before .before .before .before .before .before .before .before .before .before .before .before .before .before .before .before .before .before .before .before .before .before .before .before .before .before .before .before .before .before .before .before .expr .ensures) (scope-long (c .before .before .before .before .before .before .before .before .before .before .before .before .before .before .before .before .before .before .before .before .before .before .before .before .before .before .before .before .before .before .before .before .before .before .before .before .before .before .before .before .before .before .before .before .before .before .before .before .before .before .before .before .before .before .before .before .before .before .before .before .before .pre .1 .0) ((c .before .before .before .before .before .before .before .before .before .before .before .before .before .before .before .before .before .before .before .before .before .before .before .before .before .before .before .before .before .before .before .before .before .before .before .before .before .before .before .before .before .before .before .before .before .before .before .before .before .before .before .before .expr .kept .1 .1 .1 .1 .0))) (c .before .before .before .before .before .before .before .before .before .before .before .before .before .before .before .before .before .before .before .before .before .before .before .before .before .before .before .before .before .before .before .before .before .before .before .before .before .before .before .before .before .before .before .before .x .given .1) (c .before .before .before .before .before .before .before .before .before .before .before .before .before .before .before .before .before .before .before .before .before .before .before .before .before .before .before .before .before .before .before .before .before .before .before .before .before .before .before .before .before .ty .given .1) (c .before .before .before .before .before .before .before .before .before .before .before .before .before .before .before .before .before .before .before .before .before .before .before .before .before .before .before .before .before .before .before .before .before .before .before .before .before .before .before .word-of .ensures .is) (c .before .before .before .before .before .before .before .before .before .before .before .before .before .before .before .before .before .before .before .before .before .before .before .before .before .before .before .before .before .before .before .before .before .behind .ensures) (c .before .before .before .before .before .before .before .before .before .before .before .before .before .before .before .before .before .before .before .before .before .before .before .before .before .before .before .before .before .before .before .before .widen .ensures) (put-is (c .before .before .before .before .before .before .before .before .before .before .before .before .before .before .before .before .before .before .before .before .before .before .before .before .before .before .before .before .before .before .before .before .before .before .before .before .put .ensures) (c .before .before .before .before .before .before .before .before .before .before .before .before .before .before .before .before .before .before .before .before .before .before .before .before .before .before .before .expr2 .ensures)) (c .before .before .before .before .before .before .before .before .before .before .before .before .before .before .before .before .before .before .before .y .given .1) (c .before .before .before .before .before .before .before .before .before .before .before .before .before .before .before .before .before .behind2 .ensures) (c .before .before .before .before .before .before .before .before .before .before .before .before .expr3 .ensures) (c .before .before .before .before .z .given .1) (c .before .before .agree .ensures) (not-false _ (c .before .if1 .left)) (c .fitted .ensures .held) (c .fitted .ensures .both) (c .fitted .ensures .all) (c .fitted .ensures .is)
 
 operation-expr-requires : (t : ℕ) → operation-lts.Need-expr-requires (
   expr-below t,
@@ -7863,8 +7863,8 @@ several-none-requires : (t : ℕ) → several-lts.Need-none-requires (
   expr.Post,
   refused-all-reads.Asked,
   refused-all-reads.Learnt,
-  kind-word-reads.Asked,
-  kind-word-reads.Learnt,
+  type-word-reads.Asked,
+  type-word-reads.Learnt,
   put-reads.Asked,
   put-reads.Learnt,
   behind-reads.Asked,
@@ -7883,8 +7883,8 @@ several-returns : (t : ℕ) → several-lts.Need-returns (
   expr.Post,
   refused-all-reads.Asked,
   refused-all-reads.Learnt,
-  kind-word-reads.Asked,
-  kind-word-reads.Learnt,
+  type-word-reads.Asked,
+  type-word-reads.Learnt,
   put-reads.Asked,
   put-reads.Learnt,
   behind-reads.Asked,
@@ -7903,8 +7903,8 @@ several-expr-requires : (t : ℕ) → several-lts.Need-expr-requires (
   expr.Post,
   refused-all-reads.Asked,
   refused-all-reads.Learnt,
-  kind-word-reads.Asked,
-  kind-word-reads.Learnt,
+  type-word-reads.Asked,
+  type-word-reads.Learnt,
   put-reads.Asked,
   put-reads.Learnt,
   behind-reads.Asked,
@@ -7923,8 +7923,8 @@ several-enum-known-x : (t : ℕ) → several-lts.Need-enum-known-x (
   expr.Post,
   refused-all-reads.Asked,
   refused-all-reads.Learnt,
-  kind-word-reads.Asked,
-  kind-word-reads.Learnt,
+  type-word-reads.Asked,
+  type-word-reads.Learnt,
   put-reads.Asked,
   put-reads.Learnt,
   behind-reads.Asked,
@@ -7943,8 +7943,8 @@ several-enum-told : (t : ℕ) → several-lts.Need-enum-told (
   expr.Post,
   refused-all-reads.Asked,
   refused-all-reads.Learnt,
-  kind-word-reads.Asked,
-  kind-word-reads.Learnt,
+  type-word-reads.Asked,
+  type-word-reads.Learnt,
   put-reads.Asked,
   put-reads.Learnt,
   behind-reads.Asked,
@@ -7963,8 +7963,8 @@ several-refused-all-requires : (t : ℕ) → several-lts.Need-refused-all-requir
   expr.Post,
   refused-all-reads.Asked,
   refused-all-reads.Learnt,
-  kind-word-reads.Asked,
-  kind-word-reads.Learnt,
+  type-word-reads.Asked,
+  type-word-reads.Learnt,
   put-reads.Asked,
   put-reads.Learnt,
   behind-reads.Asked,
@@ -7983,8 +7983,8 @@ several-same-length : (t : ℕ) → several-lts.Need-same-length (
   expr.Post,
   refused-all-reads.Asked,
   refused-all-reads.Learnt,
-  kind-word-reads.Asked,
-  kind-word-reads.Learnt,
+  type-word-reads.Asked,
+  type-word-reads.Learnt,
   put-reads.Asked,
   put-reads.Learnt,
   behind-reads.Asked,
@@ -8003,8 +8003,8 @@ several-same-length-2 : (t : ℕ) → several-lts.Need-same-length-2 (
   expr.Post,
   refused-all-reads.Asked,
   refused-all-reads.Learnt,
-  kind-word-reads.Asked,
-  kind-word-reads.Learnt,
+  type-word-reads.Asked,
+  type-word-reads.Learnt,
   put-reads.Asked,
   put-reads.Learnt,
   behind-reads.Asked,
@@ -8023,8 +8023,8 @@ several-same-length-3 : (t : ℕ) → several-lts.Need-same-length-3 (
   expr.Post,
   refused-all-reads.Asked,
   refused-all-reads.Learnt,
-  kind-word-reads.Asked,
-  kind-word-reads.Learnt,
+  type-word-reads.Asked,
+  type-word-reads.Learnt,
   put-reads.Asked,
   put-reads.Learnt,
   behind-reads.Asked,
@@ -8043,8 +8043,8 @@ several-returns-2 : (t : ℕ) → several-lts.Need-returns-2 (
   expr.Post,
   refused-all-reads.Asked,
   refused-all-reads.Learnt,
-  kind-word-reads.Asked,
-  kind-word-reads.Learnt,
+  type-word-reads.Asked,
+  type-word-reads.Learnt,
   put-reads.Asked,
   put-reads.Learnt,
   behind-reads.Asked,
@@ -8056,15 +8056,15 @@ several-returns-2 : (t : ℕ) → several-lts.Need-returns-2 (
 ) (several-at t) several.Post
 several-returns-2 t c = several-first _ (c .before .before .before .before .before .before .before .before .before .before .before .before .before .before .if1 .left) (c .before .before .before .before .before .before .before .before .before .expr .ensures) (c .before .enum-told .given .1) (c .refused-all .ensures)
 
-several-kind-word-requires : (t : ℕ) → several-lts.Need-kind-word-requires (
+several-type-word-requires : (t : ℕ) → several-lts.Need-type-word-requires (
   none-reads.Asked,
   none-reads.Learnt,
   expr-below t,
   expr.Post,
   refused-all-reads.Asked,
   refused-all-reads.Learnt,
-  kind-word-reads.Asked,
-  kind-word-reads.Learnt,
+  type-word-reads.Asked,
+  type-word-reads.Learnt,
   put-reads.Asked,
   put-reads.Learnt,
   behind-reads.Asked,
@@ -8074,7 +8074,7 @@ several-kind-word-requires : (t : ℕ) → several-lts.Need-kind-word-requires (
   one-more-reads.Asked,
   one-more-reads.Learnt,
 ) (several-at t) several.Post
-several-kind-word-requires t c κs = tt
+several-type-word-requires t c κs = tt
 
 several-put-requires : (t : ℕ) → several-lts.Need-put-requires (
   none-reads.Asked,
@@ -8083,8 +8083,8 @@ several-put-requires : (t : ℕ) → several-lts.Need-put-requires (
   expr.Post,
   refused-all-reads.Asked,
   refused-all-reads.Learnt,
-  kind-word-reads.Asked,
-  kind-word-reads.Learnt,
+  type-word-reads.Asked,
+  type-word-reads.Learnt,
   put-reads.Asked,
   put-reads.Learnt,
   behind-reads.Asked,
@@ -8103,8 +8103,8 @@ several-behind-requires : (t : ℕ) → several-lts.Need-behind-requires (
   expr.Post,
   refused-all-reads.Asked,
   refused-all-reads.Learnt,
-  kind-word-reads.Asked,
-  kind-word-reads.Learnt,
+  type-word-reads.Asked,
+  type-word-reads.Learnt,
   put-reads.Asked,
   put-reads.Learnt,
   behind-reads.Asked,
@@ -8123,8 +8123,8 @@ several-add-several : (t : ℕ) → several-lts.Need-add-several (
   expr.Post,
   refused-all-reads.Asked,
   refused-all-reads.Learnt,
-  kind-word-reads.Asked,
-  kind-word-reads.Learnt,
+  type-word-reads.Asked,
+  type-word-reads.Learnt,
   put-reads.Asked,
   put-reads.Learnt,
   behind-reads.Asked,
@@ -8143,8 +8143,8 @@ several-several-requires : (t : ℕ) → several-lts.Need-several-requires (
   expr.Post,
   refused-all-reads.Asked,
   refused-all-reads.Learnt,
-  kind-word-reads.Asked,
-  kind-word-reads.Learnt,
+  type-word-reads.Asked,
+  type-word-reads.Learnt,
   put-reads.Asked,
   put-reads.Learnt,
   behind-reads.Asked,
@@ -8163,8 +8163,8 @@ several-one-more-requires : (t : ℕ) → several-lts.Need-one-more-requires (
   expr.Post,
   refused-all-reads.Asked,
   refused-all-reads.Learnt,
-  kind-word-reads.Asked,
-  kind-word-reads.Learnt,
+  type-word-reads.Asked,
+  type-word-reads.Learnt,
   put-reads.Asked,
   put-reads.Learnt,
   behind-reads.Asked,
@@ -8183,8 +8183,8 @@ several-same-length-4 : (t : ℕ) → several-lts.Need-same-length-4 (
   expr.Post,
   refused-all-reads.Asked,
   refused-all-reads.Learnt,
-  kind-word-reads.Asked,
-  kind-word-reads.Learnt,
+  type-word-reads.Asked,
+  type-word-reads.Learnt,
   put-reads.Asked,
   put-reads.Learnt,
   behind-reads.Asked,
@@ -8203,8 +8203,8 @@ several-same-length-5 : (t : ℕ) → several-lts.Need-same-length-5 (
   expr.Post,
   refused-all-reads.Asked,
   refused-all-reads.Learnt,
-  kind-word-reads.Asked,
-  kind-word-reads.Learnt,
+  type-word-reads.Asked,
+  type-word-reads.Learnt,
   put-reads.Asked,
   put-reads.Learnt,
   behind-reads.Asked,
@@ -8223,8 +8223,8 @@ several-same-length-6 : (t : ℕ) → several-lts.Need-same-length-6 (
   expr.Post,
   refused-all-reads.Asked,
   refused-all-reads.Learnt,
-  kind-word-reads.Asked,
-  kind-word-reads.Learnt,
+  type-word-reads.Asked,
+  type-word-reads.Learnt,
   put-reads.Asked,
   put-reads.Learnt,
   behind-reads.Asked,
@@ -8243,8 +8243,8 @@ several-same-length-7 : (t : ℕ) → several-lts.Need-same-length-7 (
   expr.Post,
   refused-all-reads.Asked,
   refused-all-reads.Learnt,
-  kind-word-reads.Asked,
-  kind-word-reads.Learnt,
+  type-word-reads.Asked,
+  type-word-reads.Learnt,
   put-reads.Asked,
   put-reads.Learnt,
   behind-reads.Asked,
@@ -8263,8 +8263,8 @@ several-returns-3 : (t : ℕ) → several-lts.Need-returns-3 (
   expr.Post,
   refused-all-reads.Asked,
   refused-all-reads.Learnt,
-  kind-word-reads.Asked,
-  kind-word-reads.Learnt,
+  type-word-reads.Asked,
+  type-word-reads.Learnt,
   put-reads.Asked,
   put-reads.Learnt,
   behind-reads.Asked,
@@ -8274,7 +8274,7 @@ several-returns-3 : (t : ℕ) → several-lts.Need-returns-3 (
   one-more-reads.Asked,
   one-more-reads.Learnt,
 ) (several-at t) several.Post
-several-returns-3 t c = several-more _ (c .before .before .before .before .before .before .before .before .before .before .before .before .before .before .before .before .before .before .before .before .before .before .before .before .before .before .before .before .before .before .before .before .before .before .before .if1 .left) (c .before .before .before .before .before .before .before .before .before .before .before .before .before .before .before .before .before .before .before .before .before .before .before .before .before .before .before .before .before .before .expr .ensures) (c .before .before .before .before .before .before .before .before .before .before .before .before .before .before .before .before .before .before .before .before .before .before .x .given .1) (c .before .before .before .before .before .before .before .before .before .before .before .before .before .before .before .before .before .before .before .kind-word .ensures .is) (c .before .before .before .before .before .before .before .before .before .before .before .before .before .before .before .before .before .before .put .ensures) (c .before .before .before .before .before .before .before .before .before .before .before .behind .ensures) (c .before .before .before .before .before .before .before .before .before .several .ensures) (c .one-more .ensures)
+several-returns-3 t c = several-more _ (c .before .before .before .before .before .before .before .before .before .before .before .before .before .before .before .before .before .before .before .before .before .before .before .before .before .before .before .before .before .before .before .before .before .before .before .if1 .left) (c .before .before .before .before .before .before .before .before .before .before .before .before .before .before .before .before .before .before .before .before .before .before .before .before .before .before .before .before .before .before .expr .ensures) (c .before .before .before .before .before .before .before .before .before .before .before .before .before .before .before .before .before .before .before .before .before .before .x .given .1) (c .before .before .before .before .before .before .before .before .before .before .before .before .before .before .before .before .before .before .before .type-word .ensures .is) (c .before .before .before .before .before .before .before .before .before .before .before .before .before .before .before .before .before .before .put .ensures) (c .before .before .before .before .before .before .before .before .before .before .before .behind .ensures) (c .before .before .before .before .before .before .before .before .before .several .ensures) (c .one-more .ensures)
 
 pub +adjust+apply+at-splits+binding+body+branch+branches+call+case-of+choice+compound+construct+enter+expr+fit+operation+several-spec :
     {M : Type 1} → statement M
@@ -8326,7 +8326,7 @@ pub +adjust+apply+at-splits+binding+body+branch+branches+call+case-of+choice+com
     (adjust-same-length-3 t)
     (adjust-same-length-4 t)
     (adjust-returns-2 t)
-    (adjust-enum-known-kind t)
+    (adjust-enum-known-ty t)
     (adjust-add-t29 t)
     (adjust-same-length-5 t)
     (adjust-same-length-6 t)
@@ -8394,8 +8394,8 @@ pub +adjust+apply+at-splits+binding+body+branch+branches+call+case-of+choice+com
       widen-reads.Learnt,
       expr-below t,
       expr.Post,
-      is-kind-reads.Asked,
-      is-kind-reads.Learnt,
+      is-type-reads.Asked,
+      is-type-reads.Learnt,
       larger-reads.Asked,
       larger-reads.Learnt,
       next-split-reads.Asked,
@@ -8421,7 +8421,7 @@ pub +adjust+apply+at-splits+binding+body+branch+branches+call+case-of+choice+com
     (at-splits-same-length-2 t)
     (at-splits-same-length-3 t)
     (at-splits-returns t)
-    (at-splits-is-kind-requires t)
+    (at-splits-is-type-requires t)
     (at-splits-add-t34 t)
     (at-splits-same-length-4 t)
     (at-splits-same-length-5 t)
@@ -8440,8 +8440,8 @@ pub +adjust+apply+at-splits+binding+body+branch+branches+call+case-of+choice+com
     (λ t. binding-lts.spec (
       expr-below t,
       expr.Post,
-      kind-word-reads.Asked,
-      kind-word-reads.Learnt,
+      type-word-reads.Asked,
+      type-word-reads.Learnt,
       put-reads.Asked,
       put-reads.Learnt,
       behind-reads.Asked,
@@ -8461,7 +8461,7 @@ pub +adjust+apply+at-splits+binding+body+branch+branches+call+case-of+choice+com
     (binding-same-length-3 t)
     (binding-returns t)
     (binding-cast-put t)
-    (binding-kind-word-requires t)
+    (binding-type-word-requires t)
     (binding-put-requires t)
     (binding-behind-requires t)
     (binding-widen-requires t)
@@ -8484,8 +8484,8 @@ pub +adjust+apply+at-splits+binding+body+branch+branches+call+case-of+choice+com
       body-place-reads.Learnt,
       expr-below t,
       expr.Post,
-      is-kind-reads.Asked,
-      is-kind-reads.Learnt,
+      is-type-reads.Asked,
+      is-type-reads.Learnt,
       finish-reads.Asked,
       finish-reads.Learnt,
       moved-reads.Asked,
@@ -8507,7 +8507,7 @@ pub +adjust+apply+at-splits+binding+body+branch+branches+call+case-of+choice+com
     (body-same-length-2 t)
     (body-same-length-3 t)
     (body-returns-2 t)
-    (body-is-kind-requires t)
+    (body-is-type-requires t)
     (body-add-t32 t)
     (body-same-length-4 t)
     (body-same-length-5 t)
@@ -8652,7 +8652,7 @@ pub +adjust+apply+at-splits+binding+body+branch+branches+call+case-of+choice+com
     (case-of-same-length-2 t)
     (case-of-same-length-3 t)
     (case-of-returns t)
-    (case-of-enum-known-kind t)
+    (case-of-enum-known-ty t)
     (case-of-add-t29 t)
     (case-of-same-length-4 t)
     (case-of-same-length-5 t)
@@ -8929,7 +8929,7 @@ pub +adjust+apply+at-splits+binding+body+branch+branches+call+case-of+choice+com
     (fit-same-length-2 t)
     (fit-same-length-3 t)
     (fit-returns t)
-    (fit-enum-known-kind t)
+    (fit-enum-known-ty t)
     (fit-add-t27 t)
     (fit-same-length-4 t)
     (fit-same-length-5 t)
@@ -9004,8 +9004,8 @@ pub +adjust+apply+at-splits+binding+body+branch+branches+call+case-of+choice+com
       expr.Post,
       refused-all-reads.Asked,
       refused-all-reads.Learnt,
-      kind-word-reads.Asked,
-      kind-word-reads.Learnt,
+      type-word-reads.Asked,
+      type-word-reads.Learnt,
       put-reads.Asked,
       put-reads.Learnt,
       behind-reads.Asked,
@@ -9027,7 +9027,7 @@ pub +adjust+apply+at-splits+binding+body+branch+branches+call+case-of+choice+com
     (several-same-length-2 t)
     (several-same-length-3 t)
     (several-returns-2 t)
-    (several-kind-word-requires t)
+    (several-type-word-requires t)
     (several-put-requires t)
     (several-behind-requires t)
     (several-add-several t)

@@ -37,8 +37,8 @@ returns c = channel-refused (c .before .before .before .before .before .before .
 channel-type-requires : tie.Need-channel-type-requires
 channel-type-requires c κs = tt
 
-is-kind-requires : tie.Need-is-kind-requires
-is-kind-requires c κs = tt
+is-type-requires : tie.Need-is-type-requires
+is-type-requires c κs = tt
 
 add-t26 : tie.Need-add-t26
 add-t26 c = omega (arith, ap (λ z. z .line) (c .before .before .before .before .before .before .before .before .before .before .before .before .before .before .before .before .outer-place .ensures), (c .before .before .before .before .before .before .before .before .before .before .before .before .before .before .before .before .before .before .before .before .pre .0 .types), (c .before .before .before .before .before .before .before .before .before .before .before .before .before .before .before .before .before .before .before .before .pre .0 .functions), (c .before .before .before .before .before .before .before .before .before .before .before .before .before .before .before .before .before .before .before .before .pre .1 .0))
@@ -47,13 +47,13 @@ same-length-2 : tie.Need-same-length-2
 same-length-2 c = (c .before .before .before .before .before .before .before .before .before .before .before .expr .kept .1 .1 .0)
 
 returns-2 : tie.Need-returns-2
-returns-2 c = channel-differs (c .before .before .before .before .before .before .before .before .before .before .before .before .before .before .before .before .before .expression-start .ensures) (c .before .before .before .before .before .before .before .before .before .before .before .before .before .before .before .before .outer-place .ensures) (c .before .before .before .before .before .before .before .before .before .before .before .expr .ensures) (c .before .before .before .before .before .x .given .1) (c .before .before .before .channel-type .ensures) (c .before .before .is-kind .ensures) (not-true _ (c .before .if1 .taken))
+returns-2 c = channel-differs (c .before .before .before .before .before .before .before .before .before .before .before .before .before .before .before .before .before .expression-start .ensures) (c .before .before .before .before .before .before .before .before .before .before .before .before .before .before .before .before .outer-place .ensures) (c .before .before .before .before .before .before .before .before .before .before .before .expr .ensures) (c .before .before .before .before .before .x .given .1) (c .before .before .before .channel-type .ensures) (c .before .before .is-type .ensures) (not-true _ (c .before .if1 .taken))
 
 same-length-3 : tie.Need-same-length-3
 same-length-3 c = (c .before .before .before .before .before .before .before .before .before .before .expr .kept .1 .1 .0)
 
 returns-3 : tie.Need-returns-3
-returns-3 c = channel-done (c .before .before .before .before .before .before .before .before .before .before .before .before .before .before .before .before .expression-start .ensures) (c .before .before .before .before .before .before .before .before .before .before .before .before .before .before .before .outer-place .ensures) (c .before .before .before .before .before .before .before .before .before .before .expr .ensures) (c .before .before .before .before .x .given .1) (c .before .before .channel-type .ensures) (c .before .is-kind .ensures) (not-false _ (c .if1 .left)) refl
+returns-3 c = channel-done (c .before .before .before .before .before .before .before .before .before .before .before .before .before .before .before .before .expression-start .ensures) (c .before .before .before .before .before .before .before .before .before .before .before .before .before .before .before .outer-place .ensures) (c .before .before .before .before .before .before .before .before .before .before .expr .ensures) (c .before .before .before .before .x .given .1) (c .before .before .channel-type .ensures) (c .before .is-type .ensures) (not-false _ (c .if1 .left)) refl
 
 pub channel-spec : {M : Type 1} → statement M
 channel-spec =
@@ -69,7 +69,7 @@ channel-spec =
     same-length
     returns
     channel-type-requires
-    is-kind-requires
+    is-type-requires
     add-t26
     same-length-2
     returns-2

@@ -26,8 +26,8 @@ returns c = prepare-no-condition _ _ _ _ _ (c .before .before .before .before .f
 measure-start-requires : tie.Need-measure-start-requires
 measure-start-requires c κs = search needs
 
-weight-requires : tie.Need-weight-requires
-weight-requires c κs = search needs
+summed-measure-requires : tie.Need-summed-measure-requires
+summed-measure-requires c κs = search needs
 
 falls-requires : tie.Need-falls-requires
 falls-requires c κs = search needs
@@ -36,7 +36,7 @@ add-t17 : tie.Need-add-t17
 add-t17 c = omega (arith, (c .before .before .before .before .before .before .before .before .before .before .before .before .pre .1 .0))
 
 returns-2 : tie.Need-returns-2
-returns-2 c = prepare-no-fall _ _ _ _ _ (c .before .before .before .before .before .before .before .before .frame-line .ensures) (c .before .before .before .before .before .before .before .conditions-start .ensures) (c .before .before .before .before .before .before .conditions-hold .ensures) (not-false _ (c .before .before .before .before .before .if1 .left)) (c .before .before .before .before .measure-start .ensures) (c .before .before .before .weight .ensures) (c .before .before .falls .ensures) (not-true _ (c .before .if2 .taken))
+returns-2 c = prepare-no-fall _ _ _ _ _ (c .before .before .before .before .before .before .before .before .frame-line .ensures) (c .before .before .before .before .before .before .before .conditions-start .ensures) (c .before .before .before .before .before .before .conditions-hold .ensures) (not-false _ (c .before .before .before .before .before .if1 .left)) (c .before .before .before .before .measure-start .ensures) (c .before .before .before .summed-measure .ensures) (c .before .before .falls .ensures) (not-true _ (c .before .if2 .taken))
 
 result-start-requires : tie.Need-result-start-requires
 result-start-requires c κs = search needs
@@ -57,10 +57,10 @@ add-t19 : tie.Need-add-t19
 add-t19 c = omega (arith, (c .before .before .before .before .before .before .before .before .before .before .before .before .before .before .before .before .pre .0), (c .before .before .before .before .before .before .before .before .before .before .before .before .before .before .before .before .pre .1 .1))
 
 returns-3 : tie.Need-returns-3
-returns-3 c = prepare-no-size _ _ _ _ _ (c .before .before .before .before .before .before .before .before .before .before .before .before .frame-line .ensures) (c .before .before .before .before .before .before .before .before .before .before .before .conditions-start .ensures) (c .before .before .before .before .before .before .before .before .before .before .conditions-hold .ensures) (not-false _ (c .before .before .before .before .before .before .before .before .before .if1 .left)) (c .before .before .before .before .before .before .before .before .measure-start .ensures) (c .before .before .before .before .before .before .before .weight .ensures) (c .before .before .before .before .before .before .falls .ensures) (not-false _ (c .before .before .before .before .before .if2 .left)) (c .before .before .before .before .result-start .ensures) (c .before .before .before .type-at .ensures) ((c .before .enum-told .given) .1)
+returns-3 c = prepare-no-size _ _ _ _ _ (c .before .before .before .before .before .before .before .before .before .before .before .before .frame-line .ensures) (c .before .before .before .before .before .before .before .before .before .before .before .conditions-start .ensures) (c .before .before .before .before .before .before .before .before .before .before .conditions-hold .ensures) (not-false _ (c .before .before .before .before .before .before .before .before .before .if1 .left)) (c .before .before .before .before .before .before .before .before .measure-start .ensures) (c .before .before .before .before .before .before .before .summed-measure .ensures) (c .before .before .before .before .before .before .falls .ensures) (not-false _ (c .before .before .before .before .before .if2 .left)) (c .before .before .before .before .result-start .ensures) (c .before .before .before .type-at .ensures) ((c .before .enum-told .given) .1)
 
 returns-4 : tie.Need-returns-4
-returns-4 c = prepare-ready _ _ _ _ _ (c .before .before .before .before .before .before .before .before .before .before .before .before .frame-line .ensures) (c .before .before .before .before .before .before .before .before .before .before .before .conditions-start .ensures) (c .before .before .before .before .before .before .before .before .before .before .conditions-hold .ensures) (not-false _ (c .before .before .before .before .before .before .before .before .before .if1 .left)) (c .before .before .before .before .before .before .before .before .measure-start .ensures) (c .before .before .before .before .before .before .before .weight .ensures) (c .before .before .before .before .before .before .falls .ensures) (not-false _ (c .before .before .before .before .before .if2 .left)) (c .before .before .before .before .result-start .ensures) (c .before .before .before .type-at .ensures) ((c .before .x .given) .1)
+returns-4 c = prepare-ready _ _ _ _ _ (c .before .before .before .before .before .before .before .before .before .before .before .before .frame-line .ensures) (c .before .before .before .before .before .before .before .before .before .before .before .conditions-start .ensures) (c .before .before .before .before .before .before .before .before .before .before .conditions-hold .ensures) (not-false _ (c .before .before .before .before .before .before .before .before .before .if1 .left)) (c .before .before .before .before .before .before .before .before .measure-start .ensures) (c .before .before .before .before .before .before .before .summed-measure .ensures) (c .before .before .before .before .before .before .falls .ensures) (not-false _ (c .before .before .before .before .before .if2 .left)) (c .before .before .before .before .result-start .ensures) (c .before .before .before .type-at .ensures) ((c .before .x .given) .1)
 
 pub prepare-spec : {M : Type 1} → statement M
 prepare-spec =
@@ -73,7 +73,7 @@ prepare-spec =
     add-t16
     returns
     measure-start-requires
-    weight-requires
+    summed-measure-requires
     falls-requires
     add-t17
     returns-2

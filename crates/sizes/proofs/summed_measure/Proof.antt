@@ -1,7 +1,7 @@
 -- `weight` meets its contract, return by return.
 use Rattle.sizes.specs.ConditionLaws.{measures-counted}
-use Rattle.sizes.proofs.weight.Statement.{statement}
-use Rattle.sizes.proofs.weight.Tie as tie
+use Rattle.sizes.proofs.summed_measure.Statement.{statement}
+use Rattle.sizes.proofs.summed_measure.Tie as tie
 
 read-requires : tie.Need-read-requires
 read-requires c κs = tt
@@ -12,5 +12,5 @@ measures-requires c κs = (c .before .read .ensures) .less
 returns : tie.Need-returns
 returns c = measures-counted _ _ _ (c .before .before .read .ensures) (c .measures .ensures)
 
-pub weight-spec : {M : Type 1} → statement M
-weight-spec = tie.close (tie.spec read-requires measures-requires returns)
+pub summed-measure-spec : {M : Type 1} → statement M
+summed-measure-spec = tie.close (tie.spec read-requires measures-requires returns)
