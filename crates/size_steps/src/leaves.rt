@@ -27,9 +27,9 @@ use sizes::TypeAt;
 use sizes::conditions_hold;
 use sizes::rows::fields_agree;
 use sizes::rows::own_sum;
+use sizes::summed_measure;
 use sizes::type_at;
 use sizes::type_of;
-use sizes::summed_measure;
 
 // The type whose word stands in a row, 0 beyond it.
 pub fn type_in(row: &[u32], i: usize) -> SizedType
