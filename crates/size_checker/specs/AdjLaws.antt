@@ -35,7 +35,7 @@ use Rattle.size_checker.specs.Promises.{Lent, Buffers, Here, Sizes, Expr
 use Rattle.size_checker.specs.Parts.{AdjPart}
 use Rattle.size_checker.specs.HereLaws.{ends-at, here-moved, suc-same}
 use Rattle.size_checker.specs.TurnLaws.{sizes-at, part-agrees, sizes-scope, in-frame, grown-is}
-use Rattle.size_checker.specs.NamedTypes.{named-type, NotNamed, bounded-at, named-type}
+use Rattle.size_checker.specs.NamedTypes.{is-named, NotNamed, bounded-at, named-type}
 
 -- ---- a size by the way its answer went
 is-size : {x : Option ℕ} {end k : ℕ} {next : Cursor} {r : SizeAt} → AgreesSize x end r → r ≡ SizeIs k next → (x ≡ some k) × (next .at ≡ end)
@@ -92,7 +92,7 @@ module _ {t : Lent} {b : Buffers} {p : Place} {line : List ℕ} {s : SizeAt} (g 
       says = λ P S q Γ Δ L left h end e part. let i = part .head in let size = is-size (size-here h (i .within) (i .spelled)) d in
           rw (i .is) (from-some 10 _ _ (size .0)
           (bind-is _ (part-agrees behind (here-sized h) (i .spelled₂) (i .within₂) (size .1) (suc-same (i .deep))) d₂ (λ z c.
-          named-before _ _ _ (λ y j named. absurd (plain y j (named-type (a .ty) (c .type ∙ named)))))));
+          named-before _ _ _ (λ y j named. absurd (plain y j (is-named (a .ty) (c .type ∙ named)))))));
       grows = not-grown;
       kept = kept-moved (behind .kept);
     }

@@ -40,7 +40,7 @@ use Rattle.size_checker.specs.Parts.{CasePart}
 use Rattle.size_steps.specs.Leaves.{subjectOf}
 use Rattle.size_checker.specs.HereLaws.{part-at, ends-at, here-moved, suc-same}
 use Rattle.size_checker.specs.TurnLaws.{behind-first, here-behind, sizes-scope, in-frame, grown-is}
-use Rattle.size_checker.specs.NamedTypes.{named-type, NotNamed, bounded-size}
+use Rattle.size_checker.specs.NamedTypes.{is-named, NotNamed, bounded-size}
 
 -- a named type
 named-is : {B : Type 0} {P : File} {viewed : B → Sized} {next : ℕ} {words : List ℕ} {r : Sizing} {τ : Ty} {t k : ℕ} (frame : ℕ) (κ : ℕ → ℕ → Result B) → τ ≡ tnamed t k → Agrees P viewed next words r (κ t k) → Agrees P viewed next words r (named τ frame κ)
@@ -63,7 +63,7 @@ module _ {t : Lent} {b b₁ : Buffers} {p : Place} {x : Sizing} (v : Sizes ExprP
     case-plain other = record {
       says = λ P S q Γ Δ L left h end e part. let i = part .head in
           rw (i .is) (bind-is _ (v .says P S q Γ Δ L left h _ (i .first) (part-at p (i .spelled) (i .within) refl (suc-same (i .deep)))) d (λ z c.
-          named-before _ _ _ (λ w k is. absurd (other w k (named-type (a .ty) (c .type ∙ is))))));
+          named-before _ _ _ (λ w k is. absurd (other w k (is-named (a .ty) (c .type ∙ is))))));
       grows = not-grown;
       kept = v .kept;
     }

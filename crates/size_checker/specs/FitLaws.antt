@@ -28,7 +28,7 @@ use Rattle.size_checker.specs.Promises.{Lent, Buffers, Here, Sizes, Expr
 use Rattle.size_checker.specs.Parts.{FitPart}
 use Rattle.size_checker.specs.HereLaws.{Fits, fits-of, ends-at, here-bound, suc-same}
 use Rattle.size_checker.specs.TurnLaws.{sizes-at, part-agrees, Behind, behind-first, behind-next, next-kept, next-grows, here-behind, boundIn, boundAt, bound-at, under-kept, under-grows, behind-under, in-frame, grown-is}
-use Rattle.size_checker.specs.NamedTypes.{named-type, NotNamed, bounded-at, named-type}
+use Rattle.size_checker.specs.NamedTypes.{is-named, NotNamed, bounded-at, named-type}
 
 module _ (k : ℕ) {t : Lent} {b b₁ : Buffers} {p : Place} {x : Sizing} (v : Sizes ExprPart t b p x b₁) where
   pub fit-subject : {n frame : ℕ} → x ≡ Refused n frame → Sizes (FitPart k) t b p x b₁
@@ -46,7 +46,7 @@ module _ (k : ℕ) {t : Lent} {b b₁ : Buffers} {p : Place} {x : Sizing} (v : S
   fit-plain {a} d plain = record {
     says = λ P S q Γ Δ L left h end e part. let i = part .head in
         rw (i .is) (bind-is _ (part-agrees v h (i .spelled) (i .within) refl (suc-same (i .deep))) d (λ z c.
-        named-before _ _ _ (λ u j named. absurd (plain u j (named-type (a .ty) (c .type ∙ named))))));
+        named-before _ _ _ (λ u j named. absurd (plain u j (is-named (a .ty) (c .type ∙ named))))));
     grows = not-grown;
     kept = v .kept;
   }

@@ -9,10 +9,10 @@ use Rattle.sizes.specs.declared.SizedType.the-variants.{Bool as BoolIs, Int as 
 use Rattle.sizes.specs.Promises.{meaning}
 use Rattle.size_steps.specs.Sites.{Bounded, bounded-bool, bounded-int, bounded-named}
 
-pub named-type : {t k : ℕ} (x : SizedType) → meaning x ≡ tnamed t k → x ≡ Named t k
-named-type BoolIs e = absurd (let z : _≡_ {A = ℕ} 0 1 = cc in omega arith)
-named-type IntIs e = absurd (let z : _≡_ {A = ℕ} 0 1 = cc in omega arith)
-named-type {t} {k} (Named u j) e = let type : u ≡ t = cc in let size : j ≡ k = cc in ap₂ Named type size
+pub is-named : {t k : ℕ} (x : SizedType) → meaning x ≡ tnamed t k → x ≡ Named t k
+is-named BoolIs e = absurd (let z : _≡_ {A = ℕ} 0 1 = cc in omega arith)
+is-named IntIs e = absurd (let z : _≡_ {A = ℕ} 0 1 = cc in omega arith)
+is-named {t} {k} (Named u j) e = let type : u ≡ t = cc in let size : j ≡ k = cc in ap₂ Named type size
 
 -- a type that is not named
 abbrev pub NotNamed : SizedType → Type 0

@@ -15,7 +15,7 @@ use Rattle.language.specs.Limits.{sizeMost}
 use Rattle.language.specs.Result.{choose}
 use Rattle.theory.specs.Lists.{false-is-not-true, both-right}
 use Rattle.theory.specs.Tests.{Whenever, w-some, w-none, whenever-when, whenever-is}
-use Rattle.splits.specs.Next.{gives, lastAs, before, next}
+use Rattle.splits.specs.Next.{mayMove, lastAs, before, next}
 use Rattle.splits.specs.Moves.{Moves}
 use Rattle.splits.specs.MoveLaws.{drop-of-take}
 use Rattle.splits.specs.Walks.{next-long}
@@ -64,10 +64,10 @@ unfolding splitsLeft
 fewer-before k ks js long less = record { long = ap suc long; fewer = rw long (omega (arith, one-less k (whole (length ks)) less, subst (λ n. splitsLeft js < whole n) long (left-less js))) }
 
 before-fewer : (k : ℕ) (ks : List ℕ) (o : Option (List ℕ)) → Whenever (Fewer ks) o → Whenever (Fewer (k ∷ ks)) (before k ks o)
-unfolding before gives
+unfolding before mayMove
 before-fewer k ks (some js) (w-some g) = w-some (fewer-behind k ks js g)
 before-fewer k [] none w = w-none
-before-fewer k (p ∷ ks) none w = whenever-when (gives k p) _ (λ e. fewer-before k (p ∷ ks) _ (last-as-long (p - 1) (1 ∷ ks)) (ltb-true k sizeMost (both-right (ltb 1 p) (ltb k sizeMost) e)))
+before-fewer k (p ∷ ks) none w = whenever-when (mayMove k p) _ (λ e. fewer-before k (p ∷ ks) _ (last-as-long (p - 1) (1 ∷ ks)) (ltb-true k sizeMost (both-right (ltb 1 p) (ltb k sizeMost) e)))
 
 next-fewer : (ks : List ℕ) → Whenever (Fewer ks) (next ks)
 unfolding next
