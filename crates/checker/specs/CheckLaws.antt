@@ -22,7 +22,7 @@ use Rattle.plain_types.specs.JudgeLaws.{plain-types-verdict}
 use Rattle.size_steps.specs.declared.Counted.{Counted as CountedFile}
 use Rattle.size_steps.specs.declared.Counting.{Counting}
 use Rattle.size_steps.specs.declared.Counting.the-variants.{Are, Refused}
-use Rattle.size_steps.specs.Agreement.{Holds, Before, before-6, before-9}
+use Rattle.size_steps.specs.Agreement.{table, Holds, Before, before-6, before-9}
 use Rattle.size_checker.specs.Promises.{lent}
 use Rattle.size_checker.specs.FilePromises.{AgreesFile, file-agrees, file-refused, file-beyond, SizesFile}
 use Rattle.checker.specs.declared.Board.{Board}
@@ -34,9 +34,10 @@ use Rattle.checker.specs.Outcomes.{lends, sizesOf, outcome, refused, not
 -- the numbers and the instances of a file whose sizes agree
 record Agreed (text : List ℕ) (b : Board) (list : List ℕ) (P : File) (list₁ : List ℕ) (k : CountedFile) : Type 0 where
   sizes : SizedFile
+  memo : List ℕ
   is : outcome text b list ≡ ok (record { file = P; sizes = sizes })
   numbers : Stands (k .numbers) (updatesNumbers (sizes .updates))
-  holds : Holds P list₁ (k .used) (sizes .list)
+  holds : Holds P (table list₁ memo) (k .used) (sizes .list)
 
 module _ {text index : List ℕ} (z : ReadHeld text index) where
   module _ (b : Board) (list : List ℕ) {frame : ℕ} (v : JudgesAll text index frame) where
@@ -92,13 +93,14 @@ module _ {text index : List ℕ} (z : ReadHeld text index) where
         agreed {k} e = go (sizedFile (z .file)) refl agreement
           where
             go : (y : Result SizedFile) → sizedFile (z .file) ≡ y → AgreesFile (z .file) list₁ x y → Agreed text b list (z .file) list₁ k
-            go y q (file-agrees {k = j} {x = f} d st h) =
+            go y q (file-agrees {k = j} {x = f} {memo = m} d st h) =
                 let same : j ≡ k = (let u : Are j ≡ Are k = sym d ∙ e in cc) in
                 record {
                   sizes = f;
+                  memo = m;
                   is = after-lent ∙ ap (λ u. bind u (λ w. ok (record { file = z .file; sizes = w }))) q;
                   numbers = subst (λ (i : CountedFile). Stands (i .numbers) (updatesNumbers (f .updates))) same st;
-                  holds = subst (λ (i : CountedFile). Holds (z .file) list₁ (i .used) (f .list)) same h;
+                  holds = subst (λ (i : CountedFile). Holds (z .file) (table list₁ m) (i .used) (f .list)) same h;
                 }
             go y q (file-refused d) = absurd (let u = sym d ∙ e in let c : _≡_ {A = ℕ} 0 1 = cc in omega arith)
             go y q (file-beyond w) = not-before q w

@@ -15,7 +15,7 @@ use Rattle.index.specs.Padded.{padded-none}
 use Rattle.instances.specs.Listed.{instanceWordsCount, flat}
 use Rattle.instances.specs.ListLaws.{flat-length, listed-parts}
 use Rattle.instances.specs.Records.{recordWords, flat-records, empty-records}
-use Rattle.size_steps.specs.Agreement.{Holds}
+use Rattle.size_steps.specs.Agreement.{table, Holds}
 use Rattle.checker.specs.Checks.{recordsOf, wordsOf}
 
 -- zeros filled up with zeros, alone and behind other words
@@ -38,7 +38,7 @@ pub cleared : (words : ℕ) → replicate words 0 ≡ wordsOf words (recordsOf w
 cleared words = let n = words / instanceWordsCount in sym (ap (padded words) (empty-records n) ∙ padded-zeros words (instanceWordsCount * n))
 
 -- the instances' records are
-pub listed : {P : File} {list : List ℕ} {used : ℕ} (L : List Instance) (n : ℕ) → Holds P list used L → list ≡ wordsOf (length list) (map recordOf L ++ replicate (n - length L) emptyRecord)
+pub listed : {P : File} {list memo : List ℕ} {used : ℕ} (L : List Instance) (n : ℕ) → Holds P (table list memo) used L → list ≡ wordsOf (length list) (map recordOf L ++ replicate (n - length L) emptyRecord)
 listed {list} {used} L n h =
     let long : length (flat L) ≡ instanceWordsCount * length L = flat-length L in
     let room : length (flat L) ≤ length list = omega (arith, long, h .listed .room) in

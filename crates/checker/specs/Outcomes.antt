@@ -12,7 +12,7 @@ use Rattle.language.specs.Cells.{numbersNeeded}
 use Rattle.language.specs.Machine.{Accepted, accepted, Verdict, answer, judge, judged, verdictOf, finalList, checkFile, listLent, check, emptyRecord}
 use Rattle.estimate.specs.declared.Estimate.{Estimate as Held}
 use Rattle.instances.specs.Listed.{instanceWordsCount}
-use Rattle.size_steps.specs.Agreement.{Holds}
+use Rattle.size_steps.specs.Agreement.{table, Holds}
 use Rattle.checker.specs.declared.Board.{Board}
 use Rattle.checker.specs.declared.Answer.{Answer}
 use Rattle.checker.specs.Checks.{boardOf, numbersOf, said, recordsOf, wordsOf, Checks, refusalOf, Judges}
@@ -61,7 +61,7 @@ module _ (text : List ℕ) (b : Board) (list : List ℕ) where
     unfolding finalList
     not-enough some g = by-verdict (number-refuses (boardOf b) (numbersOf x) (λ z. some (number-is ∙ z)) .1) (none-left g)
 
-    pub enough-lent : {list′ : List ℕ} {P : File} {used : ℕ} → r .number ≡ 0 → Holds P list′ used (a .sizes .list) → length list′ ≡ length list → Checks text b list r list′
+    pub enough-lent : {list′ memo : List ℕ} {P : File} {used : ℕ} → r .number ≡ 0 → Holds P (table list′ memo) used (a .sizes .list) → length list′ ≡ length list → Checks text b list r list′
     unfolding finalList
     enough-lent {list′} none h long =
         by-verdict (number-accepts (boardOf b) (numbersOf x) (sym number-is ∙ none))

@@ -4,6 +4,7 @@ pub mod HeadParts
 pub mod HeadForms
 pub mod ReadLaws
 pub mod HeadLaws
+pub mod Variables
 pub mod Skips
 pub mod PartLaws
 pub mod SkipHeads

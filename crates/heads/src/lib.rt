@@ -4,6 +4,7 @@ pub mod skip;
 ghost use mathlib.Core.Path.{_≡_};
 ghost use Rattle.heads.specs.HeadLaws.{missingHead};
 ghost use Rattle.heads.specs.Heads.{Heads, Coded, OtherCode};
+ghost use Rattle.heads.specs.Variables.{VariableRead};
 use language::codes::EXPR_ADJUST;
 use language::codes::EXPR_BOOL;
 use language::codes::EXPR_CALL;
@@ -150,4 +151,31 @@ pub fn head_at(line: &[u8], c: Cursor) -> Head
         },
         _ => one_operand(line, c, next, code),
     }
+}
+
+// A variable and the cursor behind it.
+pub enum VariableAt {
+    Is(u32, Cursor),
+    Other,
+}
+
+// Whether the expression at a place is a variable, which needs no more than two bytes.
+pub fn variable_at(line: &[u8], c: Cursor) -> VariableAt
+    ensures { λ r. ⌜ VariableRead (now (line .entry)) (c .at) r ⌝ }
+{
+    let x = c.byte(line);
+    let Number::Is(f) = x else {
+        return VariableAt::Other;
+    };
+    if f.value != EXPR_VARIABLE {
+        return VariableAt::Other;
+    }
+    let second = f.next;
+    let y = second.byte(line);
+    let Number::Is(g) = y else {
+        return VariableAt::Other;
+    };
+    let v = g.value;
+    let next = g.next;
+    VariableAt::Is(v, next)
 }

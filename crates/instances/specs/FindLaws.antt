@@ -18,6 +18,7 @@ use Rattle.language.specs.Checker.{Instance, find}
 use Rattle.language.specs.Within.{All}
 use Rattle.theory.specs.Lists.{both-left, both-right}
 use Rattle.theory.specs.Alls.{all-getD, all-in}
+use Rattle.theory.specs.Places.{look-at}
 use Rattle.theory.specs.SameTests.{same-sizes, sizes-same}
 use Rattle.theory.specs.Different.{Distinct, distinct-cons}
 use Rattle.theory.specs.Instances.{key, keyOf, keysOf}
@@ -26,7 +27,7 @@ use Rattle.theory.specs.Padding.{padded-length, padded-front}
 use Rattle.index.specs.Padded.{padded-at}
 use Rattle.estimate.specs.declared.Estimate.{Estimate as Held}
 use Rattle.instances.specs.declared.Search.the-variants.{Found, Absent}
-use Rattle.instances.specs.Listed.{instanceWordsCount, numbersFrom, Listed, SizesAre, SameArity, Finds, found, absent}
+use Rattle.instances.specs.Listed.{instanceWordsCount, numbersFrom, Listed, SizesAre, SameArity, Agrees, found, absent, Finds}
 use Rattle.instances.specs.Matches.{Compared, all-same, one-other, noInstance, at, Matches, Numbers}
 use Rattle.instances.specs.ListLaws.{function-word, size-word, number-word}
 
@@ -114,17 +115,21 @@ find-later : (f : ℕ) (ks : List ℕ) (q : Instance) (L : List Instance) → bo
 unfolding find
 find-later f ks q L e = rw (e, find)
 
+-- the record at a place is the instance that is found
+found-at : {f : ℕ} {ks : List ℕ} (L : List Instance) (i : ℕ) → i < length L → both (eqb (at L i .function) f) (sameSizes (at L i .sizes) ks) ≡ true → find L f ks ≡ some (at L i .numbers) → Agrees L f ks (Found i)
+found-at {f} {ks} L i h e is = found (look-at L i noInstance h) (eqb-true (at L i .function) f (both-left _ _ e)) (same-sizes (at L i .sizes) ks (both-right _ _ e)) is
+
 module _ {words : List ℕ} {used f : ℕ} {sizes : List ℕ} where
   pub passed-start : Passed words used f sizes 0
   passed-start = record { says = λ L ks v u s a. refl }
 
   module _ {i : ℕ} (p : Passed words used f sizes i) where
-    pub passed-found : {r : Bool} {x : Held} → i < used → Matches words i f sizes r → r ≡ true → Numbers words i x → Finds words used f sizes (Found x)
-    passed-found less m e n = record {
+    pub passed-found : {r : Bool} → i < used → Matches words i f sizes r → r ≡ true → Finds words used f sizes (Found i)
+    passed-found less m e = record {
       says = λ L ks v u d s a.
           let h : i < length L = omega (arith, u) in
-          let is = p .says L ks v u s a ∙ ap (λ M. find M f ks) (drop-cons L i noInstance h) ∙ find-here f ks (at L i) (drop (suc i) L) (sym (m .says L ks v h s (all-getD a i noInstance h)) ∙ e) in
-          rw is (found (n .says L v h));
+          let this : both (eqb (at L i .function) f) (sameSizes (at L i .sizes) ks) ≡ true = sym (m .says L ks v h s (all-getD a i noInstance h)) ∙ e in
+          found-at L i h this (p .says L ks v u s a ∙ ap (λ M. find M f ks) (drop-cons L i noInstance h) ∙ find-here f ks (at L i) (drop (suc i) L) this);
     }
 
     pub passed-on : {r : Bool} → i < used → Matches words i f sizes r → r ≡ false → Passed words used f sizes (i + 1)
@@ -137,7 +142,7 @@ module _ {words : List ℕ} {used f : ℕ} {sizes : List ℕ} where
     pub passed-end : used ≤ i → Finds words used f sizes Absent
     unfolding find
     passed-end le = record {
-      says = λ L ks v u d s a. rw (p .says L ks v u s a, drop-of-length-le L {i = i} (omega (arith, u))) absent;
+      says = λ L ks v u d s a. absent (p .says L ks v u s a ∙ ap (λ M. find M f ks) (drop-of-length-le L {i = i} (omega (arith, u))));
     }
 
 -- ---- the record that a hint names: where no instance stands twice, the one that is found
@@ -156,9 +161,10 @@ find-only f ks (q ∷ L) (distinct-cons new d) (suc i) h e = let less : i < leng
     go rest less true t = absurd (new (rw (key-asked f ks q t ∙ sym (key-asked f ks (at L i) e)) (key-stands (at-stands L i less))))
     go rest less false t = find-later f ks q L t ∙ rest
 
-pub hint-found : {words sizes : List ℕ} {used f k : ℕ} {r : Bool} {x : Held} → 0 < k → k ≤ used → Matches words (k - 1) f sizes r → r ≡ true → Numbers words (k - 1) x → Finds words used f sizes (Found x)
-hint-found {f} {k} some-hint low m e n = record {
+pub hint-found : {words sizes : List ℕ} {used f k : ℕ} {r : Bool} → 0 < k → k ≤ used → Matches words (k - 1) f sizes r → r ≡ true → Finds words used f sizes (Found (k - 1))
+hint-found {f} {k} some-hint low m e = record {
   says = λ L ks v u d s a.
       let h : k - 1 < length L = omega (arith, u) in
-      rw (find-only f ks L d (k - 1) h (sym (m .says L ks v h s (all-getD a (k - 1) noInstance h)) ∙ e)) (found (n .says L v h));
+      let this : both (eqb (at L (k - 1) .function) f) (sameSizes (at L (k - 1) .sizes) ks) ≡ true = sym (m .says L ks v h s (all-getD a (k - 1) noInstance h)) ∙ e in
+      found-at L (k - 1) h this (find-only f ks L d (k - 1) h this);
 }

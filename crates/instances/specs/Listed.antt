@@ -1,9 +1,9 @@
 -- The list of instances in words, and what the functions on it promise.
 use Prim.Native.Nat.{ℕ, suc, _+_, _*_, _≤_, _<_}
 use mathlib.Core.List.{List, [], _∷_, _++_}
-use mathlib.Core.Option.{Option, none, some}
+use mathlib.Core.Option.{none, some}
 use mathlib.Core.Path.{_≡_}
-use lib.ListN.{length, take, drop, set, getElem? as look}
+use lib.ListN.{length, getD, take, drop, set, getElem? as look}
 use lib.Seq.{sets}
 use Rattle.language.specs.Limits.{parametersMost, instancesMost}
 use Rattle.language.specs.Format.{spellAll}
@@ -29,6 +29,10 @@ numbersFrom = 1 + parametersMost
 -- how many hints there are
 abbrev pub hintWords : ℕ
 hintWords = instancesMost
+
+-- what is kept beside the list, behind the hints: the word of the result type of record i
+unfoldable pub resultWord : List ℕ → ℕ → ℕ
+resultWord memo i = getD memo (hintWords + i) 0
 
 abbrev pub keyWords : ℕ → List ℕ → List ℕ
 keyWords f ks = f ∷ padded parametersMost ks
@@ -57,13 +61,13 @@ abbrev pub SameArity : ℕ → List ℕ → Instance → Type 0
 SameArity f ks r = r .function ≡ f → length (r .sizes) ≡ length ks
 
 -- ---- looking up
-pub data Agrees : Search → Option Exact → Type 0 where
-  found : {a : Held} {x : Exact} → Stands a x → Agrees (Found a) (some x)
-  absent : Agrees Absent none
+pub data Agrees (L : List Instance) (f : ℕ) (ks : List ℕ) : Search → Type 0 where
+  found : {i : ℕ} {r : Instance} → look L i ≡ some r → r .function ≡ f → r .sizes ≡ ks → find L f ks ≡ some (r .numbers) → Agrees L f ks (Found i)
+  absent : find L f ks ≡ none → Agrees L f ks Absent
 
 -- in a list where no instance stands twice, so that it does not matter which record is looked at first
 pub record Finds (words : List ℕ) (used f : ℕ) (sizes : List ℕ) (r : Search) : Type 0 where
-  pub says : (L : List Instance) (ks : List ℕ) → Listed words L → used ≡ length L → Distinct (keysOf L) → SizesAre sizes ks → All (SameArity f ks) L → Agrees r (find L f ks)
+  pub says : (L : List Instance) (ks : List ℕ) → Listed words L → used ≡ length L → Distinct (keysOf L) → SizesAre sizes ks → All (SameArity f ks) L → Agrees L f ks r
 
 -- ---- writing: ws from a place on, if they fit; all other words are kept
 pub record Writes (words : List ℕ) (from : ℕ) (ws words′ : List ℕ) : Type 0 where
@@ -81,6 +85,11 @@ pub record Adds (words : List ℕ) (used f : ℕ) (sizes words′ : List ℕ) : 
   pub writes : Writes words (instanceWordsCount * used) (keyWords f sizes ++ (0 ∷ 0 ∷ 0 ∷ [])) words′
   pub says : (L : List Instance) (ks : List ℕ) → Listed words L → used ≡ length L → SizesAre sizes ks → instanceWordsCount * suc used ≤ length words →
       Listed words′ (L ++ (record { function = f; sizes = ks; numbers = nothing } ∷ []))
+
+-- beside the list: the words of the records before stay, and there is one more
+pub record Notes (memo : List ℕ) (used word : ℕ) (memo′ : List ℕ) : Type 0 where
+  pub kept : (i : ℕ) → i < used → resultWord memo′ i ≡ resultWord memo i
+  pub here : used < instancesMost → resultWord memo′ used ≡ word
 
 pub record Finishes (words : List ℕ) (i : ℕ) (x : Held) (words′ : List ℕ) : Type 0 where
   pub writes : Writes words (instanceWordsCount * i + numbersFrom) (numberWords x) words′

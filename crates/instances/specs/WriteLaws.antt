@@ -6,9 +6,9 @@ use mathlib.Core.Path.{_≡_, refl, sym, ap, ap₂, _∙_}
 use native.Mathlib.Nat.{add-zero}
 use native.Mathlib.Numerals.{add-one}
 use native.Mathlib.Omega.{arith}
-use lib.ListN.{length, getD, take, drop, set, length-append, getElem? as look}
-use lib.Seq.{length-take-le, take-all, take-suc, take-at, drop-at, split-at, set-split, set-append-seam, append-snoc, sets, length-sets, sets-eq}
-use Rattle.language.specs.Limits.{parametersMost}
+use lib.ListN.{length, getD, take, drop, set, length-append, length-set, getElem? as look}
+use lib.Seq.{length-take-le, take-all, take-suc, take-at, drop-at, split-at, set-split, set-append-seam, append-snoc, getD-set-same, getD-set-other, sets, length-sets, sets-eq}
+use Rattle.language.specs.Limits.{parametersMost, instancesMost}
 use Rattle.language.specs.Format.{spellAll}
 use Rattle.language.specs.Layout.{padded}
 use Rattle.language.specs.Estimate.{Estimate as Exact, nothing}
@@ -19,7 +19,7 @@ use Rattle.index.specs.Entries.{spell-append, spell-more}
 use Rattle.index.specs.Padded.{padded-at}
 use Rattle.estimate.specs.declared.Estimate.{Estimate as Held}
 use Rattle.estimate.specs.Stands.{Stands, Makes}
-use Rattle.instances.specs.Listed.{instanceWordsCount, numbersFrom, keyWords, stoppedWords, instanceWords, flat, Listed, SizesAre, Writes, numberWords, Adds, Finishes}
+use Rattle.instances.specs.Listed.{instanceWordsCount, numbersFrom, hintWords, resultWord, keyWords, stoppedWords, instanceWords, flat, Listed, SizesAre, Writes, numberWords, Adds, Notes, Finishes}
 use Rattle.instances.specs.Matches.{noInstance}
 use Rattle.instances.specs.ListLaws.{key-wide, flat-length, listed-start, listed-parts}
 
@@ -150,3 +150,15 @@ module _ (words : List ℕ) (i : ℕ) (x : Held) where
 
   pub finished : {words′ : List ℕ} → instanceWordsCount * i + instanceWordsCount ≤ length words → words′ ≡ sets words (instanceWordsCount * i + numbersFrom) (numberWords x) → Finishes words i x words′
   finished h e = record { writes = writes-made (instanceWordsCount * i + numbersFrom) (numberWords x) e (omega arith); says = λ L r n v l s. finished-listed e L r n v l s }
+
+-- ---- what is kept beside the list
+pub not-noted : {memo : List ℕ} {used word : ℕ} → instancesMost ≤ used → Notes memo used word memo
+not-noted full = record { kept = λ i less. refl; here = λ room. absurd (omega arith) }
+
+pub noted : {first second : List ℕ} (memo : List ℕ) {place : ℕ} (hint : ℕ) {used word : ℕ} → length memo ≡ hintWords + instancesMost → place < hintWords → first ≡ set memo place hint → second ≡ set first (hintWords + used) word → Notes memo used word second
+unfolding resultWord
+noted {first} {second} memo {place} hint {used} {word} long low p q = record {
+  kept = λ i less. ap (λ l. getD l (hintWords + i) 0) q ∙ getD-set-other first (hintWords + used) (hintWords + i) word 0 (λ e. omega (arith, e, less))
+      ∙ ap (λ l. getD l (hintWords + i) 0) p ∙ getD-set-other memo place (hintWords + i) hint 0 (λ e. omega (arith, e, low));
+  here = λ room. ap (λ l. getD l (hintWords + used) 0) q ∙ getD-set-same first (hintWords + used) word 0 (omega (arith, room, long, ap length p, length-set memo place hint));
+}

@@ -5,7 +5,7 @@ ghost use lib.ListN.{length, getD, replicate};
 ghost use lib.Seq.{sets};
 ghost use Rattle.language.specs.Limits.{parametersMost};
 ghost use Rattle.language.specs.Layout.{padded};
-ghost use Rattle.instances.specs.Listed.{hintWords, Finds, Adds, Finishes, numberWords};
+ghost use Rattle.instances.specs.Listed.{hintWords, resultWord, Finds, Notes, Adds, Finishes, numberWords};
 ghost use Rattle.instances.specs.Matches.{Compared, Matches, Numbers};
 use estimate::Estimate;
 use estimate::nothing;
@@ -27,13 +27,17 @@ pub const INSTANCE_WORDS: usize = NUMBERS_FROM + STACK_WORD + 1;
 
 // How many hints there are. A hint is one more than the number of the record that was added last among those with the same place
 // for it, or 0. It never changes an answer: the record that it names is compared.
-pub const HINT_WORDS: usize = INSTANCES_MOST;
+const HINT_WORDS: usize = INSTANCES_MOST;
+
+// What is kept beside the list: the hints, and behind them for each record the word of its function's result type at its sizes.
+pub const MEMO_WORDS: usize = HINT_WORDS + INSTANCES_MOST;
 
 // Odd, so that instances that differ in one size only have different places.
 const HINT_FACTOR: usize = 149;
 
+// The number of the record that is the instance.
 pub enum Search {
-    Found(Estimate),
+    Found(u32),
     Absent,
 }
 
@@ -77,7 +81,7 @@ fn is_instance(list: &[u32], i: u32, f: u32, sizes: &[u8]) -> bool
 }
 
 // The numbers of record i.
-fn numbers(list: &[u32], i: u32) -> Estimate
+pub fn numbers(list: &[u32], i: u32) -> Estimate
     ensures { λ r. ⌜ Numbers (now (list .entry)) i r ⌝ }
 {
     let at = INSTANCE_WORDS * (i as usize) + NUMBERS_FROM;
@@ -111,7 +115,7 @@ fn walk(list: &[u32], used: u32, f: u32, sizes: &[u8]) -> Search
     let mut i: u32 = 0;
     while i < used {
         if is_instance(list, i, f, sizes) {
-            return Search::Found(numbers(list, i));
+            return Search::Found(i);
         }
         i += 1;
     }
@@ -120,14 +124,14 @@ fn walk(list: &[u32], used: u32, f: u32, sizes: &[u8]) -> Search
 
 // The record in use that is the instance of f at these sizes: the one that the hint names is tried before the walk through all of
 // them.
-pub fn find(list: &[u32], hints: &[u32; HINT_WORDS], used: u32, f: u32, sizes: &[u8]) -> Search
+pub fn find(list: &[u32], memo: &[u32; MEMO_WORDS], used: u32, f: u32, sizes: &[u8]) -> Search
     ensures { λ r. ⌜ Finds (now (list .entry)) used f (now (sizes .entry)) r ⌝ }
 {
-    let k = hints[hint_place(f, sizes)];
+    let k = memo[hint_place(f, sizes)];
     if 0 < k {
         if k <= used {
             if is_instance(list, k - 1, f, sizes) {
-                return Search::Found(numbers(list, k - 1));
+                return Search::Found(k - 1);
             }
         }
     }
@@ -157,19 +161,31 @@ fn put_numbers(list: &mut [u32], from: usize, x: Estimate)
     put(list, from + STACK_WORD, x.stack);
 }
 
-// Notes the record behind those in use as the one to look at first for f at these sizes.
-fn note(hints: &mut [u32; HINT_WORDS], used: u32, f: u32, sizes: &[u8]) {
-    let place = hint_place(f, sizes);
-    if (used as usize) < INSTANCES_MOST {
-        hints[place] = used + 1;
+// Notes the record behind those in use as the one to look at first for f at these sizes, and the word of its result type.
+fn note(memo: &mut [u32; MEMO_WORDS], used: u32, f: u32, sizes: &[u8], word: u32)
+    ensures { λ _. ⌜ Notes (now (memo .entry)) used word (now (memo .exit)) ⌝ }
+{
+    if INSTANCES_MOST <= used as usize {
+        return;
     }
+    let place = hint_place(f, sizes);
+    put(memo, place, used + 1);
+    put(memo, HINT_WORDS + (used as usize), word);
 }
 
-// Writes the record behind those in use, f at these sizes, its numbers 0, and the hint to it. Where it does not fit no record is
-// written.
-pub fn add(list: &mut [u32], hints: &mut [u32; HINT_WORDS], used: u32, f: u32, sizes: &[u8])
-    ensures { λ _. ⌜ Adds (now (list .entry)) used f (now (sizes .entry)) (now (list .exit)) ⌝ }
+// Writes the record behind those in use, f at these sizes, its numbers 0, the hint to it and the word of its result type. Where it
+// does not fit no record is written.
+pub fn add(
+    list: &mut [u32],
+    memo: &mut [u32; MEMO_WORDS],
+    used: u32,
+    f: u32,
+    sizes: &[u8],
+    word: u32,
+)
+    ensures { λ _. ⌜ Adds (now (list .entry)) used f (now (sizes .entry)) (now (list .exit)) × Notes (now (memo .entry)) used word (now (memo .exit)) ⌝ }
 {
+    note(memo, used, f, sizes, word);
     let at = INSTANCE_WORDS * (used as usize);
     if list.len() < at + INSTANCE_WORDS {
         return;
@@ -178,7 +194,13 @@ pub fn add(list: &mut [u32], hints: &mut [u32; HINT_WORDS], used: u32, f: u32, s
     put_sizes(list, at + 1, sizes);
     let none = nothing();
     put_numbers(list, at + NUMBERS_FROM, none);
-    note(hints, used, f, sizes);
+}
+
+// The word of the result type of record i.
+pub fn result_word(memo: &[u32; MEMO_WORDS], i: u32) -> u32
+    ensures { λ r. ⌜ r ≡ resultWord (now (memo .entry)) i ⌝ }
+{
+    word_at(memo, HINT_WORDS + (i as usize))
 }
 
 // Writes the numbers of record i. Where it is not there nothing is written.

@@ -1,6 +1,6 @@
 -- The arguments of a call that were checked: their types are the parameters' at the sizes of the named ones, which stand first
 -- among the callee's sizes, unused 0.
-use Prim.Native.Nat.{ℕ, zero, suc, _+_, _*_, _-_, _%_, _≤_, _<_}
+use Prim.Native.Nat.{ℕ, zero, suc, _*_, _%_, _≤_, _<_}
 use mathlib.Core.List.{List, [], _∷_, _++_, map}
 use mathlib.Core.Bool.{true}
 use mathlib.Core.Option.{some}
@@ -23,19 +23,17 @@ use Rattle.index.specs.Padded.{padded-none}
 use Rattle.text.specs.Bytes.{declaredWord}
 use Rattle.theory.specs.Alls.{all-map}
 use Rattle.encoding.specs.FrameSpells.{lineAt}
-use Rattle.instances.specs.Listed.{SizesAre}
 use Rattle.instances.specs.ListLaws.{sizes-taken}
 use Rattle.sizes.specs.Rows.{NamedSizes}
 use Rattle.index.specs.Sections.{functionsOf}
 use Rattle.size_steps.specs.declared.Place.{Place}
 use Rattle.size_steps.specs.declared.Counted.{Counted}
 use Rattle.size_steps.specs.Sites.{Bounded, bounded-small}
-use Rattle.size_steps.specs.Agreement.{CountedAs}
-use Rattle.size_checker.specs.Promises.{Lent, Buffers, Here, ExprsPart}
+use Rattle.size_steps.specs.Agreement.{Table, CountedAs}
+use Rattle.size_checker.specs.Promises.{Lent, Buffers, Here, ExprsPart, Argued}
 use Rattle.size_checker.specs.Parts.{CallPart}
 use Rattle.size_checker.specs.HereLaws.{ends-at, suc-same}
 use Rattle.size_steps.specs.Leaves.{SizesFor}
-use Rattle.size_checker.specs.EnterLaws.{parameters-long}
 
 -- ---- which function is called, and its arguments
 pub record Called (t : Lent) (p : Place) (P : File) (S : Scope) (f n end : ℕ) (e : Expr) : Type 0 where
@@ -45,7 +43,7 @@ pub record Called (t : Lent) (p : Place) (P : File) (S : Scope) (f n end : ℕ) 
   pub few : n ≤ parametersMost
   pub list : Exprs
   pub form : e ≡ ecall f list
-  pub part : ExprsPart (lineAt (t .text) (p .line)) p S (n - 0) end list
+  pub part : ExprsPart (lineAt (t .text) (p .line)) p S n end list
 
 abbrev pub ArityOf : List ℕ → ℕ → ℕ → Type 0
 ArityOf functions f n = (n ≡ getD functions (functionWords * f) 0 % byteRange) × (n < byteRange)
@@ -57,7 +55,7 @@ called {t} {p} {S} {f} {n} {end} arity h part =
     let k = h .site .known .functions f (i .less) in
     let tells = h .indexed .eachFunction f (k .is) .tells in
     let count : n ≡ length (k .function .parameters) = omega (arith, arity .0, tells .count, tells .few) in
-    let all : getD (S .arities) f 0 ≡ n - 0 = omega (arith, count, k .arity) in
+    let all : getD (S .arities) f 0 ≡ n = omega (arith, count, k .arity) in
     record {
       function = k .function;
       is = k .is;
@@ -71,6 +69,15 @@ called {t} {p} {S} {f} {n} {end} arity h part =
         ends = ends-at part (i .is) (i .long);
       };
     }
+
+-- ---- parameters at sizes
+pub parameters-long : (ps : List Plain) (ks : List ℕ) → length (parameterTypes ps ks) ≡ length ps
+unfolding parameterTypes
+parameters-long [] ks = refl
+parameters-long (pbool ∷ ps) ks = ap suc (parameters-long ps ks)
+parameters-long (pint ∷ ps) ks = ap suc (parameters-long ps ks)
+parameters-long (pnamed t ∷ ps) [] = ap suc (parameters-long ps [])
+parameters-long (pnamed t ∷ ps) (k ∷ ks) = ap suc (parameters-long ps ks)
 
 -- ---- sizes of parameters
 sizes-counted : (ps : List Plain) (ks : List ℕ) → length (sizesOf (parameterTypes ps ks)) ≡ namedCount ps
@@ -94,27 +101,20 @@ padded-zeros n [] le = padded-none n
 padded-zeros zero (k ∷ ks) le = absurd (omega (arith, le))
 padded-zeros (suc n) (k ∷ ks) le = ap (λ l. k ∷ l) (padded-zeros n ks (omega (arith, le)))
 
--- ---- what is known of arguments that agree with the parameters
-pub record Argued (F : Function) (ks : List ℕ) (n m : ℕ) (row sizes : List ℕ) : Type 0 where
-  pub named : length ks ≡ namedCount (F .parameters)
-  pub types : take n row ≡ map declaredWord (parameterTypes (F .parameters) ks)
-  pub small : All Bounded (parameterTypes (F .parameters) ks)
-  pub sizeCount : m ≡ length ks
-  pub front : take m sizes ≡ ks
-  pub padded : SizesAre sizes ks
-
-pub argued : {P : File} {F : Function} {next : ℕ} {words row row₁ named named′ : List ℕ} {n m : ℕ} {a : Counted} {x : Sizeds} → n ≡ length (F .parameters) → n ≤ parametersMost → named ≡ replicate sizeVariablesMost 0 →
-    CountedAs P next words 0 row row₁ a x → sameTypes (parameterTypes (F .parameters) (sizesOf (x .types))) (x .types) ≡ true → NamedSizes row₁ n named m named′ → Argued F (sizesOf (x .types)) n m row₁ named′
-argued {F} {row₁} {named} {named′} {n} {m} {x} count few zeros c agree v =
+-- ---- arguments that agree with the parameters
+pub argued : {P : File} {F : Function} {next : ℕ} {table : Table} {row named named′ : List ℕ} {n m : ℕ} {a : Counted} {x : Sizeds} → n ≡ length (F .parameters) → n ≤ parametersMost → named ≡ replicate sizeVariablesMost 0 →
+    CountedAs P next table row a x → sameTypes (parameterTypes (F .parameters) (sizesOf (x .types))) (x .types) ≡ true → NamedSizes row n named m named′ → Argued F (sizesOf (x .types)) n m row named′
+argued {F} {row} {named} {named′} {n} {m} {x} count few zeros c agree v =
     let ks = sizesOf (x .types) in
     let same : parameterTypes (F .parameters) ks ≡ x .types = same-types _ _ agree in
     let long : length ks ≡ namedCount (F .parameters) = ap (λ τs. length (sizesOf τs)) (sym same) ∙ sizes-counted (F .parameters) ks in
     let all : length (x .types) ≡ n = ap length (sym same) ∙ parameters-long (F .parameters) ks ∙ sym count in
     let within : length ks ≤ parametersMost = omega (arith, long, count, few, named-few (F .parameters)) in
-    let words : take n row₁ ≡ map declaredWord (x .types) = subst (λ k. take k row₁ ≡ map declaredWord (x .types)) (let whole : 0 + length (x .types) ≡ n = omega (arith, all) in whole) (c .types) in
+    let words : take n row ≡ map declaredWord (x .types) = subst (λ k. take k row ≡ map declaredWord (x .types)) all (c .types) in
     let told = v .says (x .types) (record { words = words; long = all; small = all-map (λ τ. bounded-small) (c .small) }) (omega (arith, within, ap length zeros, length-replicate {A = ℕ} sizeVariablesMost 0)) in
     let sizes : named′ ≡ padded parametersMost ks = told .1 ∙ ap (λ l. ks ++ drop (length ks) l) zeros ∙ sym (padded-zeros parametersMost ks within) in
     record {
+      count = count;
       named = long;
       types = words ∙ ap (map declaredWord) (sym same);
       small = subst (All Bounded) (sym same) (c .small);

@@ -34,7 +34,7 @@ use Rattle.size_steps.specs.declared.Sizing.{Sizing}
 use Rattle.size_steps.specs.declared.Sizing.the-variants.{Is, Refused}
 use Rattle.size_steps.specs.declared.Subject.{Subject}
 use Rattle.size_steps.specs.Sites.{one-byte-bounded, movedTo, Kept, kept-then, kept-moved}
-use Rattle.size_steps.specs.Agreement.{CheckedAs, Agrees, Grows, agrees, before-9, ofType, not-grown, grows-to, grows-same, bind-is, bind-no, need-before, named-before, from-some, from-none}
+use Rattle.size_steps.specs.Agreement.{Table, CheckedAs, Agrees, Grows, agrees, before-9, ofType, not-grown, grows-to, grows-same, bind-is, bind-no, need-before, named-before, from-some, from-none}
 use Rattle.size_checker.specs.Promises.{Lent, Buffers, Here, ExprPart, entering, Sizes, SizesBranches}
 use Rattle.size_checker.specs.Parts.{CasePart}
 use Rattle.size_steps.specs.Leaves.{subjectOf}
@@ -43,7 +43,7 @@ use Rattle.size_checker.specs.TurnLaws.{behind-first, here-behind, sizes
 use Rattle.size_checker.specs.NamedTypes.{is-named, NotNamed, bounded-size}
 
 -- a named type
-named-is : {B : Type 0} {P : File} {viewed : B → Sized} {next : ℕ} {words : List ℕ} {r : Sizing} {τ : Ty} {t k : ℕ} (frame : ℕ) (κ : ℕ → ℕ → Result B) → τ ≡ tnamed t k → Agrees P viewed next words r (κ t k) → Agrees P viewed next words r (named τ frame κ)
+named-is : {B : Type 0} {P : File} {viewed : B → Sized} {next : ℕ} {table : Table} {r : Sizing} {τ : Ty} {t k : ℕ} (frame : ℕ) (κ : ℕ → ℕ → Result B) → τ ≡ tnamed t k → Agrees P viewed next table r (κ t k) → Agrees P viewed next table r (named τ frame κ)
 unfolding named
 named-is frame κ e a = rw e a
 

@@ -31,7 +31,7 @@ use Rattle.size_steps.specs.declared.Checked.{Checked}
 use Rattle.size_steps.specs.declared.Sizing.{Sizing}
 use Rattle.size_steps.specs.declared.Sizing.the-variants.{Is, Refused}
 use Rattle.size_steps.specs.Sites.{around-none, Room}
-use Rattle.size_steps.specs.Agreement.{Holds, Agrees, agrees, itself, bind-is, bind-no, need-holds, need-fails}
+use Rattle.size_steps.specs.Agreement.{Table, Holds, Agrees, agrees, itself, bind-is, bind-no, need-holds, need-fails}
 use Rattle.size_checker.specs.Promises.{Lent, Buffers, buffers, IndexedFile, Here, entering, Sizes, ExprPart}
 use Rattle.size_steps.specs.Leaves.{ChannelTyped}
 use Rattle.size_checker.specs.HereLaws.{part-at}
@@ -79,7 +79,7 @@ room-outer f less is scope sizes = rw is (record {
 })
 
 -- ---- an expression of channel c
-module _ {t : Lent} {list scope sizes : List ℕ} {n : Counts} {c word at used : ℕ} {p : Place} {x : Sizing} {b : Buffers}
+module _ {t : Lent} {list : Table} {scope sizes : List ℕ} {n : Counts} {c word at used : ℕ} {p : Place} {x : Sizing} {b : Buffers}
     (here : at ≡ getD (channelsOf (t .index)) (channelWords * c + word) 0) (place : p ≡ outerPlace n c at used) (u : Sizes ExprPart t (buffers list scope sizes) p x b) where
   -- the expression as the definition has it
   module _ (P : File) (i : IndexedFile t P) (k : CountsAre n P) (C : List Ty) (named : Named P C) (e : Expr) (τ : Ty) (s : Standing t P word c e τ) (L : List Instance) (h : Holds P list used L) where

@@ -1,5 +1,5 @@
 -- `19`: what each return of a constructor gives.
-use Prim.Native.Nat.{ℕ, suc, _+_, _*_, _-_, _%_, _≤_, _<_}
+use Prim.Native.Nat.{ℕ, suc, _+_, _*_, _%_, _≤_, _<_}
 use mathlib.Core.List.{List, []}
 use mathlib.Core.Option.{some}
 use mathlib.Core.Path.{_≡_, refl, sym, ap, _∙_, subst}
@@ -52,7 +52,7 @@ pub record Constructed (t : Lent) (p : Place) (P : File) (S : Scope) (of c n end
   pub few : n ≤ fieldsMost
   pub list : Exprs
   pub form : e ≡ econ of c list
-  pub part : ExprsPart (lineAt (t .text) (p .line)) p S (n - 0) end list
+  pub part : ExprsPart (lineAt (t .text) (p .line)) p S n end list
 
 abbrev pub FieldsOf : List ℕ → ℕ → ℕ → ℕ → Type 0
 FieldsOf types of c n = (n ≡ getD types (typeWords * of + 1 + constructorWords * c) 0 % byteRange) × (n < byteRange)
@@ -66,7 +66,7 @@ constructed {t} {p} {P} {S} {of} {c} {n} told h part =
     let there : c < length (constructorsOf P of) = subst (λ (l : List TypeDef). c < length (getD l of [])) same (i .less₂) in
     let tells = h .indexed .eachType of type .tells in
     let count : n ≡ length (getD (constructorsOf P of) c []) = omega (arith, told .0, tells .fields c there, tells .fewFields c there) in
-    let all : length (getD (getD (S .types) of []) c []) ≡ n - 0 = ap (λ (l : List TypeDef). length (getD (getD l of []) c [])) same ∙ omega (arith, count) in
+    let all : length (getD (getD (S .types) of []) c []) ≡ n = ap (λ (l : List TypeDef). length (getD (getD l of []) c [])) same ∙ omega (arith, count) in
     record {
       fields = getD (constructorsOf P of) c [];
       type = type;
@@ -83,12 +83,12 @@ constructed {t} {p} {P} {S} {of} {c} {n} told h part =
     }
 
 -- ---- the returns
-module _ {t : Lent} {b b₁ : Buffers} {p : Place} {of c n : ℕ} {row row₁ : List ℕ} {x : Counting} (told : FieldsOf (typesOf (t .index)) of c n) (room : fieldsMost ≤ length row) (v : SizesAll t b p 0 n row x b₁ row₁) where
+module _ {t : Lent} {b b₁ : Buffers} {p : Place} {of c n : ℕ} {row row₁ : List ℕ} {x : Counting} (told : FieldsOf (typesOf (t .index)) of c n) (room : fieldsMost ≤ length row) (v : SizesAll t b p n row x b₁ row₁) where
   pub con-fields : {k frame : ℕ} {r : Sizing} → x ≡ RefusedAll k frame → r ≡ refusedOf x → Sizes (ConPart of c) t b p r b₁
   unfolding sized
   con-fields d answer = record {
     says = λ P S q Γ Δ L left h end e part. let i = constructed told h part in
-        rw (i .form) (all-no _ (v .says P S q Γ Δ L left h (omega arith) (omega (arith, room, i .few)) end (i .list) (i .part)) d (answer ∙ ap refusedOf d));
+        rw (i .form) (all-no _ (v .says P S q Γ Δ L left h (omega (arith, room, i .few)) end (i .list) (i .part)) d (answer ∙ ap refusedOf d));
     grows = not-grown-as (answer ∙ ap refusedOf d);
     kept = v .kept;
   }
@@ -97,8 +97,8 @@ module _ {t : Lent} {b b₁ : Buffers} {p : Place} {of c n : ℕ} {row row₁ : 
   unfolding sized
   con-made d m = record {
     says = λ P S q Γ Δ L left h end e part. let i = constructed told h part in
-        rw (i .form) (all-know _ (v .says P S q Γ Δ L left h (omega arith) (omega (arith, room, i .few)) end (i .list) (i .part)) (sizeds-counted P (entering P left) (i .list) q Γ Δ L) d (λ y count k.
-        from-some 6 _ _ (i .is) (m .says (t .text) P q (i .fields) end (b₁ .list) row y (h .indexed) (h .site .frame) (i .type) (i .is)
+        rw (i .form) (all-know _ (v .says P S q Γ Δ L left h (omega (arith, room, i .few)) end (i .list) (i .part)) (sizeds-counted P (entering P left) (i .list) q Γ Δ L) d (λ y count k.
+        from-some 6 _ _ (i .is) (m .says (t .text) P q (i .fields) end (b₁ .list) y (h .indexed) (h .site .frame) (i .type) (i .is)
         (omega (arith, count, exprs-counted (i .part .within), i .count)) k)));
     grows = grows-same (grows-all-to (v .grows) d) (m .grows);
     kept = v .kept;

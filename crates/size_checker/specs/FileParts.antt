@@ -18,17 +18,16 @@ use Rattle.index.specs.Tables.{channelWords}
 use Rattle.encoding.specs.Spells.{Spells}
 use Rattle.encoding.specs.FrameSpells.{lineAt}
 use Rattle.index.specs.declared.Counts.{Counts}
-use Rattle.estimate.specs.Stands.{Stands, Makes, Combines}
+use Rattle.estimate.specs.Stands.{Stands, Makes}
 use Rattle.index.specs.Indexed.{channelLine, Counted as CountsAre}
 use Rattle.instances.specs.Listed.{instanceWordsCount}
 use Rattle.index.specs.Sections.{channelsOf}
 use Rattle.size_steps.specs.declared.Place.{Place}
-use Rattle.size_steps.specs.declared.Checked.{Checked}
 use Rattle.size_steps.specs.declared.Sizing.{Sizing}
 use Rattle.size_steps.specs.declared.Counted.{Counted}
 use Rattle.size_steps.specs.declared.Counting.{Counting}
 use Rattle.size_steps.specs.declared.Counting.the-variants.{Are, Refused}
-use Rattle.size_steps.specs.Agreement.{Holds, Before, Agrees, ofType}
+use Rattle.size_steps.specs.Agreement.{Table, Holds, Before, Agrees, ofType}
 use Rattle.size_checker.specs.Promises.{Lent, IndexedFile}
 
 -- ---- counts within the limits of a file
@@ -68,7 +67,7 @@ InitialOrUpdate word = (word ≡ updateWord → ⊥) → word ≡ initialWord
 abbrev pub Named : File → List Ty → Type 0
 Named P C = (c : ℕ) (τ : Ty) → look C c ≡ some τ → look (declaredTypes P) c ≡ some τ
 
-pub record SizesChannel (t : Lent) (list : List ℕ) (n : Counts) (c word used : ℕ) (r : Sizing) (list′ : List ℕ) : Type 0 where
+pub record SizesChannel (t : Lent) (list : Table) (n : Counts) (c word used : ℕ) (r : Sizing) (list′ : Table) : Type 0 where
   pub says : (P : File) → IndexedFile t P → CountsAre n P → (C : List Ty) → Named P C → (e : Expr) (τ : Ty) → Standing t P word c e τ → (L : List Instance) → Holds P list used L →
       Agrees P (ofType τ) (getD (channelsOf (t .index)) (channelWords * c + word) 0 + length (exprBytes e)) list′ r (sizedChannel P c C e τ L)
 
@@ -82,28 +81,24 @@ pub data Lasting (t : Lent) (P : File) (word last : ℕ) : ℕ → List Expr →
   no-more : {c : ℕ} → last ≤ c → Lasting t P word last c [] []
   one-more : {c : ℕ} {e : Expr} {τ : Ty} {es : List Expr} {τs : List Ty} → c < last → Standing t P word c e τ → Lasting t P word last (suc c) es τs → Lasting t P word last c (e ∷ es) (τ ∷ τs)
 
-pub data AgreesSum (P : File) (words : List ℕ) (r : Counting) : Result CountedDef → Type 0 where
-  sum-agrees : {k : Counted} {x : CountedDef} → r ≡ Are k → Stands (k .numbers) (x .numbers) → Holds P words (k .used) (x .list) → AgreesSum P words r (ok x)
-  sum-refused : {n frame : ℕ} → r ≡ Refused n frame → AgreesSum P words r (no n frame)
-  sum-beyond : {n frame : ℕ} → Before n → AgreesSum P words r (no n frame)
+pub data AgreesSum (P : File) (table : Table) (r : Counting) : Result CountedDef → Type 0 where
+  sum-agrees : {k : Counted} {x : CountedDef} → r ≡ Are k → Stands (k .numbers) (x .numbers) → Holds P table (k .used) (x .list) → AgreesSum P table r (ok x)
+  sum-refused : {n frame : ℕ} → r ≡ Refused n frame → AgreesSum P table r (no n frame)
+  sum-beyond : {n frame : ℕ} → Before n → AgreesSum P table r (no n frame)
 
 abbrev pub channelCount : Counts → ℕ
 channelCount n = n .inputs + n .nodes
 
-pub record SizesChannels (t : Lent) (list : List ℕ) (n : Counts) (from word used : ℕ) (r : Counting) (list′ : List ℕ) : Type 0 where
+pub record SizesChannels (t : Lent) (list : Table) (n : Counts) (from word used : ℕ) (r : Counting) (list′ : Table) : Type 0 where
   pub says : (P : File) → IndexedFile t P → CountsAre n P → (C : List Ty) → Named P C → (es : List Expr) (τs : List Ty) → Lasting t P word (channelCount n) from es τs → (L : List Instance) → Holds P list used L →
       AgreesSum P list′ r (summed P C nothing from es τs L)
 
 -- all initial values, from a cleared list on
-pub record SizesInitials (t : Lent) (list : List ℕ) (n : Counts) (r : Counting) (list′ : List ℕ) : Type 0 where
+pub record SizesInitials (t : Lent) (list : List ℕ) (n : Counts) (r : Counting) (list′ : Table) : Type 0 where
   pub says : (P : File) → IndexedFile t P → CountsAre n P → instanceWordsCount * instancesMost ≤ length list → AgreesSum P list′ r (summed P [] nothing 0 (initialValues P) (declaredTypes P) [])
   pub few : {k : Counted} → r ≡ Are k → Few n
 
--- ---- nothing summed; what was summed, and one more
+-- ---- nothing summed
 pub record NoneYet (used : ℕ) (r : Counted) : Type 0 where
   pub numbers : Makes nothing (r .numbers)
   pub same : r .used ≡ used
-
-pub record Joins (all : Counted) (a : Checked) (r : Counted) : Type 0 where
-  pub numbers : Combines after (all .numbers) (a .numbers) (r .numbers)
-  pub used : r .used ≡ a .used

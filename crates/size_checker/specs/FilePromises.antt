@@ -13,12 +13,12 @@ use Rattle.instances.specs.Listed.{instanceWordsCount}
 use Rattle.size_steps.specs.declared.Counted.{Counted}
 use Rattle.size_steps.specs.declared.Counting.{Counting}
 use Rattle.size_steps.specs.declared.Counting.the-variants.{Are, Refused}
-use Rattle.size_steps.specs.Agreement.{Holds, Before}
+use Rattle.size_steps.specs.Agreement.{table, Holds, Before}
 use Rattle.size_checker.specs.Promises.{Lent, IndexedFile}
 
 -- environment and stack are the largest over the updates, their heap numbers are summed
 pub data AgreesFile (P : File) (words : List ℕ) (r : Counting) : Result SizedFile → Type 0 where
-  file-agrees : {k : Counted} {x : SizedFile} → r ≡ Are k → Stands (k .numbers) (updatesNumbers (x .updates)) → Holds P words (k .used) (x .list) → AgreesFile P words r (ok x)
+  file-agrees : {k : Counted} {x : SizedFile} {memo : List ℕ} → r ≡ Are k → Stands (k .numbers) (updatesNumbers (x .updates)) → Holds P (table words memo) (k .used) (x .list) → AgreesFile P words r (ok x)
   file-refused : {n frame : ℕ} → r ≡ Refused n frame → AgreesFile P words r (no n frame)
   file-beyond : {n frame : ℕ} → Before n → AgreesFile P words r (no n frame)
 

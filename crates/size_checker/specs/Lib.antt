@@ -20,11 +20,14 @@ pub mod AdjLaws
 pub mod TypesTold
 pub mod ExprLaws
 pub mod SeveralAgree
+pub mod ExprsLeft
+pub mod Sums
 pub mod SeveralLaws
 pub mod ListKept
 pub mod HoldsLaws
-pub mod EnterLaws
 pub mod Arguments
+pub mod EnterLaws
+pub mod BodyLaws
 pub mod CallLaws
 pub mod ConLaws
 pub mod FilePromises

@@ -32,7 +32,7 @@ use Rattle.size_steps.specs.declared.Counting.{Counting}
 use Rattle.size_steps.specs.declared.Entry.{Entry}
 use Rattle.size_steps.specs.declared.Subject.{Subject}
 use Rattle.size_steps.specs.Sites.{Bounded, Around, Site, Kept}
-use Rattle.size_steps.specs.Agreement.{Holds, CountedAs, Agrees, itself, ofType, AgreesAll, Grows, GrowsAll}
+use Rattle.size_steps.specs.Agreement.{Table, Holds, CountedAs, Agrees, itself, ofType, AgreesAll, Grows, GrowsAll}
 
 -- ---- what is lent: the text and its index, and what is written
 pub record Lent : Type 0 where
@@ -40,14 +40,14 @@ pub record Lent : Type 0 where
   pub index : List ℕ
 
 pub record Buffers : Type 0 where
-  pub list : List ℕ
+  pub list : Table
   pub scope : List ℕ
   pub sizes : List ℕ
 
 abbrev pub lent : List ℕ → List ℕ → Lent
 lent text index = record { text = text; index = index }
 
-abbrev pub buffers : List ℕ → List ℕ → List ℕ → Buffers
+abbrev pub buffers : Table → List ℕ → List ℕ → Buffers
 buffers list scope sizes = record { list = list; scope = scope; sizes = sizes }
 
 abbrev pub IndexedFile : Lent → File → Type 0
@@ -95,10 +95,10 @@ pub record Sizes (Part : List ℕ → Place → Scope → ℕ → Expr → Type 
   pub grows : Grows (p .used) r
   pub kept : Kept p (b .scope) (b .sizes) (b′ .scope) (b′ .sizes)
 
--- arguments and fields from number i of n on, into a row of words
-pub record SizesAll (t : Lent) (b : Buffers) (p : Place) (i n : ℕ) (row : List ℕ) (r : Counting) (b′ : Buffers) (row′ : List ℕ) : Type 0 where
-  pub says : (P : File) (S : Scope) (q : Stand) (Γ : List Ty) (Δ : List ℕ) (L : List Instance) (left : ℕ) → Here t b p P S q Γ Δ L left → i ≤ n → n ≤ length row →
-      (end : ℕ) (es : Exprs) → ExprsPart (lineAt (t .text) (p .line)) p S (n - i) end es → AgreesAll P end (b′ .list) i row row′ r (sizeds P (entering P left) es q Γ Δ L)
+-- arguments and fields, n of them, into a row of words
+pub record SizesAll (t : Lent) (b : Buffers) (p : Place) (n : ℕ) (row : List ℕ) (r : Counting) (b′ : Buffers) (row′ : List ℕ) : Type 0 where
+  pub says : (P : File) (S : Scope) (q : Stand) (Γ : List Ty) (Δ : List ℕ) (L : List Instance) (left : ℕ) → Here t b p P S q Γ Δ L left → n ≤ length row →
+      (end : ℕ) (es : Exprs) → ExprsPart (lineAt (t .text) (p .line)) p S n end es → AgreesAll P end (b′ .list) row′ r (sizeds P (entering P left) es q Γ Δ L)
   pub grows : GrowsAll (p .used) r
   pub kept : Kept p (b .scope) (b .sizes) (b′ .scope) (b′ .sizes)
 
@@ -153,39 +153,66 @@ pub record SizesSplits (s : Subject) (k : ℕ) (t : Lent) (b : Buffers) (p : Pla
   pub grows : Grows (p .used) r
   pub kept : Kept p (b .scope) (b .sizes) (b′ .scope) (b′ .sizes)
 
--- ---- entering a body, whose scope holds the parameters' types and the sizes of the named ones
+-- ---- a call whose arguments were checked
+-- the n arguments agree with the parameters of F: their types, and the m sizes of the named ones, which are ks
+pub record Argued (F : Function) (ks : List ℕ) (n m : ℕ) (row sizes : List ℕ) : Type 0 where
+  pub count : n ≡ length (F .parameters)
+  pub named : length ks ≡ namedCount (F .parameters)
+  pub types : take n row ≡ map declaredWord (parameterTypes (F .parameters) ks)
+  pub small : All Bounded (parameterTypes (F .parameters) ks)
+  pub sizeCount : m ≡ length ks
+  pub front : take m sizes ≡ ks
+  pub padded : SizesAre sizes ks
+
+-- what the definition does behind the arguments, but for their numbers
+abbrev pub opened : File → Enter → Stand → ℕ → Function → List ℕ → List Instance → Result SizedDef
+opened P enter o g F ks L = need (conditionsHold ks (F .conditions)) 12 (frameAt P o) (need (falls o g (summedMeasure (F .measure) ks)) 13 (frameAt P o)
+    (from (typeAt ks (F .result)) 10 (functionFrame P g) (λ τ. bind (enter (frameAt P o) g F ks τ L) (λ r. ok (ofType τ r)))))
+
+-- f is called at sizes ks: what is known where its body is looked up, or entered
+pub record Opens (f n m : ℕ) (t : Lent) (b : Buffers) (p : Place) (P : File) (o : Stand) (F : Function) (ks : List ℕ) (L : List Instance) (left : ℕ) : Type 0 where
+  pub indexed : IndexedFile t P
+  pub typeCount : p .types ≡ length (P .types)
+  pub frame : frameAt P o ≡ suc (p .line)
+  pub around : Around (p .around) (p .measure) o
+  pub function : look (P .functions) f ≡ some F
+  pub argued : Argued F ks n m (b .scope) (b .sizes)
+  pub holds : Holds P (b .list) (p .used) L
+  pub deep : instancesMost ≤ left + length L
+
+pub record Enters (f n m : ℕ) (t : Lent) (b : Buffers) (p : Place) (r : Sizing) (b′ : Buffers) : Type 0 where
+  pub says : (P : File) (o : Stand) (F : Function) (ks : List ℕ) (L : List Instance) (left : ℕ) → Opens f n m t b p P o F ks L left → Agrees P itself (p .at .at) (b′ .list) r (opened P (entering P left) o f F ks L)
+  pub grows : Grows (p .used) r
+
+-- where it was not entered before
+pub record EntersNew (f n m : ℕ) (t : Lent) (b : Buffers) (p : Place) (r : Sizing) (b′ : Buffers) : Type 0 where
+  pub says : (P : File) (o : Stand) (F : Function) (ks : List ℕ) (L : List Instance) (left : ℕ) → Opens f n m t b p P o F ks L left → find L f ks ≡ none →
+      Agrees P itself (p .at .at) (b′ .list) r (opened P (entering P left) o f F ks L)
+  pub grows : Grows (p .used) r
+
+-- ---- the body of an entry, whose scope holds the parameters' types and the sizes of the named ones
 pub record Given (P : File) (e : Entry) (F : Function) (ks : List ℕ) (scope sizes : List ℕ) : Type 0 where
   pub function : look (P .functions) (e .function) ≡ some F
   pub measures : e .measure ≡ summedMeasure (F .measure) ks
-  pub variables : e .variables ≡ length (F .parameters)
-  pub sizeCount : e .sizes ≡ length ks
-  pub named : length ks ≡ namedCount (F .parameters)
-  pub types : take (e .variables) scope ≡ map declaredWord (parameterTypes (F .parameters) ks)
-  pub small : All Bounded (parameterTypes (F .parameters) ks)
-  pub front : take (e .sizes) sizes ≡ ks
-  pub padded : SizesAre sizes ks
-  pub result : Bounded (meaning (e .ty))
+  pub argued : Argued F ks (e .variables) (e .sizes) scope sizes
+  pub conditions : conditionsHold ks (F .conditions) ≡ true
+  pub result : typeAt ks (F .result) ≡ some (meaning (e .ty))
+  pub small : Bounded (meaning (e .ty))
 
-pub record Enters (e : Entry) (t : Lent) (b : Buffers) (p : Place) (r : Sizing) (b′ : Buffers) : Type 0 where
-  pub says : (P : File) (F : Function) (ks : List ℕ) (L : List Instance) (left : ℕ) → IndexedFile t P → p .types ≡ length (P .types) → Holds P (b .list) (p .used) L → instancesMost ≤ left + length L →
-      Given P e F ks (b .scope) (b .sizes) → Agrees P (ofType (meaning (e .ty))) (p .at .at) (b′ .list) r (entering P left (suc (p .line)) (e .function) F ks (meaning (e .ty)) L)
-  pub grows : Grows (p .used) r
-
--- a body that was not entered before
-pub record EntersNew (e : Entry) (t : Lent) (b : Buffers) (p : Place) (r : Sizing) (b′ : Buffers) : Type 0 where
+pub record ChecksBody (e : Entry) (t : Lent) (b : Buffers) (p : Place) (r : Sizing) (b′ : Buffers) : Type 0 where
   pub says : (P : File) (F : Function) (ks : List ℕ) (L : List Instance) (left : ℕ) → IndexedFile t P → p .types ≡ length (P .types) → Holds P (b .list) (p .used) L → instancesMost ≤ left + length L →
       Given P e F ks (b .scope) (b .sizes) → find L (e .function) ks ≡ none →
       Agrees P (ofType (meaning (e .ty))) (p .at .at) (b′ .list) r (entering P left (suc (p .line)) (e .function) F ks (meaning (e .ty)) L)
   pub grows : Grows (p .used) r
 
--- ---- a call whose arguments were checked: what the definition does behind them
+-- ---- all that the definition does behind the arguments of a call
 abbrev pub applied : File → Enter → Stand → ℕ → Function → Sizeds → Result SizedDef
 applied P enter o g F z = need (conditionsHold (sizesOf (z .types)) (F .conditions)) 12 (frameAt P o) (need (falls o g (summedMeasure (F .measure) (sizesOf (z .types)))) 13 (frameAt P o)
     (from (typeAt (sizesOf (z .types)) (F .result)) 10 (functionFrame P g) (λ τ. bind (enter (frameAt P o) g F (sizesOf (z .types)) τ (z .list)) (λ r.
     ok (record { type = τ; numbers = withSlots (length (F .parameters)) (after (z .numbers) (inCall (r .numbers))); list = r .list })))))
 
 -- z: the arguments for the definition, which agree with the parameters; a, row: what the code holds of them
-pub record Argues (t : Lent) (p : Place) (f n : ℕ) (a : Counted) (list row : List ℕ) (P : File) (o : Stand) (F : Function) (z : Sizeds) (left next : ℕ) : Type 0 where
+pub record Argues (t : Lent) (p : Place) (f n : ℕ) (a : Counted) (list : Table) (row : List ℕ) (P : File) (o : Stand) (F : Function) (z : Sizeds) (left next : ℕ) : Type 0 where
   pub indexed : IndexedFile t P
   pub typeCount : p .types ≡ length (P .types)
   pub frame : frameAt P o ≡ suc (p .line)
@@ -193,11 +220,10 @@ pub record Argues (t : Lent) (p : Place) (f n : ℕ) (a : Counted) (list row : L
   pub function : look (P .functions) f ≡ some F
   pub count : n ≡ length (F .parameters)
   pub few : n ≤ parametersMost
-  pub row₀ : List ℕ
-  pub counted : CountedAs P next list 0 row₀ row a z
+  pub counted : CountedAs P next list row a z
   pub agree : sameTypes (parameterTypes (F .parameters) (sizesOf (z .types))) (z .types) ≡ true
   pub deep : instancesMost ≤ left + length (z .list)
 
-pub record Applies (f n : ℕ) (a : Counted) (t : Lent) (list row : List ℕ) (p : Place) (r : Sizing) (list′ : List ℕ) : Type 0 where
+pub record Applies (f n : ℕ) (a : Counted) (t : Lent) (list : Table) (row : List ℕ) (p : Place) (r : Sizing) (list′ : Table) : Type 0 where
   pub says : (P : File) (o : Stand) (F : Function) (z : Sizeds) (left next : ℕ) → Argues t p f n a list row P o F z left next → Agrees P itself next list′ r (applied P (entering P left) o f F z)
   pub grows : Grows (a .used) r

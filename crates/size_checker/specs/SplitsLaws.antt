@@ -36,7 +36,7 @@ use Rattle.size_steps.specs.declared.Sizing.{Sizing}
 use Rattle.size_steps.specs.declared.Sizing.the-variants.{Is, Refused}
 use Rattle.size_steps.specs.declared.Subject.{Subject}
 use Rattle.size_steps.specs.Sites.{Bounded, movedTo, widened, Kept, kept-then, kept-moved, kept-under}
-use Rattle.size_steps.specs.Agreement.{Holds, Before, CheckedAs, Agrees, Grows, agrees, refused, beyond, itself, ofType, grown, not-grown, grows-to, grows-same, bind-is, bind-no, need-fails}
+use Rattle.size_steps.specs.Agreement.{Table, Holds, Before, CheckedAs, Agrees, Grows, agrees, refused, beyond, itself, ofType, grown, not-grown, grows-to, grows-same, bind-is, bind-no, need-fails}
 use Rattle.size_checker.specs.Promises.{Lent, Buffers, buffers, Here, ExprPart, entering, BranchPart, UpToMost, Wanted, Sizes, SizesSplits}
 use Rattle.size_checker.specs.HereLaws.{fits-of, here-moved}
 use Rattle.size_checker.specs.TurnLaws.{in-frame, grown-is}
@@ -59,12 +59,12 @@ first-of (last e) = record { rest = []; is = refl }
 first-of (more {l} e c) = record { rest = l; is = refl }
 
 -- what an answer of the code stands for
-data Answered {A : Type 0} (P : File) (view : A → Sized) (next : ℕ) (words : List ℕ) (k : Checked) : Result A → Type 0 where
-  answered : {x : A} → CheckedAs P next words k (view x) → Answered P view next words k (ok x)
-  unanswered : {n frame : ℕ} → Before n → Answered P view next words k (no n frame)
+data Answered {A : Type 0} (P : File) (view : A → Sized) (next : ℕ) (table : Table) (k : Checked) : Result A → Type 0 where
+  answered : {x : A} → CheckedAs P next table k (view x) → Answered P view next table k (ok x)
+  unanswered : {n frame : ℕ} → Before n → Answered P view next table k (no n frame)
 
-answer-is : {A : Type 0} {P : File} {view : A → Sized} {next : ℕ} {words : List ℕ} {r : Sizing} {a : Result A} {k : Checked} → Agrees P view next words r a → r ≡ Is k → Answered P view next words k a
-answer-is {P} {view} {next} {words} {k} (agrees {k = j} {x = y} e c) d = answered (subst (λ i. CheckedAs P next words i (view y)) (let same : Is j ≡ Is k = sym e ∙ d in cc) c)
+answer-is : {A : Type 0} {P : File} {view : A → Sized} {next : ℕ} {table : Table} {r : Sizing} {a : Result A} {k : Checked} → Agrees P view next table r a → r ≡ Is k → Answered P view next table k a
+answer-is {P} {view} {next} {table} {k} (agrees {k = j} {x = y} e c) d = answered (subst (λ i. CheckedAs P next table i (view y)) (let same : Is j ≡ Is k = sym e ∙ d in cc) c)
 answer-is (refused e) d = absurd (let same = sym e ∙ d in let z : _≡_ {A = ℕ} 0 1 = cc in omega arith)
 answer-is (beyond b) d = unanswered b
 
@@ -73,14 +73,14 @@ abbrev slotted : ℕ → CountedDef → Result CountedDef
 slotted n x = ok (record { numbers = withSlots n (x .numbers); list = x .list })
 
 -- a refusal is one of what is bound behind it
-stays : {P : File} {τ : Ty} {next : ℕ} {words : List ℕ} {x : Sizing} {a : Result CountedDef} {n frame : ℕ} (κ : CountedDef → Result CountedDef) → x ≡ Refused n frame → Agrees P (ofType τ) next words x a → Agrees P (ofType τ) next words x (bind a κ)
+stays : {P : File} {τ : Ty} {next : ℕ} {table : Table} {x : Sizing} {a : Result CountedDef} {n frame : ℕ} (κ : CountedDef → Result CountedDef) → x ≡ Refused n frame → Agrees P (ofType τ) next table x a → Agrees P (ofType τ) next table x (bind a κ)
 stays κ d u = bind-no κ u d d
 
 module _ {P : File} {f : List ℕ → List Instance → Result CountedDef} {r at end : ℕ} {b : Buffers} {all : Checked} {a : Result CountedDef} where
   -- a part refused for this split refuses the whole
-  stops : {τ : Ty} {words : List ℕ} {x : Sizing} {n frame : ℕ} (m : ℕ) → Progress P f r at end b all true a →
-      ((M : List Instance) → Holds P (b .list) (all .used) M → All UpToMost (take r (drop at (b .sizes))) → Agrees P (ofType τ) end words x (f (take r (drop at (b .sizes))) M)) → x ≡ Refused n frame →
-      Agrees P (ofType τ) end words x (bind a (slotted m))
+  stops : {τ : Ty} {table : Table} {x : Sizing} {n frame : ℕ} (m : ℕ) → Progress P f r at end b all true a →
+      ((M : List Instance) → Holds P (b .list) (all .used) M → All UpToMost (take r (drop at (b .sizes))) → Agrees P (ofType τ) end table x (f (take r (drop at (b .sizes))) M)) → x ≡ Refused n frame →
+      Agrees P (ofType τ) end table x (bind a (slotted m))
   unfolding atSplits bind
   stops m (going {M} t e chain most stands holds) agree d =
       let first = first-of chain in
@@ -149,8 +149,8 @@ turns ty f r at moved (ended t e stands holds place) both room same answer m = f
 turns ty f r at moved (past before e) both room same answer m = past before e
 
 -- the type of the branch's expression is the one that is wanted
-agreed : {P : File} {end : ℕ} {words : List ℕ} {k : Checked} {g : Result Sized} {τ : Ty} (frame : ℕ) → Answered P itself end words k g → sameType (meaning (k .ty)) τ ≡ true → Bounded τ →
-    Answered P (ofType τ) end words k (bind g (λ x. need (sameType (x .type) τ) 11 frame (ok (record { numbers = x .numbers; list = x .list }))))
+agreed : {P : File} {end : ℕ} {table : Table} {k : Checked} {g : Result Sized} {τ : Ty} (frame : ℕ) → Answered P itself end table k g → sameType (meaning (k .ty)) τ ≡ true → Bounded τ →
+    Answered P (ofType τ) end table k (bind g (λ x. need (sameType (x .type) τ) 11 frame (ok (record { numbers = x .numbers; list = x .list }))))
 unfolding bind need
 agreed {k} {τ} frame (answered c) same small =
     rw (sym (c .type), same) (answered (record { type = same-type (meaning (k .ty)) τ same; small = small; numbers = c .numbers; ends = c .ends; holds = c .holds }))

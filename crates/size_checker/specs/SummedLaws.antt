@@ -1,35 +1,14 @@
 -- Initial values and updates as the definition takes them are the expressions of channels with their numbers summed as they come.
-use Prim.Native.Nat.{ℕ, suc, _+_, max}
+use Prim.Native.Nat.{ℕ, suc}
 use mathlib.Core.List.{List, [], _∷_, map}
 use mathlib.Core.Path.{_≡_, refl, ap, _∙_}
-use native.Mathlib.Omega.{arith}
-use Rattle.language.specs.Result.{Result, ok, no, bind}
+use Rattle.language.specs.Result.{ok, bind}
 use Rattle.language.specs.Syntax.{Ty, Expr, Node, File, declaredTypes}
-use Rattle.language.specs.Estimate.{Estimate, nothing, after}
+use Rattle.language.specs.Estimate.{Estimate, after}
 use Rattle.language.specs.Checker.{Instance, Counted, SizedFile, sizedChannel, sizedInitials, sizedUpdates}
 use Rattle.language.specs.Cells.{updatesNumbers}
 use Rattle.size_checker.specs.FileParts.{summed}
-
--- ---- after: from the left or from the right
-after-after : (x y z : Estimate) → after (after x y) z ≡ after x (after y z)
-after-after x y z =
-    let env : max (max (x .env) (y .env)) (z .env) ≡ max (x .env) (max (y .env) (z .env)) = omega arith in
-    let heap : (x .heap + y .heap) + z .heap ≡ x .heap + (y .heap + z .heap) = omega arith in
-    let stack : max (max (x .stack) (y .stack)) (z .stack) ≡ max (x .stack) (max (y .stack) (z .stack)) = omega arith in
-    λ i. record { env = env i; heap = heap i; stack = stack i }
-
-after-none : (x : Estimate) → x ≡ after x nothing
-after-none x =
-    let env : x .env ≡ max (x .env) 0 = omega arith in
-    let heap : x .heap ≡ x .heap + 0 = omega arith in
-    let stack : x .stack ≡ max (x .stack) 0 = omega arith in
-    λ i. record { env = env i; heap = heap i; stack = stack i }
-
--- ---- what follows a part may be followed in two steps
-through : {A B D : Type 0} (a : Result A) (κ : A → Result D) (step : A → Result B) (f : B → Result D) → ((q : A) → κ q ≡ bind (step q) f) → bind a κ ≡ bind (bind a step) f
-unfolding bind
-through (ok q) κ step f h = h q
-through (no n frame) κ step f h = refl
+use Rattle.size_checker.specs.Sums.{after-after, after-none, through}
 
 -- ---- initial values
 pub initials-are : (P : File) (x : Estimate) (c : ℕ) (es : List Expr) (τs : List Ty) (L : List Instance) → sizedInitials P c es τs L ≡ bind (summed P [] x c es τs L) (λ q. ok (q .list))

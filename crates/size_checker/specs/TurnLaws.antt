@@ -17,7 +17,7 @@ use Rattle.size_steps.specs.declared.Checked.{Checked}
 use Rattle.size_steps.specs.declared.Sizing.{Sizing}
 use Rattle.size_steps.specs.declared.Sizing.the-variants.{Is, Refused}
 use Rattle.size_steps.specs.Sites.{movedTo, widened, Kept, kept-then, kept-moved, kept-under, kept-set}
-use Rattle.size_steps.specs.Agreement.{Agrees, itself, CheckedAs, Grows, grown, grows-to, grows-same}
+use Rattle.size_steps.specs.Agreement.{Table, Agrees, itself, CheckedAs, Grows, grown, grows-to, grows-same}
 use Rattle.size_checker.specs.Promises.{Lent, Buffers, buffers, Here, entering, Sizes, ExprPart}
 use Rattle.size_checker.specs.HereLaws.{part-at, here-moved}
 
@@ -81,7 +81,7 @@ pub in-frame : {t : Lent} {b : Buffers} {p : Place} {P : File} {S : Scope} {q : 
 in-frame {p} {P} {q} n h = let same : p .line + 1 ≡ frameAt P q = omega (arith, h .site .frame) in ap (λ frame. Refused n frame) same
 
 -- the scope as it was written
-pub put-is : {Part : List ℕ → Place → Scope → ℕ → Expr → Type 0} {t : Lent} {list scope sizes scope′ : List ℕ} {o : Place} {y : Sizing} {b : Buffers} → scope′ ≡ scope → Sizes Part t (buffers list scope′ sizes) o y b → Sizes Part t (buffers list scope sizes) o y b
+pub put-is : {Part : List ℕ → Place → Scope → ℕ → Expr → Type 0} {t : Lent} {list : Table} {scope sizes scope′ : List ℕ} {o : Place} {y : Sizing} {b : Buffers} → scope′ ≡ scope → Sizes Part t (buffers list scope′ sizes) o y b → Sizes Part t (buffers list scope sizes) o y b
 put-is {Part} {t} {list} {sizes} {o} {y} {b} e u = subst (λ l. Sizes Part t (buffers list l sizes) o y b) e u
 
 -- ---- an answer that has gone on

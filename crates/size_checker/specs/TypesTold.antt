@@ -39,7 +39,7 @@ variable-told {Γ} {scope} {p} s v e =
 
 -- ---- channels
 -- what stands at a place of two lists
-look-either : {A X : Type 0} (l m : List A) (i : ℕ) {a : A} → look (l ++ m) i ≡ some a → (look l i ≡ some a → X) → ((j : ℕ) → i ≡ length l + j → look m j ≡ some a → X) → X
+pub look-either : {A X : Type 0} (l m : List A) (i : ℕ) {a : A} → look (l ++ m) i ≡ some a → (look l i ≡ some a → X) → ((j : ℕ) → i ≡ length l + j → look m j ≡ some a → X) → X
 look-either [] m i e first second = second i (sym (zero-add i)) e
 look-either (x ∷ l) m zero e first second = first e
 look-either (x ∷ l) m (suc i) e first second = look-either l m i e first (λ j is z. second j (omega (arith, is)) z)

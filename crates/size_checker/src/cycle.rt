@@ -3,14 +3,17 @@ ghost use Prim.Native.Nat.{suc, _<_, _≤_};
 ghost use lib.ListN.{length};
 ghost use Rattle.language.specs.Limits.{byteRange, sizeVariablesMost};
 ghost use Rattle.size_steps.specs.Sites.{Room};
+ghost use Rattle.size_steps.specs.Agreement.{table};
 ghost use Rattle.size_steps.specs.Leaves.{Operands, Entered};
-ghost use Rattle.size_checker.specs.Promises.{lent, buffers, Sizes, ExprPart, SizesAll, Enters, EntersNew, Applies, SizesBranches, SizesBranch, SizesSplits};
+ghost use Rattle.size_checker.specs.Promises.{lent, buffers, Sizes, ExprPart, SizesAll, Enters, EntersNew, ChecksBody, Applies, SizesBranches, SizesBranch, SizesSplits};
 ghost use Rattle.size_checker.specs.Parts.{LetPart, IfPart, OpPart, AdjPart, FitPart, CompoundPart, CallPart, ConPart, CasePart};
 use estimate::nothing;
 use estimate::one_cell;
 use heads::Form;
+use heads::VariableAt;
 use heads::head_at;
 use heads::skip::skip;
+use heads::variable_at;
 use index::INDEX_WORDS;
 use index::frames::frame_line;
 use index::functions::arity;
@@ -18,7 +21,8 @@ use index::put;
 use index::types::constructors;
 use index::types::fields;
 use index::types::own_fields;
-use instances::HINT_WORDS;
+use index::word_at;
+use instances::MEMO_WORDS;
 use instances::Search;
 use instances::add;
 use instances::find;
@@ -40,6 +44,7 @@ use size_steps::Entry;
 use size_steps::Place;
 use size_steps::Sizing;
 use size_steps::Subject;
+use size_steps::leaves::again;
 use size_steps::leaves::channel_type;
 use size_steps::leaves::made;
 use size_steps::leaves::prepare;
@@ -52,13 +57,14 @@ use size_steps::numbers::cased;
 use size_steps::numbers::chosen;
 use size_steps::numbers::fitted;
 use size_steps::numbers::is_type;
+use size_steps::numbers::joined;
 use size_steps::numbers::larger;
 use size_steps::numbers::leaf;
 use size_steps::numbers::none;
 use size_steps::numbers::not_entered;
 use size_steps::numbers::nothing_yet;
-use size_steps::numbers::one_more;
 use size_steps::numbers::operated;
+use size_steps::numbers::passed;
 use size_steps::numbers::refused;
 use size_steps::numbers::refused_all;
 use size_steps::numbers::slotted;
@@ -86,13 +92,13 @@ pub fn expr(
     text: &[u8],
     index: &[u32; INDEX_WORDS],
     list: &mut [u32],
-    hints: &mut [u32; HINT_WORDS],
+    memo: &mut [u32; MEMO_WORDS],
     scope: &mut [u32],
     sizes: &mut [u8],
     p: Place,
 ) -> Sizing
     requires { ⌜ Room (p .levels) (length (now scope)) (length (now sizes)) p ⌝ }
-    ensures { λ r. ⌜ Sizes ExprPart (lent (now (text .entry)) (now (index .entry))) (buffers (now (list .entry)) (now (scope .entry)) (now (sizes .entry))) p r (buffers (now (list .exit)) (now (scope .exit)) (now (sizes .exit))) ⌝ }
+    ensures { λ r. ⌜ Sizes ExprPart (lent (now (text .entry)) (now (index .entry))) (buffers (table (now (list .entry)) (now (memo .entry))) (now (scope .entry)) (now (sizes .entry))) p r (buffers (table (now (list .exit)) (now (memo .exit))) (now (scope .exit)) (now (sizes .exit))) ⌝ }
 {
     if p.levels == 0 {
         return Sizing::Refused(OUTSIDE_LIMITS, p.line + 1);
@@ -109,7 +115,7 @@ pub fn expr(
         Form::Variable(v) => leaf(type_in(scope, v as usize), nothing(), q),
         Form::Now(c) => leaf(channel_type(index, c), nothing(), q),
         Form::Last(c) => leaf(channel_type(index, c), nothing(), q),
-        _ => compound(text, index, list, hints, scope, sizes, q, form),
+        _ => compound(text, index, list, memo, scope, sizes, q, form),
     }
 }
 
@@ -118,7 +124,7 @@ fn compound(
     text: &[u8],
     index: &[u32; INDEX_WORDS],
     list: &mut [u32],
-    hints: &mut [u32; HINT_WORDS],
+    memo: &mut [u32; MEMO_WORDS],
     scope: &mut [u32],
     sizes: &mut [u8],
     p: Place,
@@ -126,17 +132,17 @@ fn compound(
 ) -> Sizing
     requires { ⌜ Room (suc (p .levels)) (length (now scope)) (length (now sizes)) p ⌝ }
     requires { ⌜ Operands form ⌝ }
-    ensures { λ r. ⌜ Sizes (CompoundPart form) (lent (now (text .entry)) (now (index .entry))) (buffers (now (list .entry)) (now (scope .entry)) (now (sizes .entry))) p r (buffers (now (list .exit)) (now (scope .exit)) (now (sizes .exit))) ⌝ }
+    ensures { λ r. ⌜ Sizes (CompoundPart form) (lent (now (text .entry)) (now (index .entry))) (buffers (table (now (list .entry)) (now (memo .entry))) (now (scope .entry)) (now (sizes .entry))) p r (buffers (table (now (list .exit)) (now (memo .exit))) (now (scope .exit)) (now (sizes .exit))) ⌝ }
 {
     match form {
-        Form::Let => binding(text, index, list, hints, scope, sizes, p),
-        Form::If => choice(text, index, list, hints, scope, sizes, p),
-        Form::Operator(o) => { operation(text, index, list, hints, scope, sizes, p, o) }
-        Form::Call(f) => call(text, index, list, hints, scope, sizes, p, f),
-        Form::Construct(t, c) => { construct(text, index, list, hints, scope, sizes, p, t, c) }
-        Form::Case(t) => case_of(text, index, list, hints, scope, sizes, p, t),
-        Form::Adjust => adjust(text, index, list, hints, scope, sizes, p),
-        Form::Fit(k) => fit(text, index, list, hints, scope, sizes, p, k),
+        Form::Let => binding(text, index, list, memo, scope, sizes, p),
+        Form::If => choice(text, index, list, memo, scope, sizes, p),
+        Form::Operator(o) => { operation(text, index, list, memo, scope, sizes, p, o) }
+        Form::Call(f) => call(text, index, list, memo, scope, sizes, p, f),
+        Form::Construct(t, c) => { construct(text, index, list, memo, scope, sizes, p, t, c) }
+        Form::Case(t) => case_of(text, index, list, memo, scope, sizes, p, t),
+        Form::Adjust => adjust(text, index, list, memo, scope, sizes, p),
+        Form::Fit(k) => fit(text, index, list, memo, scope, sizes, p, k),
         _ => Sizing::Refused(BAD_CODE, p.line + 1),
     }
 }
@@ -146,21 +152,21 @@ fn binding(
     text: &[u8],
     index: &[u32; INDEX_WORDS],
     list: &mut [u32],
-    hints: &mut [u32; HINT_WORDS],
+    memo: &mut [u32; MEMO_WORDS],
     scope: &mut [u32],
     sizes: &mut [u8],
     p: Place,
 ) -> Sizing
     requires { ⌜ Room (suc (p .levels)) (length (now scope)) (length (now sizes)) p ⌝ }
-    ensures { λ r. ⌜ Sizes LetPart (lent (now (text .entry)) (now (index .entry))) (buffers (now (list .entry)) (now (scope .entry)) (now (sizes .entry))) p r (buffers (now (list .exit)) (now (scope .exit)) (now (sizes .exit))) ⌝ }
+    ensures { λ r. ⌜ Sizes LetPart (lent (now (text .entry)) (now (index .entry))) (buffers (table (now (list .entry)) (now (memo .entry))) (now (scope .entry)) (now (sizes .entry))) p r (buffers (table (now (list .exit)) (now (memo .exit))) (now (scope .exit)) (now (sizes .exit))) ⌝ }
 {
-    let x = expr(text, index, list, hints, scope, sizes, p);
+    let x = expr(text, index, list, memo, scope, sizes, p);
     let Sizing::Is(a) = x else {
         return x;
     };
     put(scope, p.variables as usize, type_word(a));
     let q = widen(behind(p, a), 1, 0);
-    let y = expr(text, index, list, hints, scope, sizes, q);
+    let y = expr(text, index, list, memo, scope, sizes, q);
     let Sizing::Is(b) = y else {
         return y;
     };
@@ -172,25 +178,25 @@ fn choice(
     text: &[u8],
     index: &[u32; INDEX_WORDS],
     list: &mut [u32],
-    hints: &mut [u32; HINT_WORDS],
+    memo: &mut [u32; MEMO_WORDS],
     scope: &mut [u32],
     sizes: &mut [u8],
     p: Place,
 ) -> Sizing
     requires { ⌜ Room (suc (p .levels)) (length (now scope)) (length (now sizes)) p ⌝ }
-    ensures { λ r. ⌜ Sizes IfPart (lent (now (text .entry)) (now (index .entry))) (buffers (now (list .entry)) (now (scope .entry)) (now (sizes .entry))) p r (buffers (now (list .exit)) (now (scope .exit)) (now (sizes .exit))) ⌝ }
+    ensures { λ r. ⌜ Sizes IfPart (lent (now (text .entry)) (now (index .entry))) (buffers (table (now (list .entry)) (now (memo .entry))) (now (scope .entry)) (now (sizes .entry))) p r (buffers (table (now (list .exit)) (now (memo .exit))) (now (scope .exit)) (now (sizes .exit))) ⌝ }
 {
-    let x = expr(text, index, list, hints, scope, sizes, p);
+    let x = expr(text, index, list, memo, scope, sizes, p);
     let Sizing::Is(a) = x else {
         return x;
     };
     let q = behind(p, a);
-    let y = expr(text, index, list, hints, scope, sizes, q);
+    let y = expr(text, index, list, memo, scope, sizes, q);
     let Sizing::Is(b) = y else {
         return y;
     };
     let r = behind(p, b);
-    let z = expr(text, index, list, hints, scope, sizes, r);
+    let z = expr(text, index, list, memo, scope, sizes, r);
     let Sizing::Is(d) = z else {
         return z;
     };
@@ -205,64 +211,66 @@ fn operation(
     text: &[u8],
     index: &[u32; INDEX_WORDS],
     list: &mut [u32],
-    hints: &mut [u32; HINT_WORDS],
+    memo: &mut [u32; MEMO_WORDS],
     scope: &mut [u32],
     sizes: &mut [u8],
     p: Place,
     o: u32,
 ) -> Sizing
     requires { ⌜ Room (suc (p .levels)) (length (now scope)) (length (now sizes)) p ⌝ }
-    ensures { λ r. ⌜ Sizes (OpPart o) (lent (now (text .entry)) (now (index .entry))) (buffers (now (list .entry)) (now (scope .entry)) (now (sizes .entry))) p r (buffers (now (list .exit)) (now (scope .exit)) (now (sizes .exit))) ⌝ }
+    ensures { λ r. ⌜ Sizes (OpPart o) (lent (now (text .entry)) (now (index .entry))) (buffers (table (now (list .entry)) (now (memo .entry))) (now (scope .entry)) (now (sizes .entry))) p r (buffers (table (now (list .exit)) (now (memo .exit))) (now (scope .exit)) (now (sizes .exit))) ⌝ }
 {
-    let x = expr(text, index, list, hints, scope, sizes, p);
+    let x = expr(text, index, list, memo, scope, sizes, p);
     let Sizing::Is(a) = x else {
         return x;
     };
     let q = behind(p, a);
-    let y = expr(text, index, list, hints, scope, sizes, q);
+    let y = expr(text, index, list, memo, scope, sizes, q);
     let Sizing::Is(b) = y else {
         return y;
     };
     operated(o, a, b)
 }
 
-// Arguments or fields from number i of n on; the words of their types go into a row.
+// Arguments or fields, n of them; the words of their types go into a row. A variable's word is taken over from the scope.
 fn several(
     text: &[u8],
     index: &[u32; INDEX_WORDS],
     list: &mut [u32],
-    hints: &mut [u32; HINT_WORDS],
+    memo: &mut [u32; MEMO_WORDS],
     scope: &mut [u32],
     sizes: &mut [u8],
     p: Place,
     row: &mut [u32],
-    i: u32,
     n: u32,
 ) -> Counting
     requires { ⌜ Room (suc (p .levels)) (length (now scope)) (length (now sizes)) p × (n < byteRange) ⌝ }
-    ensures { λ r. ⌜ SizesAll (lent (now (text .entry)) (now (index .entry))) (buffers (now (list .entry)) (now (scope .entry)) (now (sizes .entry))) p i n (now (row .entry)) r (buffers (now (list .exit)) (now (scope .exit)) (now (sizes .exit))) (now (row .exit)) ⌝ }
+    ensures { λ r. ⌜ SizesAll (lent (now (text .entry)) (now (index .entry))) (buffers (table (now (list .entry)) (now (memo .entry))) (now (scope .entry)) (now (sizes .entry))) p n (now (row .entry)) r (buffers (table (now (list .exit)) (now (memo .exit))) (now (scope .exit)) (now (sizes .exit))) (now (row .exit)) ⌝ }
 {
-    if n <= i {
-        return none(p);
+    let line = frame_line(text, index, p.line);
+    let mut all = none(p);
+    let mut i: u32 = 0;
+    while i < n {
+        let at = all.next;
+        let v = variable_at(line, at);
+        match v {
+            VariableAt::Is(number, next) => {
+                put(row, i as usize, word_at(scope, number as usize));
+                all = passed(all, next);
+            }
+            VariableAt::Other => {
+                let q = moved(p, at, all.used);
+                let x = expr(text, index, list, memo, scope, sizes, q);
+                let Sizing::Is(a) = x else {
+                    return refused_all(x);
+                };
+                put(row, i as usize, type_word(a));
+                all = joined(all, a);
+            }
+        }
+        i += 1;
     }
-    let x = expr(text, index, list, hints, scope, sizes, p);
-    let Sizing::Is(a) = x else {
-        return refused_all(x);
-    };
-    put(row, i as usize, type_word(a));
-    let y = several(
-        text,
-        index,
-        list,
-        hints,
-        scope,
-        sizes,
-        behind(p, a),
-        row,
-        i + 1,
-        n,
-    );
-    one_more(a, y)
+    Counting::Are(all)
 }
 
 // `18`: a call and its arguments, which are the scope of its body.
@@ -270,7 +278,7 @@ fn call(
     text: &[u8],
     index: &[u32; INDEX_WORDS],
     list: &mut [u32],
-    hints: &mut [u32; HINT_WORDS],
+    memo: &mut [u32; MEMO_WORDS],
     scope: &mut [u32],
     sizes: &mut [u8],
     p: Place,
@@ -278,15 +286,15 @@ fn call(
 ) -> Sizing
     requires { ⌜ Room (suc (p .levels)) (length (now scope)) (length (now sizes)) p ⌝ }
     requires { ⌜ f < byteRange ⌝ }
-    ensures { λ r. ⌜ Sizes (CallPart f) (lent (now (text .entry)) (now (index .entry))) (buffers (now (list .entry)) (now (scope .entry)) (now (sizes .entry))) p r (buffers (now (list .exit)) (now (scope .exit)) (now (sizes .exit))) ⌝ }
+    ensures { λ r. ⌜ Sizes (CallPart f) (lent (now (text .entry)) (now (index .entry))) (buffers (table (now (list .entry)) (now (memo .entry))) (now (scope .entry)) (now (sizes .entry))) p r (buffers (table (now (list .exit)) (now (memo .exit))) (now (scope .exit)) (now (sizes .exit))) ⌝ }
 {
     let n = arity(index, f);
     let mut row = [0u32; VARIABLES_MOST as usize];
-    let x = several(text, index, list, hints, scope, sizes, p, &mut row, 0, n);
+    let x = several(text, index, list, memo, scope, sizes, p, &mut row, n);
     let Counting::Are(a) = x else {
         return refused(x);
     };
-    apply(text, index, list, hints, &mut row, p, a, f, n)
+    apply(text, index, list, memo, &mut row, p, a, f, n)
 }
 
 // A call whose n arguments were checked: their types, which scope holds, and the sizes of the named ones are the scope of its body.
@@ -294,7 +302,7 @@ fn apply(
     text: &[u8],
     index: &[u32; INDEX_WORDS],
     list: &mut [u32],
-    hints: &mut [u32; HINT_WORDS],
+    memo: &mut [u32; MEMO_WORDS],
     scope: &mut [u32],
     p: Place,
     a: Counted,
@@ -303,44 +311,65 @@ fn apply(
 ) -> Sizing
     requires { ⌜ Room (suc (p .levels)) (length (now scope)) sizeVariablesMost p ⌝ }
     requires { ⌜ (p .used ≤ a .used) × ((f < byteRange) × (n < byteRange)) ⌝ }
-    ensures { λ r. ⌜ Applies f n a (lent (now (text .entry)) (now (index .entry))) (now (list .entry)) (now (scope .entry)) p r (now (list .exit)) ⌝ }
+    ensures { λ r. ⌜ Applies f n a (lent (now (text .entry)) (now (index .entry))) (table (now (list .entry)) (now (memo .entry))) (now (scope .entry)) p r (table (now (list .exit)) (now (memo .exit))) ⌝ }
 {
     let mut held = [0u8; SIZE_VARIABLES_MOST as usize];
     let m = named_sizes(scope, n, &mut held);
     let next = a.next;
     let q = moved(p, next, a.used);
-    let y = prepare(text, index, &held, q, f, n, m);
-    let Entering::Ready(e) = y else {
-        return not_entered(y);
-    };
-    let z = enter(text, index, list, hints, scope, &mut held, q, e);
+    let z = enter(text, index, list, memo, scope, &mut held, q, f, n, m);
     let Sizing::Is(b) = z else {
         return z;
     };
     called(n, a, b)
 }
 
-// The numbers of an instance: those found in the list, or of its body.
+// The numbers of the instance of f at these sizes: those found in the list, or of its body.
 fn enter(
     text: &[u8],
     index: &[u32; INDEX_WORDS],
     list: &mut [u32],
-    hints: &mut [u32; HINT_WORDS],
+    memo: &mut [u32; MEMO_WORDS],
     scope: &mut [u32],
     sizes: &mut [u8],
     p: Place,
-    e: Entry,
+    f: u32,
+    n: u32,
+    m: u32,
 ) -> Sizing
     requires { ⌜ Room (suc (p .levels)) (length (now scope)) (length (now sizes)) p ⌝ }
-    requires { ⌜ Entered e ⌝ }
-    ensures { λ r. ⌜ Enters e (lent (now (text .entry)) (now (index .entry))) (buffers (now (list .entry)) (now (scope .entry)) (now (sizes .entry))) p r (buffers (now (list .exit)) (now (scope .exit)) (now (sizes .exit))) ⌝ }
+    requires { ⌜ (f < byteRange) × ((n < byteRange) × (m ≤ n)) ⌝ }
+    ensures { λ r. ⌜ Enters f n m (lent (now (text .entry)) (now (index .entry))) (buffers (table (now (list .entry)) (now (memo .entry))) (now (scope .entry)) (now (sizes .entry))) p r (buffers (table (now (list .exit)) (now (memo .exit))) (now (scope .exit)) (now (sizes .exit))) ⌝ }
 {
-    let x = find(list, hints, p.used, e.function, sizes);
-    let ty = e.ty;
-    match x {
-        Search::Found(numbers) => leaf(ty, numbers, p),
-        Search::Absent => body(text, index, list, hints, scope, sizes, p, e),
-    }
+    let x = find(list, memo, p.used, f, sizes);
+    let Search::Found(i) = x else {
+        return enter_new(text, index, list, memo, scope, sizes, p, f, n, m);
+    };
+    again(text, index, list, memo, sizes, p, f, i)
+}
+
+// An instance that was not entered before: what is tested before its body, and the body.
+fn enter_new(
+    text: &[u8],
+    index: &[u32; INDEX_WORDS],
+    list: &mut [u32],
+    memo: &mut [u32; MEMO_WORDS],
+    scope: &mut [u32],
+    sizes: &mut [u8],
+    p: Place,
+    f: u32,
+    n: u32,
+    m: u32,
+) -> Sizing
+    requires { ⌜ Room (suc (p .levels)) (length (now scope)) (length (now sizes)) p ⌝ }
+    requires { ⌜ (f < byteRange) × ((n < byteRange) × (m ≤ n)) ⌝ }
+    ensures { λ r. ⌜ EntersNew f n m (lent (now (text .entry)) (now (index .entry))) (buffers (table (now (list .entry)) (now (memo .entry))) (now (scope .entry)) (now (sizes .entry))) p r (buffers (table (now (list .exit)) (now (memo .exit))) (now (scope .exit)) (now (sizes .exit))) ⌝ }
+{
+    let y = prepare(text, index, sizes, p, f, n, m);
+    let Entering::Ready(e) = y else {
+        return not_entered(y);
+    };
+    body(text, index, list, memo, scope, sizes, p, e)
 }
 
 // A body entered for the first time at its sizes: its record is added on entry, and filled in when it has been checked.
@@ -348,7 +377,7 @@ fn body(
     text: &[u8],
     index: &[u32; INDEX_WORDS],
     list: &mut [u32],
-    hints: &mut [u32; HINT_WORDS],
+    memo: &mut [u32; MEMO_WORDS],
     scope: &mut [u32],
     sizes: &mut [u8],
     p: Place,
@@ -356,18 +385,18 @@ fn body(
 ) -> Sizing
     requires { ⌜ Room (suc (p .levels)) (length (now scope)) (length (now sizes)) p ⌝ }
     requires { ⌜ Entered e ⌝ }
-    ensures { λ r. ⌜ EntersNew e (lent (now (text .entry)) (now (index .entry))) (buffers (now (list .entry)) (now (scope .entry)) (now (sizes .entry))) p r (buffers (now (list .exit)) (now (scope .exit)) (now (sizes .exit))) ⌝ }
+    ensures { λ r. ⌜ ChecksBody e (lent (now (text .entry)) (now (index .entry))) (buffers (table (now (list .entry)) (now (memo .entry))) (now (scope .entry)) (now (sizes .entry))) p r (buffers (table (now (list .exit)) (now (memo .exit))) (now (scope .exit)) (now (sizes .exit))) ⌝ }
 {
     if INSTANCES_MOST <= p.used as usize {
         return Sizing::Refused(TOO_MANY_INSTANCES, p.line + 1);
     }
-    add(list, hints, p.used, e.function, sizes);
+    let ty = e.ty;
+    add(list, memo, p.used, e.function, sizes, word_of(ty));
     let q = body_place(index, p, e);
-    let x = expr(text, index, list, hints, scope, sizes, q);
+    let x = expr(text, index, list, memo, scope, sizes, q);
     let Sizing::Is(a) = x else {
         return x;
     };
-    let ty = e.ty;
     if !is_type(a, ty) {
         return Sizing::Refused(SIZES_DISAGREE, q.line + 1);
     }
@@ -382,7 +411,7 @@ fn construct(
     text: &[u8],
     index: &[u32; INDEX_WORDS],
     list: &mut [u32],
-    hints: &mut [u32; HINT_WORDS],
+    memo: &mut [u32; MEMO_WORDS],
     scope: &mut [u32],
     sizes: &mut [u8],
     p: Place,
@@ -391,11 +420,11 @@ fn construct(
 ) -> Sizing
     requires { ⌜ Room (suc (p .levels)) (length (now scope)) (length (now sizes)) p ⌝ }
     requires { ⌜ (t < byteRange) × (c < byteRange) ⌝ }
-    ensures { λ r. ⌜ Sizes (ConPart t c) (lent (now (text .entry)) (now (index .entry))) (buffers (now (list .entry)) (now (scope .entry)) (now (sizes .entry))) p r (buffers (now (list .exit)) (now (scope .exit)) (now (sizes .exit))) ⌝ }
+    ensures { λ r. ⌜ Sizes (ConPart t c) (lent (now (text .entry)) (now (index .entry))) (buffers (table (now (list .entry)) (now (memo .entry))) (now (scope .entry)) (now (sizes .entry))) p r (buffers (table (now (list .exit)) (now (memo .exit))) (now (scope .exit)) (now (sizes .exit))) ⌝ }
 {
     let n = fields(index, t, c);
     let mut row = [0u32; FIELDS_MOST];
-    let x = several(text, index, list, hints, scope, sizes, p, &mut row, 0, n);
+    let x = several(text, index, list, memo, scope, sizes, p, &mut row, n);
     let Counting::Are(a) = x else {
         return refused(x);
     };
@@ -407,7 +436,7 @@ fn case_of(
     text: &[u8],
     index: &[u32; INDEX_WORDS],
     list: &mut [u32],
-    hints: &mut [u32; HINT_WORDS],
+    memo: &mut [u32; MEMO_WORDS],
     scope: &mut [u32],
     sizes: &mut [u8],
     p: Place,
@@ -415,9 +444,9 @@ fn case_of(
 ) -> Sizing
     requires { ⌜ Room (suc (p .levels)) (length (now scope)) (length (now sizes)) p ⌝ }
     requires { ⌜ t < byteRange ⌝ }
-    ensures { λ r. ⌜ Sizes (CasePart t) (lent (now (text .entry)) (now (index .entry))) (buffers (now (list .entry)) (now (scope .entry)) (now (sizes .entry))) p r (buffers (now (list .exit)) (now (scope .exit)) (now (sizes .exit))) ⌝ }
+    ensures { λ r. ⌜ Sizes (CasePart t) (lent (now (text .entry)) (now (index .entry))) (buffers (table (now (list .entry)) (now (memo .entry))) (now (scope .entry)) (now (sizes .entry))) p r (buffers (table (now (list .exit)) (now (memo .exit))) (now (scope .exit)) (now (sizes .exit))) ⌝ }
 {
-    let x = expr(text, index, list, hints, scope, sizes, p);
+    let x = expr(text, index, list, memo, scope, sizes, p);
     let Sizing::Is(a) = x else {
         return x;
     };
@@ -433,7 +462,7 @@ fn case_of(
     };
     let s = subject(t, m, wanted);
     let q = moved(p, next, a.used);
-    let z = branches(text, index, list, hints, scope, sizes, q, s, 0);
+    let z = branches(text, index, list, memo, scope, sizes, q, s, 0);
     let Sizing::Is(b) = z else {
         return z;
     };
@@ -445,7 +474,7 @@ fn branches(
     text: &[u8],
     index: &[u32; INDEX_WORDS],
     list: &mut [u32],
-    hints: &mut [u32; HINT_WORDS],
+    memo: &mut [u32; MEMO_WORDS],
     scope: &mut [u32],
     sizes: &mut [u8],
     p: Place,
@@ -454,19 +483,19 @@ fn branches(
 ) -> Sizing
     requires { ⌜ Room (suc (p .levels)) (length (now scope)) (length (now sizes)) p ⌝ }
     requires { ⌜ (s .of < byteRange) × (k ≤ byteRange) ⌝ }
-    ensures { λ r. ⌜ SizesBranches s k (lent (now (text .entry)) (now (index .entry))) (buffers (now (list .entry)) (now (scope .entry)) (now (sizes .entry))) p r (buffers (now (list .exit)) (now (scope .exit)) (now (sizes .exit))) ⌝ }
+    ensures { λ r. ⌜ SizesBranches s k (lent (now (text .entry)) (now (index .entry))) (buffers (table (now (list .entry)) (now (memo .entry))) (now (scope .entry)) (now (sizes .entry))) p r (buffers (table (now (list .exit)) (now (memo .exit))) (now (scope .exit)) (now (sizes .exit))) ⌝ }
 {
     if constructors(index, s.of) <= k {
         let ty = s.ty;
         return leaf(ty, nothing(), p);
     }
-    let x = branch(text, index, list, hints, scope, sizes, p, s, k);
+    let x = branch(text, index, list, memo, scope, sizes, p, s, k);
     let Sizing::Is(a) = x else {
         return x;
     };
     let q = behind(p, a);
     let j = k + 1;
-    let y = branches(text, index, list, hints, scope, sizes, q, s, j);
+    let y = branches(text, index, list, memo, scope, sizes, q, s, j);
     let Sizing::Is(b) = y else {
         return y;
     };
@@ -478,7 +507,7 @@ fn branch(
     text: &[u8],
     index: &[u32; INDEX_WORDS],
     list: &mut [u32],
-    hints: &mut [u32; HINT_WORDS],
+    memo: &mut [u32; MEMO_WORDS],
     scope: &mut [u32],
     sizes: &mut [u8],
     p: Place,
@@ -487,7 +516,7 @@ fn branch(
 ) -> Sizing
     requires { ⌜ Room (suc (p .levels)) (length (now scope)) (length (now sizes)) p ⌝ }
     requires { ⌜ (s .of < byteRange) × (k < byteRange) ⌝ }
-    ensures { λ r. ⌜ SizesBranch s k (lent (now (text .entry)) (now (index .entry))) (buffers (now (list .entry)) (now (scope .entry)) (now (sizes .entry))) p r (buffers (now (list .exit)) (now (scope .exit)) (now (sizes .exit))) ⌝ }
+    ensures { λ r. ⌜ SizesBranch s k (lent (now (text .entry)) (now (index .entry))) (buffers (table (now (list .entry)) (now (memo .entry))) (now (scope .entry)) (now (sizes .entry))) p r (buffers (table (now (list .exit)) (now (memo .exit))) (now (scope .exit)) (now (sizes .exit))) ⌝ }
 {
     let own = own_fields(index, s.of, k);
     let m = s.size;
@@ -499,7 +528,7 @@ fn branch(
         return leaf(ty, nothing(), moved(p, next, p.used));
     }
     first_split(sizes, p.sizes as usize, own, m - 1);
-    at_splits(text, index, list, hints, scope, sizes, p, s, k)
+    at_splits(text, index, list, memo, scope, sizes, p, s, k)
 }
 
 // A branch for every split from the one on that stands among the sizes.
@@ -507,7 +536,7 @@ fn at_splits(
     text: &[u8],
     index: &[u32; INDEX_WORDS],
     list: &mut [u32],
-    hints: &mut [u32; HINT_WORDS],
+    memo: &mut [u32; MEMO_WORDS],
     scope: &mut [u32],
     sizes: &mut [u8],
     p: Place,
@@ -516,7 +545,7 @@ fn at_splits(
 ) -> Sizing
     requires { ⌜ Room (suc (p .levels)) (length (now scope)) (length (now sizes)) p ⌝ }
     requires { ⌜ (s .of < byteRange) × (k < byteRange) ⌝ }
-    ensures { λ r. ⌜ SizesSplits s k (lent (now (text .entry)) (now (index .entry))) (buffers (now (list .entry)) (now (scope .entry)) (now (sizes .entry))) p r (buffers (now (list .exit)) (now (scope .exit)) (now (sizes .exit))) ⌝ }
+    ensures { λ r. ⌜ SizesSplits s k (lent (now (text .entry)) (now (index .entry))) (buffers (table (now (list .entry)) (now (memo .entry))) (now (scope .entry)) (now (sizes .entry))) p r (buffers (table (now (list .exit)) (now (memo .exit))) (now (scope .exit)) (now (sizes .exit))) ⌝ }
 {
     let n = fields(index, s.of, k);
     let own = own_fields(index, s.of, k);
@@ -527,7 +556,7 @@ fn at_splits(
     while more {
         bind_fields(index, scope, sizes, s.of, k, p.variables, p.sizes);
         let q = widen(moved(p, at, all.used), n, own);
-        let x = expr(text, index, list, hints, scope, sizes, q);
+        let x = expr(text, index, list, memo, scope, sizes, q);
         let Sizing::Is(a) = x else {
             return x;
         };
@@ -545,13 +574,13 @@ fn adjust(
     text: &[u8],
     index: &[u32; INDEX_WORDS],
     list: &mut [u32],
-    hints: &mut [u32; HINT_WORDS],
+    memo: &mut [u32; MEMO_WORDS],
     scope: &mut [u32],
     sizes: &mut [u8],
     p: Place,
 ) -> Sizing
     requires { ⌜ Room (suc (p .levels)) (length (now scope)) (length (now sizes)) p ⌝ }
-    ensures { λ r. ⌜ Sizes AdjPart (lent (now (text .entry)) (now (index .entry))) (buffers (now (list .entry)) (now (scope .entry)) (now (sizes .entry))) p r (buffers (now (list .exit)) (now (scope .exit)) (now (sizes .exit))) ⌝ }
+    ensures { λ r. ⌜ Sizes AdjPart (lent (now (text .entry)) (now (index .entry))) (buffers (table (now (list .entry)) (now (memo .entry))) (now (scope .entry)) (now (sizes .entry))) p r (buffers (table (now (list .exit)) (now (memo .exit))) (now (scope .exit)) (now (sizes .exit))) ⌝ }
 {
     let at = p.at;
     let line = frame_line(text, index, p.line);
@@ -560,7 +589,7 @@ fn adjust(
         return Sizing::Refused(SIZE_OUTSIDE, p.line + 1);
     };
     let q = moved(p, next, p.used);
-    let x = expr(text, index, list, hints, scope, sizes, q);
+    let x = expr(text, index, list, memo, scope, sizes, q);
     let Sizing::Is(a) = x else {
         return x;
     };
@@ -579,16 +608,16 @@ fn fit(
     text: &[u8],
     index: &[u32; INDEX_WORDS],
     list: &mut [u32],
-    hints: &mut [u32; HINT_WORDS],
+    memo: &mut [u32; MEMO_WORDS],
     scope: &mut [u32],
     sizes: &mut [u8],
     p: Place,
     k: u32,
 ) -> Sizing
     requires { ⌜ Room (suc (p .levels)) (length (now scope)) (length (now sizes)) p × (k < byteRange) ⌝ }
-    ensures { λ r. ⌜ Sizes (FitPart k) (lent (now (text .entry)) (now (index .entry))) (buffers (now (list .entry)) (now (scope .entry)) (now (sizes .entry))) p r (buffers (now (list .exit)) (now (scope .exit)) (now (sizes .exit))) ⌝ }
+    ensures { λ r. ⌜ Sizes (FitPart k) (lent (now (text .entry)) (now (index .entry))) (buffers (table (now (list .entry)) (now (memo .entry))) (now (scope .entry)) (now (sizes .entry))) p r (buffers (table (now (list .exit)) (now (memo .exit))) (now (scope .exit)) (now (sizes .exit))) ⌝ }
 {
-    let x = expr(text, index, list, hints, scope, sizes, p);
+    let x = expr(text, index, list, memo, scope, sizes, p);
     let Sizing::Is(a) = x else {
         return x;
     };
@@ -599,12 +628,12 @@ fn fit(
     let word = word_of(SizedType::Named(t, k as u8));
     put(scope, p.variables as usize, word);
     let q = widen(behind(p, a), 1, 0);
-    let y = expr(text, index, list, hints, scope, sizes, q);
+    let y = expr(text, index, list, memo, scope, sizes, q);
     let Sizing::Is(b) = y else {
         return y;
     };
     let r = behind(p, b);
-    let z = expr(text, index, list, hints, scope, sizes, r);
+    let z = expr(text, index, list, memo, scope, sizes, r);
     let Sizing::Is(d) = z else {
         return z;
     };

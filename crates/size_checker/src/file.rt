@@ -5,18 +5,18 @@ ghost use lib.ListN.{getD};
 ghost use Rattle.language.specs.Limits.{channelsMost};
 ghost use Rattle.index.specs.Tables.{channelWords};
 ghost use Rattle.index.specs.Sections.{channelsOf};
+ghost use Rattle.size_steps.specs.Agreement.{table};
 ghost use Rattle.size_checker.specs.Promises.{lent};
-ghost use Rattle.size_checker.specs.FileParts.{Few, Limited, InitialOrUpdate, outerPlace, NoneYet, Joins, SizesChannel, SizesChannels, SizesInitials};
+ghost use Rattle.size_checker.specs.FileParts.{Few, Limited, InitialOrUpdate, outerPlace, NoneYet, SizesChannel, SizesChannels, SizesInitials};
 ghost use Rattle.size_checker.specs.FilePromises.{SizesFile};
 use super::cycle::expr;
-use estimate::after;
 use estimate::nothing;
 use index::Counts;
 use index::INDEX_WORDS;
 use index::channels::initial_start;
 use index::channels::update_start;
 use index::frame_counts;
-use instances::HINT_WORDS;
+use instances::MEMO_WORDS;
 use instances::clear;
 use language::limits::FUNCTIONS_MOST;
 use language::limits::INPUTS_MOST;
@@ -28,13 +28,13 @@ use language::limits::VARIABLES_MOST;
 use language::refusals::NO_FRAME;
 use language::refusals::NO_REFUSAL;
 use language::refusals::SIZES_DISAGREE;
-use size_steps::Checked;
 use size_steps::Counted;
 use size_steps::Counting;
 use size_steps::Place;
 use size_steps::Sizing;
 use size_steps::leaves::channel_type;
 use size_steps::numbers::is_type;
+use size_steps::numbers::joined;
 use size_steps::numbers::refused_all;
 use text::Cursor;
 
@@ -93,21 +93,21 @@ fn channel(
     text: &[u8],
     index: &[u32; INDEX_WORDS],
     list: &mut [u32],
-    hints: &mut [u32; HINT_WORDS],
+    memo: &mut [u32; MEMO_WORDS],
     n: Counts,
     c: u32,
     word: usize,
     used: u32,
 ) -> Sizing
     requires { ⌜ Few n × ((c < channelsMost) × InitialOrUpdate word) ⌝ }
-    ensures { λ r. ⌜ SizesChannel (lent (now (text .entry)) (now (index .entry))) (now (list .entry)) n c word used r (now (list .exit)) ⌝ }
+    ensures { λ r. ⌜ SizesChannel (lent (now (text .entry)) (now (index .entry))) (table (now (list .entry)) (now (memo .entry))) n c word used r (table (now (list .exit)) (now (memo .exit))) ⌝ }
 {
     let mut scope = [0u32; VARIABLES_MOST as usize];
     let mut sizes = [0u8; SIZE_VARIABLES_MOST as usize];
     let start = expression_start(index, c, word);
     let at = start.at;
     let p = outer_place(n, c, at, used);
-    let x = expr(text, index, list, hints, &mut scope, &mut sizes, p);
+    let x = expr(text, index, list, memo, &mut scope, &mut sizes, p);
     let Sizing::Is(a) = x else {
         return x;
     };
@@ -128,40 +128,25 @@ fn none_yet(used: u32) -> Counted
     }
 }
 
-// What was summed, and then one more.
-fn joined(all: Counted, a: Checked) -> Counted
-    ensures { λ r. ⌜ Joins all a r ⌝ }
-{
-    let first = all.numbers;
-    let second = a.numbers;
-    let next = a.next;
-    let numbers = after(first, second);
-    Counted {
-        numbers: numbers,
-        next: next,
-        used: a.used,
-    }
-}
-
 // The expressions of all channels from one on, each where that word of its entry tells: their numbers together.
 fn channels_from(
     text: &[u8],
     index: &[u32; INDEX_WORDS],
     list: &mut [u32],
-    hints: &mut [u32; HINT_WORDS],
+    memo: &mut [u32; MEMO_WORDS],
     n: Counts,
     from: u32,
     word: usize,
     used: u32,
 ) -> Counting
     requires { ⌜ Few n × InitialOrUpdate word ⌝ }
-    ensures { λ r. ⌜ SizesChannels (lent (now (text .entry)) (now (index .entry))) (now (list .entry)) n from word used r (now (list .exit)) ⌝ }
+    ensures { λ r. ⌜ SizesChannels (lent (now (text .entry)) (now (index .entry))) (table (now (list .entry)) (now (memo .entry))) n from word used r (table (now (list .exit)) (now (memo .exit))) ⌝ }
 {
     let last = n.inputs + n.nodes;
     let mut all = none_yet(used);
     let mut c = from;
     while c < last {
-        let x = channel(text, index, list, hints, n, c, word, all.used);
+        let x = channel(text, index, list, memo, n, c, word, all.used);
         let Sizing::Is(a) = x else {
             return refused_all(x);
         };
@@ -176,16 +161,16 @@ fn initials(
     text: &[u8],
     index: &[u32; INDEX_WORDS],
     list: &mut [u32],
-    hints: &mut [u32; HINT_WORDS],
+    memo: &mut [u32; MEMO_WORDS],
     counts: Counts,
 ) -> Counting
-    ensures { λ r. ⌜ SizesInitials (lent (now (text .entry)) (now (index .entry))) (now (list .entry)) counts r (now (list .exit)) ⌝ }
+    ensures { λ r. ⌜ SizesInitials (lent (now (text .entry)) (now (index .entry))) (now (list .entry)) counts r (table (now (list .exit)) (now (memo .exit))) ⌝ }
 {
     clear(list);
     if !limited(counts) {
         return Counting::Refused(NO_REFUSAL, NO_FRAME);
     }
-    channels_from(text, index, list, hints, counts, 0, INITIAL_WORD, 0)
+    channels_from(text, index, list, memo, counts, 0, INITIAL_WORD, 0)
 }
 
 // The numbers of all updates together, and the list of instances; or the first refusal of 10 to 14 with its frame.
@@ -193,8 +178,8 @@ pub fn sized_file(text: &[u8], index: &[u32; INDEX_WORDS], list: &mut [u32]) -> 
     ensures { λ r. ⌜ SizesFile (lent (now (text .entry)) (now (index .entry))) (now (list .entry)) r (now (list .exit)) ⌝ }
 {
     let counts = frame_counts(index);
-    let mut hints = [0u32; HINT_WORDS];
-    let x = initials(text, index, list, &mut hints, counts);
+    let mut memo = [0u32; MEMO_WORDS];
+    let x = initials(text, index, list, &mut memo, counts);
     let Counting::Are(a) = x else {
         return x;
     };
@@ -202,7 +187,7 @@ pub fn sized_file(text: &[u8], index: &[u32; INDEX_WORDS], list: &mut [u32]) -> 
         text,
         index,
         list,
-        &mut hints,
+        &mut memo,
         counts,
         counts.inputs,
         UPDATE_WORD,

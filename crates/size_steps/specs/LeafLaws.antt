@@ -11,10 +11,8 @@ use lib.Dec.{ltb}
 use borrow.Author.Tests.{lt-ltb, le-ltb, eq-eqb, ne-eqb}
 use Rattle.language.specs.Limits.{byteRange, sizeMost}
 use Rattle.language.specs.Result.{choose}
-use Rattle.language.specs.Syntax.{Constructor, Op, oadd, osub, omul, oeq, olt, ole, oand, oor, Ty, tnamed, Function, File, constructorsOf}
-use Rattle.language.specs.Format.{declaredBytes, opCode, resultBytes}
-use Rattle.language.specs.ReadExpr.{declared as declaredRead}
-use Rattle.language.specs.Within.{WithinDeclared}
+use Rattle.language.specs.Syntax.{Constructor, Op, oadd, osub, omul, oeq, olt, ole, oand, oor, tnamed, Function, File, constructorsOf}
+use Rattle.language.specs.Format.{opCode, resultBytes}
 use Rattle.language.specs.Scope.{namedCount}
 use Rattle.language.specs.PlainTypes.{opType}
 use Rattle.language.specs.Sizes.{typeAt, conditionsHold, sum, summedMeasure, ownSizes}
@@ -23,14 +21,8 @@ use Rattle.language.specs.Typing.{Place as Stand, outside, inside, frameAt, fal
 use Rattle.language.specs.Checker.{Sizeds}
 use Rattle.theory.specs.Alls.{all-map}
 use Rattle.theory.specs.Lists.{look-less}
-use Rattle.theory.specs.ExactTypes.{declared-exact}
 use Rattle.text.specs.declared.Cursor.{Cursor}
-use Rattle.text.specs.declared.Found.{Found}
-use Rattle.text.specs.declared.Number.{Number}
-use Rattle.text.specs.declared.Number.the-variants.{Is as NumberIs, Refused as NoNumber}
-use Rattle.text.specs.Bytes.{bytesFrom, mapRead, ReadsNumber, declaredWord}
-use Rattle.encoding.specs.Spells.{Spells}
-use Rattle.encoding.specs.CursorSpells.{word-is}
+use Rattle.text.specs.Bytes.{declaredWord}
 use Rattle.encoding.specs.FrameSpells.{lineAt}
 use Rattle.index.specs.Indexed.{framePart, resultAt, conditionsAt, measureAt, functionLine, Indexed}
 use Rattle.encoding.specs.WithinParts.{function-within}
@@ -48,15 +40,11 @@ use Rattle.sizes.specs.ToldLaws.{told-fields}
 use Rattle.index.specs.Sections.{framesOf, typesOf, functionsOf}
 use Rattle.size_steps.specs.declared.Place.{Place}
 use Rattle.size_steps.specs.declared.Sizing.the-variants.{Is, Refused}
-use Rattle.size_steps.specs.declared.Checked.{Checked}
 use Rattle.size_steps.specs.declared.Counted.{Counted}
-use Rattle.size_steps.specs.declared.Counting.{Counting}
-use Rattle.size_steps.specs.declared.Counting.the-variants.{Are, Refused as RefusedAll}
 use Rattle.size_steps.specs.declared.Entering.the-variants.{Ready, Refused as NotEntered}
 use Rattle.size_steps.specs.Sites.{bounded-named, bounded-small, one-byte-bounded, Around, around-none, around-one}
-use Rattle.size_steps.specs.Agreement.{CountedAs, agrees, grown, not-grown, need-holds, need-fails}
-use Rattle.size_steps.specs.Leaves.{ChannelTyped, OperatorType, Falls, ready, no-condition, no-fall, no-size, entry-of, no-entry, SizesFor, Prepares, Makes}
-use Rattle.size_steps.specs.Numbers.{OneMore, OneMoreOf, more-are, more-refused}
+use Rattle.size_steps.specs.Agreement.{Table, CountedAs, agrees, grown, not-grown, need-holds, need-fails}
+use Rattle.size_steps.specs.Leaves.{OperatorType, Falls, ready, no-condition, no-fall, no-size, entry-of, no-entry, SizesFor, Prepares, MayCall, Makes}
 
 -- ---- type_in
 pub typed-word : {word told : ℕ} {r : SizedType} → word ≡ told → FromWord word r → FromWord told r
@@ -117,6 +105,15 @@ module _ {p : Place} {f w : ℕ} where
       go (outside frame C) (around-none e) = absurd (inner e)
       go (inside g v) (around-one e i) = rw (eq-eqb g f (omega (arith, e, self)), i) refl
 
+-- ---- may_call, where it is no self-call
+pub may-call-other : {text index sizes : List ℕ} {p : Place} {f : ℕ} → (p .around ≡ f + 1 → ⊥) → MayCall text index sizes p f true
+unfolding falls choose
+may-call-other {p} {f} other = record { says = λ P q F ks i count around is s. go q _ around }
+  where
+    go : (q : Stand) (w : ℕ) → Around (p .around) (p .measure) q → true ≡ falls q f w
+    go (outside frame C) w (around-none e) = refl
+    go (inside g v) w (around-one e i) = rw (ne-eqb g f (λ same. other (omega (arith, e, same)))) refl
+
 -- ---- prepare: what is read of the function that is called
 module _ (text index sizes : List ℕ) {line : List ℕ} (p : Place) (f : ℕ) (at : line ≡ framePart text (framesOf index) (p .types + f)) where
   module _ {P : File} {F : Function} {ks : List ℕ} (i : Indexed text index P) (count : p .types ≡ length (P .types)) (is : look (P .functions) f ≡ some F) (s : SizesFor F ks sizes) where
@@ -146,6 +143,12 @@ module _ (text index sizes : List ℕ) {line : List ℕ} (p : Place) (f : ℕ) (
         let w = function-within (i .within) f is in
         subst (λ o. AgreesType o (c .at + length (resultBytes (F .result))) r) (sym (type-in-scope sizes (w .result)) ∙ ap (λ l. typeAt l (F .result)) sizes-are)
         (subst (λ l. TypeGiven l c sizes r) line-is h .says (length (P .types)) (namedCount (F .parameters)) (F .result) (w .result) (rw here (g .result)))
+
+  pub may-call-self : {c : Cursor} {w : ℕ} → p .around ≡ f + 1 → c .at ≡ measureAt (functionsOf index) f → SumsMeasure line c sizes w → MayCall text index sizes p f (ltb w (p .measure))
+  may-call-self {w} self here g = record {
+    says = λ P q F ks i count around is s.
+        falls-self {p = p} {f = f} {w = w} (λ z. omega (arith, self, z)) (omega (arith, self)) .says q around ∙ ap (falls q f) (measure-is i count is s here g);
+  }
 
   module _ {c : Cursor} {holds : Bool} (here : c .at ≡ conditionsAt (functionsOf index) f) (h : Hold line c sizes holds) where
     pub prepare-no-condition : {n m : ℕ} → holds ≡ false → Prepares text index sizes p f n m (NotEntered 12 (p .line + 1))
@@ -192,21 +195,21 @@ pub place-at : {at : Cursor} {n levels types line around summedMeasure variables
 place-at {levels} {types} {line} {around} {summedMeasure} {variables} {sizes} {used} is = ap (λ n. placeOf (record { at = n }) levels types line around summedMeasure variables sizes used) is
 
 -- ---- made
-told-row : {row words row₀ : List ℕ} {a : Counted} {P : File} {next : ℕ} {x : Sizeds} (fs : Constructor) → length (x .types) ≡ length fs → CountedAs P next words 0 row₀ row a x → ToldRow row (length fs) (x .types)
+told-row : {row : List ℕ} {table : Table} {a : Counted} {P : File} {next : ℕ} {x : Sizeds} (fs : Constructor) → length (x .types) ≡ length fs → CountedAs P next table row a x → ToldRow row (length fs) (x .types)
 told-row {row} {x} fs long k = record {
-  words = subst (λ n. take n row ≡ map declaredWord (x .types)) (let whole : 0 + length (x .types) ≡ length fs = omega (arith, long) in whole) (k .types);
+  words = subst (λ n. take n row ≡ map declaredWord (x .types)) long (k .types);
   long = long;
   small = all-map (λ τ. bounded-small) (k .small);
 }
 
-sum-is : (index : List ℕ) {row : List ℕ} {a : Counted} {t c size : ℕ} → OwnSum (typesOf index) row t c size → {text words row₀ : List ℕ} {P : File} {next : ℕ} {x : Sizeds} (fs : Constructor) →
-    Indexed text index P → t < length (P .types) → look (constructorsOf P t) c ≡ some fs → length (x .types) ≡ length fs → CountedAs P next words 0 row₀ row a x → size ≡ sum (ownSizes fs (x .types))
+sum-is : (index : List ℕ) {row : List ℕ} {a : Counted} {t c size : ℕ} → OwnSum (typesOf index) row t c size → {text : List ℕ} {table : Table} {P : File} {next : ℕ} {x : Sizeds} (fs : Constructor) →
+    Indexed text index P → t < length (P .types) → look (constructorsOf P t) c ≡ some fs → length (x .types) ≡ length fs → CountedAs P next table row a x → size ≡ sum (ownSizes fs (x .types))
 sum-is index {t = t} {c = c} o {x = x} fs i less is long k = o .says fs (x .types) (told-fields i t c less is) (told-row fs long k)
 
 module _ (index : List ℕ) {row : List ℕ} {p : Place} {a : Counted} {t c size : ℕ} (o : OwnSum (typesOf index) row t c size) where
   pub made-too-large : sizeMost ≤ size → Makes index row p a t c (Refused 10 (p .line + 1))
   made-too-large large = record {
-    says = λ text P q fs next words row₀ x i at less is long k.
+    says = λ text P q fs next table x i at less is long k.
         need-fails _ (le-ltb _ sizeMost (subst (λ n. sizeMost ≤ n) (sum-is index o fs i less is long k) large)) (ap (Refused 10) (add-one (p .line) ∙ sym at));
     grows = not-grown;
   }
@@ -214,7 +217,7 @@ module _ (index : List ℕ) {row : List ℕ} {p : Place} {a : Counted} {t c size
   module _ {r : Bool} (fits : size < sizeMost) (g : FieldsAgree (typesOf index) row t c r) where
     pub made-differs : r ≡ false → Makes index row p a t c (Refused 11 (p .line + 1))
     made-differs e = record {
-      says = λ text P q fs next words row₀ x i at less is long k.
+      says = λ text P q fs next table x i at less is long k.
           need-holds 10 (frameAt P q) (lt-ltb _ sizeMost (subst (λ n. n < sizeMost) (sum-is index o fs i less is long k) fits))
           (need-fails _ (sym (g .says fs (x .types) (told-fields i t c less is) (told-row fs long k)) ∙ e) (ap (Refused 11) (add-one (p .line) ∙ sym at)));
       grows = not-grown;
@@ -223,7 +226,7 @@ module _ (index : List ℕ) {row : List ℕ} {p : Place} {a : Counted} {t c size
     pub made-done : {one numbers : Estimate} → r ≡ true → t < byteRange → Made oneCell one → Combines after (a .numbers) one numbers →
         Makes index row p a t c (Is (record { ty = Named t (size + 1); numbers = numbers; next = a .next; used = a .used }))
     made-done {numbers} e small one all = record {
-      says = λ text P q fs next words row₀ x i at less is long k.
+      says = λ text P q fs next table x i at less is long k.
           let whole = sum-is index o fs i less is long k in
           need-holds 10 (frameAt P q) (lt-ltb _ sizeMost (subst (λ n. n < sizeMost) whole fits))
           (need-holds 11 (frameAt P q) (sym (g .says fs (x .types) (told-fields i t c less is) (told-row fs long k)) ∙ e)
@@ -236,10 +239,3 @@ module _ (index : List ℕ) {row : List ℕ} {p : Place} {a : Counted} {t c size
           })));
       grows = grown {k = record { ty = Named t (size + 1); numbers = numbers; next = a .next; used = a .used }} (omega arith);
     }
-
--- ---- one part, and those behind it or their refusal
-pub more-some : {a : Checked} {b : Counted} {y r : Counting} → y ≡ Are b → OneMore a b r → OneMoreOf a y r
-more-some e o = rw e (more-are o)
-
-pub more-none : {a : Checked} {y : Counting} {n frame : ℕ} → y ≡ RefusedAll n frame → OneMoreOf a y y
-more-none e = rw e more-refused

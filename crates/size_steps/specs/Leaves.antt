@@ -8,7 +8,7 @@ use lib.ListN.{length, getD, take, getElem? as look}
 use lib.Dec.{ltb}
 use Rattle.language.specs.Limits.{byteRange, sizeMost, nestingMost}
 use Rattle.language.specs.Result.{ok, need}
-use Rattle.language.specs.Syntax.{Constructor, Ty, tnamed, Op, Function, File, constructorsOf}
+use Rattle.language.specs.Syntax.{Constructor, tnamed, Op, Function, File, constructorsOf}
 use Rattle.language.specs.Format.{opCode}
 use Rattle.language.specs.Scope.{namedCount}
 use Rattle.language.specs.PlainTypes.{opType}
@@ -22,7 +22,7 @@ use Rattle.index.specs.Indexed.{bodyAt, declaredAt, Indexed}
 use Rattle.heads.specs.declared.Form.{Form}
 use Rattle.heads.specs.declared.Form.the-variants.{Bool as BoolForm, Int, Variable, Now, Last, Let, If, Operator, Call, Construct, Case, Adjust, Fit, Missing}
 use Rattle.sizes.specs.declared.SizedType.{SizedType}
-use Rattle.sizes.specs.Promises.{meaning, Small, FromWord}
+use Rattle.sizes.specs.Promises.{meaning, FromWord}
 use Rattle.size_steps.specs.declared.Place.{Place}
 use Rattle.size_steps.specs.declared.Sizing.{Sizing}
 use Rattle.size_steps.specs.declared.Sizing.the-variants.{Is, Refused as RefusedWhole}
@@ -34,7 +34,7 @@ use Rattle.size_steps.specs.declared.Entering.{Entering}
 use Rattle.size_steps.specs.declared.Entering.the-variants.{Ready, Refused}
 use Rattle.size_steps.specs.declared.Subject.{Subject}
 use Rattle.size_steps.specs.Sites.{Bounded, Around}
-use Rattle.size_steps.specs.Agreement.{CountedAs, Agrees, itself, Grows}
+use Rattle.size_steps.specs.Agreement.{Table, CountedAs, Agrees, itself, Grows}
 
 abbrev pub leafOf : SizedType → Estimate → Place → Sizing
 leafOf ty numbers p = Is (record { ty = ty; numbers = numbers; next = p .at; used = p .used })
@@ -108,11 +108,16 @@ pub record Prepares (text index sizes : List ℕ) (p : Place) (f n m : ℕ) (r :
       look (P .functions) f ≡ some F → SizesFor F ks sizes → Prepared P q p f n m F ks r
   pub of : EntryOf f n m r
 
+-- whether a call may be made: for a self-call, that the summed measure falls
+pub record MayCall (text index sizes : List ℕ) (p : Place) (f : ℕ) (r : Bool) : Type 0 where
+  pub says : (P : File) (q : Stand) (F : Function) (ks : List ℕ) → Indexed text index P → p .types ≡ length (P .types) → Around (p .around) (p .measure) q →
+      look (P .functions) f ≡ some F → SizesFor F ks sizes → r ≡ falls q f (summedMeasure (F .measure) ks)
+
 -- ---- a constructor whose fields were checked
 pub record Makes (index row : List ℕ) (p : Place) (a : Counted) (t c : ℕ) (r : Sizing) : Type 0 where
-  pub says : (text : List ℕ) (P : File) (q : Stand) (fs : Constructor) (next : ℕ) (words row₀ : List ℕ) (x : Sizeds) → Indexed text index P → frameAt P q ≡ suc (p .line) →
-      t < length (P .types) → look (constructorsOf P t) c ≡ some fs → length (x .types) ≡ length fs → CountedAs P next words 0 row₀ row a x →
-      Agrees P itself next words r (need (ltb (sum (ownSizes fs (x .types))) sizeMost) 10 (frameAt P q) (need (sameTypes (fieldTypes t fs (ownSizes fs (x .types))) (x .types)) 11 (frameAt P q)
+  pub says : (text : List ℕ) (P : File) (q : Stand) (fs : Constructor) (next : ℕ) (table : Table) (x : Sizeds) → Indexed text index P → frameAt P q ≡ suc (p .line) →
+      t < length (P .types) → look (constructorsOf P t) c ≡ some fs → length (x .types) ≡ length fs → CountedAs P next table row a x →
+      Agrees P itself next table r (need (ltb (sum (ownSizes fs (x .types))) sizeMost) 10 (frameAt P q) (need (sameTypes (fieldTypes t fs (ownSizes fs (x .types))) (x .types)) 11 (frameAt P q)
       (ok (record { type = tnamed t (1 + sum (ownSizes fs (x .types))); numbers = after (x .numbers) oneCell; list = x .list }))))
   pub grows : Grows (a .used) r
 

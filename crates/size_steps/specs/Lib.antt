@@ -3,3 +3,4 @@ pub mod Agreement
 pub mod Leaves
 pub mod Numbers
 pub mod LeafLaws
+pub mod Lookups

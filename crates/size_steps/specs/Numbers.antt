@@ -1,6 +1,7 @@
 -- The numbers of each form from those of its parts, as the code works them out: each step by its promise, and the answer.
 use Prim.Native.Nat.{ℕ}
 use mathlib.Core.Path.{_≡_}
+use Rattle.text.specs.declared.Cursor.{Cursor}
 use Rattle.language.specs.Estimate.{nothing, oneCell, after, either, withSlots, inCall}
 use Rattle.estimate.specs.declared.Estimate.{Estimate}
 use Rattle.estimate.specs.Stands.{Makes, Changes, Combines}
@@ -11,8 +12,6 @@ use Rattle.size_steps.specs.declared.Checked.{Checked}
 use Rattle.size_steps.specs.declared.Sizing.{Sizing}
 use Rattle.size_steps.specs.declared.Sizing.the-variants.{Is}
 use Rattle.size_steps.specs.declared.Counted.{Counted}
-use Rattle.size_steps.specs.declared.Counting.{Counting}
-use Rattle.size_steps.specs.declared.Counting.the-variants.{Are, Refused as RefusedAll}
 use Rattle.size_steps.specs.Leaves.{OperatorType}
 
 -- b with other numbers
@@ -85,20 +84,22 @@ pub record FitNumbers (a b d : Checked) (r : Sizing) : Type 0 where
   pub all : Combines after (a .numbers) arms numbers
   pub is : r ≡ countedAs d numbers
 
-pub record NoneCounted (p : Place) (r : Counting) : Type 0 where
+-- ---- parts one after the other
+-- none so far
+pub record NoneCounted (p : Place) (r : Counted) : Type 0 where
   pub numbers : Estimate
   pub none : Makes nothing numbers
-  pub is : r ≡ Are (record { numbers = numbers; next = p .at; used = p .used })
+  pub is : r ≡ record { numbers = numbers; next = p .at; used = p .used }
 
-pub record OneMore (a : Checked) (b : Counted) (r : Counting) : Type 0 where
-  pub numbers : Estimate
-  pub all : Combines after (a .numbers) (b .numbers) numbers
-  pub is : r ≡ Are (record { numbers = numbers; next = b .next; used = b .used })
+-- those so far and one more
+pub record Joins (all : Counted) (a : Checked) (r : Counted) : Type 0 where
+  pub numbers : Combines after (all .numbers) (a .numbers) (r .numbers)
+  pub next : r .next ≡ a .next
+  pub used : r .used ≡ a .used
 
--- the same where those behind it may be refused
-pub data OneMoreOf (a : Checked) : Counting → Counting → Type 0 where
-  more-are : {b : Counted} {r : Counting} → OneMore a b r → OneMoreOf a (Are b) r
-  more-refused : {n frame : ℕ} → OneMoreOf a (RefusedAll n frame) (RefusedAll n frame)
+-- those so far and one that takes nothing
+abbrev pub passedTo : Counted → Cursor → Counted
+passedTo all next = record { numbers = all .numbers; next = next; used = all .used }
 
 -- nothing so far
 pub record NothingYet (ty : SizedType) (p : Place) (r : Checked) : Type 0 where

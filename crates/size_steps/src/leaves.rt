@@ -1,13 +1,16 @@
 // What a form asks of the index and of the lines: types, conditions, measures, fields.
 ghost use Prim.Native.Nat.{_<_, _≤_, _+_, _^_};
 ghost use Rattle.language.specs.Limits.{byteRange, typesMost};
-ghost use Rattle.size_steps.specs.Leaves.{Typed, ChannelTyped, Falls, Prepares, Makes};
+ghost use Rattle.size_steps.specs.Leaves.{Typed, ChannelTyped, Falls, Prepares, MayCall, Makes};
+ghost use Rattle.size_steps.specs.Agreement.{table};
+ghost use Rattle.size_steps.specs.Lookups.{Again};
 use super::Checked;
 use super::Counted;
 use super::Entering;
 use super::Entry;
 use super::Place;
 use super::Sizing;
+use super::numbers::leaf;
 use estimate::after;
 use estimate::one_cell;
 use index::INDEX_WORDS;
@@ -17,6 +20,9 @@ use index::functions::conditions_start;
 use index::functions::measure_start;
 use index::functions::result_start;
 use index::word_at;
+use instances::MEMO_WORDS;
+use instances::numbers;
+use instances::result_word;
 use language::limits::SIZE_MOST;
 use language::refusals::CONDITION_FAILS;
 use language::refusals::MEASURE_NOT_LESS;
@@ -90,6 +96,41 @@ pub fn prepare(
         variables: n,
         sizes: m,
     })
+}
+
+// Whether f may be called here at these sizes: the summed measure of a self-call must fall. Of any other call it is not worked out.
+fn may_call(text: &[u8], index: &[u32; INDEX_WORDS], sizes: &[u8], p: Place, f: u32) -> bool
+    requires { ⌜ (p .types ≤ typesMost) × (f < byteRange) ⌝ }
+    ensures { λ r. ⌜ MayCall (now (text .entry)) (now (index .entry)) (now (sizes .entry)) p f r ⌝ }
+{
+    if p.around != f + 1 {
+        return true;
+    }
+    let line = frame_line(text, index, p.types + f);
+    let w = summed_measure(line, measure_start(index, f), sizes);
+    w < p.measure
+}
+
+// A call of an instance that was entered before, record i: its conditions hold, and its result type is known, so that only the
+// measure is tested.
+pub fn again(
+    text: &[u8],
+    index: &[u32; INDEX_WORDS],
+    list: &[u32],
+    memo: &[u32; MEMO_WORDS],
+    sizes: &[u8],
+    p: Place,
+    f: u32,
+    i: u32,
+) -> Sizing
+    requires { ⌜ (p .types ≤ typesMost) × ((p .line < 2 ^ 16) × (f < byteRange)) ⌝ }
+    ensures { λ r. ⌜ Again (now (text .entry)) (now (index .entry)) (table (now (list .entry)) (now (memo .entry))) (now (sizes .entry)) p f i r ⌝ }
+{
+    if !may_call(text, index, sizes, p, f) {
+        return Sizing::Refused(MEASURE_NOT_LESS, p.line + 1);
+    }
+    let ty = type_of(result_word(memo, i));
+    leaf(ty, numbers(list, i), p)
 }
 
 // A constructor whose fields were checked: its size, then that each field is exactly what it must be.

@@ -3,7 +3,7 @@ ghost use Rattle.size_steps.specs.Leaves.{leafOf, OperatorType, subjectO
 ghost use mathlib.Core.Path.{_≡_};
 ghost use Rattle.language.specs.Sizes.{sameType};
 ghost use Rattle.sizes.specs.Promises.{meaning, WordOf};
-ghost use Rattle.size_steps.specs.Numbers.{countedAs, LetNumbers, IfNumbers, OpNumbers, CallNumbers, CaseNumbers, EitherNumbers, LargerNumbers, SlotNumbers, adjustedTo, FitNumbers, NoneCounted, OneMore, OneMoreOf, NothingYet};
+ghost use Rattle.size_steps.specs.Numbers.{countedAs, LetNumbers, IfNumbers, OpNumbers, CallNumbers, CaseNumbers, EitherNumbers, LargerNumbers, SlotNumbers, adjustedTo, FitNumbers, NoneCounted, Joins, passedTo, NothingYet};
 use super::Checked;
 use super::Counted;
 use super::Counting;
@@ -24,6 +24,7 @@ use language::refusals::NO_REFUSAL;
 use sizes::SizedType;
 use sizes::same;
 use sizes::word_of;
+use text::Cursor;
 
 // A constant, a variable or a channel, which ends where the place is.
 pub fn leaf(ty: SizedType, numbers: Estimate, p: Place) -> Sizing
@@ -205,41 +206,43 @@ pub fn fitted(a: Checked, b: Checked, d: Checked) -> Sizing
     counted(d, numbers)
 }
 
-// No part.
-pub fn none(p: Place) -> Counting
+// No part so far.
+pub fn none(p: Place) -> Counted
     ensures { λ r. ⌜ NoneCounted p r ⌝ }
 {
     let at = p.at;
-    Counting::Are(Counted {
+    Counted {
         numbers: nothing(),
         next: at,
         used: p.used,
-    })
+    }
 }
 
-// One part, and then those behind it.
-fn counted_more(a: Checked, b: Counted) -> Counting
-    ensures { λ r. ⌜ OneMore a b r ⌝ }
+// The parts so far, and then one more.
+pub fn joined(all: Counted, a: Checked) -> Counted
+    ensures { λ r. ⌜ Joins all a r ⌝ }
 {
-    let first = a.numbers;
-    let second = b.numbers;
-    let next = b.next;
+    let first = all.numbers;
+    let second = a.numbers;
+    let next = a.next;
     let numbers = after(first, second);
-    Counting::Are(Counted {
+    Counted {
         numbers: numbers,
         next: next,
-        used: b.used,
-    })
+        used: a.used,
+    }
 }
 
-// The same where those behind it may be refused.
-pub fn one_more(a: Checked, y: Counting) -> Counting
-    ensures { λ r. ⌜ OneMoreOf a y r ⌝ }
+// The parts so far, and then one that takes nothing.
+pub fn passed(all: Counted, next: Cursor) -> Counted
+    ensures { λ r. ⌜ r ≡ passedTo all next ⌝ }
 {
-    let Counting::Are(b) = y else {
-        return y;
-    };
-    counted_more(a, b)
+    let numbers = all.numbers;
+    Counted {
+        numbers: numbers,
+        next: next,
+        used: all.used,
+    }
 }
 
 // A branch of this type before its first split.

@@ -5,6 +5,9 @@ use Rattle.instances.specs.WriteLaws.{added-not, added}
 use Rattle.instances.proofs.add.Statement.{statement}
 use Rattle.instances.proofs.add.Tie as tie
 
+note-requires : tie.Need-note-requires
+note-requires c κs = tt
+
 mul-at : tie.Need-mul-at
 mul-at c = omega arith
 
@@ -12,7 +15,7 @@ add-if1 : tie.Need-add-if1
 add-if1 c = omega arith
 
 returns : tie.Need-returns
-returns c = added-not _ _ _ _ (c .if1 .taken)
+returns c = (added-not _ _ _ _ (c .if1 .taken), (c .before .note .ensures))
 
 put-requires : tie.Need-put-requires
 put-requires c κs = tt
@@ -32,19 +35,17 @@ add-put-numbers c = omega arith
 put-numbers-requires : tie.Need-put-numbers-requires
 put-numbers-requires c κs = omega arith
 
-note-requires : tie.Need-note-requires
-note-requires c κs = tt
-
 same-length : tie.Need-same-length
-same-length c = (c .before .before .before .before .put-numbers .kept .0) ∙ (c .before .before .before .before .before .before .before .before .before .put-sizes .kept .0) ∙ (c .before .before .before .before .before .before .before .before .before .before .before .before .before .put .kept .0)
+same-length c = (c .before .before .put-numbers .kept .0) ∙ (c .before .before .before .before .before .before .before .put-sizes .kept .0) ∙ (c .before .before .before .before .before .before .before .before .before .before .before .put .kept .0)
 
 returns-2 : tie.Need-returns-2
-returns-2 c = added _ _ _ _ (c .before .before .before .before .before .before .before .before .before .before .before .before .before .before .before .if1 .left) (c .before .before .before .before .before .before .before .before .before .before .before .before .before .put .ensures) (c .before .before .before .before .before .before .before .before .before .put-sizes .ensures) (c .before .before .before .before .before .before .nothing .ensures) (c .before .before .before .before .put-numbers .ensures)
+returns-2 c = (added _ _ _ _ (c .before .before .before .before .before .before .before .before .before .before .before .before .before .if1 .left) (c .before .before .before .before .before .before .before .before .before .before .before .put .ensures) (c .before .before .before .before .before .before .before .put-sizes .ensures) (c .before .before .before .before .nothing .ensures) (c .before .before .put-numbers .ensures), (c .before .before .before .before .before .before .before .before .before .before .before .before .before .before .note .ensures))
 
 pub add-spec : {M : Type 1} → statement M
 add-spec =
     tie.close
     (tie.spec
+    note-requires
     mul-at
     add-if1
     returns
@@ -54,6 +55,5 @@ add-spec =
     nothing-requires
     add-put-numbers
     put-numbers-requires
-    note-requires
     same-length
     returns-2)

@@ -11,7 +11,7 @@ mul-k : tie.Need-mul-k
 mul-k c = omega (arith, (c .hint-place .ensures))
 
 element-copy-out-k : tie.Need-element-copy-out-k
-element-copy-out-k c = (c .hint-place .ensures)
+element-copy-out-k c = omega (arith, (c .hint-place .ensures))
 
 sub-is-instance : tie.Need-sub-is-instance
 sub-is-instance c = omega (arith, (c .before .if1 .taken))
@@ -19,14 +19,11 @@ sub-is-instance c = omega (arith, (c .before .if1 .taken))
 is-instance-requires : tie.Need-is-instance-requires
 is-instance-requires c κs = tt
 
-sub-numbers : tie.Need-sub-numbers
-sub-numbers c = omega (arith, (c .before .before .before .if1 .taken))
-
-numbers-requires : tie.Need-numbers-requires
-numbers-requires c κs = tt
+sub-t16 : tie.Need-sub-t16
+sub-t16 c = omega (arith, (c .before .before .before .if1 .taken))
 
 returns : tie.Need-returns
-returns c = hint-found (c .before .before .before .before .if1 .taken) (c .before .before .before .if2 .taken) (c .before .before .is-instance .ensures) (c .before .if3 .taken) (c .numbers .ensures)
+returns c = hint-found (c .before .before .before .if1 .taken) (c .before .before .if2 .taken) (c .before .is-instance .ensures) (c .if3 .taken)
 
 walk-requires : tie.Need-walk-requires
 walk-requires c κs = tt
@@ -43,8 +40,7 @@ find-spec =
     element-copy-out-k
     sub-is-instance
     is-instance-requires
-    sub-numbers
-    numbers-requires
+    sub-t16
     returns
     walk-requires
     returns-2)

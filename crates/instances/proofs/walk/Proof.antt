@@ -17,11 +17,8 @@ loop-holds c = passed-start
 is-instance-requires : tie.Need-is-instance-requires Inv-loop μ-loop
 is-instance-requires c κs = tt
 
-numbers-requires : tie.Need-numbers-requires Inv-loop μ-loop
-numbers-requires c κs = tt
-
 returns : tie.Need-returns Inv-loop μ-loop
-returns c = passed-found (c .before .before .before .before .loop .inv) (c .before .before .before .loop-test .taken) (c .before .before .is-instance .ensures) (c .before .if1 .taken) (c .numbers .ensures)
+returns c = passed-found (c .before .before .before .loop .inv) (c .before .before .loop-test .taken) (c .before .is-instance .ensures) (c .if1 .taken)
 
 add-i : tie.Need-add-i Inv-loop μ-loop
 add-i c = omega arith
@@ -43,7 +40,6 @@ walk-spec =
     μ-loop
     loop-holds
     is-instance-requires
-    numbers-requires
     returns
     add-i
     loop-less

@@ -3,16 +3,17 @@ use Prim.Native.Nat.{_-_}
 use native.Mathlib.Omega.{arith}
 use mathlib.Core.Path.{_≡_, refl, _∙_}
 use lib.ListN.{length}
+use Rattle.size_steps.specs.Agreement.{table}
 use Rattle.size_checker.specs.Promises.{lent}
 use Rattle.size_checker.specs.ChannelsLaws.{Along, along-start, along-on, along-no, along-end}
 use Rattle.size_checker.proofs.file.channels_from.Statement.{statement}
 use Rattle.size_checker.proofs.file.channels_from.Tie as tie
 
 abbrev Inv-loop : tie.InvT-loop
-Inv-loop text index list₀ hints₀ n from word used last all₀ c₀ list hints all c = Along (lent text index) list₀ n from word used c list all × (length list ≡ length list₀)
+Inv-loop text index list₀ memo₀ n from word used last all₀ c₀ list memo all c = Along (lent text index) (table list₀ memo₀) n from word used c (table list memo) all × (length list ≡ length list₀)
 
 abbrev μ-loop : tie.MeasureT-loop
-μ-loop text index list₀ hints₀ n from word used last all₀ c₀ list hints all c = last - c
+μ-loop text index list₀ memo₀ n from word used last all₀ c₀ list memo all c = last - c
 
 add-last : tie.Need-add-last Inv-loop μ-loop
 add-last c = omega (arith, (c .before .before .before .pre .0 .inputs), (c .before .before .before .pre .0 .nodes))

@@ -4,9 +4,9 @@ use mathlib.Core.Path.{_≡_, refl, ap, _∙_, subst}
 use native.Mathlib.Omega.{arith}
 use lib.ListN.{length, take, drop}
 use borrow.Author.Tests.{not-true, not-false}
-use Rattle.size_checker.specs.Loads.{load, load-same, load-moved, load-wide, load-down, load-body, room-same, room-wide, room-down, room-widens, scope-long, sizes-long, room-behind, room-rest, room-kept, room-body, room-inner, room-row, prepares, grows-behind, grows-wide}
+use Rattle.size_checker.specs.Loads.{load, load-same, load-moved, load-wide, load-down, load-body, room-same, room-wide, room-down, room-widens, scope-long, sizes-long, room-behind, room-rest, room-kept, room-body, room-inner, room-row, grows-behind, grows-wide}
 use Rattle.size_checker.specs.TurnLaws.{put-is}
-use Rattle.size_steps.specs.Agreement.{grows-to, grows-all-to}
+use Rattle.size_steps.specs.Agreement.{table, grows-to, grows-all-to}
 use mathlib.Core.Bool.{false}
 use mathlib.Core.Logic.{_⊎_, inl, inr, ⊎-elim}
 use denote.Ref.{now}
@@ -20,9 +20,10 @@ use Rattle.size_checker.specs.NamedTypes.{NotNamed}
 use Rattle.size_steps.specs.Leaves.{Operands}
 use Rattle.language.specs.Limits.{byteRange}
 use Rattle.size_checker.specs.ExprLaws.{isLeaf, hasParts, expr-deep, expr-bool, expr-int, expr-variable, expr-now, expr-last, expr-compound, now-counted, last-counted, compound-is, compound-none, operands-of}
-use Rattle.size_checker.specs.SeveralLaws.{several-none, several-first, several-more}
-use Rattle.size_checker.specs.CallLaws.{call-arguments, call-applied, apply-not-entered, apply-body, apply-done, entry-numbers}
-use Rattle.size_checker.specs.EnterLaws.{enter-found, enter-absent, body-full, body-refused, body-differs, body-done}
+use Rattle.size_checker.specs.SeveralLaws.{Turned, turned-start, turned-variable, turned-expr, several-part, several-done}
+use Rattle.size_checker.specs.CallLaws.{call-arguments, call-applied, apply-refused, apply-done}
+use Rattle.size_checker.specs.EnterLaws.{enter-found, enter-absent, new-refused, new-entered, entry-numbers}
+use Rattle.size_checker.specs.BodyLaws.{body-full, body-refused, body-differs, body-done}
 use Rattle.size_checker.specs.ConLaws.{con-fields, con-made}
 use Rattle.size_checker.specs.CaseLaws.{case-first, case-plain, case-outside, case-branches, case-done}
 use Rattle.size_checker.specs.BranchesLaws.{branches-none, branches-first, branches-rest, branches-done}
@@ -41,109 +42,116 @@ use borrow.Fn.Kinds.{In}
 use borrow.Fn.PlainCycle.{Measures, is, falls, and}
 use Rattle.size_checker.proofs.cycle.adjust.Reads as adjust
 use Rattle.size_checker.proofs.cycle.adjust.Kinds as adjust-kinds
-use Rattle.size_checker.proofs.cycle.+adjust+apply+at_splits+binding+body+branch+branches+call+case_of+choice+compound+construct+enter+expr+fit+operation+several.Lts-adjust as adjust-lts
+use Rattle.size_checker.proofs.cycle.+adjust+apply+at_splits+binding+body+branch+branches+call+case_of+choice+compound+construct+enter+enter_new+expr+fit+operation+several.Lts-adjust as adjust-lts
 use Rattle.size_checker.proofs.cycle.apply.Reads as apply
 use Rattle.size_checker.proofs.cycle.apply.Kinds as apply-kinds
-use Rattle.size_checker.proofs.cycle.+adjust+apply+at_splits+binding+body+branch+branches+call+case_of+choice+compound+construct+enter+expr+fit+operation+several.Lts-apply as apply-lts
+use Rattle.size_checker.proofs.cycle.+adjust+apply+at_splits+binding+body+branch+branches+call+case_of+choice+compound+construct+enter+enter_new+expr+fit+operation+several.Lts-apply as apply-lts
 use Rattle.size_checker.proofs.cycle.at_splits.Reads as at-splits
 use Rattle.size_checker.proofs.cycle.at_splits.Kinds as at-splits-kinds
-use Rattle.size_checker.proofs.cycle.+adjust+apply+at_splits+binding+body+branch+branches+call+case_of+choice+compound+construct+enter+expr+fit+operation+several.Lts-at_splits as at-splits-lts
+use Rattle.size_checker.proofs.cycle.+adjust+apply+at_splits+binding+body+branch+branches+call+case_of+choice+compound+construct+enter+enter_new+expr+fit+operation+several.Lts-at_splits as at-splits-lts
 use Rattle.size_checker.proofs.cycle.binding.Reads as binding
 use Rattle.size_checker.proofs.cycle.binding.Kinds as binding-kinds
-use Rattle.size_checker.proofs.cycle.+adjust+apply+at_splits+binding+body+branch+branches+call+case_of+choice+compound+construct+enter+expr+fit+operation+several.Lts-binding as binding-lts
+use Rattle.size_checker.proofs.cycle.+adjust+apply+at_splits+binding+body+branch+branches+call+case_of+choice+compound+construct+enter+enter_new+expr+fit+operation+several.Lts-binding as binding-lts
 use Rattle.size_checker.proofs.cycle.body.Reads as body
 use Rattle.size_checker.proofs.cycle.body.Kinds as body-kinds
-use Rattle.size_checker.proofs.cycle.+adjust+apply+at_splits+binding+body+branch+branches+call+case_of+choice+compound+construct+enter+expr+fit+operation+several.Lts-body as body-lts
+use Rattle.size_checker.proofs.cycle.+adjust+apply+at_splits+binding+body+branch+branches+call+case_of+choice+compound+construct+enter+enter_new+expr+fit+operation+several.Lts-body as body-lts
 use Rattle.size_checker.proofs.cycle.branch.Reads as branch
 use Rattle.size_checker.proofs.cycle.branch.Kinds as branch-kinds
-use Rattle.size_checker.proofs.cycle.+adjust+apply+at_splits+binding+body+branch+branches+call+case_of+choice+compound+construct+enter+expr+fit+operation+several.Lts-branch as branch-lts
+use Rattle.size_checker.proofs.cycle.+adjust+apply+at_splits+binding+body+branch+branches+call+case_of+choice+compound+construct+enter+enter_new+expr+fit+operation+several.Lts-branch as branch-lts
 use Rattle.size_checker.proofs.cycle.branches.Reads as branches
 use Rattle.size_checker.proofs.cycle.branches.Kinds as branches-kinds
-use Rattle.size_checker.proofs.cycle.+adjust+apply+at_splits+binding+body+branch+branches+call+case_of+choice+compound+construct+enter+expr+fit+operation+several.Lts-branches as branches-lts
+use Rattle.size_checker.proofs.cycle.+adjust+apply+at_splits+binding+body+branch+branches+call+case_of+choice+compound+construct+enter+enter_new+expr+fit+operation+several.Lts-branches as branches-lts
 use Rattle.size_checker.proofs.cycle.call.Reads as call
 use Rattle.size_checker.proofs.cycle.call.Kinds as call-kinds
-use Rattle.size_checker.proofs.cycle.+adjust+apply+at_splits+binding+body+branch+branches+call+case_of+choice+compound+construct+enter+expr+fit+operation+several.Lts-call as call-lts
+use Rattle.size_checker.proofs.cycle.+adjust+apply+at_splits+binding+body+branch+branches+call+case_of+choice+compound+construct+enter+enter_new+expr+fit+operation+several.Lts-call as call-lts
 use Rattle.size_checker.proofs.cycle.case_of.Reads as case-of
 use Rattle.size_checker.proofs.cycle.case_of.Kinds as case-of-kinds
-use Rattle.size_checker.proofs.cycle.+adjust+apply+at_splits+binding+body+branch+branches+call+case_of+choice+compound+construct+enter+expr+fit+operation+several.Lts-case_of as case-of-lts
+use Rattle.size_checker.proofs.cycle.+adjust+apply+at_splits+binding+body+branch+branches+call+case_of+choice+compound+construct+enter+enter_new+expr+fit+operation+several.Lts-case_of as case-of-lts
 use Rattle.size_checker.proofs.cycle.choice.Reads as choice
 use Rattle.size_checker.proofs.cycle.choice.Kinds as choice-kinds
-use Rattle.size_checker.proofs.cycle.+adjust+apply+at_splits+binding+body+branch+branches+call+case_of+choice+compound+construct+enter+expr+fit+operation+several.Lts-choice as choice-lts
+use Rattle.size_checker.proofs.cycle.+adjust+apply+at_splits+binding+body+branch+branches+call+case_of+choice+compound+construct+enter+enter_new+expr+fit+operation+several.Lts-choice as choice-lts
 use Rattle.size_checker.proofs.cycle.compound.Reads as compound
 use Rattle.size_checker.proofs.cycle.compound.Kinds as compound-kinds
-use Rattle.size_checker.proofs.cycle.+adjust+apply+at_splits+binding+body+branch+branches+call+case_of+choice+compound+construct+enter+expr+fit+operation+several.Lts-compound as compound-lts
+use Rattle.size_checker.proofs.cycle.+adjust+apply+at_splits+binding+body+branch+branches+call+case_of+choice+compound+construct+enter+enter_new+expr+fit+operation+several.Lts-compound as compound-lts
 use Rattle.size_checker.proofs.cycle.construct.Reads as construct
 use Rattle.size_checker.proofs.cycle.construct.Kinds as construct-kinds
-use Rattle.size_checker.proofs.cycle.+adjust+apply+at_splits+binding+body+branch+branches+call+case_of+choice+compound+construct+enter+expr+fit+operation+several.Lts-construct as construct-lts
+use Rattle.size_checker.proofs.cycle.+adjust+apply+at_splits+binding+body+branch+branches+call+case_of+choice+compound+construct+enter+enter_new+expr+fit+operation+several.Lts-construct as construct-lts
 use Rattle.size_checker.proofs.cycle.enter.Reads as enter
 use Rattle.size_checker.proofs.cycle.enter.Kinds as enter-kinds
-use Rattle.size_checker.proofs.cycle.+adjust+apply+at_splits+binding+body+branch+branches+call+case_of+choice+compound+construct+enter+expr+fit+operation+several.Lts-enter as enter-lts
+use Rattle.size_checker.proofs.cycle.+adjust+apply+at_splits+binding+body+branch+branches+call+case_of+choice+compound+construct+enter+enter_new+expr+fit+operation+several.Lts-enter as enter-lts
+use Rattle.size_checker.proofs.cycle.enter_new.Reads as enter-new
+use Rattle.size_checker.proofs.cycle.enter_new.Kinds as enter-new-kinds
+use Rattle.size_checker.proofs.cycle.+adjust+apply+at_splits+binding+body+branch+branches+call+case_of+choice+compound+construct+enter+enter_new+expr+fit+operation+several.Lts-enter_new as enter-new-lts
 use Rattle.size_checker.proofs.cycle.expr.Reads as expr
 use Rattle.size_checker.proofs.cycle.expr.Kinds as expr-kinds
-use Rattle.size_checker.proofs.cycle.+adjust+apply+at_splits+binding+body+branch+branches+call+case_of+choice+compound+construct+enter+expr+fit+operation+several.Lts-expr as expr-lts
+use Rattle.size_checker.proofs.cycle.+adjust+apply+at_splits+binding+body+branch+branches+call+case_of+choice+compound+construct+enter+enter_new+expr+fit+operation+several.Lts-expr as expr-lts
 use Rattle.size_checker.proofs.cycle.fit.Reads as fit
 use Rattle.size_checker.proofs.cycle.fit.Kinds as fit-kinds
-use Rattle.size_checker.proofs.cycle.+adjust+apply+at_splits+binding+body+branch+branches+call+case_of+choice+compound+construct+enter+expr+fit+operation+several.Lts-fit as fit-lts
+use Rattle.size_checker.proofs.cycle.+adjust+apply+at_splits+binding+body+branch+branches+call+case_of+choice+compound+construct+enter+enter_new+expr+fit+operation+several.Lts-fit as fit-lts
 use Rattle.size_checker.proofs.cycle.operation.Reads as operation
 use Rattle.size_checker.proofs.cycle.operation.Kinds as operation-kinds
-use Rattle.size_checker.proofs.cycle.+adjust+apply+at_splits+binding+body+branch+branches+call+case_of+choice+compound+construct+enter+expr+fit+operation+several.Lts-operation as operation-lts
+use Rattle.size_checker.proofs.cycle.+adjust+apply+at_splits+binding+body+branch+branches+call+case_of+choice+compound+construct+enter+enter_new+expr+fit+operation+several.Lts-operation as operation-lts
 use Rattle.size_checker.proofs.cycle.several.Reads as several
 use Rattle.size_checker.proofs.cycle.several.Kinds as several-kinds
-use Rattle.size_checker.proofs.cycle.+adjust+apply+at_splits+binding+body+branch+branches+call+case_of+choice+compound+construct+enter+expr+fit+operation+several.Lts-several as several-lts
+use Rattle.size_checker.proofs.cycle.+adjust+apply+at_splits+binding+body+branch+branches+call+case_of+choice+compound+construct+enter+enter_new+expr+fit+operation+several.Lts-several as several-lts
 use Rattle.estimate.proofs.nothing.Reads as nothing-reads
 use Rattle.estimate.proofs.one_cell.Reads as one-cell-reads
 use Rattle.heads.proofs.head_at.Reads as head-at-reads
+use Rattle.heads.proofs.skip.skip.Reads as skip-reads
+use Rattle.heads.proofs.variable_at.Reads as variable-at-reads
+use Rattle.index.proofs.frames.frame_line.Reads as frame-line-reads
 use Rattle.index.proofs.functions.arity.Reads as arity-reads
+use Rattle.index.proofs.put.Reads as put-reads
 use Rattle.index.proofs.types.constructors.Reads as constructors-reads
 use Rattle.index.proofs.types.fields.Reads as fields-reads
 use Rattle.index.proofs.types.own_fields.Reads as own-fields-reads
-use Rattle.index.proofs.put.Reads as put-reads
-use Rattle.index.proofs.frames.frame_line.Reads as frame-line-reads
+use Rattle.index.proofs.word_at.Reads as word-at-reads
 use Rattle.instances.proofs.add.Reads as add-reads
 use Rattle.instances.proofs.find.Reads as find-reads
 use Rattle.instances.proofs.finish.Reads as finish-reads
+use Rattle.size_steps.proofs.leaves.again.Reads as again-reads
+use Rattle.size_steps.proofs.leaves.channel_type.Reads as channel-type-reads
+use Rattle.size_steps.proofs.leaves.made.Reads as made-reads
+use Rattle.size_steps.proofs.leaves.prepare.Reads as prepare-reads
+use Rattle.size_steps.proofs.leaves.type_in.Reads as type-in-reads
+use Rattle.size_steps.proofs.numbers.adjusted.Reads as adjusted-reads
+use Rattle.size_steps.proofs.numbers.agree.Reads as agree-reads
+use Rattle.size_steps.proofs.numbers.branched.Reads as branched-reads
+use Rattle.size_steps.proofs.numbers.called.Reads as called-reads
+use Rattle.size_steps.proofs.numbers.cased.Reads as cased-reads
+use Rattle.size_steps.proofs.numbers.chosen.Reads as chosen-reads
+use Rattle.size_steps.proofs.numbers.fitted.Reads as fitted-reads
+use Rattle.size_steps.proofs.numbers.is_type.Reads as is-type-reads
+use Rattle.size_steps.proofs.numbers.joined.Reads as joined-reads
+use Rattle.size_steps.proofs.numbers.larger.Reads as larger-reads
+use Rattle.size_steps.proofs.numbers.leaf.Reads as leaf-reads
+use Rattle.size_steps.proofs.numbers.none.Reads as none-reads
+use Rattle.size_steps.proofs.numbers.not_entered.Reads as not-entered-reads
+use Rattle.size_steps.proofs.numbers.nothing_yet.Reads as nothing-yet-reads
+use Rattle.size_steps.proofs.numbers.operated.Reads as operated-reads
+use Rattle.size_steps.proofs.numbers.passed.Reads as passed-reads
+use Rattle.size_steps.proofs.numbers.refused.Reads as refused-reads
+use Rattle.size_steps.proofs.numbers.refused_all.Reads as refused-all-reads
+use Rattle.size_steps.proofs.numbers.slotted.Reads as slotted-reads
+use Rattle.size_steps.proofs.numbers.subject.Reads as subject-reads
+use Rattle.size_steps.proofs.numbers.type_word.Reads as type-word-reads
+use Rattle.size_steps.proofs.numbers.with_let.Reads as with-let-reads
+use Rattle.size_steps.proofs.places.behind.Reads as behind-reads
+use Rattle.size_steps.proofs.places.body_place.Reads as body-place-reads
+use Rattle.size_steps.proofs.places.down.Reads as down-reads
+use Rattle.size_steps.proofs.places.moved.Reads as moved-reads
+use Rattle.size_steps.proofs.places.widen.Reads as widen-reads
 use Rattle.sizes.proofs.rows.bind_fields.Reads as bind-fields-reads
 use Rattle.sizes.proofs.rows.named_sizes.Reads as named-sizes-reads
 use Rattle.sizes.proofs.size_at.Reads as size-at-reads
 use Rattle.sizes.proofs.type_at.Reads as type-at-reads
 use Rattle.sizes.proofs.word_of.Reads as word-of-reads
-use Rattle.size_steps.proofs.numbers.adjusted.Reads as adjusted-reads
-use Rattle.size_steps.proofs.numbers.agree.Reads as agree-reads
-use Rattle.size_steps.proofs.places.behind.Reads as behind-reads
-use Rattle.size_steps.proofs.places.body_place.Reads as body-place-reads
-use Rattle.size_steps.proofs.numbers.branched.Reads as branched-reads
-use Rattle.size_steps.proofs.numbers.called.Reads as called-reads
-use Rattle.size_steps.proofs.numbers.cased.Reads as cased-reads
-use Rattle.size_steps.proofs.leaves.channel_type.Reads as channel-type-reads
-use Rattle.size_steps.proofs.numbers.chosen.Reads as chosen-reads
-use Rattle.size_steps.proofs.places.down.Reads as down-reads
-use Rattle.size_steps.proofs.numbers.fitted.Reads as fitted-reads
-use Rattle.size_steps.proofs.numbers.is_type.Reads as is-type-reads
-use Rattle.size_steps.proofs.numbers.type_word.Reads as type-word-reads
-use Rattle.size_steps.proofs.numbers.larger.Reads as larger-reads
-use Rattle.size_steps.proofs.numbers.leaf.Reads as leaf-reads
-use Rattle.size_steps.proofs.leaves.made.Reads as made-reads
-use Rattle.size_steps.proofs.places.moved.Reads as moved-reads
-use Rattle.size_steps.proofs.numbers.none.Reads as none-reads
-use Rattle.size_steps.proofs.numbers.not_entered.Reads as not-entered-reads
-use Rattle.size_steps.proofs.numbers.nothing_yet.Reads as nothing-yet-reads
-use Rattle.size_steps.proofs.numbers.one_more.Reads as one-more-reads
-use Rattle.size_steps.proofs.numbers.operated.Reads as operated-reads
-use Rattle.size_steps.proofs.leaves.prepare.Reads as prepare-reads
-use Rattle.size_steps.proofs.numbers.refused.Reads as refused-reads
-use Rattle.size_steps.proofs.numbers.refused_all.Reads as refused-all-reads
-use Rattle.size_steps.proofs.numbers.slotted.Reads as slotted-reads
-use Rattle.size_steps.proofs.numbers.subject.Reads as subject-reads
-use Rattle.size_steps.proofs.leaves.type_in.Reads as type-in-reads
-use Rattle.size_steps.proofs.places.widen.Reads as widen-reads
-use Rattle.size_steps.proofs.numbers.with_let.Reads as with-let-reads
-use Rattle.heads.proofs.skip.skip.Reads as skip-reads
 use Rattle.splits.proofs.first_split.Reads as first-split-reads
 use Rattle.splits.proofs.next_split.Reads as next-split-reads
-use Rattle.size_checker.proofs.cycle.+adjust+apply+at_splits+binding+body+branch+branches+call+case_of+choice+compound+construct+enter+expr+fit+operation+several.{
+use Rattle.size_checker.proofs.cycle.+adjust+apply+at_splits+binding+body+branch+branches+call+case_of+choice+compound+construct+enter+enter_new+expr+fit+operation+several.{
   statement,
 }
-use Rattle.size_checker.proofs.cycle.+adjust+apply+at_splits+binding+body+branch+branches+call+case_of+choice+compound+construct+enter+expr+fit+operation+several.Tie.{
+use Rattle.size_checker.proofs.cycle.+adjust+apply+at_splits+binding+body+branch+branches+call+case_of+choice+compound+construct+enter+enter_new+expr+fit+operation+several.Tie.{
   close,
 }
 
@@ -235,6 +243,9 @@ abbrev μ-construct : Measures 6 construct-kinds.ps ℕ
 abbrev μ-enter : Measures 6 enter-kinds.ps ℕ
 μ-enter κs a = load (a .1 .1 .1 .1 .1 .1 .0) 90
 
+abbrev μ-enter-new : Measures 6 enter-new-kinds.ps ℕ
+μ-enter-new κs a = load (a .1 .1 .1 .1 .1 .1 .0) 85
+
 abbrev μ-expr : Measures 6 expr-kinds.ps ℕ
 μ-expr κs a = load (a .1 .1 .1 .1 .1 .1 .0) 0
 
@@ -245,7 +256,7 @@ abbrev μ-operation : Measures 6 operation-kinds.ps ℕ
 μ-operation κs a = load (a .1 .1 .1 .1 .1 .1 .0) 900
 
 abbrev μ-several : Measures 7 several-kinds.ps ℕ
-μ-several κs a = load (a .1 .1 .1 .1 .1 .1 .0) (300 + (a .1 .1 .1 .1 .1 .1 .1 .1 .1 .0 - a .1 .1 .1 .1 .1 .1 .1 .1 .0))
+μ-several κs a = load (a .1 .1 .1 .1 .1 .1 .0) 300
 
 abbrev adjust-at : ℕ → In 6 adjust-kinds.ps
 adjust-at t = and 6 adjust-kinds.ps (is 6 adjust-kinds.ps μ-adjust t) adjust.Pre
@@ -328,6 +339,13 @@ enter-at t = and 6 enter-kinds.ps (is 6 enter-kinds.ps μ-enter t) enter.Pre
 
 abbrev enter-below : ℕ → In 6 enter-kinds.ps
 enter-below t = and 6 enter-kinds.ps (falls 6 enter-kinds.ps _<_ μ-enter t) enter.Pre
+
+abbrev enter-new-at : ℕ → In 6 enter-new-kinds.ps
+enter-new-at t = and 6 enter-new-kinds.ps (is 6 enter-new-kinds.ps μ-enter-new t) enter-new.Pre
+
+abbrev enter-new-below : ℕ → In 6 enter-new-kinds.ps
+enter-new-below t =
+    and 6 enter-new-kinds.ps (falls 6 enter-new-kinds.ps _<_ μ-enter-new t) enter-new.Pre
 
 abbrev expr-at : ℕ → In 6 expr-kinds.ps
 expr-at t = and 6 expr-kinds.ps (is 6 expr-kinds.ps μ-expr t) expr.Pre
@@ -793,10 +811,6 @@ apply-slice-aggregate-named-sizes : (t : ℕ) → apply-lts.Need-slice-aggregate
   named-sizes-reads.Learnt,
   moved-reads.Asked,
   moved-reads.Learnt,
-  prepare-reads.Asked,
-  prepare-reads.Learnt,
-  not-entered-reads.Asked,
-  not-entered-reads.Learnt,
   enter-below t,
   enter.Post,
   called-reads.Asked,
@@ -809,10 +823,6 @@ apply-named-sizes-requires : (t : ℕ) → apply-lts.Need-named-sizes-requires (
   named-sizes-reads.Learnt,
   moved-reads.Asked,
   moved-reads.Learnt,
-  prepare-reads.Asked,
-  prepare-reads.Learnt,
-  not-entered-reads.Asked,
-  not-entered-reads.Learnt,
   enter-below t,
   enter.Post,
   called-reads.Asked,
@@ -825,10 +835,6 @@ apply-moved-requires : (t : ℕ) → apply-lts.Need-moved-requires (
   named-sizes-reads.Learnt,
   moved-reads.Asked,
   moved-reads.Learnt,
-  prepare-reads.Asked,
-  prepare-reads.Learnt,
-  not-entered-reads.Asked,
-  not-entered-reads.Learnt,
   enter-below t,
   enter.Post,
   called-reads.Asked,
@@ -836,127 +842,11 @@ apply-moved-requires : (t : ℕ) → apply-lts.Need-moved-requires (
 ) (apply-at t) apply.Post
 apply-moved-requires t c κs = tt
 
-apply-slice-aggregate-prepare : (t : ℕ) → apply-lts.Need-slice-aggregate-prepare (
-  named-sizes-reads.Asked,
-  named-sizes-reads.Learnt,
-  moved-reads.Asked,
-  moved-reads.Learnt,
-  prepare-reads.Asked,
-  prepare-reads.Learnt,
-  not-entered-reads.Asked,
-  not-entered-reads.Learnt,
-  enter-below t,
-  enter.Post,
-  called-reads.Asked,
-  called-reads.Learnt,
-) (apply-at t) apply.Post
-apply-slice-aggregate-prepare t c = search needs
-
-apply-prepare-requires : (t : ℕ) → apply-lts.Need-prepare-requires (
-  named-sizes-reads.Asked,
-  named-sizes-reads.Learnt,
-  moved-reads.Asked,
-  moved-reads.Learnt,
-  prepare-reads.Asked,
-  prepare-reads.Learnt,
-  not-entered-reads.Asked,
-  not-entered-reads.Learnt,
-  enter-below t,
-  enter.Post,
-  called-reads.Asked,
-  called-reads.Learnt,
-) (apply-at t) apply.Post
-apply-prepare-requires t c κs = prepares (c .before .before .before .before .before .before .before .before .before .before .pre .1 .0) (c .before .moved .ensures) (c .before .before .before .before .before .before .before .before .before .before .pre .1 .1 .1 .0)
-
-apply-enum-known-y : (t : ℕ) → apply-lts.Need-enum-known-y (
-  named-sizes-reads.Asked,
-  named-sizes-reads.Learnt,
-  moved-reads.Asked,
-  moved-reads.Learnt,
-  prepare-reads.Asked,
-  prepare-reads.Learnt,
-  not-entered-reads.Asked,
-  not-entered-reads.Learnt,
-  enter-below t,
-  enter.Post,
-  called-reads.Asked,
-  called-reads.Learnt,
-) (apply-at t) apply.Post
-apply-enum-known-y t c = (c .match .keys1)
-
-apply-enum-told : (t : ℕ) → apply-lts.Need-enum-told (
-  named-sizes-reads.Asked,
-  named-sizes-reads.Learnt,
-  moved-reads.Asked,
-  moved-reads.Learnt,
-  prepare-reads.Asked,
-  prepare-reads.Learnt,
-  not-entered-reads.Asked,
-  not-entered-reads.Learnt,
-  enter-below t,
-  enter.Post,
-  called-reads.Asked,
-  called-reads.Learnt,
-) (apply-at t) apply.Post
-apply-enum-told t c = (c .match .keys2)
-
-apply-not-entered-requires : (t : ℕ) → apply-lts.Need-not-entered-requires (
-  named-sizes-reads.Asked,
-  named-sizes-reads.Learnt,
-  moved-reads.Asked,
-  moved-reads.Learnt,
-  prepare-reads.Asked,
-  prepare-reads.Learnt,
-  not-entered-reads.Asked,
-  not-entered-reads.Learnt,
-  enter-below t,
-  enter.Post,
-  called-reads.Asked,
-  called-reads.Learnt,
-) (apply-at t) apply.Post
-apply-not-entered-requires t c κs = tt
-
-apply-same-length : (t : ℕ) → apply-lts.Need-same-length (
-  named-sizes-reads.Asked,
-  named-sizes-reads.Learnt,
-  moved-reads.Asked,
-  moved-reads.Learnt,
-  prepare-reads.Asked,
-  prepare-reads.Learnt,
-  not-entered-reads.Asked,
-  not-entered-reads.Learnt,
-  enter-below t,
-  enter.Post,
-  called-reads.Asked,
-  called-reads.Learnt,
-) (apply-at t) apply.Post
-apply-same-length t c = refl
-
-apply-returns : (t : ℕ) → apply-lts.Need-returns (
-  named-sizes-reads.Asked,
-  named-sizes-reads.Learnt,
-  moved-reads.Asked,
-  moved-reads.Learnt,
-  prepare-reads.Asked,
-  prepare-reads.Learnt,
-  not-entered-reads.Asked,
-  not-entered-reads.Learnt,
-  enter-below t,
-  enter.Post,
-  called-reads.Asked,
-  called-reads.Learnt,
-) (apply-at t) apply.Post
-apply-returns t c = apply-not-entered (c .before .before .before .before .before .before .before .before .before .before .before .before .before .before .args .p) (c .before .before .before .before .before .before .before .before .before .before .before .before .before .before .args .a) refl (c .before .before .before .before .before .before .before .before .named-sizes .ensures) (c .before .before .before .before .before .moved .ensures) (c .before .before .before .prepare .ensures) (c .before .enum-told .given .1) (c .not-entered .ensures)
-
 apply-slice-aggregate-enter : (t : ℕ) → apply-lts.Need-slice-aggregate-enter (
   named-sizes-reads.Asked,
   named-sizes-reads.Learnt,
   moved-reads.Asked,
   moved-reads.Learnt,
-  prepare-reads.Asked,
-  prepare-reads.Learnt,
-  not-entered-reads.Asked,
-  not-entered-reads.Learnt,
   enter-below t,
   enter.Post,
   called-reads.Asked,
@@ -969,106 +859,78 @@ apply-enter-requires : (t : ℕ) → apply-lts.Need-enter-requires (
   named-sizes-reads.Learnt,
   moved-reads.Asked,
   moved-reads.Learnt,
-  prepare-reads.Asked,
-  prepare-reads.Learnt,
-  not-entered-reads.Asked,
-  not-entered-reads.Learnt,
   enter-below t,
   enter.Post,
   called-reads.Asked,
   called-reads.Learnt,
 ) (apply-at t) apply.Post
-apply-enter-requires t c κs = (load-moved _ 800 (c .before .before .before .before .before .before .before .before .before .before .before .before .before .before .before .before .before .before .pre .0) _ 90 (c .before .before .before .before .before .before .before .before .before .moved .ensures) (c .before .before .before .before .before .before .before .before .before .before .before .before .before .before .before .before .before .before .pre .1 .1 .0) (omega arith), (room-inner (c .before .before .before .before .before .before .before .before .before .before .before .before .before .before .before .before .before .before .pre .1 .0) (c .before .before .before .before .before .before .before .before .before .moved .ensures) (c .before .before .before .before .before .before .before .before .before .before .before .before .before .before .before .before .before .before .pre .1 .0 .scope) (omega (arith, (c .before .before .before .before .before .before .before .before .before .before .before .before .named-sizes .kept .1 .1 .0))), entry-numbers (c .before .before .before .before .before .before .before .prepare .ensures .of) (c .before .before .before .before .before .y .given .1) (c .before .before .before .before .before .before .before .before .before .before .before .before .before .before .before .before .before .before .pre .1 .1 .1 .0) (c .before .before .before .before .before .before .before .before .before .before .before .before .before .before .before .before .before .before .pre .1 .1 .1 .1) (c .before .before .before .before .before .before .before .before .before .before .before .before .named-sizes .ensures .few)))
+apply-enter-requires t c κs = (load-moved _ 800 (c .before .before .before .before .before .before .before .before .before .before .before .before .before .pre .0) _ 90 (c .before .before .before .before .moved .ensures) (c .before .before .before .before .before .before .before .before .before .before .before .before .before .pre .1 .1 .0) (omega arith), (room-inner (c .before .before .before .before .before .before .before .before .before .before .before .before .before .pre .1 .0) (c .before .before .before .before .moved .ensures) (c .before .before .before .before .before .before .before .before .before .before .before .before .before .pre .1 .0 .scope) (omega (arith, (c .before .before .before .before .before .before .before .named-sizes .kept .1 .1 .0))), ((c .before .before .before .before .before .before .before .before .before .before .before .before .before .pre .1 .1 .1 .0), ((c .before .before .before .before .before .before .before .before .before .before .before .before .before .pre .1 .1 .1 .1), (c .before .before .before .before .before .before .before .named-sizes .ensures .few)))))
 
 apply-enum-known-z : (t : ℕ) → apply-lts.Need-enum-known-z (
   named-sizes-reads.Asked,
   named-sizes-reads.Learnt,
   moved-reads.Asked,
   moved-reads.Learnt,
-  prepare-reads.Asked,
-  prepare-reads.Learnt,
-  not-entered-reads.Asked,
-  not-entered-reads.Learnt,
   enter-below t,
   enter.Post,
   called-reads.Asked,
   called-reads.Learnt,
 ) (apply-at t) apply.Post
-apply-enum-known-z t c = (c .match2 .keys1)
+apply-enum-known-z t c = (c .match .keys1)
 
-apply-enum-told-2 : (t : ℕ) → apply-lts.Need-enum-told-2 (
+apply-enum-told : (t : ℕ) → apply-lts.Need-enum-told (
   named-sizes-reads.Asked,
   named-sizes-reads.Learnt,
   moved-reads.Asked,
   moved-reads.Learnt,
-  prepare-reads.Asked,
-  prepare-reads.Learnt,
-  not-entered-reads.Asked,
-  not-entered-reads.Learnt,
   enter-below t,
   enter.Post,
   called-reads.Asked,
   called-reads.Learnt,
 ) (apply-at t) apply.Post
-apply-enum-told-2 t c = (c .match2 .keys2)
+apply-enum-told t c = (c .match .keys2)
+
+apply-same-length : (t : ℕ) → apply-lts.Need-same-length (
+  named-sizes-reads.Asked,
+  named-sizes-reads.Learnt,
+  moved-reads.Asked,
+  moved-reads.Learnt,
+  enter-below t,
+  enter.Post,
+  called-reads.Asked,
+  called-reads.Learnt,
+) (apply-at t) apply.Post
+apply-same-length t c = (c .before .before .before .before .before .before .before .enter .kept .1 .1 .0)
 
 apply-same-length-2 : (t : ℕ) → apply-lts.Need-same-length-2 (
   named-sizes-reads.Asked,
   named-sizes-reads.Learnt,
   moved-reads.Asked,
   moved-reads.Learnt,
-  prepare-reads.Asked,
-  prepare-reads.Learnt,
-  not-entered-reads.Asked,
-  not-entered-reads.Learnt,
   enter-below t,
   enter.Post,
   called-reads.Asked,
   called-reads.Learnt,
 ) (apply-at t) apply.Post
-apply-same-length-2 t c = (c .before .before .before .before .before .before .before .enter .kept .1 .1 .0)
+apply-same-length-2 t c = (c .before .before .before .before .before .before .before .enter .kept .1 .1 .1 .1 .0)
 
-apply-same-length-3 : (t : ℕ) → apply-lts.Need-same-length-3 (
+apply-returns : (t : ℕ) → apply-lts.Need-returns (
   named-sizes-reads.Asked,
   named-sizes-reads.Learnt,
   moved-reads.Asked,
   moved-reads.Learnt,
-  prepare-reads.Asked,
-  prepare-reads.Learnt,
-  not-entered-reads.Asked,
-  not-entered-reads.Learnt,
   enter-below t,
   enter.Post,
   called-reads.Asked,
   called-reads.Learnt,
 ) (apply-at t) apply.Post
-apply-same-length-3 t c = (c .before .before .before .before .before .before .before .enter .kept .1 .1 .1 .1 .0)
-
-apply-returns-2 : (t : ℕ) → apply-lts.Need-returns-2 (
-  named-sizes-reads.Asked,
-  named-sizes-reads.Learnt,
-  moved-reads.Asked,
-  moved-reads.Learnt,
-  prepare-reads.Asked,
-  prepare-reads.Learnt,
-  not-entered-reads.Asked,
-  not-entered-reads.Learnt,
-  enter-below t,
-  enter.Post,
-  called-reads.Asked,
-  called-reads.Learnt,
-) (apply-at t) apply.Post
-apply-returns-2 t c = apply-body (c .before .before .before .before .before .before .before .before .before .before .before .before .before .before .before .before .before .before .before .before .before .before .before .before .before .before .args .p) (c .before .before .before .before .before .before .before .before .before .before .before .before .before .before .before .before .before .before .before .before .before .before .before .before .before .before .args .a) refl (c .before .before .before .before .before .before .before .before .before .before .before .before .before .before .before .before .before .before .before .before .named-sizes .ensures) (c .before .before .before .before .before .before .before .before .before .before .before .before .before .before .before .before .before .moved .ensures) (c .before .before .before .before .before .before .before .before .before .before .before .before .before .before .before .prepare .ensures) (c .before .before .before .before .before .before .before .before .before .before .before .before .before .y .given .1) (c .before .before .before .before .before .before .before .enter .ensures) (c .enum-told2 .given .1)
+apply-returns t c = apply-refused (c .before .before .before .before .before .before .before .before .before .before .before .before .before .before .before .before .before .before .before .before .before .args .p) (c .before .before .before .before .before .before .before .before .before .before .before .before .before .before .before .before .before .before .before .before .before .args .a) refl (c .before .before .before .before .before .before .before .before .before .before .before .before .before .before .before .named-sizes .ensures) (c .before .before .before .before .before .before .before .before .before .before .before .before .moved .ensures) (c .before .before .before .before .before .before .before .enter .ensures) (c .enum-told .given .1)
 
 apply-called-requires : (t : ℕ) → apply-lts.Need-called-requires (
   named-sizes-reads.Asked,
   named-sizes-reads.Learnt,
   moved-reads.Asked,
   moved-reads.Learnt,
-  prepare-reads.Asked,
-  prepare-reads.Learnt,
-  not-entered-reads.Asked,
-  not-entered-reads.Learnt,
   enter-below t,
   enter.Post,
   called-reads.Asked,
@@ -1076,60 +938,48 @@ apply-called-requires : (t : ℕ) → apply-lts.Need-called-requires (
 ) (apply-at t) apply.Post
 apply-called-requires t c κs = tt
 
+apply-same-length-3 : (t : ℕ) → apply-lts.Need-same-length-3 (
+  named-sizes-reads.Asked,
+  named-sizes-reads.Learnt,
+  moved-reads.Asked,
+  moved-reads.Learnt,
+  enter-below t,
+  enter.Post,
+  called-reads.Asked,
+  called-reads.Learnt,
+) (apply-at t) apply.Post
+apply-same-length-3 t c = (c .before .before .before .before .before .before .before .before .before .enter .kept .1 .1 .0)
+
 apply-same-length-4 : (t : ℕ) → apply-lts.Need-same-length-4 (
   named-sizes-reads.Asked,
   named-sizes-reads.Learnt,
   moved-reads.Asked,
   moved-reads.Learnt,
-  prepare-reads.Asked,
-  prepare-reads.Learnt,
-  not-entered-reads.Asked,
-  not-entered-reads.Learnt,
   enter-below t,
   enter.Post,
   called-reads.Asked,
   called-reads.Learnt,
 ) (apply-at t) apply.Post
-apply-same-length-4 t c = (c .before .before .before .before .before .before .before .before .before .enter .kept .1 .1 .0)
+apply-same-length-4 t c = (c .before .before .before .before .before .before .before .before .before .enter .kept .1 .1 .1 .1 .0)
 
-apply-same-length-5 : (t : ℕ) → apply-lts.Need-same-length-5 (
+apply-returns-2 : (t : ℕ) → apply-lts.Need-returns-2 (
   named-sizes-reads.Asked,
   named-sizes-reads.Learnt,
   moved-reads.Asked,
   moved-reads.Learnt,
-  prepare-reads.Asked,
-  prepare-reads.Learnt,
-  not-entered-reads.Asked,
-  not-entered-reads.Learnt,
   enter-below t,
   enter.Post,
   called-reads.Asked,
   called-reads.Learnt,
 ) (apply-at t) apply.Post
-apply-same-length-5 t c = (c .before .before .before .before .before .before .before .before .before .enter .kept .1 .1 .1 .1 .0)
-
-apply-returns-3 : (t : ℕ) → apply-lts.Need-returns-3 (
-  named-sizes-reads.Asked,
-  named-sizes-reads.Learnt,
-  moved-reads.Asked,
-  moved-reads.Learnt,
-  prepare-reads.Asked,
-  prepare-reads.Learnt,
-  not-entered-reads.Asked,
-  not-entered-reads.Learnt,
-  enter-below t,
-  enter.Post,
-  called-reads.Asked,
-  called-reads.Learnt,
-) (apply-at t) apply.Post
-apply-returns-3 t c = apply-done (c .before .before .before .before .before .before .before .before .before .before .before .before .before .before .before .before .before .before .before .before .before .before .before .before .before .before .before .before .args .p) (c .before .before .before .before .before .before .before .before .before .before .before .before .before .before .before .before .before .before .before .before .before .before .before .before .before .before .before .before .args .a) refl (c .before .before .before .before .before .before .before .before .before .before .before .before .before .before .before .before .before .before .before .before .before .before .named-sizes .ensures) (c .before .before .before .before .before .before .before .before .before .before .before .before .before .before .before .before .before .before .before .moved .ensures) (c .before .before .before .before .before .before .before .before .before .before .before .before .before .before .before .before .before .prepare .ensures) (c .before .before .before .before .before .before .before .before .before .before .before .before .before .before .before .y .given .1) (c .before .before .before .before .before .before .before .before .before .enter .ensures) (c .before .before .z .given .1) (c .called .ensures .body) (c .called .ensures .both) (c .called .ensures .all) (c .called .ensures .is)
+apply-returns-2 t c = apply-done (c .before .before .before .before .before .before .before .before .before .before .before .before .before .before .before .before .before .before .before .before .before .before .before .args .p) (c .before .before .before .before .before .before .before .before .before .before .before .before .before .before .before .before .before .before .before .before .before .before .before .args .a) refl (c .before .before .before .before .before .before .before .before .before .before .before .before .before .before .before .before .before .named-sizes .ensures) (c .before .before .before .before .before .before .before .before .before .before .before .before .before .before .moved .ensures) (c .before .before .before .before .before .before .before .before .before .enter .ensures) (c .before .before .z .given .1) (c .called .ensures .body) (c .called .ensures .both) (c .called .ensures .all) (c .called .ensures .is)
 
 abbrev at-splits-Inv-loop : at-splits-lts.InvT-loop
-at-splits-Inv-loop text index list₀ hints₀ scope₀ sizes₀ p s k n own at ty all₀ more₀ list hints scope sizes all more =
-    Walks s k (lent text index) (buffers list₀ scope₀ sizes₀) p more (buffers list scope sizes) all × ((length list ≡ length list₀) × ((length scope ≡ length scope₀) × (length sizes ≡ length sizes₀)))
+at-splits-Inv-loop text index list₀ memo₀ scope₀ sizes₀ p s k n own at ty all₀ more₀ list memo scope sizes all more =
+    Walks s k (lent text index) (buffers (table list₀ memo₀) scope₀ sizes₀) p more (buffers (table list memo) scope sizes) all × ((length list ≡ length list₀) × ((length scope ≡ length scope₀) × (length sizes ≡ length sizes₀)))
 
 abbrev at-splits-μ-loop : at-splits-lts.MeasureT-loop
-at-splits-μ-loop text index list₀ hints₀ scope₀ sizes₀ p s k n own at ty all₀ more₀ list hints scope sizes all more =
+at-splits-μ-loop text index list₀ memo₀ scope₀ sizes₀ p s k n own at ty all₀ more₀ list memo scope sizes all more =
     walkLeft more (take own (drop (p .sizes) sizes))
 
 at-splits-fields-requires : (t : ℕ) → at-splits-lts.Need-fields-requires (
@@ -2297,6 +2147,8 @@ binding-returns-3 : (t : ℕ) → binding-lts.Need-returns-3 (
 binding-returns-3 t c = let-done (c .before .before .before .before .before .before .before .before .before .before .before .before .before .before .before .before .before .before .before .before .before .before .before .before .before .before .before .before .before .before .before .before .expr .ensures) (scope-long (c .before .before .before .before .before .before .before .before .before .before .before .before .before .before .before .before .before .before .before .before .before .before .before .before .before .before .before .before .before .before .before .before .before .before .before .before .before .before .before .before .before .pre .1) ((c .before .before .before .before .before .before .before .before .before .before .before .before .before .before .before .before .before .before .before .before .before .before .before .before .before .before .before .before .before .before .before .before .expr .kept .1 .1 .1 .1 .0))) (c .before .before .before .before .before .before .before .before .before .before .before .before .before .before .before .before .before .before .before .before .before .before .before .before .x .given .1) (c .before .before .before .before .before .before .before .before .before .before .before .before .before .before .before .before .before .before .before .before .type-word .ensures .is) (c .before .before .before .before .before .before .before .before .before .before .before .before .before .before .before .before .behind .ensures) (c .before .before .before .before .before .before .before .before .before .before .before .before .before .before .before .widen .ensures) (put-is (c .before .before .before .before .before .before .before .before .before .before .before .before .before .before .before .before .before .before .before .put .ensures) (c .before .before .before .before .before .before .before .before .before .before .expr2 .ensures)) (c .before .before .y .given .1) (c .with-let .ensures .held) (c .with-let .ensures .all) (c .with-let .ensures .is)
 
 body-cast-if1 : (t : ℕ) → body-lts.Need-cast-if1 (
+  word-of-reads.Asked,
+  word-of-reads.Learnt,
   add-reads.Asked,
   add-reads.Learnt,
   body-place-reads.Asked,
@@ -2315,6 +2167,8 @@ body-cast-if1 : (t : ℕ) → body-lts.Need-cast-if1 (
 body-cast-if1 t c = omega arith
 
 body-add-t17 : (t : ℕ) → body-lts.Need-add-t17 (
+  word-of-reads.Asked,
+  word-of-reads.Learnt,
   add-reads.Asked,
   add-reads.Learnt,
   body-place-reads.Asked,
@@ -2333,6 +2187,8 @@ body-add-t17 : (t : ℕ) → body-lts.Need-add-t17 (
 body-add-t17 t c = omega (arith, (c .before .before .before .before .before .before .before .pre .1 .0 .line))
 
 body-returns : (t : ℕ) → body-lts.Need-returns (
+  word-of-reads.Asked,
+  word-of-reads.Learnt,
   add-reads.Asked,
   add-reads.Learnt,
   body-place-reads.Asked,
@@ -2350,7 +2206,29 @@ body-returns : (t : ℕ) → body-lts.Need-returns (
 ) (body-at t) body.Post
 body-returns t c = body-full _ _ (c .before .if1 .taken)
 
+body-word-of-requires : (t : ℕ) → body-lts.Need-word-of-requires (
+  word-of-reads.Asked,
+  word-of-reads.Learnt,
+  add-reads.Asked,
+  add-reads.Learnt,
+  body-place-reads.Asked,
+  body-place-reads.Learnt,
+  expr-below t,
+  expr.Post,
+  is-type-reads.Asked,
+  is-type-reads.Learnt,
+  finish-reads.Asked,
+  finish-reads.Learnt,
+  moved-reads.Asked,
+  moved-reads.Learnt,
+  leaf-reads.Asked,
+  leaf-reads.Learnt,
+) (body-at t) body.Post
+body-word-of-requires t c κs = tt
+
 body-add-requires : (t : ℕ) → body-lts.Need-add-requires (
+  word-of-reads.Asked,
+  word-of-reads.Learnt,
   add-reads.Asked,
   add-reads.Learnt,
   body-place-reads.Asked,
@@ -2369,6 +2247,8 @@ body-add-requires : (t : ℕ) → body-lts.Need-add-requires (
 body-add-requires t c κs = tt
 
 body-body-place-requires : (t : ℕ) → body-lts.Need-body-place-requires (
+  word-of-reads.Asked,
+  word-of-reads.Learnt,
   add-reads.Asked,
   add-reads.Learnt,
   body-place-reads.Asked,
@@ -2384,9 +2264,11 @@ body-body-place-requires : (t : ℕ) → body-lts.Need-body-place-requires (
   leaf-reads.Asked,
   leaf-reads.Learnt,
 ) (body-at t) body.Post
-body-body-place-requires t c κs = ((c .before .before .before .before .before .before .before .before .before .before .before .before .pre .1 .0 .types), (omega (arith, (c .before .before .before .before .before .before .if1 .left)), (c .before .before .before .before .before .before .before .before .before .before .before .before .pre .1 .1 .function)))
+body-body-place-requires t c κs = ((c .before .before .before .before .before .before .before .before .before .before .before .before .before .pre .1 .0 .types), (omega (arith, (c .before .before .before .before .before .before .before .if1 .left)), (c .before .before .before .before .before .before .before .before .before .before .before .before .before .pre .1 .1 .function)))
 
 body-expr-requires : (t : ℕ) → body-lts.Need-expr-requires (
+  word-of-reads.Asked,
+  word-of-reads.Learnt,
   add-reads.Asked,
   add-reads.Learnt,
   body-place-reads.Asked,
@@ -2402,9 +2284,11 @@ body-expr-requires : (t : ℕ) → body-lts.Need-expr-requires (
   leaf-reads.Asked,
   leaf-reads.Learnt,
 ) (body-at t) body.Post
-body-expr-requires t c κs = (load-body _ 80 (c .before .before .before .before .before .before .before .before .before .before .before .before .before .before .before .before .before .pre .0) (now (c .before .before .before .before .before .before .before .before .before .before .before .before .before .before .before .before .before .args .index)) (c .before .before .before .before .before .before .before .before .before .before .before .before .before .before .before .before .before .args .e) _ (c .before .before .before .before .body-place .ensures) (omega (arith, (c .before .before .before .before .before .before .before .before .before .before .before .if1 .left))), room-body (now (c .before .before .before .before .before .before .before .before .before .before .before .before .before .before .before .before .before .args .index)) (c .before .before .before .before .before .before .before .before .before .before .before .before .before .before .before .before .before .pre .1 .0) (c .before .before .before .before .before .before .before .before .before .before .before .before .before .before .before .before .before .pre .1 .1) (c .before .before .before .before .body-place .ensures))
+body-expr-requires t c κs = (load-body _ 80 (c .before .before .before .before .before .before .before .before .before .before .before .before .before .before .before .before .before .before .pre .0) (now (c .before .before .before .before .before .before .before .before .before .before .before .before .before .before .before .before .before .before .args .index)) (c .before .before .before .before .before .before .before .before .before .before .before .before .before .before .before .before .before .before .args .e) _ (c .before .before .before .before .body-place .ensures) (omega (arith, (c .before .before .before .before .before .before .before .before .before .before .before .before .if1 .left))), room-body (now (c .before .before .before .before .before .before .before .before .before .before .before .before .before .before .before .before .before .before .args .index)) (c .before .before .before .before .before .before .before .before .before .before .before .before .before .before .before .before .before .before .pre .1 .0) (c .before .before .before .before .before .before .before .before .before .before .before .before .before .before .before .before .before .before .pre .1 .1) (c .before .before .before .before .body-place .ensures))
 
 body-enum-known-x : (t : ℕ) → body-lts.Need-enum-known-x (
+  word-of-reads.Asked,
+  word-of-reads.Learnt,
   add-reads.Asked,
   add-reads.Learnt,
   body-place-reads.Asked,
@@ -2423,6 +2307,8 @@ body-enum-known-x : (t : ℕ) → body-lts.Need-enum-known-x (
 body-enum-known-x t c = (c .match .keys1)
 
 body-enum-told : (t : ℕ) → body-lts.Need-enum-told (
+  word-of-reads.Asked,
+  word-of-reads.Learnt,
   add-reads.Asked,
   add-reads.Learnt,
   body-place-reads.Asked,
@@ -2441,6 +2327,8 @@ body-enum-told : (t : ℕ) → body-lts.Need-enum-told (
 body-enum-told t c = (c .match .keys2)
 
 body-same-length : (t : ℕ) → body-lts.Need-same-length (
+  word-of-reads.Asked,
+  word-of-reads.Learnt,
   add-reads.Asked,
   add-reads.Learnt,
   body-place-reads.Asked,
@@ -2459,6 +2347,8 @@ body-same-length : (t : ℕ) → body-lts.Need-same-length (
 body-same-length t c = (c .before .before .before .before .before .before .before .before .expr .kept .1 .1 .0) ∙ (c .before .before .before .before .before .before .before .before .before .before .before .before .before .before .before .before .add .kept .0)
 
 body-same-length-2 : (t : ℕ) → body-lts.Need-same-length-2 (
+  word-of-reads.Asked,
+  word-of-reads.Learnt,
   add-reads.Asked,
   add-reads.Learnt,
   body-place-reads.Asked,
@@ -2477,6 +2367,8 @@ body-same-length-2 : (t : ℕ) → body-lts.Need-same-length-2 (
 body-same-length-2 t c = (c .before .before .before .before .before .before .before .before .expr .kept .1 .1 .1 .1 .0)
 
 body-same-length-3 : (t : ℕ) → body-lts.Need-same-length-3 (
+  word-of-reads.Asked,
+  word-of-reads.Learnt,
   add-reads.Asked,
   add-reads.Learnt,
   body-place-reads.Asked,
@@ -2495,6 +2387,8 @@ body-same-length-3 : (t : ℕ) → body-lts.Need-same-length-3 (
 body-same-length-3 t c = (c .before .before .before .before .before .before .before .before .expr .kept .1 .1 .1 .1 .1 .0)
 
 body-returns-2 : (t : ℕ) → body-lts.Need-returns-2 (
+  word-of-reads.Asked,
+  word-of-reads.Learnt,
   add-reads.Asked,
   add-reads.Learnt,
   body-place-reads.Asked,
@@ -2510,9 +2404,11 @@ body-returns-2 : (t : ℕ) → body-lts.Need-returns-2 (
   leaf-reads.Asked,
   leaf-reads.Learnt,
 ) (body-at t) body.Post
-body-returns-2 t c = body-refused _ _ (omega (arith, (c .before .before .before .before .before .before .before .before .before .before .before .before .before .before .before .before .before .before .before .before .if1 .left))) (c .before .before .before .before .before .before .before .before .before .before .before .before .before .before .before .before .add .ensures) (c .before .before .before .before .before .before .before .before .before .before .before .before .before .body-place .ensures) (c .before .before .before .before .before .before .before .before .expr .ensures) (c .enum-told .given .1)
+body-returns-2 t c = body-refused _ _ (omega (arith, (c .before .before .before .before .before .before .before .before .before .before .before .before .before .before .before .before .before .before .before .before .before .if1 .left))) (c .before .before .before .before .before .before .before .before .before .before .before .before .before .before .before .before .before .word-of .ensures .is) (c .before .before .before .before .before .before .before .before .before .before .before .before .before .before .before .before .add .ensures) (c .before .before .before .before .before .before .before .before .before .before .before .before .before .body-place .ensures) (c .before .before .before .before .before .before .before .before .expr .ensures) (c .enum-told .given .1)
 
 body-is-type-requires : (t : ℕ) → body-lts.Need-is-type-requires (
+  word-of-reads.Asked,
+  word-of-reads.Learnt,
   add-reads.Asked,
   add-reads.Learnt,
   body-place-reads.Asked,
@@ -2530,7 +2426,9 @@ body-is-type-requires : (t : ℕ) → body-lts.Need-is-type-requires (
 ) (body-at t) body.Post
 body-is-type-requires t c κs = tt
 
-body-add-t32 : (t : ℕ) → body-lts.Need-add-t32 (
+body-add-t33 : (t : ℕ) → body-lts.Need-add-t33 (
+  word-of-reads.Asked,
+  word-of-reads.Learnt,
   add-reads.Asked,
   add-reads.Learnt,
   body-place-reads.Asked,
@@ -2546,9 +2444,11 @@ body-add-t32 : (t : ℕ) → body-lts.Need-add-t32 (
   leaf-reads.Asked,
   leaf-reads.Learnt,
 ) (body-at t) body.Post
-body-add-t32 t c = omega (arith, ap (λ z. z .line) (c .before .before .before .before .before .before .before .before .before .before .before .before .before .before .before .before .before .body-place .ensures), (c .before .before .before .before .before .before .before .before .before .before .before .before .before .before .before .before .before .before .before .before .before .before .before .before .before .before .before .before .before .before .pre .1 .0 .types), (c .before .before .before .before .before .before .before .before .before .before .before .before .before .before .before .before .before .before .before .before .before .before .before .before .before .before .before .before .before .before .pre .1 .1 .function))
+body-add-t33 t c = omega (arith, ap (λ z. z .line) (c .before .before .before .before .before .before .before .before .before .before .before .before .before .before .before .before .before .body-place .ensures), (c .before .before .before .before .before .before .before .before .before .before .before .before .before .before .before .before .before .before .before .before .before .before .before .before .before .before .before .before .before .before .before .pre .1 .0 .types), (c .before .before .before .before .before .before .before .before .before .before .before .before .before .before .before .before .before .before .before .before .before .before .before .before .before .before .before .before .before .before .before .pre .1 .1 .function))
 
 body-same-length-4 : (t : ℕ) → body-lts.Need-same-length-4 (
+  word-of-reads.Asked,
+  word-of-reads.Learnt,
   add-reads.Asked,
   add-reads.Learnt,
   body-place-reads.Asked,
@@ -2567,6 +2467,8 @@ body-same-length-4 : (t : ℕ) → body-lts.Need-same-length-4 (
 body-same-length-4 t c = (c .before .before .before .before .before .before .before .before .before .before .before .before .expr .kept .1 .1 .0) ∙ (c .before .before .before .before .before .before .before .before .before .before .before .before .before .before .before .before .before .before .before .before .add .kept .0)
 
 body-same-length-5 : (t : ℕ) → body-lts.Need-same-length-5 (
+  word-of-reads.Asked,
+  word-of-reads.Learnt,
   add-reads.Asked,
   add-reads.Learnt,
   body-place-reads.Asked,
@@ -2585,6 +2487,8 @@ body-same-length-5 : (t : ℕ) → body-lts.Need-same-length-5 (
 body-same-length-5 t c = (c .before .before .before .before .before .before .before .before .before .before .before .before .expr .kept .1 .1 .1 .1 .0)
 
 body-same-length-6 : (t : ℕ) → body-lts.Need-same-length-6 (
+  word-of-reads.Asked,
+  word-of-reads.Learnt,
   add-reads.Asked,
   add-reads.Learnt,
   body-place-reads.Asked,
@@ -2603,6 +2507,8 @@ body-same-length-6 : (t : ℕ) → body-lts.Need-same-length-6 (
 body-same-length-6 t c = (c .before .before .before .before .before .before .before .before .before .before .before .before .expr .kept .1 .1 .1 .1 .1 .0)
 
 body-returns-3 : (t : ℕ) → body-lts.Need-returns-3 (
+  word-of-reads.Asked,
+  word-of-reads.Learnt,
   add-reads.Asked,
   add-reads.Learnt,
   body-place-reads.Asked,
@@ -2618,9 +2524,11 @@ body-returns-3 : (t : ℕ) → body-lts.Need-returns-3 (
   leaf-reads.Asked,
   leaf-reads.Learnt,
 ) (body-at t) body.Post
-body-returns-3 t c = body-differs _ _ (omega (arith, (c .before .before .before .before .before .before .before .before .before .before .before .before .before .before .before .before .before .before .before .before .before .before .before .before .if1 .left))) (c .before .before .before .before .before .before .before .before .before .before .before .before .before .before .before .before .before .before .before .before .add .ensures) (c .before .before .before .before .before .before .before .before .before .before .before .before .before .before .before .before .before .body-place .ensures) (c .before .before .before .before .before .before .before .before .before .before .before .before .expr .ensures) (c .before .before .before .before .x .given .1) (c .before .before .is-type .ensures) (not-true _ (c .before .if2 .taken))
+body-returns-3 t c = body-differs _ _ (omega (arith, (c .before .before .before .before .before .before .before .before .before .before .before .before .before .before .before .before .before .before .before .before .before .before .before .before .before .if1 .left))) (c .before .before .before .before .before .before .before .before .before .before .before .before .before .before .before .before .before .before .before .before .before .word-of .ensures .is) (c .before .before .before .before .before .before .before .before .before .before .before .before .before .before .before .before .before .before .before .before .add .ensures) (c .before .before .before .before .before .before .before .before .before .before .before .before .before .before .before .before .before .body-place .ensures) (c .before .before .before .before .before .before .before .before .before .before .before .before .expr .ensures) (c .before .before .before .before .x .given .1) (c .before .before .is-type .ensures) (not-true _ (c .before .if2 .taken))
 
 body-finish-requires : (t : ℕ) → body-lts.Need-finish-requires (
+  word-of-reads.Asked,
+  word-of-reads.Learnt,
   add-reads.Asked,
   add-reads.Learnt,
   body-place-reads.Asked,
@@ -2639,6 +2547,8 @@ body-finish-requires : (t : ℕ) → body-lts.Need-finish-requires (
 body-finish-requires t c κs = tt
 
 body-moved-requires : (t : ℕ) → body-lts.Need-moved-requires (
+  word-of-reads.Asked,
+  word-of-reads.Learnt,
   add-reads.Asked,
   add-reads.Learnt,
   body-place-reads.Asked,
@@ -2657,6 +2567,8 @@ body-moved-requires : (t : ℕ) → body-lts.Need-moved-requires (
 body-moved-requires t c κs = tt
 
 body-leaf-requires : (t : ℕ) → body-lts.Need-leaf-requires (
+  word-of-reads.Asked,
+  word-of-reads.Learnt,
   add-reads.Asked,
   add-reads.Learnt,
   body-place-reads.Asked,
@@ -2675,6 +2587,8 @@ body-leaf-requires : (t : ℕ) → body-lts.Need-leaf-requires (
 body-leaf-requires t c κs = tt
 
 body-same-length-7 : (t : ℕ) → body-lts.Need-same-length-7 (
+  word-of-reads.Asked,
+  word-of-reads.Learnt,
   add-reads.Asked,
   add-reads.Learnt,
   body-place-reads.Asked,
@@ -2693,6 +2607,8 @@ body-same-length-7 : (t : ℕ) → body-lts.Need-same-length-7 (
 body-same-length-7 t c = (c .before .before .before .before .before .finish .kept .0) ∙ (c .before .before .before .before .before .before .before .before .before .before .before .before .before .before .before .before .before .before .before .expr .kept .1 .1 .0) ∙ (c .before .before .before .before .before .before .before .before .before .before .before .before .before .before .before .before .before .before .before .before .before .before .before .before .before .before .before .add .kept .0)
 
 body-same-length-8 : (t : ℕ) → body-lts.Need-same-length-8 (
+  word-of-reads.Asked,
+  word-of-reads.Learnt,
   add-reads.Asked,
   add-reads.Learnt,
   body-place-reads.Asked,
@@ -2711,6 +2627,8 @@ body-same-length-8 : (t : ℕ) → body-lts.Need-same-length-8 (
 body-same-length-8 t c = (c .before .before .before .before .before .before .before .before .before .before .before .before .before .before .before .before .before .before .before .expr .kept .1 .1 .1 .1 .0)
 
 body-same-length-9 : (t : ℕ) → body-lts.Need-same-length-9 (
+  word-of-reads.Asked,
+  word-of-reads.Learnt,
   add-reads.Asked,
   add-reads.Learnt,
   body-place-reads.Asked,
@@ -2729,6 +2647,8 @@ body-same-length-9 : (t : ℕ) → body-lts.Need-same-length-9 (
 body-same-length-9 t c = (c .before .before .before .before .before .before .before .before .before .before .before .before .before .before .before .before .before .before .before .expr .kept .1 .1 .1 .1 .1 .0)
 
 body-returns-4 : (t : ℕ) → body-lts.Need-returns-4 (
+  word-of-reads.Asked,
+  word-of-reads.Learnt,
   add-reads.Asked,
   add-reads.Learnt,
   body-place-reads.Asked,
@@ -2744,7 +2664,7 @@ body-returns-4 : (t : ℕ) → body-lts.Need-returns-4 (
   leaf-reads.Asked,
   leaf-reads.Learnt,
 ) (body-at t) body.Post
-body-returns-4 t c = body-done _ _ (omega (arith, (c .before .before .before .before .before .before .before .before .before .before .before .before .before .before .before .before .before .before .before .before .before .before .before .before .before .before .before .before .before .before .before .if1 .left))) (c .before .before .before .before .before .before .before .before .before .before .before .before .before .before .before .before .before .before .before .before .before .before .before .before .before .before .before .add .ensures) (c .before .before .before .before .before .before .before .before .before .before .before .before .before .before .before .before .before .before .before .before .before .before .before .before .body-place .ensures) (c .before .before .before .before .before .before .before .before .before .before .before .before .before .before .before .before .before .before .before .expr .ensures) (c .before .before .before .before .before .before .before .before .before .before .before .x .given .1) (c .before .before .before .before .before .before .before .before .before .is-type .ensures) (not-false _ (c .before .before .before .before .before .before .before .before .if2 .left)) (c .before .before .before .before .before .finish .ensures) (c .before .moved .ensures) (c .leaf .ensures)
+body-returns-4 t c = body-done _ _ (omega (arith, (c .before .before .before .before .before .before .before .before .before .before .before .before .before .before .before .before .before .before .before .before .before .before .before .before .before .before .before .before .before .before .before .before .if1 .left))) (c .before .before .before .before .before .before .before .before .before .before .before .before .before .before .before .before .before .before .before .before .before .before .before .before .before .before .before .before .word-of .ensures .is) (c .before .before .before .before .before .before .before .before .before .before .before .before .before .before .before .before .before .before .before .before .before .before .before .before .before .before .before .add .ensures) (c .before .before .before .before .before .before .before .before .before .before .before .before .before .before .before .before .before .before .before .before .before .before .before .before .body-place .ensures) (c .before .before .before .before .before .before .before .before .before .before .before .before .before .before .before .before .before .before .before .expr .ensures) (c .before .before .before .before .before .before .before .before .before .before .before .x .given .1) (c .before .before .before .before .before .before .before .before .before .is-type .ensures) (not-false _ (c .before .before .before .before .before .before .before .before .if2 .left)) (c .before .before .before .before .before .finish .ensures) (c .before .moved .ensures) (c .leaf .ensures)
 
 branch-own-fields-requires : (t : ℕ) → branch-lts.Need-own-fields-requires (
   own-fields-reads.Asked,
@@ -3550,7 +3470,7 @@ call-several-requires : (t : ℕ) → call-lts.Need-several-requires (
   apply-below t,
   apply.Post,
 ) (call-at t) call.Post
-call-several-requires t c κs = (load-same _ 900 (c .before .before .before .before .before .before .before .before .before .before .pre .0) _ (omega (arith, (c .before .before .before .before .before .arity .ensures .1))), ((c .before .before .before .before .before .before .before .before .before .before .pre .1 .0), (c .before .before .before .before .before .arity .ensures .1)))
+call-several-requires t c κs = (load-same _ 900 (c .before .before .before .before .before .before .before .before .before .before .pre .0) 300 (omega arith), ((c .before .before .before .before .before .before .before .before .before .before .pre .1 .0), (c .before .before .before .before .before .arity .ensures .1)))
 
 call-enum-known-x : (t : ℕ) → call-lts.Need-enum-known-x (
   arity-reads.Asked,
@@ -5798,7 +5718,7 @@ construct-several-requires : (t : ℕ) → construct-lts.Need-several-requires (
   made-reads.Asked,
   made-reads.Learnt,
 ) (construct-at t) construct.Post
-construct-several-requires t c κs = (load-same _ 900 (c .before .before .before .before .before .before .before .before .before .before .pre .0) _ (omega (arith, (c .before .before .before .before .before .fields .ensures .1))), ((c .before .before .before .before .before .before .before .before .before .before .pre .1 .0), (c .before .before .before .before .before .fields .ensures .1)))
+construct-several-requires t c κs = (load-same _ 900 (c .before .before .before .before .before .before .before .before .before .before .pre .0) 300 (omega arith), ((c .before .before .before .before .before .before .before .before .before .before .pre .1 .0), (c .before .before .before .before .before .fields .ensures .1)))
 
 construct-enum-known-x : (t : ℕ) → construct-lts.Need-enum-known-x (
   fields-reads.Asked,
@@ -5959,122 +5879,232 @@ construct-returns-2 t c = con-made (c .before .before .before .before .before .b
 enter-find-requires : (t : ℕ) → enter-lts.Need-find-requires (
   find-reads.Asked,
   find-reads.Learnt,
-  leaf-reads.Asked,
-  leaf-reads.Learnt,
-  body-below t,
-  body.Post,
+  enter-new-below t,
+  enter-new.Post,
+  again-reads.Asked,
+  again-reads.Learnt,
 ) (enter-at t) enter.Post
 enter-find-requires t c κs = tt
 
 enter-enum-known-x : (t : ℕ) → enter-lts.Need-enum-known-x (
   find-reads.Asked,
   find-reads.Learnt,
-  leaf-reads.Asked,
-  leaf-reads.Learnt,
-  body-below t,
-  body.Post,
+  enter-new-below t,
+  enter-new.Post,
+  again-reads.Asked,
+  again-reads.Learnt,
 ) (enter-at t) enter.Post
 enter-enum-known-x t c = (c .match .keys1)
-
-enter-leaf-requires : (t : ℕ) → enter-lts.Need-leaf-requires (
-  find-reads.Asked,
-  find-reads.Learnt,
-  leaf-reads.Asked,
-  leaf-reads.Learnt,
-  body-below t,
-  body.Post,
-) (enter-at t) enter.Post
-enter-leaf-requires t c κs = tt
 
 enter-enum-told : (t : ℕ) → enter-lts.Need-enum-told (
   find-reads.Asked,
   find-reads.Learnt,
-  leaf-reads.Asked,
-  leaf-reads.Learnt,
-  body-below t,
-  body.Post,
+  enter-new-below t,
+  enter-new.Post,
+  again-reads.Asked,
+  again-reads.Learnt,
 ) (enter-at t) enter.Post
 enter-enum-told t c = (c .match .keys2)
 
-enter-body-requires : (t : ℕ) → enter-lts.Need-body-requires (
+enter-enter-new-requires : (t : ℕ) → enter-lts.Need-enter-new-requires (
   find-reads.Asked,
   find-reads.Learnt,
-  leaf-reads.Asked,
-  leaf-reads.Learnt,
-  body-below t,
-  body.Post,
+  enter-new-below t,
+  enter-new.Post,
+  again-reads.Asked,
+  again-reads.Learnt,
 ) (enter-at t) enter.Post
-enter-body-requires t c κs = (load-same _ 90 (c .before .before .before .before .before .before .before .before .before .before .before .before .before .before .pre .0) 80 (omega arith), ((c .before .before .before .before .before .before .before .before .before .before .before .before .before .before .pre .1 .0), (c .before .before .before .before .before .before .before .before .before .before .before .before .before .before .pre .1 .1)))
+enter-enter-new-requires t c κs = (load-same _ 90 (c .before .before .before .before .before .before .before .before .before .before .before .before .before .before .pre .0) 85 (omega arith), ((c .before .before .before .before .before .before .before .before .before .before .before .before .before .before .pre .1 .0), (c .before .before .before .before .before .before .before .before .before .before .before .before .before .before .pre .1 .1)))
 
 enter-same-length : (t : ℕ) → enter-lts.Need-same-length (
   find-reads.Asked,
   find-reads.Learnt,
-  leaf-reads.Asked,
-  leaf-reads.Learnt,
-  body-below t,
-  body.Post,
+  enter-new-below t,
+  enter-new.Post,
+  again-reads.Asked,
+  again-reads.Learnt,
 ) (enter-at t) enter.Post
-enter-same-length t c = refl
+enter-same-length t c = (c .before .before .before .before .before .before .enter-new .kept .1 .1 .0)
 
 enter-same-length-2 : (t : ℕ) → enter-lts.Need-same-length-2 (
   find-reads.Asked,
   find-reads.Learnt,
-  leaf-reads.Asked,
-  leaf-reads.Learnt,
-  body-below t,
-  body.Post,
+  enter-new-below t,
+  enter-new.Post,
+  again-reads.Asked,
+  again-reads.Learnt,
 ) (enter-at t) enter.Post
-enter-same-length-2 t c = refl
-
-enter-returns : (t : ℕ) → enter-lts.Need-returns (
-  find-reads.Asked,
-  find-reads.Learnt,
-  leaf-reads.Asked,
-  leaf-reads.Learnt,
-  body-below t,
-  body.Post,
-) (enter-at t) enter.Post
-enter-returns t c = enter-found (c .before .before .before .before .find .ensures) (c .before .before .x .given .1) (c .leaf .ensures)
+enter-same-length-2 t c = (c .before .before .before .before .before .before .enter-new .kept .1 .1 .1 .1 .0)
 
 enter-same-length-3 : (t : ℕ) → enter-lts.Need-same-length-3 (
   find-reads.Asked,
   find-reads.Learnt,
-  leaf-reads.Asked,
-  leaf-reads.Learnt,
-  body-below t,
-  body.Post,
+  enter-new-below t,
+  enter-new.Post,
+  again-reads.Asked,
+  again-reads.Learnt,
 ) (enter-at t) enter.Post
-enter-same-length-3 t c = (c .before .before .before .before .before .before .body .kept .1 .1 .0)
+enter-same-length-3 t c = (c .before .before .before .before .before .before .enter-new .kept .1 .1 .1 .1 .1 .0)
+
+enter-returns : (t : ℕ) → enter-lts.Need-returns (
+  find-reads.Asked,
+  find-reads.Learnt,
+  enter-new-below t,
+  enter-new.Post,
+  again-reads.Asked,
+  again-reads.Learnt,
+) (enter-at t) enter.Post
+enter-returns t c = enter-absent (c .before .before .before .before .before .before .before .before .before .before .before .before .before .find .ensures) (c .before .before .before .before .before .before .before .before .before .before .before .enum-told .given .1) (c .before .before .before .before .before .before .enter-new .ensures)
+
+enter-again-requires : (t : ℕ) → enter-lts.Need-again-requires (
+  find-reads.Asked,
+  find-reads.Learnt,
+  enter-new-below t,
+  enter-new.Post,
+  again-reads.Asked,
+  again-reads.Learnt,
+) (enter-at t) enter.Post
+enter-again-requires t c κs = ((c .before .before .before .before .before .before .before .before .before .before .before .before .before .before .pre .1 .0 .types), ((c .before .before .before .before .before .before .before .before .before .before .before .before .before .before .pre .1 .0 .line), (c .before .before .before .before .before .before .before .before .before .before .before .before .before .before .pre .1 .1 .0)))
 
 enter-same-length-4 : (t : ℕ) → enter-lts.Need-same-length-4 (
   find-reads.Asked,
   find-reads.Learnt,
-  leaf-reads.Asked,
-  leaf-reads.Learnt,
-  body-below t,
-  body.Post,
+  enter-new-below t,
+  enter-new.Post,
+  again-reads.Asked,
+  again-reads.Learnt,
 ) (enter-at t) enter.Post
-enter-same-length-4 t c = (c .before .before .before .before .before .before .body .kept .1 .1 .1 .1 .0)
+enter-same-length-4 t c = refl
 
 enter-same-length-5 : (t : ℕ) → enter-lts.Need-same-length-5 (
   find-reads.Asked,
   find-reads.Learnt,
-  leaf-reads.Asked,
-  leaf-reads.Learnt,
-  body-below t,
-  body.Post,
+  enter-new-below t,
+  enter-new.Post,
+  again-reads.Asked,
+  again-reads.Learnt,
 ) (enter-at t) enter.Post
-enter-same-length-5 t c = (c .before .before .before .before .before .before .body .kept .1 .1 .1 .1 .1 .0)
+enter-same-length-5 t c = refl
 
 enter-returns-2 : (t : ℕ) → enter-lts.Need-returns-2 (
   find-reads.Asked,
   find-reads.Learnt,
-  leaf-reads.Asked,
-  leaf-reads.Learnt,
+  enter-new-below t,
+  enter-new.Post,
+  again-reads.Asked,
+  again-reads.Learnt,
+) (enter-at t) enter.Post
+enter-returns-2 t c = enter-found (c .before .before .before .before .before .before .before .find .ensures) (c .before .before .before .before .before .x .given .1) (c .again .ensures)
+
+enter-new-prepare-requires : (t : ℕ) → enter-new-lts.Need-prepare-requires (
+  prepare-reads.Asked,
+  prepare-reads.Learnt,
+  not-entered-reads.Asked,
+  not-entered-reads.Learnt,
   body-below t,
   body.Post,
-) (enter-at t) enter.Post
-enter-returns-2 t c = enter-absent (c .before .before .before .before .before .before .before .before .before .before .before .before .before .find .ensures) (c .before .before .before .before .before .before .before .before .before .before .before .enum-told .given .1) (c .before .before .before .before .before .before .body .ensures)
+) (enter-new-at t) enter-new.Post
+enter-new-prepare-requires t c κs = ((c .before .before .before .before .before .pre .1 .0 .types), ((c .before .before .before .before .before .pre .1 .0 .line), (c .before .before .before .before .before .pre .1 .1 .0)))
+
+enter-new-enum-known-y : (t : ℕ) → enter-new-lts.Need-enum-known-y (
+  prepare-reads.Asked,
+  prepare-reads.Learnt,
+  not-entered-reads.Asked,
+  not-entered-reads.Learnt,
+  body-below t,
+  body.Post,
+) (enter-new-at t) enter-new.Post
+enter-new-enum-known-y t c = (c .match .keys1)
+
+enter-new-enum-told : (t : ℕ) → enter-new-lts.Need-enum-told (
+  prepare-reads.Asked,
+  prepare-reads.Learnt,
+  not-entered-reads.Asked,
+  not-entered-reads.Learnt,
+  body-below t,
+  body.Post,
+) (enter-new-at t) enter-new.Post
+enter-new-enum-told t c = (c .match .keys2)
+
+enter-new-not-entered-requires : (t : ℕ) → enter-new-lts.Need-not-entered-requires (
+  prepare-reads.Asked,
+  prepare-reads.Learnt,
+  not-entered-reads.Asked,
+  not-entered-reads.Learnt,
+  body-below t,
+  body.Post,
+) (enter-new-at t) enter-new.Post
+enter-new-not-entered-requires t c κs = tt
+
+enter-new-same-length : (t : ℕ) → enter-new-lts.Need-same-length (
+  prepare-reads.Asked,
+  prepare-reads.Learnt,
+  not-entered-reads.Asked,
+  not-entered-reads.Learnt,
+  body-below t,
+  body.Post,
+) (enter-new-at t) enter-new.Post
+enter-new-same-length t c = refl
+
+enter-new-returns : (t : ℕ) → enter-new-lts.Need-returns (
+  prepare-reads.Asked,
+  prepare-reads.Learnt,
+  not-entered-reads.Asked,
+  not-entered-reads.Learnt,
+  body-below t,
+  body.Post,
+) (enter-new-at t) enter-new.Post
+enter-new-returns t c = new-refused (c .before .before .before .prepare .ensures) (c .before .enum-told .given .1) (c .not-entered .ensures)
+
+enter-new-body-requires : (t : ℕ) → enter-new-lts.Need-body-requires (
+  prepare-reads.Asked,
+  prepare-reads.Learnt,
+  not-entered-reads.Asked,
+  not-entered-reads.Learnt,
+  body-below t,
+  body.Post,
+) (enter-new-at t) enter-new.Post
+enter-new-body-requires t c κs = (load-same _ 85 (c .before .before .before .before .before .before .before .before .before .before .before .before .before .pre .0) 80 (omega arith), ((c .before .before .before .before .before .before .before .before .before .before .before .before .before .pre .1 .0), entry-numbers (c .before .before .before .before .before .before .before .prepare .ensures .of) (c .before .before .before .before .before .y .given .1) (c .before .before .before .before .before .before .before .before .before .before .before .before .before .pre .1 .1 .0) (c .before .before .before .before .before .before .before .before .before .before .before .before .before .pre .1 .1 .1 .0) (c .before .before .before .before .before .before .before .before .before .before .before .before .before .pre .1 .1 .1 .1)))
+
+enter-new-same-length-2 : (t : ℕ) → enter-new-lts.Need-same-length-2 (
+  prepare-reads.Asked,
+  prepare-reads.Learnt,
+  not-entered-reads.Asked,
+  not-entered-reads.Learnt,
+  body-below t,
+  body.Post,
+) (enter-new-at t) enter-new.Post
+enter-new-same-length-2 t c = (c .before .before .before .before .before .before .body .kept .1 .1 .0)
+
+enter-new-same-length-3 : (t : ℕ) → enter-new-lts.Need-same-length-3 (
+  prepare-reads.Asked,
+  prepare-reads.Learnt,
+  not-entered-reads.Asked,
+  not-entered-reads.Learnt,
+  body-below t,
+  body.Post,
+) (enter-new-at t) enter-new.Post
+enter-new-same-length-3 t c = (c .before .before .before .before .before .before .body .kept .1 .1 .1 .1 .0)
+
+enter-new-same-length-4 : (t : ℕ) → enter-new-lts.Need-same-length-4 (
+  prepare-reads.Asked,
+  prepare-reads.Learnt,
+  not-entered-reads.Asked,
+  not-entered-reads.Learnt,
+  body-below t,
+  body.Post,
+) (enter-new-at t) enter-new.Post
+enter-new-same-length-4 t c = (c .before .before .before .before .before .before .body .kept .1 .1 .1 .1 .1 .0)
+
+enter-new-returns-2 : (t : ℕ) → enter-new-lts.Need-returns-2 (
+  prepare-reads.Asked,
+  prepare-reads.Learnt,
+  not-entered-reads.Asked,
+  not-entered-reads.Learnt,
+  body-below t,
+  body.Post,
+) (enter-new-at t) enter-new.Post
+enter-new-returns-2 t c = new-entered (c .before .before .before .before .before .before .before .before .before .before .before .before .before .before .prepare .ensures) (c .before .before .before .before .before .before .before .before .before .before .before .before .y .given .1) (c .before .before .before .before .before .before .body .ensures)
 
 expr-add-t18 : (t : ℕ) → expr-lts.Need-add-t18 (
   frame-line-reads.Asked,
@@ -7856,429 +7886,878 @@ operation-returns-3 : (t : ℕ) → operation-lts.Need-returns-3 (
 ) (operation-at t) operation.Post
 operation-returns-3 t c = op-done (c .before .before .before .before .before .before .before .before .before .before .before .before .before .before .before .before .before .before .before .before .before .before .before .before .before .expr .ensures) (c .before .before .before .before .before .before .before .before .before .before .before .before .before .before .before .before .before .x .given .1) (c .before .before .before .before .before .before .before .before .before .before .before .before .before .before .before .behind .ensures) (c .before .before .before .before .before .before .before .before .before .before .expr2 .ensures) (c .before .before .y .given .1) (c .operated .ensures .typed) (c .operated .ensures .both) (c .operated .ensures .one) (c .operated .ensures .all) (c .operated .ensures .is)
 
-several-none-requires : (t : ℕ) → several-lts.Need-none-requires (
+abbrev several-Inv-loop : several-lts.InvT-loop
+several-Inv-loop text index list₀ memo₀ scope₀ sizes₀ p row₀ n line all₀ i₀ list memo scope sizes row all i =
+    Turned (lent text index) list₀ memo₀ scope₀ sizes₀ p n row₀ i list memo scope sizes row all
+
+abbrev several-μ-loop : several-lts.MeasureT-loop
+several-μ-loop text index list₀ memo₀ scope₀ sizes₀ p row₀ n line all₀ i₀ list memo scope sizes row all i =
+    n - i
+
+several-frame-line-requires : (t : ℕ) → several-lts.Need-frame-line-requires (
+  frame-line-reads.Asked,
+  frame-line-reads.Learnt,
   none-reads.Asked,
   none-reads.Learnt,
+  variable-at-reads.Asked,
+  variable-at-reads.Learnt,
+  word-at-reads.Asked,
+  word-at-reads.Learnt,
+  put-reads.Asked,
+  put-reads.Learnt,
+  passed-reads.Asked,
+  passed-reads.Learnt,
+  moved-reads.Asked,
+  moved-reads.Learnt,
   expr-below t,
   expr.Post,
   refused-all-reads.Asked,
   refused-all-reads.Learnt,
   type-word-reads.Asked,
   type-word-reads.Learnt,
+  joined-reads.Asked,
+  joined-reads.Learnt,
+) (several-at t) several.Post several-Inv-loop several-μ-loop
+several-frame-line-requires t c κs = tt
+
+several-none-requires : (t : ℕ) → several-lts.Need-none-requires (
+  frame-line-reads.Asked,
+  frame-line-reads.Learnt,
+  none-reads.Asked,
+  none-reads.Learnt,
+  variable-at-reads.Asked,
+  variable-at-reads.Learnt,
+  word-at-reads.Asked,
+  word-at-reads.Learnt,
   put-reads.Asked,
   put-reads.Learnt,
-  behind-reads.Asked,
-  behind-reads.Learnt,
-  several-below t,
-  several.Post,
-  one-more-reads.Asked,
-  one-more-reads.Learnt,
-) (several-at t) several.Post
+  passed-reads.Asked,
+  passed-reads.Learnt,
+  moved-reads.Asked,
+  moved-reads.Learnt,
+  expr-below t,
+  expr.Post,
+  refused-all-reads.Asked,
+  refused-all-reads.Learnt,
+  type-word-reads.Asked,
+  type-word-reads.Learnt,
+  joined-reads.Asked,
+  joined-reads.Learnt,
+) (several-at t) several.Post several-Inv-loop several-μ-loop
 several-none-requires t c κs = tt
 
-several-returns : (t : ℕ) → several-lts.Need-returns (
+several-loop-holds : (t : ℕ) → several-lts.Need-loop-holds (
+  frame-line-reads.Asked,
+  frame-line-reads.Learnt,
   none-reads.Asked,
   none-reads.Learnt,
+  variable-at-reads.Asked,
+  variable-at-reads.Learnt,
+  word-at-reads.Asked,
+  word-at-reads.Learnt,
+  put-reads.Asked,
+  put-reads.Learnt,
+  passed-reads.Asked,
+  passed-reads.Learnt,
+  moved-reads.Asked,
+  moved-reads.Learnt,
   expr-below t,
   expr.Post,
   refused-all-reads.Asked,
   refused-all-reads.Learnt,
   type-word-reads.Asked,
   type-word-reads.Learnt,
-  put-reads.Asked,
-  put-reads.Learnt,
-  behind-reads.Asked,
-  behind-reads.Learnt,
-  several-below t,
-  several.Post,
-  one-more-reads.Asked,
-  one-more-reads.Learnt,
-) (several-at t) several.Post
-several-returns t c = several-none _ (c .before .if1 .taken) (c .none .ensures .none) (c .none .ensures .is)
+  joined-reads.Asked,
+  joined-reads.Learnt,
+) (several-at t) several.Post several-Inv-loop several-μ-loop
+several-loop-holds t c = turned-start (c .none .ensures)
 
-several-expr-requires : (t : ℕ) → several-lts.Need-expr-requires (
+several-variable-at-requires : (t : ℕ) → several-lts.Need-variable-at-requires (
+  frame-line-reads.Asked,
+  frame-line-reads.Learnt,
   none-reads.Asked,
   none-reads.Learnt,
+  variable-at-reads.Asked,
+  variable-at-reads.Learnt,
+  word-at-reads.Asked,
+  word-at-reads.Learnt,
+  put-reads.Asked,
+  put-reads.Learnt,
+  passed-reads.Asked,
+  passed-reads.Learnt,
+  moved-reads.Asked,
+  moved-reads.Learnt,
   expr-below t,
   expr.Post,
   refused-all-reads.Asked,
   refused-all-reads.Learnt,
   type-word-reads.Asked,
   type-word-reads.Learnt,
-  put-reads.Asked,
-  put-reads.Learnt,
-  behind-reads.Asked,
-  behind-reads.Learnt,
-  several-below t,
-  several.Post,
-  one-more-reads.Asked,
-  one-more-reads.Learnt,
-) (several-at t) several.Post
-several-expr-requires t c κs = (load-same _ _ (c .before .before .before .before .before .before .before .before .before .before .pre .0) 0 (omega arith), room-same (c .before .before .before .before .before .before .before .before .before .before .pre .1 .0) (omega arith))
+  joined-reads.Asked,
+  joined-reads.Learnt,
+) (several-at t) several.Post several-Inv-loop several-μ-loop
+several-variable-at-requires t c κs = tt
 
-several-enum-known-x : (t : ℕ) → several-lts.Need-enum-known-x (
+several-enum-known-v : (t : ℕ) → several-lts.Need-enum-known-v (
+  frame-line-reads.Asked,
+  frame-line-reads.Learnt,
   none-reads.Asked,
   none-reads.Learnt,
+  variable-at-reads.Asked,
+  variable-at-reads.Learnt,
+  word-at-reads.Asked,
+  word-at-reads.Learnt,
+  put-reads.Asked,
+  put-reads.Learnt,
+  passed-reads.Asked,
+  passed-reads.Learnt,
+  moved-reads.Asked,
+  moved-reads.Learnt,
   expr-below t,
   expr.Post,
   refused-all-reads.Asked,
   refused-all-reads.Learnt,
   type-word-reads.Asked,
   type-word-reads.Learnt,
+  joined-reads.Asked,
+  joined-reads.Learnt,
+) (several-at t) several.Post several-Inv-loop several-μ-loop
+several-enum-known-v t c = (c .match .keys1)
+
+several-cast-put : (t : ℕ) → several-lts.Need-cast-put (
+  frame-line-reads.Asked,
+  frame-line-reads.Learnt,
+  none-reads.Asked,
+  none-reads.Learnt,
+  variable-at-reads.Asked,
+  variable-at-reads.Learnt,
+  word-at-reads.Asked,
+  word-at-reads.Learnt,
   put-reads.Asked,
   put-reads.Learnt,
-  behind-reads.Asked,
-  behind-reads.Learnt,
-  several-below t,
-  several.Post,
-  one-more-reads.Asked,
-  one-more-reads.Learnt,
-) (several-at t) several.Post
-several-enum-known-x t c = (c .match .keys1)
+  passed-reads.Asked,
+  passed-reads.Learnt,
+  moved-reads.Asked,
+  moved-reads.Learnt,
+  expr-below t,
+  expr.Post,
+  refused-all-reads.Asked,
+  refused-all-reads.Learnt,
+  type-word-reads.Asked,
+  type-word-reads.Learnt,
+  joined-reads.Asked,
+  joined-reads.Learnt,
+) (several-at t) several.Post several-Inv-loop several-μ-loop
+several-cast-put t c = omega arith
+
+several-cast-word-at : (t : ℕ) → several-lts.Need-cast-word-at (
+  frame-line-reads.Asked,
+  frame-line-reads.Learnt,
+  none-reads.Asked,
+  none-reads.Learnt,
+  variable-at-reads.Asked,
+  variable-at-reads.Learnt,
+  word-at-reads.Asked,
+  word-at-reads.Learnt,
+  put-reads.Asked,
+  put-reads.Learnt,
+  passed-reads.Asked,
+  passed-reads.Learnt,
+  moved-reads.Asked,
+  moved-reads.Learnt,
+  expr-below t,
+  expr.Post,
+  refused-all-reads.Asked,
+  refused-all-reads.Learnt,
+  type-word-reads.Asked,
+  type-word-reads.Learnt,
+  joined-reads.Asked,
+  joined-reads.Learnt,
+) (several-at t) several.Post several-Inv-loop several-μ-loop
+several-cast-word-at t c = omega arith
+
+several-word-at-requires : (t : ℕ) → several-lts.Need-word-at-requires (
+  frame-line-reads.Asked,
+  frame-line-reads.Learnt,
+  none-reads.Asked,
+  none-reads.Learnt,
+  variable-at-reads.Asked,
+  variable-at-reads.Learnt,
+  word-at-reads.Asked,
+  word-at-reads.Learnt,
+  put-reads.Asked,
+  put-reads.Learnt,
+  passed-reads.Asked,
+  passed-reads.Learnt,
+  moved-reads.Asked,
+  moved-reads.Learnt,
+  expr-below t,
+  expr.Post,
+  refused-all-reads.Asked,
+  refused-all-reads.Learnt,
+  type-word-reads.Asked,
+  type-word-reads.Learnt,
+  joined-reads.Asked,
+  joined-reads.Learnt,
+) (several-at t) several.Post several-Inv-loop several-μ-loop
+several-word-at-requires t c κs = tt
+
+several-put-requires : (t : ℕ) → several-lts.Need-put-requires (
+  frame-line-reads.Asked,
+  frame-line-reads.Learnt,
+  none-reads.Asked,
+  none-reads.Learnt,
+  variable-at-reads.Asked,
+  variable-at-reads.Learnt,
+  word-at-reads.Asked,
+  word-at-reads.Learnt,
+  put-reads.Asked,
+  put-reads.Learnt,
+  passed-reads.Asked,
+  passed-reads.Learnt,
+  moved-reads.Asked,
+  moved-reads.Learnt,
+  expr-below t,
+  expr.Post,
+  refused-all-reads.Asked,
+  refused-all-reads.Learnt,
+  type-word-reads.Asked,
+  type-word-reads.Learnt,
+  joined-reads.Asked,
+  joined-reads.Learnt,
+) (several-at t) several.Post several-Inv-loop several-μ-loop
+several-put-requires t c κs = tt
+
+several-passed-requires : (t : ℕ) → several-lts.Need-passed-requires (
+  frame-line-reads.Asked,
+  frame-line-reads.Learnt,
+  none-reads.Asked,
+  none-reads.Learnt,
+  variable-at-reads.Asked,
+  variable-at-reads.Learnt,
+  word-at-reads.Asked,
+  word-at-reads.Learnt,
+  put-reads.Asked,
+  put-reads.Learnt,
+  passed-reads.Asked,
+  passed-reads.Learnt,
+  moved-reads.Asked,
+  moved-reads.Learnt,
+  expr-below t,
+  expr.Post,
+  refused-all-reads.Asked,
+  refused-all-reads.Learnt,
+  type-word-reads.Asked,
+  type-word-reads.Learnt,
+  joined-reads.Asked,
+  joined-reads.Learnt,
+) (several-at t) several.Post several-Inv-loop several-μ-loop
+several-passed-requires t c κs = tt
 
 several-enum-told : (t : ℕ) → several-lts.Need-enum-told (
+  frame-line-reads.Asked,
+  frame-line-reads.Learnt,
   none-reads.Asked,
   none-reads.Learnt,
+  variable-at-reads.Asked,
+  variable-at-reads.Learnt,
+  word-at-reads.Asked,
+  word-at-reads.Learnt,
+  put-reads.Asked,
+  put-reads.Learnt,
+  passed-reads.Asked,
+  passed-reads.Learnt,
+  moved-reads.Asked,
+  moved-reads.Learnt,
   expr-below t,
   expr.Post,
   refused-all-reads.Asked,
   refused-all-reads.Learnt,
   type-word-reads.Asked,
   type-word-reads.Learnt,
-  put-reads.Asked,
-  put-reads.Learnt,
-  behind-reads.Asked,
-  behind-reads.Learnt,
-  several-below t,
-  several.Post,
-  one-more-reads.Asked,
-  one-more-reads.Learnt,
-) (several-at t) several.Post
+  joined-reads.Asked,
+  joined-reads.Learnt,
+) (several-at t) several.Post several-Inv-loop several-μ-loop
 several-enum-told t c = (c .match .keys2)
 
-several-refused-all-requires : (t : ℕ) → several-lts.Need-refused-all-requires (
+several-moved-requires : (t : ℕ) → several-lts.Need-moved-requires (
+  frame-line-reads.Asked,
+  frame-line-reads.Learnt,
   none-reads.Asked,
   none-reads.Learnt,
+  variable-at-reads.Asked,
+  variable-at-reads.Learnt,
+  word-at-reads.Asked,
+  word-at-reads.Learnt,
+  put-reads.Asked,
+  put-reads.Learnt,
+  passed-reads.Asked,
+  passed-reads.Learnt,
+  moved-reads.Asked,
+  moved-reads.Learnt,
   expr-below t,
   expr.Post,
   refused-all-reads.Asked,
   refused-all-reads.Learnt,
   type-word-reads.Asked,
   type-word-reads.Learnt,
+  joined-reads.Asked,
+  joined-reads.Learnt,
+) (several-at t) several.Post several-Inv-loop several-μ-loop
+several-moved-requires t c κs = tt
+
+several-expr-requires : (t : ℕ) → several-lts.Need-expr-requires (
+  frame-line-reads.Asked,
+  frame-line-reads.Learnt,
+  none-reads.Asked,
+  none-reads.Learnt,
+  variable-at-reads.Asked,
+  variable-at-reads.Learnt,
+  word-at-reads.Asked,
+  word-at-reads.Learnt,
   put-reads.Asked,
   put-reads.Learnt,
-  behind-reads.Asked,
-  behind-reads.Learnt,
-  several-below t,
-  several.Post,
-  one-more-reads.Asked,
-  one-more-reads.Learnt,
-) (several-at t) several.Post
+  passed-reads.Asked,
+  passed-reads.Learnt,
+  moved-reads.Asked,
+  moved-reads.Learnt,
+  expr-below t,
+  expr.Post,
+  refused-all-reads.Asked,
+  refused-all-reads.Learnt,
+  type-word-reads.Asked,
+  type-word-reads.Learnt,
+  joined-reads.Asked,
+  joined-reads.Learnt,
+) (several-at t) several.Post several-Inv-loop several-μ-loop
+several-expr-requires t c κs = (load-moved _ 300 (c .before .before .before .before .before .before .before .before .before .before .before .before .before .before .before .before .before .before .pre .0) _ 0 (c .before .before .before .before .moved .ensures) (c .before .before .before .before .before .before .before .before .before .before .loop .inv .gathers .grown) (omega arith), room-behind (c .before .before .before .before .before .before .before .before .before .before .before .before .before .before .before .before .before .before .pre .1 .0) (c .before .before .before .before .moved .ensures) (c .before .before .before .before .before .before .before .before .before .before .loop .inv .scope-long) (c .before .before .before .before .before .before .before .before .before .before .loop .inv .sizes-long))
+
+several-enum-known-x : (t : ℕ) → several-lts.Need-enum-known-x (
+  frame-line-reads.Asked,
+  frame-line-reads.Learnt,
+  none-reads.Asked,
+  none-reads.Learnt,
+  variable-at-reads.Asked,
+  variable-at-reads.Learnt,
+  word-at-reads.Asked,
+  word-at-reads.Learnt,
+  put-reads.Asked,
+  put-reads.Learnt,
+  passed-reads.Asked,
+  passed-reads.Learnt,
+  moved-reads.Asked,
+  moved-reads.Learnt,
+  expr-below t,
+  expr.Post,
+  refused-all-reads.Asked,
+  refused-all-reads.Learnt,
+  type-word-reads.Asked,
+  type-word-reads.Learnt,
+  joined-reads.Asked,
+  joined-reads.Learnt,
+) (several-at t) several.Post several-Inv-loop several-μ-loop
+several-enum-known-x t c = (c .match2 .keys1)
+
+several-enum-told-2 : (t : ℕ) → several-lts.Need-enum-told-2 (
+  frame-line-reads.Asked,
+  frame-line-reads.Learnt,
+  none-reads.Asked,
+  none-reads.Learnt,
+  variable-at-reads.Asked,
+  variable-at-reads.Learnt,
+  word-at-reads.Asked,
+  word-at-reads.Learnt,
+  put-reads.Asked,
+  put-reads.Learnt,
+  passed-reads.Asked,
+  passed-reads.Learnt,
+  moved-reads.Asked,
+  moved-reads.Learnt,
+  expr-below t,
+  expr.Post,
+  refused-all-reads.Asked,
+  refused-all-reads.Learnt,
+  type-word-reads.Asked,
+  type-word-reads.Learnt,
+  joined-reads.Asked,
+  joined-reads.Learnt,
+) (several-at t) several.Post several-Inv-loop several-μ-loop
+several-enum-told-2 t c = (c .match2 .keys2)
+
+several-refused-all-requires : (t : ℕ) → several-lts.Need-refused-all-requires (
+  frame-line-reads.Asked,
+  frame-line-reads.Learnt,
+  none-reads.Asked,
+  none-reads.Learnt,
+  variable-at-reads.Asked,
+  variable-at-reads.Learnt,
+  word-at-reads.Asked,
+  word-at-reads.Learnt,
+  put-reads.Asked,
+  put-reads.Learnt,
+  passed-reads.Asked,
+  passed-reads.Learnt,
+  moved-reads.Asked,
+  moved-reads.Learnt,
+  expr-below t,
+  expr.Post,
+  refused-all-reads.Asked,
+  refused-all-reads.Learnt,
+  type-word-reads.Asked,
+  type-word-reads.Learnt,
+  joined-reads.Asked,
+  joined-reads.Learnt,
+) (several-at t) several.Post several-Inv-loop several-μ-loop
 several-refused-all-requires t c κs = tt
 
 several-same-length : (t : ℕ) → several-lts.Need-same-length (
+  frame-line-reads.Asked,
+  frame-line-reads.Learnt,
   none-reads.Asked,
   none-reads.Learnt,
+  variable-at-reads.Asked,
+  variable-at-reads.Learnt,
+  word-at-reads.Asked,
+  word-at-reads.Learnt,
+  put-reads.Asked,
+  put-reads.Learnt,
+  passed-reads.Asked,
+  passed-reads.Learnt,
+  moved-reads.Asked,
+  moved-reads.Learnt,
   expr-below t,
   expr.Post,
   refused-all-reads.Asked,
   refused-all-reads.Learnt,
   type-word-reads.Asked,
   type-word-reads.Learnt,
-  put-reads.Asked,
-  put-reads.Learnt,
-  behind-reads.Asked,
-  behind-reads.Learnt,
-  several-below t,
-  several.Post,
-  one-more-reads.Asked,
-  one-more-reads.Learnt,
-) (several-at t) several.Post
-several-same-length t c = (c .before .before .before .before .before .before .before .before .before .expr .kept .1 .1 .0)
+  joined-reads.Asked,
+  joined-reads.Learnt,
+) (several-at t) several.Post several-Inv-loop several-μ-loop
+several-same-length t c = (c .before .before .before .before .before .before .before .before .before .expr .kept .1 .1 .0) ∙ (c .before .before .before .before .before .before .before .before .before .before .before .before .before .before .before .before .before .before .before .before .loop .inv .list-long)
 
 several-same-length-2 : (t : ℕ) → several-lts.Need-same-length-2 (
+  frame-line-reads.Asked,
+  frame-line-reads.Learnt,
   none-reads.Asked,
   none-reads.Learnt,
+  variable-at-reads.Asked,
+  variable-at-reads.Learnt,
+  word-at-reads.Asked,
+  word-at-reads.Learnt,
+  put-reads.Asked,
+  put-reads.Learnt,
+  passed-reads.Asked,
+  passed-reads.Learnt,
+  moved-reads.Asked,
+  moved-reads.Learnt,
   expr-below t,
   expr.Post,
   refused-all-reads.Asked,
   refused-all-reads.Learnt,
   type-word-reads.Asked,
   type-word-reads.Learnt,
-  put-reads.Asked,
-  put-reads.Learnt,
-  behind-reads.Asked,
-  behind-reads.Learnt,
-  several-below t,
-  several.Post,
-  one-more-reads.Asked,
-  one-more-reads.Learnt,
-) (several-at t) several.Post
-several-same-length-2 t c = (c .before .before .before .before .before .before .before .before .before .expr .kept .1 .1 .1 .1 .0)
+  joined-reads.Asked,
+  joined-reads.Learnt,
+) (several-at t) several.Post several-Inv-loop several-μ-loop
+several-same-length-2 t c = (c .before .before .before .before .before .before .before .before .before .expr .kept .1 .1 .1 .1 .0) ∙ (c .before .before .before .before .before .before .before .before .before .before .before .before .before .before .before .before .before .before .before .before .loop .inv .scope-long)
 
 several-same-length-3 : (t : ℕ) → several-lts.Need-same-length-3 (
+  frame-line-reads.Asked,
+  frame-line-reads.Learnt,
   none-reads.Asked,
   none-reads.Learnt,
+  variable-at-reads.Asked,
+  variable-at-reads.Learnt,
+  word-at-reads.Asked,
+  word-at-reads.Learnt,
+  put-reads.Asked,
+  put-reads.Learnt,
+  passed-reads.Asked,
+  passed-reads.Learnt,
+  moved-reads.Asked,
+  moved-reads.Learnt,
   expr-below t,
   expr.Post,
   refused-all-reads.Asked,
   refused-all-reads.Learnt,
   type-word-reads.Asked,
   type-word-reads.Learnt,
-  put-reads.Asked,
-  put-reads.Learnt,
-  behind-reads.Asked,
-  behind-reads.Learnt,
-  several-below t,
-  several.Post,
-  one-more-reads.Asked,
-  one-more-reads.Learnt,
-) (several-at t) several.Post
-several-same-length-3 t c = (c .before .before .before .before .before .before .before .before .before .expr .kept .1 .1 .1 .1 .1 .0)
-
-several-returns-2 : (t : ℕ) → several-lts.Need-returns-2 (
-  none-reads.Asked,
-  none-reads.Learnt,
-  expr-below t,
-  expr.Post,
-  refused-all-reads.Asked,
-  refused-all-reads.Learnt,
-  type-word-reads.Asked,
-  type-word-reads.Learnt,
-  put-reads.Asked,
-  put-reads.Learnt,
-  behind-reads.Asked,
-  behind-reads.Learnt,
-  several-below t,
-  several.Post,
-  one-more-reads.Asked,
-  one-more-reads.Learnt,
-) (several-at t) several.Post
-several-returns-2 t c = several-first _ (c .before .before .before .before .before .before .before .before .before .before .before .before .before .before .if1 .left) (c .before .before .before .before .before .before .before .before .before .expr .ensures) (c .before .enum-told .given .1) (c .refused-all .ensures)
-
-several-type-word-requires : (t : ℕ) → several-lts.Need-type-word-requires (
-  none-reads.Asked,
-  none-reads.Learnt,
-  expr-below t,
-  expr.Post,
-  refused-all-reads.Asked,
-  refused-all-reads.Learnt,
-  type-word-reads.Asked,
-  type-word-reads.Learnt,
-  put-reads.Asked,
-  put-reads.Learnt,
-  behind-reads.Asked,
-  behind-reads.Learnt,
-  several-below t,
-  several.Post,
-  one-more-reads.Asked,
-  one-more-reads.Learnt,
-) (several-at t) several.Post
-several-type-word-requires t c κs = tt
-
-several-put-requires : (t : ℕ) → several-lts.Need-put-requires (
-  none-reads.Asked,
-  none-reads.Learnt,
-  expr-below t,
-  expr.Post,
-  refused-all-reads.Asked,
-  refused-all-reads.Learnt,
-  type-word-reads.Asked,
-  type-word-reads.Learnt,
-  put-reads.Asked,
-  put-reads.Learnt,
-  behind-reads.Asked,
-  behind-reads.Learnt,
-  several-below t,
-  several.Post,
-  one-more-reads.Asked,
-  one-more-reads.Learnt,
-) (several-at t) several.Post
-several-put-requires t c κs = tt
-
-several-behind-requires : (t : ℕ) → several-lts.Need-behind-requires (
-  none-reads.Asked,
-  none-reads.Learnt,
-  expr-below t,
-  expr.Post,
-  refused-all-reads.Asked,
-  refused-all-reads.Learnt,
-  type-word-reads.Asked,
-  type-word-reads.Learnt,
-  put-reads.Asked,
-  put-reads.Learnt,
-  behind-reads.Asked,
-  behind-reads.Learnt,
-  several-below t,
-  several.Post,
-  one-more-reads.Asked,
-  one-more-reads.Learnt,
-) (several-at t) several.Post
-several-behind-requires t c κs = tt
-
-several-add-several : (t : ℕ) → several-lts.Need-add-several (
-  none-reads.Asked,
-  none-reads.Learnt,
-  expr-below t,
-  expr.Post,
-  refused-all-reads.Asked,
-  refused-all-reads.Learnt,
-  type-word-reads.Asked,
-  type-word-reads.Learnt,
-  put-reads.Asked,
-  put-reads.Learnt,
-  behind-reads.Asked,
-  behind-reads.Learnt,
-  several-below t,
-  several.Post,
-  one-more-reads.Asked,
-  one-more-reads.Learnt,
-) (several-at t) several.Post
-several-add-several t c = omega (arith, (c .before .before .before .before .before .before .before .before .before .before .before .before .before .before .before .before .before .before .before .before .before .before .before .before .before .if1 .left), (c .before .before .before .before .before .before .before .before .before .before .before .before .before .before .before .before .before .before .before .before .before .before .before .before .before .before .before .before .before .before .before .pre .1 .1))
-
-several-several-requires : (t : ℕ) → several-lts.Need-several-requires (
-  none-reads.Asked,
-  none-reads.Learnt,
-  expr-below t,
-  expr.Post,
-  refused-all-reads.Asked,
-  refused-all-reads.Learnt,
-  type-word-reads.Asked,
-  type-word-reads.Learnt,
-  put-reads.Asked,
-  put-reads.Learnt,
-  behind-reads.Asked,
-  behind-reads.Learnt,
-  several-below t,
-  several.Post,
-  one-more-reads.Asked,
-  one-more-reads.Learnt,
-) (several-at t) several.Post
-several-several-requires t c κs = (load-moved _ _ (c .before .before .before .before .before .before .before .before .before .before .before .before .before .before .before .before .before .before .before .before .before .before .before .before .before .before .before .before .before .before .before .pre .0) _ _ (c .before .behind .ensures) (grows-to (c .before .before .before .before .before .before .before .before .before .before .before .before .before .before .before .before .before .before .before .before .expr .ensures .grows) (c .before .before .before .before .before .before .before .before .before .before .before .before .x .given .1)) (omega (arith, (c .before .before .before .before .before .before .before .before .before .before .before .before .before .before .before .before .before .before .before .before .before .before .before .before .before .if1 .left))), (room-rest (c .before .before .before .before .before .before .before .before .before .before .before .before .before .before .before .before .before .before .before .before .before .before .before .before .before .before .before .before .before .before .before .pre .1 .0) (c .before .behind .ensures) ((c .before .before .before .before .before .before .before .before .before .before .before .before .before .before .before .before .before .before .before .before .expr .kept .1 .1 .1 .1 .0)) ((c .before .before .before .before .before .before .before .before .before .before .before .before .before .before .before .before .before .before .before .before .expr .kept .1 .1 .1 .1 .1 .0)), (c .before .before .before .before .before .before .before .before .before .before .before .before .before .before .before .before .before .before .before .before .before .before .before .before .before .before .before .before .before .before .before .pre .1 .1)))
-
-several-one-more-requires : (t : ℕ) → several-lts.Need-one-more-requires (
-  none-reads.Asked,
-  none-reads.Learnt,
-  expr-below t,
-  expr.Post,
-  refused-all-reads.Asked,
-  refused-all-reads.Learnt,
-  type-word-reads.Asked,
-  type-word-reads.Learnt,
-  put-reads.Asked,
-  put-reads.Learnt,
-  behind-reads.Asked,
-  behind-reads.Learnt,
-  several-below t,
-  several.Post,
-  one-more-reads.Asked,
-  one-more-reads.Learnt,
-) (several-at t) several.Post
-several-one-more-requires t c κs = tt
+  joined-reads.Asked,
+  joined-reads.Learnt,
+) (several-at t) several.Post several-Inv-loop several-μ-loop
+several-same-length-3 t c = (c .before .before .before .before .before .before .before .before .before .expr .kept .1 .1 .1 .1 .1 .0) ∙ (c .before .before .before .before .before .before .before .before .before .before .before .before .before .before .before .before .before .before .before .before .loop .inv .sizes-long)
 
 several-same-length-4 : (t : ℕ) → several-lts.Need-same-length-4 (
+  frame-line-reads.Asked,
+  frame-line-reads.Learnt,
   none-reads.Asked,
   none-reads.Learnt,
+  variable-at-reads.Asked,
+  variable-at-reads.Learnt,
+  word-at-reads.Asked,
+  word-at-reads.Learnt,
+  put-reads.Asked,
+  put-reads.Learnt,
+  passed-reads.Asked,
+  passed-reads.Learnt,
+  moved-reads.Asked,
+  moved-reads.Learnt,
   expr-below t,
   expr.Post,
   refused-all-reads.Asked,
   refused-all-reads.Learnt,
   type-word-reads.Asked,
   type-word-reads.Learnt,
+  joined-reads.Asked,
+  joined-reads.Learnt,
+) (several-at t) several.Post several-Inv-loop several-μ-loop
+several-same-length-4 t c = (c .before .before .before .before .before .before .before .before .before .before .before .before .before .before .before .before .before .before .before .before .loop .inv .gathers .long)
+
+several-returns : (t : ℕ) → several-lts.Need-returns (
+  frame-line-reads.Asked,
+  frame-line-reads.Learnt,
+  none-reads.Asked,
+  none-reads.Learnt,
+  variable-at-reads.Asked,
+  variable-at-reads.Learnt,
+  word-at-reads.Asked,
+  word-at-reads.Learnt,
   put-reads.Asked,
   put-reads.Learnt,
-  behind-reads.Asked,
-  behind-reads.Learnt,
-  several-below t,
-  several.Post,
-  one-more-reads.Asked,
-  one-more-reads.Learnt,
-) (several-at t) several.Post
-several-same-length-4 t c = (c .before .before .before .before .before .before .before .before .before .several .kept .1 .1 .0) ∙ (c .before .before .before .before .before .before .before .before .before .before .before .before .before .before .before .before .before .before .before .before .before .before .before .before .before .before .before .before .before .before .expr .kept .1 .1 .0)
+  passed-reads.Asked,
+  passed-reads.Learnt,
+  moved-reads.Asked,
+  moved-reads.Learnt,
+  expr-below t,
+  expr.Post,
+  refused-all-reads.Asked,
+  refused-all-reads.Learnt,
+  type-word-reads.Asked,
+  type-word-reads.Learnt,
+  joined-reads.Asked,
+  joined-reads.Learnt,
+) (several-at t) several.Post several-Inv-loop several-μ-loop
+several-returns t c = several-part (c .before .before .before .before .before .before .before .before .before .before .before .before .before .before .before .before .before .before .before .before .loop .inv .gathers) (c .before .before .before .before .before .before .before .before .before .before .before .before .before .before .before .before .before .before .before .loop-test .taken) (c .before .before .before .before .before .before .before .before .before .before .before .before .before .before .moved .ensures) (c .before .before .before .before .before .before .before .before .before .expr .ensures) (c .before .enum-told2 .given .1) (c .refused-all .ensures)
+
+several-cast-put-2 : (t : ℕ) → several-lts.Need-cast-put-2 (
+  frame-line-reads.Asked,
+  frame-line-reads.Learnt,
+  none-reads.Asked,
+  none-reads.Learnt,
+  variable-at-reads.Asked,
+  variable-at-reads.Learnt,
+  word-at-reads.Asked,
+  word-at-reads.Learnt,
+  put-reads.Asked,
+  put-reads.Learnt,
+  passed-reads.Asked,
+  passed-reads.Learnt,
+  moved-reads.Asked,
+  moved-reads.Learnt,
+  expr-below t,
+  expr.Post,
+  refused-all-reads.Asked,
+  refused-all-reads.Learnt,
+  type-word-reads.Asked,
+  type-word-reads.Learnt,
+  joined-reads.Asked,
+  joined-reads.Learnt,
+) (several-at t) several.Post several-Inv-loop several-μ-loop
+several-cast-put-2 t c = omega (arith, (c .before .before .before .before .before .before .before .before .before .before .before .before .before .before .before .before .before .before .before .before .loop-test .taken), (c .before .before .before .before .before .before .before .before .before .before .before .before .before .before .before .before .before .before .before .before .before .before .before .before .before .before .before .before .before .pre .1 .1))
+
+several-type-word-requires : (t : ℕ) → several-lts.Need-type-word-requires (
+  frame-line-reads.Asked,
+  frame-line-reads.Learnt,
+  none-reads.Asked,
+  none-reads.Learnt,
+  variable-at-reads.Asked,
+  variable-at-reads.Learnt,
+  word-at-reads.Asked,
+  word-at-reads.Learnt,
+  put-reads.Asked,
+  put-reads.Learnt,
+  passed-reads.Asked,
+  passed-reads.Learnt,
+  moved-reads.Asked,
+  moved-reads.Learnt,
+  expr-below t,
+  expr.Post,
+  refused-all-reads.Asked,
+  refused-all-reads.Learnt,
+  type-word-reads.Asked,
+  type-word-reads.Learnt,
+  joined-reads.Asked,
+  joined-reads.Learnt,
+) (several-at t) several.Post several-Inv-loop several-μ-loop
+several-type-word-requires t c κs = tt
+
+several-put-requires-2 : (t : ℕ) → several-lts.Need-put-requires-2 (
+  frame-line-reads.Asked,
+  frame-line-reads.Learnt,
+  none-reads.Asked,
+  none-reads.Learnt,
+  variable-at-reads.Asked,
+  variable-at-reads.Learnt,
+  word-at-reads.Asked,
+  word-at-reads.Learnt,
+  put-reads.Asked,
+  put-reads.Learnt,
+  passed-reads.Asked,
+  passed-reads.Learnt,
+  moved-reads.Asked,
+  moved-reads.Learnt,
+  expr-below t,
+  expr.Post,
+  refused-all-reads.Asked,
+  refused-all-reads.Learnt,
+  type-word-reads.Asked,
+  type-word-reads.Learnt,
+  joined-reads.Asked,
+  joined-reads.Learnt,
+) (several-at t) several.Post several-Inv-loop several-μ-loop
+several-put-requires-2 t c κs = tt
+
+several-joined-requires : (t : ℕ) → several-lts.Need-joined-requires (
+  frame-line-reads.Asked,
+  frame-line-reads.Learnt,
+  none-reads.Asked,
+  none-reads.Learnt,
+  variable-at-reads.Asked,
+  variable-at-reads.Learnt,
+  word-at-reads.Asked,
+  word-at-reads.Learnt,
+  put-reads.Asked,
+  put-reads.Learnt,
+  passed-reads.Asked,
+  passed-reads.Learnt,
+  moved-reads.Asked,
+  moved-reads.Learnt,
+  expr-below t,
+  expr.Post,
+  refused-all-reads.Asked,
+  refused-all-reads.Learnt,
+  type-word-reads.Asked,
+  type-word-reads.Learnt,
+  joined-reads.Asked,
+  joined-reads.Learnt,
+) (several-at t) several.Post several-Inv-loop several-μ-loop
+several-joined-requires t c κs = tt
+
+several-add-i : (t : ℕ) → several-lts.Need-add-i (
+  frame-line-reads.Asked,
+  frame-line-reads.Learnt,
+  none-reads.Asked,
+  none-reads.Learnt,
+  variable-at-reads.Asked,
+  variable-at-reads.Learnt,
+  word-at-reads.Asked,
+  word-at-reads.Learnt,
+  put-reads.Asked,
+  put-reads.Learnt,
+  passed-reads.Asked,
+  passed-reads.Learnt,
+  moved-reads.Asked,
+  moved-reads.Learnt,
+  expr-below t,
+  expr.Post,
+  refused-all-reads.Asked,
+  refused-all-reads.Learnt,
+  type-word-reads.Asked,
+  type-word-reads.Learnt,
+  joined-reads.Asked,
+  joined-reads.Learnt,
+) (several-at t) several.Post several-Inv-loop several-μ-loop
+several-add-i t c = omega (arith, (c .before .before .before .loop-test .taken), (c .before .before .before .before .before .before .before .before .before .before .before .before .pre .1 .1))
+
+several-loop-less : (t : ℕ) → several-lts.Need-loop-less (
+  frame-line-reads.Asked,
+  frame-line-reads.Learnt,
+  none-reads.Asked,
+  none-reads.Learnt,
+  variable-at-reads.Asked,
+  variable-at-reads.Learnt,
+  word-at-reads.Asked,
+  word-at-reads.Learnt,
+  put-reads.Asked,
+  put-reads.Learnt,
+  passed-reads.Asked,
+  passed-reads.Learnt,
+  moved-reads.Asked,
+  moved-reads.Learnt,
+  expr-below t,
+  expr.Post,
+  refused-all-reads.Asked,
+  refused-all-reads.Learnt,
+  type-word-reads.Asked,
+  type-word-reads.Learnt,
+  joined-reads.Asked,
+  joined-reads.Learnt,
+) (several-at t) several.Post several-Inv-loop several-μ-loop
+several-loop-less t c = omega (arith, (c .before .before .before .loop-test .taken))
+
+several-loop-again : (t : ℕ) → several-lts.Need-loop-again (
+  frame-line-reads.Asked,
+  frame-line-reads.Learnt,
+  none-reads.Asked,
+  none-reads.Learnt,
+  variable-at-reads.Asked,
+  variable-at-reads.Learnt,
+  word-at-reads.Asked,
+  word-at-reads.Learnt,
+  put-reads.Asked,
+  put-reads.Learnt,
+  passed-reads.Asked,
+  passed-reads.Learnt,
+  moved-reads.Asked,
+  moved-reads.Learnt,
+  expr-below t,
+  expr.Post,
+  refused-all-reads.Asked,
+  refused-all-reads.Learnt,
+  type-word-reads.Asked,
+  type-word-reads.Learnt,
+  joined-reads.Asked,
+  joined-reads.Learnt,
+) (several-at t) several.Post several-Inv-loop several-μ-loop
+several-loop-again t c = ⊎-elim
+    (λ way. turned-variable (c .before .before .before .before .loop .inv) (c .before .before .before .loop-test .taken) (c .before .before .before .before .before .before .frame-line .ensures) (c .before .variable-at .ensures) (way .1 .given .1) _ (way .5 .ensures) (way .6 .ensures) (way .9 .ensures) (way .10) (way .11) (way .12) (way .13) (way .14) (way .15))
+    (λ way. turned-expr (c .before .before .before .before .loop .inv) (c .before .before .before .loop-test .taken) (way .2 .ensures) (way .7 .ensures) (way .7 .kept .1 .1 .0) (way .7 .kept .1 .1 .1 .1 .0) (way .7 .kept .1 .1 .1 .1 .1 .0) (way .15 .given .1) _ (way .18 .ensures .is) (way .19 .ensures) (way .22 .ensures) (way .23) (way .24) (way .25) (way .26) (way .27) (way .28))
+    (c .match .came)
 
 several-same-length-5 : (t : ℕ) → several-lts.Need-same-length-5 (
+  frame-line-reads.Asked,
+  frame-line-reads.Learnt,
   none-reads.Asked,
   none-reads.Learnt,
+  variable-at-reads.Asked,
+  variable-at-reads.Learnt,
+  word-at-reads.Asked,
+  word-at-reads.Learnt,
+  put-reads.Asked,
+  put-reads.Learnt,
+  passed-reads.Asked,
+  passed-reads.Learnt,
+  moved-reads.Asked,
+  moved-reads.Learnt,
   expr-below t,
   expr.Post,
   refused-all-reads.Asked,
   refused-all-reads.Learnt,
   type-word-reads.Asked,
   type-word-reads.Learnt,
-  put-reads.Asked,
-  put-reads.Learnt,
-  behind-reads.Asked,
-  behind-reads.Learnt,
-  several-below t,
-  several.Post,
-  one-more-reads.Asked,
-  one-more-reads.Learnt,
-) (several-at t) several.Post
-several-same-length-5 t c = (c .before .before .before .before .before .before .before .before .before .several .kept .1 .1 .1 .1 .0) ∙ (c .before .before .before .before .before .before .before .before .before .before .before .before .before .before .before .before .before .before .before .before .before .before .before .before .before .before .before .before .before .before .expr .kept .1 .1 .1 .1 .0)
+  joined-reads.Asked,
+  joined-reads.Learnt,
+) (several-at t) several.Post several-Inv-loop several-μ-loop
+several-same-length-5 t c = (c .before .loop .inv .list-long)
 
 several-same-length-6 : (t : ℕ) → several-lts.Need-same-length-6 (
+  frame-line-reads.Asked,
+  frame-line-reads.Learnt,
   none-reads.Asked,
   none-reads.Learnt,
+  variable-at-reads.Asked,
+  variable-at-reads.Learnt,
+  word-at-reads.Asked,
+  word-at-reads.Learnt,
+  put-reads.Asked,
+  put-reads.Learnt,
+  passed-reads.Asked,
+  passed-reads.Learnt,
+  moved-reads.Asked,
+  moved-reads.Learnt,
   expr-below t,
   expr.Post,
   refused-all-reads.Asked,
   refused-all-reads.Learnt,
   type-word-reads.Asked,
   type-word-reads.Learnt,
-  put-reads.Asked,
-  put-reads.Learnt,
-  behind-reads.Asked,
-  behind-reads.Learnt,
-  several-below t,
-  several.Post,
-  one-more-reads.Asked,
-  one-more-reads.Learnt,
-) (several-at t) several.Post
-several-same-length-6 t c = (c .before .before .before .before .before .before .before .before .before .several .kept .1 .1 .1 .1 .1 .0) ∙ (c .before .before .before .before .before .before .before .before .before .before .before .before .before .before .before .before .before .before .before .before .before .before .before .before .before .before .before .before .before .before .expr .kept .1 .1 .1 .1 .1 .0)
+  joined-reads.Asked,
+  joined-reads.Learnt,
+) (several-at t) several.Post several-Inv-loop several-μ-loop
+several-same-length-6 t c = (c .before .loop .inv .scope-long)
 
 several-same-length-7 : (t : ℕ) → several-lts.Need-same-length-7 (
+  frame-line-reads.Asked,
+  frame-line-reads.Learnt,
   none-reads.Asked,
   none-reads.Learnt,
+  variable-at-reads.Asked,
+  variable-at-reads.Learnt,
+  word-at-reads.Asked,
+  word-at-reads.Learnt,
+  put-reads.Asked,
+  put-reads.Learnt,
+  passed-reads.Asked,
+  passed-reads.Learnt,
+  moved-reads.Asked,
+  moved-reads.Learnt,
   expr-below t,
   expr.Post,
   refused-all-reads.Asked,
   refused-all-reads.Learnt,
   type-word-reads.Asked,
   type-word-reads.Learnt,
-  put-reads.Asked,
-  put-reads.Learnt,
-  behind-reads.Asked,
-  behind-reads.Learnt,
-  several-below t,
-  several.Post,
-  one-more-reads.Asked,
-  one-more-reads.Learnt,
-) (several-at t) several.Post
-several-same-length-7 t c = (c .before .before .before .before .before .before .before .before .before .several .kept .1 .1 .1 .1 .1 .1 .1 .0) ∙ (c .before .before .before .before .before .before .before .before .before .before .before .before .before .before .before .before .before .before .put .kept .0)
+  joined-reads.Asked,
+  joined-reads.Learnt,
+) (several-at t) several.Post several-Inv-loop several-μ-loop
+several-same-length-7 t c = (c .before .loop .inv .sizes-long)
 
-several-returns-3 : (t : ℕ) → several-lts.Need-returns-3 (
+several-same-length-8 : (t : ℕ) → several-lts.Need-same-length-8 (
+  frame-line-reads.Asked,
+  frame-line-reads.Learnt,
   none-reads.Asked,
   none-reads.Learnt,
+  variable-at-reads.Asked,
+  variable-at-reads.Learnt,
+  word-at-reads.Asked,
+  word-at-reads.Learnt,
+  put-reads.Asked,
+  put-reads.Learnt,
+  passed-reads.Asked,
+  passed-reads.Learnt,
+  moved-reads.Asked,
+  moved-reads.Learnt,
   expr-below t,
   expr.Post,
   refused-all-reads.Asked,
   refused-all-reads.Learnt,
   type-word-reads.Asked,
   type-word-reads.Learnt,
+  joined-reads.Asked,
+  joined-reads.Learnt,
+) (several-at t) several.Post several-Inv-loop several-μ-loop
+several-same-length-8 t c = (c .before .loop .inv .gathers .long)
+
+several-returns-2 : (t : ℕ) → several-lts.Need-returns-2 (
+  frame-line-reads.Asked,
+  frame-line-reads.Learnt,
+  none-reads.Asked,
+  none-reads.Learnt,
+  variable-at-reads.Asked,
+  variable-at-reads.Learnt,
+  word-at-reads.Asked,
+  word-at-reads.Learnt,
   put-reads.Asked,
   put-reads.Learnt,
-  behind-reads.Asked,
-  behind-reads.Learnt,
-  several-below t,
-  several.Post,
-  one-more-reads.Asked,
-  one-more-reads.Learnt,
-) (several-at t) several.Post
-several-returns-3 t c = several-more _ (c .before .before .before .before .before .before .before .before .before .before .before .before .before .before .before .before .before .before .before .before .before .before .before .before .before .before .before .before .before .before .before .before .before .before .before .if1 .left) (c .before .before .before .before .before .before .before .before .before .before .before .before .before .before .before .before .before .before .before .before .before .before .before .before .before .before .before .before .before .before .expr .ensures) (c .before .before .before .before .before .before .before .before .before .before .before .before .before .before .before .before .before .before .before .before .before .before .x .given .1) (c .before .before .before .before .before .before .before .before .before .before .before .before .before .before .before .before .before .before .before .type-word .ensures .is) (c .before .before .before .before .before .before .before .before .before .before .before .before .before .before .before .before .before .before .put .ensures) (c .before .before .before .before .before .before .before .before .before .before .before .behind .ensures) (c .before .before .before .before .before .before .before .before .before .several .ensures) (c .one-more .ensures)
+  passed-reads.Asked,
+  passed-reads.Learnt,
+  moved-reads.Asked,
+  moved-reads.Learnt,
+  expr-below t,
+  expr.Post,
+  refused-all-reads.Asked,
+  refused-all-reads.Learnt,
+  type-word-reads.Asked,
+  type-word-reads.Learnt,
+  joined-reads.Asked,
+  joined-reads.Learnt,
+) (several-at t) several.Post several-Inv-loop several-μ-loop
+several-returns-2 t c = several-done (c .before .loop .inv .gathers) (c .loop-test .left) refl
 
-pub +adjust+apply+at-splits+binding+body+branch+branches+call+case-of+choice+compound+construct+enter+expr+fit+operation+several-spec :
+pub +adjust+apply+at-splits+binding+body+branch+branches+call+case-of+choice+compound+construct+enter+enter-new+expr+fit+operation+several-spec :
     {M : Type 1} → statement M
-+adjust+apply+at-splits+binding+body+branch+branches+call+case-of+choice+compound+construct+enter+expr+fit+operation+several-spec =
++adjust+apply+at-splits+binding+body+branch+branches+call+case-of+choice+compound+construct+enter+enter-new+expr+fit+operation+several-spec =
     close
     μ-adjust
     μ-apply
@@ -8293,6 +8772,7 @@ pub +adjust+apply+at-splits+binding+body+branch+branches+call+case-of+choice+com
     μ-compound
     μ-construct
     μ-enter
+    μ-enter-new
     μ-expr
     μ-fit
     μ-operation
@@ -8347,10 +8827,6 @@ pub +adjust+apply+at-splits+binding+body+branch+branches+call+case-of+choice+com
       named-sizes-reads.Learnt,
       moved-reads.Asked,
       moved-reads.Learnt,
-      prepare-reads.Asked,
-      prepare-reads.Learnt,
-      not-entered-reads.Asked,
-      not-entered-reads.Learnt,
       enter-below t,
       enter.Post,
       called-reads.Asked,
@@ -8361,24 +8837,17 @@ pub +adjust+apply+at-splits+binding+body+branch+branches+call+case-of+choice+com
     (apply-slice-aggregate-named-sizes t)
     (apply-named-sizes-requires t)
     (apply-moved-requires t)
-    (apply-slice-aggregate-prepare t)
-    (apply-prepare-requires t)
-    (apply-enum-known-y t)
-    (apply-enum-told t)
-    (apply-not-entered-requires t)
-    (apply-same-length t)
-    (apply-returns t)
     (apply-slice-aggregate-enter t)
     (apply-enter-requires t)
     (apply-enum-known-z t)
-    (apply-enum-told-2 t)
+    (apply-enum-told t)
+    (apply-same-length t)
     (apply-same-length-2 t)
-    (apply-same-length-3 t)
-    (apply-returns-2 t)
+    (apply-returns t)
     (apply-called-requires t)
+    (apply-same-length-3 t)
     (apply-same-length-4 t)
-    (apply-same-length-5 t)
-    (apply-returns-3 t))
+    (apply-returns-2 t))
     (λ t. at-splits-lts.spec (
       fields-reads.Asked,
       fields-reads.Learnt,
@@ -8478,6 +8947,8 @@ pub +adjust+apply+at-splits+binding+body+branch+branches+call+case-of+choice+com
     (binding-same-length-9 t)
     (binding-returns-3 t))
     (λ t. body-lts.spec (
+      word-of-reads.Asked,
+      word-of-reads.Learnt,
       add-reads.Asked,
       add-reads.Learnt,
       body-place-reads.Asked,
@@ -8498,6 +8969,7 @@ pub +adjust+apply+at-splits+binding+body+branch+branches+call+case-of+choice+com
     (body-cast-if1 t)
     (body-add-t17 t)
     (body-returns t)
+    (body-word-of-requires t)
     (body-add-requires t)
     (body-body-place-requires t)
     (body-expr-requires t)
@@ -8508,7 +8980,7 @@ pub +adjust+apply+at-splits+binding+body+branch+branches+call+case-of+choice+com
     (body-same-length-3 t)
     (body-returns-2 t)
     (body-is-type-requires t)
-    (body-add-t32 t)
+    (body-add-t33 t)
     (body-same-length-4 t)
     (body-same-length-5 t)
     (body-same-length-6 t)
@@ -8828,25 +9300,46 @@ pub +adjust+apply+at-splits+binding+body+branch+branches+call+case-of+choice+com
     (λ t. enter-lts.spec (
       find-reads.Asked,
       find-reads.Learnt,
-      leaf-reads.Asked,
-      leaf-reads.Learnt,
-      body-below t,
-      body.Post,
+      enter-new-below t,
+      enter-new.Post,
+      again-reads.Asked,
+      again-reads.Learnt,
     )
     (enter-at t)
     enter.Post
     (enter-find-requires t)
     (enter-enum-known-x t)
-    (enter-leaf-requires t)
     (enter-enum-told t)
-    (enter-body-requires t)
+    (enter-enter-new-requires t)
     (enter-same-length t)
     (enter-same-length-2 t)
-    (enter-returns t)
     (enter-same-length-3 t)
+    (enter-returns t)
+    (enter-again-requires t)
     (enter-same-length-4 t)
     (enter-same-length-5 t)
     (enter-returns-2 t))
+    (λ t. enter-new-lts.spec (
+      prepare-reads.Asked,
+      prepare-reads.Learnt,
+      not-entered-reads.Asked,
+      not-entered-reads.Learnt,
+      body-below t,
+      body.Post,
+    )
+    (enter-new-at t)
+    enter-new.Post
+    (enter-new-prepare-requires t)
+    (enter-new-enum-known-y t)
+    (enter-new-enum-told t)
+    (enter-new-not-entered-requires t)
+    (enter-new-same-length t)
+    (enter-new-returns t)
+    (enter-new-body-requires t)
+    (enter-new-same-length-2 t)
+    (enter-new-same-length-3 t)
+    (enter-new-same-length-4 t)
+    (enter-new-returns-2 t))
     (λ t. expr-lts.spec (
       frame-line-reads.Asked,
       frame-line-reads.Learnt,
@@ -8998,43 +9491,63 @@ pub +adjust+apply+at-splits+binding+body+branch+branches+call+case-of+choice+com
     (operation-same-length-9 t)
     (operation-returns-3 t))
     λ t. several-lts.spec (
+      frame-line-reads.Asked,
+      frame-line-reads.Learnt,
       none-reads.Asked,
       none-reads.Learnt,
+      variable-at-reads.Asked,
+      variable-at-reads.Learnt,
+      word-at-reads.Asked,
+      word-at-reads.Learnt,
+      put-reads.Asked,
+      put-reads.Learnt,
+      passed-reads.Asked,
+      passed-reads.Learnt,
+      moved-reads.Asked,
+      moved-reads.Learnt,
       expr-below t,
       expr.Post,
       refused-all-reads.Asked,
       refused-all-reads.Learnt,
       type-word-reads.Asked,
       type-word-reads.Learnt,
-      put-reads.Asked,
-      put-reads.Learnt,
-      behind-reads.Asked,
-      behind-reads.Learnt,
-      several-below t,
-      several.Post,
-      one-more-reads.Asked,
-      one-more-reads.Learnt,
+      joined-reads.Asked,
+      joined-reads.Learnt,
     )
     (several-at t)
     several.Post
+    several-Inv-loop
+    several-μ-loop
+    (several-frame-line-requires t)
     (several-none-requires t)
-    (several-returns t)
+    (several-loop-holds t)
+    (several-variable-at-requires t)
+    (several-enum-known-v t)
+    (several-cast-put t)
+    (several-cast-word-at t)
+    (several-word-at-requires t)
+    (several-put-requires t)
+    (several-passed-requires t)
+    (several-enum-told t)
+    (several-moved-requires t)
     (several-expr-requires t)
     (several-enum-known-x t)
-    (several-enum-told t)
+    (several-enum-told-2 t)
     (several-refused-all-requires t)
     (several-same-length t)
     (several-same-length-2 t)
     (several-same-length-3 t)
-    (several-returns-2 t)
-    (several-type-word-requires t)
-    (several-put-requires t)
-    (several-behind-requires t)
-    (several-add-several t)
-    (several-several-requires t)
-    (several-one-more-requires t)
     (several-same-length-4 t)
+    (several-returns t)
+    (several-cast-put-2 t)
+    (several-type-word-requires t)
+    (several-put-requires-2 t)
+    (several-joined-requires t)
+    (several-add-i t)
+    (several-loop-less t)
+    (several-loop-again t)
     (several-same-length-5 t)
     (several-same-length-6 t)
     (several-same-length-7 t)
-    (several-returns-3 t)
+    (several-same-length-8 t)
+    (several-returns-2 t)
