@@ -12,7 +12,7 @@ use Rattle.heads.specs.declared.Form.the-variants.{Variable}
 use Rattle.heads.specs.declared.VariableAt.{VariableAt}
 use Rattle.heads.specs.declared.VariableAt.the-variants.{Is, Other}
 use Rattle.heads.specs.Heads.{Shows}
-use Rattle.heads.specs.HeadLaws.{code-is, operand-read}
+use Rattle.heads.specs.HeadLaws.{left-behind, code-is, operand-read}
 use Rattle.heads.specs.ReadLaws.{byte-found, byte-none}
 
 pub data VariableRead (line : List ℕ) (at : ℕ) : VariableAt → Type 0 where
@@ -21,7 +21,7 @@ pub data VariableRead (line : List ℕ) (at : ℕ) : VariableAt → Type 0 where
 
 module _ {line : List ℕ} {start : Cursor} {x : Number} (read : ByteAt line (start .at) x) where
   pub no-byte : {m : ℕ} → x ≡ Refused m → VariableRead line (start .at) Other
-  no-byte e = no-variable (λ next v s. omega (arith, byte-none read e, s .0 .within))
+  no-byte e = no-variable (λ next v s. byte-none read e (omega (arith, s .0 .within)))
 
   module _ {f : Found} (e : x ≡ Read f) where
     pub other-code : (f .value ≡ 0x12 → ⊥) → VariableRead line (start .at) Other
@@ -29,7 +29,7 @@ module _ {line : List ℕ} {start : Cursor} {x : Number} (read : ByteAt line (st
 
     module _ (code : f .value ≡ 0x12) {y : Number} (behind : ByteAt line (f .next .at) y) where
       pub no-operand : {m : ℕ} → y ≡ Refused m → VariableRead line (start .at) Other
-      no-operand o = no-variable (λ next v s. omega (arith, byte-none behind o, byte-found read e .ends, s .0 .within))
+      no-operand o = no-variable (λ next v s. byte-none behind o (omega (arith, left-behind (code-is read 0x12 e code), s .0 .within)))
 
       pub variable-read : {g : Found} → y ≡ Read g → VariableRead line (start .at) (Is (g .value) (g .next))
       variable-read o = is-variable (operand-read (code-is read 0x12 e code) 0x12 refl behind o)

@@ -17,6 +17,7 @@ use Rattle.theory.specs.Lists.{none-is-not-some, look-less, look-append, look-n
 use Rattle.theory.specs.Different.{Distinct, distinct-append}
 use Rattle.theory.specs.Instances.{entered, keyOf, keysOf}
 use Rattle.theory.specs.InstanceList.{not-found-is-new}
+use Rattle.index.specs.SectionLaws.{drop-zeros}
 use Rattle.estimate.specs.declared.Estimate.{Estimate}
 use Rattle.estimate.specs.Stands.{Stands}
 use Rattle.instances.specs.Listed.{instanceWordsCount, numbersFrom, keyWords, resultWord, SizesAre, Writes, Adds, Notes, Finishes}
@@ -24,11 +25,6 @@ use Rattle.instances.specs.ListLaws.{key-wide}
 use Rattle.size_steps.specs.Agreement.{Row, Met, Table, table, Holds}
 use Rattle.size_checker.specs.ListKept.{Extends, filled-in}
 use Rattle.size_checker.specs.TypesTold.{look-either}
-
-drop-zeros : (m n : ℕ) → drop {A = ℕ} m (replicate n 0) ≡ replicate (n - m) 0
-drop-zeros zero n = ap (λ k. replicate k 0) (let same : n ≡ n - 0 = omega arith in same)
-drop-zeros (suc m) zero = ap (λ k. replicate k 0) (let same : 0 ≡ 0 - suc m = omega arith in same)
-drop-zeros (suc m) (suc n) = drop-zeros m n ∙ ap (λ k. replicate k 0) (let same : n - m ≡ suc n - suc m = omega arith in same)
 
 -- behind what is written all stays 0
 zeros-behind : {words words′ ws : List ℕ} (from used used′ : ℕ) → Writes words from ws words′ → from + length ws ≤ used′ → used ≤ used′ →

@@ -4,7 +4,6 @@ use mathlib.Core.List.{List, [], _∷_, _++_, map, map-append}
 use mathlib.Core.Option.{Option, none, some}
 use mathlib.Core.Path.{_≡_, refl, sym, ap, _∙_, subst}
 use native.Mathlib.Omega.{arith}
-use native.Mathlib.Nat.{add-zero}
 use lib.ListN.{length, getD, take, set, length-append, length-set, getElem? as look}
 use lib.Seq.{take-suc-set}
 use Rattle.language.specs.Result.{Result, ok, no, bind, from}
@@ -18,6 +17,7 @@ use Rattle.language.specs.Checker.{Instance, Sized, Sizeds, sized, sizeds}
 use Rattle.theory.specs.Alls.{all-snoc}
 use Rattle.text.specs.declared.Cursor.{Cursor}
 use Rattle.text.specs.Bytes.{declaredWord}
+use Rattle.text.specs.Places.{past, past-none}
 use Rattle.encoding.specs.FrameSpells.{lineAt}
 use Rattle.estimate.specs.Stands.{Stands}
 use Rattle.index.specs.Indexed.{framePart}
@@ -91,7 +91,7 @@ module _ {t : Lent} {b₀ b : Buffers} {p : Place} {n i : ℕ} {row₀ row : Lis
   module _ {P : File} {S : Scope} {q : Stand} {Γ : List Ty} {Δ : List ℕ} {left end : ℕ} {b₁ : Buffers} {all₁ : Counted} {xs : Sizeds} {es : Exprs} {word : ℕ} {whole : Result Sizeds}
       (count : length (xs .types) ≡ i) (room : i < length row) (c : CountedAs P (all .next .at) (b .list) row all xs) (m : MorePart (lineAt (t .text) (p .line)) (movedTo p (all .next) (all .used)) S (n - (i + 1)) end es) where
     gathered-one : {row₁ : List ℕ} (y : Sized) → row₁ ≡ set row i word → word ≡ declaredWord (y .type) → Bounded (y .type) → Stands (all₁ .numbers) (after (xs .numbers) (y .numbers)) → Holds P (b₁ .list) (all₁ .used) (y .list) →
-        all₁ .next .at ≡ all .next .at + length (exprBytes (m .of .first)) → whole ≡ bind (sizeds P (entering P left) (m .of .others) q Γ Δ (y .list)) (λ ys. ok (andThen (andOne xs y) ys)) →
+        all₁ .next .at ≡ past (lineAt (t .text) (p .line)) (all .next .at) (length (exprBytes (m .of .first))) → whole ≡ bind (sizeds P (entering P left) (m .of .others) q Γ Δ (y .list)) (λ ys. ok (andThen (andOne xs y) ys)) →
         Gathered t p P S q Γ Δ left n (i + 1) end b₁ row₁ all₁ whole
     gathered-one y put is small stands holds ends rest = rw put (gathered {xs = andOne xs y} (omega (arith, length-append (xs .types) (y .type ∷ []), count))
         (record { types = types-more row i (xs .types) (y .type) word count room is (c .types); small = all-snoc (c .small) small; numbers = stands; ends = refl; holds = holds })
@@ -108,7 +108,7 @@ module _ {t : Lent} {b₀ b : Buffers} {p : Place} {n i : ℕ} {row₀ row : Lis
     -- what it gave, and what the definition has of it
     module _ {P : File} {S : Scope} {q : Stand} {Γ : List Ty} {Δ : List ℕ} {L : List Instance} {left end : ℕ} (h : Here t b₀ p P S q Γ Δ L left) where
       first-agrees : {xs : Sizeds} {es : Exprs} → CountedAs P (all .next .at) (b .list) row all xs → (m : MorePart (lineAt (t .text) (p .line)) (movedTo p (all .next) (all .used)) S (n - (i + 1)) end es) →
-          Agrees P itself (all .next .at + length (exprBytes (m .of .first))) (b₁ .list) x (sized P (entering P left) (m .of .first) q Γ Δ (xs .list))
+          Agrees P itself (past (lineAt (t .text) (p .line)) (all .next .at) (length (exprBytes (m .of .first)))) (b₁ .list) x (sized P (entering P left) (m .of .first) q Γ Δ (xs .list))
       first-agrees c m = part-agrees now (here-now h c) (m .spelled) (m .of .within) refl refl
 
       whole-first : (xs : Sizeds) {es : Exprs} {whole : Result Sizeds} (m : MorePart (lineAt (t .text) (p .line)) (movedTo p (all .next) (all .used)) S (n - (i + 1)) end es) → whole ≡ bind (sizeds P (entering P left) es q Γ Δ (xs .list)) (λ ys. ok (andThen xs ys)) →
@@ -135,12 +135,12 @@ module _ {t : Lent} {b₀ b : Buffers} {p : Place} {n i : ℕ} {row₀ row : Lis
 
     gathers-on : {P : File} {S : Scope} {q : Stand} {Γ : List Ty} {Δ : List ℕ} {left end : ℕ} {k : Checked} {word : ℕ} {row₁ : List ℕ} {all₁ : Counted} {xs : Sizeds} {es : Exprs} {a : Result Sized} {whole : Result Sizeds} → x ≡ Is k → word ≡ declaredWord (meaning (k .ty)) → row₁ ≡ set row i word → Joins all k all₁ →
         length (xs .types) ≡ i → i < length row → CountedAs P (all .next .at) (b .list) row all xs → (m : MorePart (lineAt (t .text) (p .line)) (movedTo p (all .next) (all .used)) S (n - (i + 1)) end es) →
-        Agrees P itself (all .next .at + length (exprBytes (m .of .first))) (b₁ .list) x a → whole ≡ bind a (λ (y : Sized). bind (sizeds P (entering P left) (m .of .others) q Γ Δ (y .list)) (λ ys. ok (andThen (andOne xs y) ys))) →
+        Agrees P itself (past (lineAt (t .text) (p .line)) (all .next .at) (length (exprBytes (m .of .first)))) (b₁ .list) x a → whole ≡ bind a (λ (y : Sized). bind (sizeds P (entering P left) (m .of .others) q Γ Δ (y .list)) (λ ys. ok (andThen (andOne xs y) ys))) →
         Gathered t p P S q Γ Δ left n (i + 1) end b₁ row₁ all₁ whole
     unfolding bind
     gathers-on {P} {k = k} {all₁ = all₁} d is put joins count room c m (agrees {k = j} {x = y} e g) rest =
         let same : j ≡ k = (let both : Is j ≡ Is k = sym e ∙ d in cc) in
-        let next : ℕ = all .next .at + length (exprBytes (m .of .first)) in
+        let next : ℕ = past (lineAt (t .text) (p .line)) (all .next .at) (length (exprBytes (m .of .first))) in
         let f : CheckedAs P next (b₁ .list) k y = subst (λ z. CheckedAs P next (b₁ .list) z y) same g in
         gathered-one {b₁ = b₁} {all₁ = all₁} count room c m y put (is ∙ ap declaredWord (f .type)) (f .small) (joins .numbers .says _ _ (c .numbers) (f .numbers))
         (subst (λ u. Holds P (b₁ .list) u (y .list)) (sym (joins .used)) (f .holds)) (ap (λ z. z .at) (joins .next) ∙ f .ends) rest
@@ -180,7 +180,7 @@ module _ {t : Lent} {b₀ b : Buffers} {p : Place} {n i : ℕ} {row₀ row : Lis
       where
         typed : {P : File} {S : Scope} {q : Stand} {Γ : List Ty} {Δ : List ℕ} {L : List Instance} {left end : ℕ} {xs : Sizeds} {es : Exprs} {whole : Result Sizeds} → Here t b₀ p P S q Γ Δ L left → n ≤ length row₀ → length (xs .types) ≡ i →
             (c : CountedAs P (all .next .at) (b .list) row all xs) (m : MorePart (lineAt (t .text) (p .line)) (movedTo p (all .next) (all .used)) S (n - (i + 1)) end es) →
-            next .at ≡ all .next .at + length (exprBytes (m .of .first)) → (o : Option Ty) → look Γ number ≡ o →
+            next .at ≡ past (lineAt (t .text) (p .line)) (all .next .at) (length (exprBytes (m .of .first))) → (o : Option Ty) → look Γ number ≡ o →
             whole ≡ bind (from o 6 (frameAt P q) (λ τ. ok (record { type = τ; numbers = nothing; list = xs .list }))) (λ (y : Sized). bind (sizeds P (entering P left) (m .of .others) q Γ Δ (y .list)) (λ ys. ok (andThen (andOne xs y) ys))) →
             Gathered t p P S q Γ Δ left n (i + 1) end b row₁ (passedTo all next) whole
         typed {xs = xs} h room count c m ends (some τ) there rest =
@@ -203,7 +203,7 @@ module _ {t : Lent} {b₀ b : Buffers} {p : Place} {n i : ℕ} {row₀ row : Lis
 -- ---- all were checked
 pub several-done : {t : Lent} {b₀ b : Buffers} {p : Place} {n i : ℕ} {row₀ row : List ℕ} {all : Counted} {r : Counting} → Gathers t b₀ p n row₀ i b row all → n ≤ i → r ≡ Are all → SizesAll t b₀ p n row₀ r b row
 unfolding exprsBytes
-several-done {t} {b₀} {b} {p} {n} {i} {row₀} {row} {all} v past answer = rw answer (record {
+several-done {t} {b₀} {b} {p} {n} {i} {row₀} {row} {all} v ended answer = rw answer (record {
   says = λ P S q Γ Δ L left h room end es part. go (v .says P S q Γ Δ L left h room end es part);
   grows = grown-all {k = all} (v .grown);
   kept = v .kept;
@@ -211,9 +211,9 @@ several-done {t} {b₀} {b} {p} {n} {i} {row₀} {row} {all} v past answer = rw 
   where
     go : {P : File} {S : Scope} {q : Stand} {Γ : List Ty} {Δ : List ℕ} {left end : ℕ} {whole : Result Sizeds} → Gathered t p P S q Γ Δ left n i end b row all whole → AgreesAll P end (b .list) row (Are all) whole
     go {P} {q = q} {Γ = Γ} {Δ = Δ} {left = left} (gathered {xs} {es} count c part e) =
-        let z : es ≡ enil = none-within (part .within) (omega (arith, past)) in
+        let z : es ≡ enil = none-within (part .within) (omega (arith, ended)) in
         rw (e ∙ ap (λ l. bind (sizeds P (entering P left) l q Γ Δ (xs .list)) (λ ys. ok (andThen xs ys))) z ∙ then-none P (entering P left) q Γ Δ xs)
-        (agree refl (record { types = c .types; small = c .small; numbers = c .numbers; ends = sym (part .ends ∙ ap (λ l. all .next .at + length (exprsBytes l)) z ∙ add-zero (all .next .at)); holds = c .holds }))
+        (agree refl (record { types = c .types; small = c .small; numbers = c .numbers; ends = sym (part .ends ∙ ap (λ (l : Exprs). past (lineAt (t .text) (p .line)) (all .next .at) (length (exprsBytes l))) z ∙ past-none (lineAt (t .text) (p .line)) (all .next .at)); holds = c .holds }))
     go (lost j e) = rw e (beyond-all j)
 
 -- ---- the loop: what is known before a turn, with the lengths of what is lent

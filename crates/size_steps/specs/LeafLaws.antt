@@ -23,6 +23,7 @@ use Rattle.theory.specs.Alls.{all-map}
 use Rattle.theory.specs.Lists.{look-less}
 use Rattle.text.specs.declared.Cursor.{Cursor}
 use Rattle.text.specs.Bytes.{declaredWord}
+use Rattle.text.specs.Places.{past}
 use Rattle.encoding.specs.FrameSpells.{lineAt}
 use Rattle.index.specs.Indexed.{framePart, resultAt, conditionsAt, measureAt, functionLine, Indexed}
 use Rattle.encoding.specs.WithinParts.{function-within}
@@ -137,11 +138,11 @@ module _ (text index sizes : List ℕ) {line : List ℕ} (p : Place) (f : ℕ) (
         subst (λ l. SumsMeasure l c sizes r) line-is h .says (F .measure) (rw here (g .measureCount)) (rw here (g .measure))
         ∙ sym (measure-in-scope sizes (w .measure)) ∙ ap (summedMeasure (F .measure)) sizes-are
 
-    type-is-at : {c : Cursor} {r : TypeAt} → c .at ≡ resultAt (functionsOf index) f → TypeGiven line c sizes r → AgreesType (typeAt ks (F .result)) (c .at + length (resultBytes (F .result))) r
+    type-is-at : {c : Cursor} {r : TypeAt} → c .at ≡ resultAt (functionsOf index) f → TypeGiven line c sizes r → AgreesType (typeAt ks (F .result)) (past (lineAt text (functionLine P f)) (c .at) (length (resultBytes (F .result)))) r
     type-is-at {c} {r} here h =
         let g = i .eachFunction f is in
         let w = function-within (i .within) f is in
-        subst (λ o. AgreesType o (c .at + length (resultBytes (F .result))) r) (sym (type-in-scope sizes (w .result)) ∙ ap (λ l. typeAt l (F .result)) sizes-are)
+        subst (λ o. AgreesType o (past (lineAt text (functionLine P f)) (c .at) (length (resultBytes (F .result)))) r) (sym (type-in-scope sizes (w .result)) ∙ ap (λ l. typeAt l (F .result)) sizes-are)
         (subst (λ l. TypeGiven l c sizes r) line-is h .says (length (P .types)) (namedCount (F .parameters)) (F .result) (w .result) (rw here (g .result)))
 
   pub may-call-self : {c : Cursor} {w : ℕ} → p .around ≡ f + 1 → c .at ≡ measureAt (functionsOf index) f → SumsMeasure line c sizes w → MayCall text index sizes p f (ltb w (p .measure))
