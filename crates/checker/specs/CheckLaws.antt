@@ -23,8 +23,8 @@ use Rattle.size_steps.specs.declared.Counted.{Counted as CountedFile}
 use Rattle.size_steps.specs.declared.Counting.{Counting}
 use Rattle.size_steps.specs.declared.Counting.the-variants.{Are, Refused}
 use Rattle.size_steps.specs.Agreement.{table, Holds, Before, before-6, before-9}
-use Rattle.size_checker.specs.Promises.{lent}
-use Rattle.size_checker.specs.FilePromises.{AgreesFile, file-agrees, file-refused, file-beyond, SizesFile}
+use Rattle.size_laws.specs.Promises.{lent}
+use Rattle.size_laws.specs.FilePromises.{AgreesFile, file-agrees, file-refused, file-beyond, SizesFile}
 use Rattle.checker.specs.declared.Board.{Board}
 use Rattle.checker.specs.declared.Answer.{Answer}
 use Rattle.checker.specs.Checks.{numbersOf, Checks, refusalOf, sizingRefusal, ReadHeld, Lends, Needs, Judges}

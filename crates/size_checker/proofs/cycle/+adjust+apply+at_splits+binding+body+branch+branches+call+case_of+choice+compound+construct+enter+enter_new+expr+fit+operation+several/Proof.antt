@@ -4,8 +4,8 @@ use mathlib.Core.Path.{_≡_, refl, ap, _∙_, subst}
 use native.Mathlib.Omega.{arith}
 use lib.ListN.{length, take, drop}
 use borrow.Author.Tests.{not-true, not-false}
-use Rattle.size_checker.specs.Loads.{load, load-same, load-moved, load-wide, load-down, load-body, room-same, room-wide, room-down, room-widens, scope-long, sizes-long, room-behind, room-rest, room-kept, room-body, room-inner, room-row, grows-behind, grows-wide}
-use Rattle.size_checker.specs.TurnLaws.{put-is}
+use Rattle.size_laws.specs.Loads.{load, load-same, load-moved, load-wide, load-down, load-body, room-same, room-wide, room-down, room-widens, scope-long, sizes-long, room-behind, room-rest, room-kept, room-body, room-inner, room-row, grows-behind, grows-wide}
+use Rattle.size_laws.specs.TurnLaws.{put-is}
 use Rattle.size_steps.specs.Agreement.{table, grows-to, grows-all-to}
 use mathlib.Core.Bool.{false}
 use mathlib.Core.Logic.{_⊎_, inl, inr, ⊎-elim}
@@ -16,27 +16,27 @@ use Rattle.heads.specs.declared.Form.{Form}
 use Rattle.heads.specs.declared.Form.the-variants.{Bool as BoolForm, Int, Variable, Now, Last, Let, If, Operator, Call, Construct, Case, Adjust, Fit, Missing}
 use Rattle.sizes.proofs.SizedType.{enum}
 use Rattle.sizes.specs.declared.SizedType.{SizedType}
-use Rattle.size_checker.specs.NamedTypes.{NotNamed}
+use Rattle.size_laws.specs.NamedTypes.{NotNamed}
 use Rattle.size_steps.specs.Leaves.{Operands}
 use Rattle.language.specs.Limits.{byteRange}
-use Rattle.size_checker.specs.ExprLaws.{isLeaf, hasParts, expr-deep, expr-bool, expr-int, expr-variable, expr-now, expr-last, expr-compound, now-counted, last-counted, compound-is, compound-none, operands-of}
-use Rattle.size_checker.specs.SeveralLaws.{Turned, turned-start, turned-variable, turned-expr, several-part, several-done}
-use Rattle.size_checker.specs.CallLaws.{call-arguments, call-applied, apply-refused, apply-done}
-use Rattle.size_checker.specs.EnterLaws.{enter-found, enter-absent, new-refused, new-entered, entry-numbers}
-use Rattle.size_checker.specs.BodyLaws.{body-full, body-refused, body-differs, body-done}
-use Rattle.size_checker.specs.ConLaws.{con-fields, con-made}
-use Rattle.size_checker.specs.CaseLaws.{case-first, case-plain, case-outside, case-branches, case-done}
-use Rattle.size_checker.specs.BranchesLaws.{branches-none, branches-first, branches-rest, branches-done}
-use Rattle.size_checker.specs.BranchLaws.{branch-skipped, branch-split}
-use Rattle.size_checker.specs.Walks.{Walks, walks-start, walks-are}
-use Rattle.size_checker.specs.SplitRanks.{walkLeft, turn-falls, less-as}
-use Rattle.size_checker.specs.SplitsLaws.{splits-part, splits-differ, splits-turn, splits-done}
-use Rattle.size_checker.specs.Promises.{lent, buffers}
-use Rattle.size_checker.specs.IfLaws.{if-first, if-second, if-third, if-differ, if-done}
-use Rattle.size_checker.specs.OpLaws.{op-first, op-second, op-done}
-use Rattle.size_checker.specs.AdjLaws.{adj-outside, adj-refused, adj-plain, adj-lowered, adj-done}
-use Rattle.size_checker.specs.FitLaws.{fit-subject, fit-plain, fit-first, fit-other, fit-differ, fit-done}
-use Rattle.size_checker.specs.LetLaws.{let-first, let-second, let-done}
+use Rattle.size_laws.specs.ExprLaws.{isLeaf, hasParts, expr-deep, expr-bool, expr-int, expr-variable, expr-now, expr-last, expr-compound, now-counted, last-counted, compound-is, compound-none, operands-of}
+use Rattle.size_laws.specs.SeveralLaws.{Turned, turned-start, turned-variable, turned-expr, several-part, several-done}
+use Rattle.size_laws.specs.CallLaws.{call-arguments, call-applied, apply-refused, apply-done}
+use Rattle.size_laws.specs.EnterLaws.{enter-found, enter-absent, new-refused, new-entered, entry-numbers}
+use Rattle.size_laws.specs.BodyLaws.{body-full, body-refused, body-differs, body-done}
+use Rattle.size_laws.specs.ConLaws.{con-fields, con-made}
+use Rattle.size_laws.specs.CaseLaws.{case-first, case-plain, case-outside, case-branches, case-done}
+use Rattle.size_laws.specs.BranchesLaws.{branches-none, branches-first, branches-rest, branches-done}
+use Rattle.size_laws.specs.BranchLaws.{branch-skipped, branch-split}
+use Rattle.size_laws.specs.Walks.{Walks, walks-start, walks-are}
+use Rattle.size_laws.specs.SplitRanks.{walkLeft, turn-falls, less-as}
+use Rattle.size_laws.specs.SplitsLaws.{splits-part, splits-differ, splits-turn, splits-done}
+use Rattle.size_laws.specs.Promises.{lent, buffers}
+use Rattle.size_laws.specs.IfLaws.{if-first, if-second, if-third, if-differ, if-done}
+use Rattle.size_laws.specs.OpLaws.{op-first, op-second, op-done}
+use Rattle.size_laws.specs.AdjLaws.{adj-outside, adj-refused, adj-plain, adj-lowered, adj-done}
+use Rattle.size_laws.specs.FitLaws.{fit-subject, fit-plain, fit-first, fit-other, fit-differ, fit-done}
+use Rattle.size_laws.specs.LetLaws.{let-first, let-second, let-done}
 use borrow.Author.Needs.{needs}
 use borrow.Fn.Kinds.{In}
 use borrow.Fn.PlainCycle.{Measures, is, falls, and}

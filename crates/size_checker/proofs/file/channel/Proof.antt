@@ -2,7 +2,7 @@
 use native.Mathlib.Omega.{arith}
 use mathlib.Core.Path.{refl, ap}
 use borrow.Author.Tests.{not-true, not-false}
-use Rattle.size_checker.specs.ChannelLaws.{room-outer, channel-refused, channel-differs, channel-done}
+use Rattle.size_laws.specs.ChannelLaws.{room-outer, channel-refused, channel-differs, channel-done}
 use borrow.Author.Needs.{needs}
 use Rattle.size_checker.proofs.file.channel.Statement.{statement}
 use Rattle.size_checker.proofs.file.channel.Tie as tie

@@ -4,8 +4,8 @@ use native.Mathlib.Omega.{arith}
 use mathlib.Core.Path.{_≡_, refl, _∙_}
 use lib.ListN.{length}
 use Rattle.size_steps.specs.Agreement.{table}
-use Rattle.size_checker.specs.Promises.{lent}
-use Rattle.size_checker.specs.ChannelsLaws.{Along, along-start, along-on, along-no, along-end}
+use Rattle.size_laws.specs.Promises.{lent}
+use Rattle.size_laws.specs.ChannelsLaws.{Along, along-start, along-on, along-no, along-end}
 use Rattle.size_checker.proofs.file.channels_from.Statement.{statement}
 use Rattle.size_checker.proofs.file.channels_from.Tie as tie
 

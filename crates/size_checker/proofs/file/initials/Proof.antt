@@ -2,8 +2,8 @@
 use native.Mathlib.Omega.{arith}
 use mathlib.Core.Path.{refl, _∙_}
 use borrow.Author.Tests.{not-true, not-false}
-use Rattle.size_checker.specs.ChannelLaws.{limited-few, limited-many}
-use Rattle.size_checker.specs.FileLaws.{initials-many, initials-done}
+use Rattle.size_laws.specs.ChannelLaws.{limited-few, limited-many}
+use Rattle.size_laws.specs.FileLaws.{initials-many, initials-done}
 use Rattle.size_checker.proofs.file.initials.Statement.{statement}
 use Rattle.size_checker.proofs.file.initials.Tie as tie
 

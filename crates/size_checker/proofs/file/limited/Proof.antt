@@ -1,6 +1,6 @@
 -- Counts against the limits, one by one.
 use native.Mathlib.Omega.{arith}
-use Rattle.size_checker.specs.ChannelLaws.{many-types, many-functions, many-inputs, limited-nodes}
+use Rattle.size_laws.specs.ChannelLaws.{many-types, many-functions, many-inputs, limited-nodes}
 use Rattle.size_checker.proofs.file.limited.Statement.{statement}
 use Rattle.size_checker.proofs.file.limited.Tie as tie
 

@@ -1,6 +1,6 @@
 -- A whole file: initial values, then updates.
 use mathlib.Core.Path.{refl, _∙_}
-use Rattle.size_checker.specs.FileLaws.{file-first, file-done}
+use Rattle.size_laws.specs.FileLaws.{file-first, file-done}
 use Rattle.size_checker.proofs.file.sized_file.Statement.{statement}
 use Rattle.size_checker.proofs.file.sized_file.Tie as tie
 
