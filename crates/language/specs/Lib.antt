@@ -17,6 +17,7 @@ pub mod Estimate
 pub mod Typing
 pub mod Checker
 pub mod Heap
+pub mod LineFormat
 pub mod Values
 pub mod Cells
 pub mod Slide
@@ -26,4 +27,5 @@ pub mod Evaluator
 pub mod Rules
 pub mod PlainMachine
 pub mod Machine
+pub mod Iteration
 pub mod Run

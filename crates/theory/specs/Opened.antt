@@ -16,6 +16,7 @@ use Rattle.language.specs.Values.{appendTrees, lookTree, treeCells, treesCells,
 use Rattle.language.specs.Cells.{maxTo, otherCells, ownCells, nextCells, cellsTable, cellsAt, cellsFrom, cellsNamed, cellsOf, channelCells, inputCells, updatesNumbers, numbersNeeded}
 use Rattle.language.specs.Format.{spellAll, intBytes, fieldBytes, plainBytes, declaredBytes, sizeBytes, resultBytes, exprBytes, exprsBytes, conditionBytes, constructorBytes, typeBytes, functionBytes, inputBytes, nodeBytes, fileFrames, pickDigit, digitOf, pairOf, lineText, fileText}
 use Rattle.language.specs.Heap.{constantType, truth, number, signedLess, applyOp, constantIn, constructorIn, sizeIn, fieldsIn, ownSum, fieldsWithin, treesAt, treeOf, grow, trees}
+use Rattle.language.specs.LineFormat.{valueBytes, valuesBytes}
 use Rattle.language.specs.Slide.{mem, reachedFrom, reached, numbersFrom, renumberCell, keepFrom, slide}
 use Rattle.language.specs.Layout.{cellTag, cellValue, padded, wordsOf, stateWords, allZero, constructorOfWords, cellOfWords, cellsOfWords, stateOfWords, cellFits, locationFits, fieldsRight, cellRight, cellsRight, rootsRight, allReached, stateRight, loadState}
 use Rattle.language.specs.Line.{valueTrees, valueBehind, valueAt, allRead, inputTrees, treesFit, oneLine, lineTrees}
@@ -35,5 +36,5 @@ sizing = 0
 
 -- the state, the line, the evaluator and the calls
 unfoldable pub running : ℕ
-unfolding spellAll intBytes fieldBytes plainBytes declaredBytes sizeBytes resultBytes exprBytes exprsBytes conditionBytes constructorBytes typeBytes functionBytes inputBytes nodeBytes fileFrames pickDigit digitOf pairOf lineText fileText constantType truth number signedLess applyOp constantIn constructorIn sizeIn fieldsIn ownSum fieldsWithin treesAt treeOf grow trees mem reachedFrom reached numbersFrom renumberCell keepFrom slide cellTag cellValue padded wordsOf stateWords allZero constructorOfWords cellOfWords cellsOfWords stateOfWords cellFits locationFits fieldsRight cellRight cellsRight rootsRight allReached stateRight loadState valueTrees valueBehind valueAt allRead inputTrees treesFit oneLine lineTrees bindOut bindOuts first rest needs alloc parameterCount eval evals evalBranch enterBody run initialTree initialFields boardAllowed recordOf answer checkFile judge judged verdictOf finalList listLent check newCell build buildFields buildAll startState written startWords buffersLent start channelValue putInputs updateNodes iterateState iterateFile iterated iterate
+unfolding spellAll intBytes fieldBytes plainBytes declaredBytes sizeBytes resultBytes exprBytes exprsBytes conditionBytes constructorBytes typeBytes functionBytes inputBytes nodeBytes fileFrames pickDigit digitOf pairOf lineText fileText constantType truth number signedLess applyOp constantIn constructorIn sizeIn fieldsIn ownSum fieldsWithin treesAt treeOf grow trees valueBytes valuesBytes mem reachedFrom reached numbersFrom renumberCell keepFrom slide cellTag cellValue padded wordsOf stateWords allZero constructorOfWords cellOfWords cellsOfWords stateOfWords cellFits locationFits fieldsRight cellRight cellsRight rootsRight allReached stateRight loadState valueTrees valueBehind valueAt allRead inputTrees treesFit oneLine lineTrees bindOut bindOuts first rest needs alloc parameterCount eval evals evalBranch enterBody run initialTree initialFields boardAllowed recordOf answer checkFile judge judged verdictOf finalList listLent check newCell build buildFields buildAll startState written startWords buffersLent start channelValue putInputs updateNodes iterateState iterateFile iterated iterate
 running = 0

@@ -60,6 +60,7 @@ pub record IterationRefusal (n frame : ℕ) : Type 0 where
   pub least : 1 ≤ n
   pub most : n ≤ 23
   pub gap : 10 ≤ n → 18 ≤ n
+  pub frameless : 18 ≤ n → n ≤ 19 → frame ≡ 0
 
 abbrev Numbered : {A : Type 0} → Result A → Type 0
 Numbered r = Outcome Anything IterationRefusal r
