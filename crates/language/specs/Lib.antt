@@ -28,4 +28,5 @@ pub mod Rules
 pub mod PlainMachine
 pub mod Machine
 pub mod Iteration
+pub mod Answers
 pub mod Run

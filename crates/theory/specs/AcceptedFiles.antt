@@ -40,7 +40,7 @@ Numbered n frame = 1 ≤ n
 
 file-outcome : (t : List ℕ) (P : File) (lent : Bool) → readFile t ≡ ok P → Outcome (Passed P lent) Numbered (checkFile t lent)
 unfolding checkFile bind
-file-outcome t P lent read = rw read (plain-outcome P (λ frame. omega arith) (λ plain.
+file-outcome t P lent read = rw read (plain-outcome P (λ frame _. omega arith) (λ plain.
     need-outcome lent 18 0 (λ _. omega arith) (λ given.
     bind-outcome (outcome-of (sizedFile P) (λ n frame e. omega (arith, well-plain-refusals plain e))) (λ q sized _.
     passed (record { given = given; plain = plain; file = refl; sized = sized })))))

@@ -57,6 +57,7 @@ pub mod ChannelsAgree
 pub mod TypingUnique
 pub mod CheckerAgrees
 pub mod PlainSizes
+pub mod FrameNumbers
 pub mod SizeRefusals
 pub mod PlainFileSizes
 pub mod Places

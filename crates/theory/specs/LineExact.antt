@@ -96,6 +96,9 @@ module _ (P : File) (vs : List Tree) (fit : treesFit P vs (inputTypes P) ≡ tru
   inputs-within : (n : ℕ) → length (values vs) ≤ n → (length vs ≡ length (P .inputs)) × All (WithinTree P n) vs
   inputs-within n enough = let w = trees-within vs (inputTypes P) n fit enough in (w .0 ∙ length-map (P .inputs) (λ (i : Input). i .declared), w .1)
 
+  pub inputs-count : length vs ≡ length (P .inputs)
+  inputs-count = inputs-within _ (le-refl _) .0
+
   -- as many levels as bytes are enough
   inputs-read : (n : ℕ) → length (values vs) ≤ n → many (valueAt n P) (length (P .inputs)) (values vs) ≡ got vs []
   inputs-read n enough = let w = inputs-within n enough in rw (append-nil (values vs), w .0) at (many-back (value-exact P n) vs [] (w .1))
