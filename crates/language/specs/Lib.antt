@@ -25,6 +25,7 @@ pub mod Layout
 pub mod Line
 pub mod Evaluator
 pub mod Rules
+pub mod Meets
 pub mod PlainMachine
 pub mod Machine
 pub mod Iteration

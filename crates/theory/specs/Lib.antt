@@ -27,6 +27,7 @@ pub mod CellsReached
 pub mod HeapTrees
 pub mod Heaps
 pub mod RulesGive
+pub mod MeetsGive
 pub mod PlainTyping
 pub mod PlainTypesAgree
 pub mod PlainValues

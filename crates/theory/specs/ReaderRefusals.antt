@@ -15,7 +15,7 @@ use Rattle.language.specs.ReadExpr.{bound, FieldForm, boolField, intField, ownF
 use Rattle.language.specs.ReadExpr.{Form, boolForm, intForm, varForm, nowForm, lastForm, letForm, ifForm, opForm, callForm, conForm, caseForm, adjForm, fitForm, int, exprs, branches, exprBehind, exprAt}
 use Rattle.language.specs.Reader.{typeDef, condition, function, input, node, whole, Kind, typeKind, functionKind, inputKind, nodeKind, isEmpty, withType, withFunction, withInput, withNode, readKind, readFrame, readFrames, linesOf, framesOf, channelCount, emptyFile, readFile}
 use Rattle.language.specs.Answers.{frameCount, FrameNamed}
-use Rattle.theory.specs.FrameNumbers.{frameTotal}
+use Rattle.theory.specs.FrameNumbers.{frameTotal, FrameOf, frame-named}
 use Rattle.theory.specs.SizeRefusals.{Anything}
 use Rattle.theory.specs.Outcomes.{Outcome, accepted, refused, when-accepted, when-refused, outcome-map, bind-outcome, need-outcome, from-outcome, choose-outcome}
 
@@ -278,3 +278,7 @@ reader-frames t e =
 
 pub frames-read : (t : List ℕ) {P : File} → readFile t ≡ ok P → frameTotal P ≡ frameCount t
 frames-read t e = when-accepted (read-numbered t) e
+
+-- a frame of a file that was read is one of its text
+pub in-file : {t : List ℕ} {P : File} {n frame : ℕ} → readFile t ≡ ok P → FrameOf P frame → 2 ≤ n → (15 ≤ n → 20 ≤ n) → FrameNamed t n frame
+in-file {t} read f low gap = frame-named (f .least) (omega (arith, f .most, frames-read t read)) low gap

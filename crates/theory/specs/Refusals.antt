@@ -12,7 +12,8 @@ use Rattle.language.specs.Machine.{Board, Record, emptyRecord, Answer, Verdict,
 use Rattle.language.specs.Answers.{Refused}
 use Rattle.language.specs.Run.{Reported}
 use Rattle.theory.specs.Judged.{judge-zero}
-use Rattle.theory.specs.RefusalNumbers.{CheckRefusal, check-refusals, iterate-refusals}
+use Rattle.theory.specs.RefusalNumbers.{CheckRefusal, check-refusals}
+use Rattle.theory.specs.FileIterates.{iterate-refusals}
 
 -- ---- check
 refused-list : (v : Verdict) (r : Result Accepted) (n : ℕ) → Refused (answer v) → finalList v r n ≡ replicate n emptyRecord
