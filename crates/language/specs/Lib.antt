@@ -28,6 +28,7 @@ pub mod Rules
 pub mod Meets
 pub mod PlainMachine
 pub mod Machine
+pub mod InitialValues
 pub mod Iteration
 pub mod Answers
 pub mod Run

@@ -102,6 +102,9 @@ module _ (P : File) where
   all-grown [] h roots = grown-refl h
   all-grown (v ∷ vs) h roots = grown-trans (build-builds v h .grown) (all-grown vs (build P v h .heap) (roots ++ (build P v h .location ∷ [])))
 
+pub all-grows : (P : File) (vs : List Tree) (h : List Cell) (roots : List ℕ) → length h ≤ length (buildAll P vs h roots .heap)
+all-grows P vs h roots = grown-length (all-grown P vs h roots)
+
 -- ---- what holds of a location, and with each cell of those that it names, holds of all cells built for it
 module _ (P : File) (g : List Cell) (Q : ℕ → Type 0) (fields : (l : ℕ) (c : Cell) → look g l ≡ some c → Q l → All Q (fieldsIn c)) where
   mutual

@@ -6,7 +6,7 @@ use mathlib.Core.Path.{_≡_, refl}
 use native.Mathlib.Omega.{arith}
 use lib.ListN.{length, length-append, length-map}
 use Rattle.language.specs.Result.{Result, ok, no, needEach}
-use Rattle.language.specs.Syntax.{File, functionFrame}
+use Rattle.language.specs.Syntax.{File}
 use Rattle.language.specs.Within.{all-nil, all-cons}
 use Rattle.language.specs.PlainTypes.{plainFunction, plainInput, plainNode, plainTypes}
 use Rattle.theory.specs.Tests.{AllTrue, each-passes}

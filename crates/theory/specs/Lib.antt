@@ -106,5 +106,7 @@ pub mod Refusals
 pub mod FileAnswers
 pub mod LineAnswers
 pub mod IterationSteps
+pub mod InitialRuns
+pub mod StartSteps
 pub mod Demand
 pub mod Accumulates

@@ -1,16 +1,15 @@
 -- Where the rules meet a refusal, the evaluator refuses with its number, one of 20 to 23, with no hypothesis on file or expression. So the
 -- rules meet at most one, and none where they derive a value.
-use Prim.Native.Nat.{ℕ, zero, suc, _-_, _≤_, _<_}
+use Prim.Native.Nat.{ℕ, zero, _≤_, _<_}
 use mathlib.Core.List.{List, []}
 use mathlib.Core.Bool.{false}
-use mathlib.Core.Option.{some}
-use mathlib.Core.Path.{_≡_, refl, sym, _∙_}
+use mathlib.Core.Path.{_≡_, sym, _∙_}
 use native.Mathlib.Omega.{arith}
 use lib.ListN.{length}
 use lib.Dec.{leb}
 use borrow.Author.Tests.{lt-ltb, le-ltb, le-leb, lt-leb}
 use Rattle.language.specs.Limits.{sizeMost}
-use Rattle.language.specs.Result.{both, choose}
+use Rattle.language.specs.Result.{choose}
 use Rattle.language.specs.Syntax.{fbool, fint, own, other, Constructor, Expr, Exprs, File, constructorsOf}
 use Rattle.language.specs.Sizes.{sum}
 use Rattle.language.specs.Heap.{Cell, truth, cellAt, constantIn, constructorIn, sizeIn, fieldsIn, fieldsWithin}
