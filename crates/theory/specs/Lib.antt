@@ -108,5 +108,6 @@ pub mod LineAnswers
 pub mod IterationSteps
 pub mod InitialRuns
 pub mod StartSteps
+pub mod Unread
 pub mod Demand
 pub mod Accumulates
