@@ -39,9 +39,9 @@ module _ {P : File} where
     initial-tree (p-if-then p q) i = false-is-not-true i
     initial-tree (p-if-else p q) i = false-is-not-true i
     initial-tree (p-op p q a b e) i = false-is-not-true i
-    initial-tree (p-call e p q) i = false-is-not-true i
-    initial-tree (p-ctor {t} {c} p e less within) i = ap (vcon t c) (initial-fields p i)
-    initial-tree (p-case p e q) i = false-is-not-true i
+    initial-tree (p-call e p many q) i = false-is-not-true i
+    initial-tree (p-ctor {t} {c} p e sizes less) i = ap (vcon t c) (initial-fields p i)
+    initial-tree (p-case p known many e q) i = false-is-not-true i
     initial-tree (p-adj p) i = initial-tree p i
     initial-tree (p-fit-success p le q) i = false-is-not-true i
     initial-tree (p-fit-fail p less q) i = false-is-not-true i
