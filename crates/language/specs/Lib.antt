@@ -11,10 +11,12 @@ pub mod Parser
 pub mod ReadExpr
 pub mod Reader
 pub mod PlainTypes
+pub mod PlainTyping
 pub mod Sizes
 pub mod Splits
 pub mod Estimate
 pub mod Typing
+pub mod Instances
 pub mod Checker
 pub mod Heap
 pub mod Values
@@ -27,3 +29,4 @@ pub mod Rules
 pub mod PlainMachine
 pub mod Machine
 pub mod Run
+pub mod Acceptance

@@ -19,7 +19,7 @@ use Rattle.language.specs.Evaluator.{Out, value, refused, Channels, noChannels,
 use Rattle.language.specs.Rules.{Runs, RunsAll, e-bool, e-int, e-var, e-node, e-atlast, e-let, e-if-then, e-if-else, e-op, e-call, e-ctor, e-case, e-adj, e-fit-success, e-fit-fail, es-nil, es-cons}
 use Rattle.theory.specs.Lists.{look-getD, none-is-not-some, both-left, both-right}
 use Rattle.theory.specs.RulesGive.{arity-is, runs-eval, runs-not-refused}
-use Rattle.theory.specs.PlainTyping.{PlainTyping, p-bool, p-int, p-var, p-node, p-atlast, p-let, p-if, p-op, p-call, p-ctor, p-case, p-adj, p-fit, PlainTypings, ps-nil, ps-cons, PlainBranches, p-none, p-branch, WellPlain}
+use Rattle.language.specs.PlainTyping.{PlainTyping, p-bool, p-int, p-var, p-node, p-atlast, p-let, p-if, p-op, p-call, p-ctor, p-case, p-adj, p-fit, PlainTypings, ps-nil, ps-cons, PlainBranches, p-none, p-branch, WellPlain}
 use Rattle.theory.specs.Heaps.{Grown, grown-refl, grown-one, grown-trans}
 use Rattle.theory.specs.PlainValues.{PlainValue, PlainValues, vs-nil, vs-cons, value-grown, values-look, PlainScope, scope-grown, scope-append, scope-one, scope-body, bool-cell, operand-cell, values-length, con-cell, con-length, sizes-at, new-leaf, new-result, new-con}
 use Rattle.theory.specs.Fates.{RunRefusal, Fate, f-value, f-refused, Fates, fs-values, fate-value, fate-refused, fate-map, bind-fate, binds-fate, rest-fates, first-fates, needs-fate, slots-fate, choose-fate, alloc-fate}

@@ -9,7 +9,7 @@ use Rattle.language.specs.Within.{all-nil, all-cons}
 use Rattle.language.specs.PlainTypes.{plainTypes}
 use Rattle.theory.specs.Tests.{AllTrue, each-passes}
 use Rattle.theory.specs.Outcomes.{Outcome, accepted, refused, need-outcome}
-use Rattle.theory.specs.PlainTyping.{WellPlain}
+use Rattle.language.specs.PlainTyping.{WellPlain}
 use Rattle.theory.specs.PlainTypesAgree.{well-plain}
 use Rattle.theory.specs.SizeRefusals.{Anything}
 

@@ -27,7 +27,6 @@ pub mod CellsReached
 pub mod HeapTrees
 pub mod Heaps
 pub mod RulesGive
-pub mod PlainTyping
 pub mod PlainTypesAgree
 pub mod PlainValues
 pub mod Fates
@@ -68,6 +67,10 @@ pub mod Slides
 pub mod SlideKept
 pub mod TypedStates
 pub mod SlideTyped
+pub mod SoundHeaps
+pub mod SoundScopes
+pub mod PlainRuns
+pub mod RulesPlain
 pub mod CellsRight
 pub mod StateRight
 pub mod Builds
@@ -94,5 +97,8 @@ pub mod ReaderRefusals
 pub mod PlainStates
 pub mod RefusalNumbers
 pub mod Refusals
+pub mod CheckExact
+pub mod CheckPlaces
+pub mod CheckerDemands
 pub mod Demand
 pub mod Accumulates

@@ -24,7 +24,7 @@ use Rattle.theory.specs.Outcomes.{Outcome, accepted, refused, when-refus
 use Rattle.theory.specs.FilePasses.{plain-outcome, outcome-of}
 use Rattle.theory.specs.SizeRefusals.{Anything}
 use Rattle.theory.specs.PlainFileSizes.{well-plain-refusals}
-use Rattle.theory.specs.PlainTyping.{channelTypes, PlainNode, WellPlain}
+use Rattle.language.specs.PlainTyping.{channelTypes, PlainNode, WellPlain}
 use Rattle.theory.specs.PlainValues.{PlainValues, vs-nil, vs-cons, values-grown, values-append}
 use Rattle.theory.specs.Fates.{Fate, f-value, f-refused}
 use Rattle.theory.specs.EvaluatorAgrees.{eval-agrees}
