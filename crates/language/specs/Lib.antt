@@ -11,10 +11,12 @@ pub mod Parser
 pub mod ReadExpr
 pub mod Reader
 pub mod PlainTypes
+pub mod PlainTyping
 pub mod Sizes
 pub mod Splits
 pub mod Estimate
 pub mod Typing
+pub mod Instances
 pub mod Checker
 pub mod Heap
 pub mod LineFormat
@@ -32,3 +34,5 @@ pub mod InitialValues
 pub mod Iteration
 pub mod Answers
 pub mod Run
+pub mod Acceptance
+pub mod Evaluation

@@ -21,7 +21,7 @@ use Rattle.language.specs.Meets.{Meets, MeetsIn, m-bool, m-int, m-let-bound, m-
 use Rattle.theory.specs.Lists.{look-getD, none-is-not-some, both-left, both-right, both-first}
 use Rattle.theory.specs.RulesGive.{arity-is, runs-eval, runs-not-refused}
 use Rattle.theory.specs.MeetsGive.{meets-eval, RunRefusal, meets-numbered}
-use Rattle.theory.specs.PlainTyping.{PlainTyping, p-bool, p-int, p-var, p-node, p-atlast, p-let, p-if, p-op, p-call, p-ctor, p-case, p-adj, p-fit, PlainTypings, ps-nil, ps-cons, PlainBranches, p-none, p-branch, WellPlain}
+use Rattle.language.specs.PlainTyping.{PlainTyping, p-bool, p-int, p-var, p-node, p-atlast, p-let, p-if, p-op, p-call, p-ctor, p-case, p-adj, p-fit, PlainTypings, ps-nil, ps-cons, PlainBranches, p-none, p-branch, WellPlain}
 use Rattle.theory.specs.Heaps.{Grown, grown-refl, grown-one, grown-trans}
 use Rattle.theory.specs.PlainValues.{PlainValue, PlainValues, vs-nil, vs-cons, value-grown, values-look, PlainScope, scope-grown, scope-append, scope-one, scope-body, bool-cell, operand-cell, values-length, con-cell, con-length, sizes-at, field-above, new-leaf, new-result, new-con}
 use Rattle.theory.specs.Fates.{Fate, f-value, f-refused, Fates, fs-values, fate-value, fate-refused, fate-map, bind-fate, binds-fate, rest-fates, first-fates, needs-fate, slots-fate, choose-fate, alloc-fate}

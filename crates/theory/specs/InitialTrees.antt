@@ -18,7 +18,7 @@ use Rattle.language.specs.Line.{treesFit}
 use Rattle.language.specs.PlainMachine.{TreeChannels, noTrees, Derives, p-bool, p-int, p-var, p-node, p-atlast, p-let, p-if-then, p-if-else, p-op, p-call, p-ctor, p-case, p-adj, p-fit-success, p-fit-fail, DerivesAll, ps-nil, ps-cons, initialTree, initialFields, initialTrees}
 use Rattle.theory.specs.Lists.{false-is-not-true, both-left, both-right, both-true}
 use Rattle.theory.specs.Alls.{all-append, all-map, all-to-map, all-each}
-use Rattle.theory.specs.PlainTyping.{WellPlain}
+use Rattle.language.specs.PlainTyping.{WellPlain}
 use Rattle.theory.specs.HeapValues.{env-nil, scoped-body}
 use Rattle.theory.specs.Simulated.{Enough}
 use Rattle.theory.specs.Simulates.{estimate-sound, value-fits-type}

@@ -28,7 +28,6 @@ pub mod HeapTrees
 pub mod Heaps
 pub mod RulesGive
 pub mod MeetsGive
-pub mod PlainTyping
 pub mod PlainTypesAgree
 pub mod PlainValues
 pub mod Fates
@@ -70,6 +69,10 @@ pub mod Slides
 pub mod SlideKept
 pub mod TypedStates
 pub mod SlideTyped
+pub mod SoundHeaps
+pub mod SoundScopes
+pub mod PlainRuns
+pub mod RulesPlain
 pub mod CellsRight
 pub mod StateRight
 pub mod Builds
@@ -103,6 +106,9 @@ pub mod FileIterates
 pub mod Room
 pub mod RefusalNumbers
 pub mod Refusals
+pub mod CheckExact
+pub mod CheckPlaces
+pub mod CheckerDemands
 pub mod FileAnswers
 pub mod LineAnswers
 pub mod IterationSteps

@@ -12,7 +12,7 @@ use Rattle.language.specs.PlainTypes.{plainDeclared, plainTypes}
 use Rattle.language.specs.Typing.{outside, channelsAt, frameAt}
 use Rattle.language.specs.Checker.{Instance, sizedChannel, sizedInitials, sizedUpdates, sizedFile}
 use Rattle.theory.specs.Outcomes.{Outcome, accepted, when-refused, bind-outcome, need-outcome}
-use Rattle.theory.specs.PlainTyping.{PlainTyping, PlainInitial, PlainNode, WellPlain}
+use Rattle.language.specs.PlainTyping.{PlainTyping, PlainInitial, PlainNode, WellPlain}
 use Rattle.theory.specs.PlainTypesAgree.{well-plain}
 use Rattle.theory.specs.PlainSizes.{plainsOfTypes}
 use Rattle.theory.specs.FrameNumbers.{channelTotal, channel-frame}

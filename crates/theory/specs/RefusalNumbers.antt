@@ -13,7 +13,7 @@ use Rattle.language.specs.Answers.{FrameNamed}
 use Rattle.theory.specs.Outcomes.{Outcome, accepted, when-refused, bind-outcome, need-outcome}
 use Rattle.theory.specs.FilePasses.{plain-outcome, outcome-of}
 use Rattle.theory.specs.PlainFileSizes.{well-plain-refusals}
-use Rattle.theory.specs.PlainTyping.{WellPlain}
+use Rattle.language.specs.PlainTyping.{WellPlain}
 use Rattle.theory.specs.FrameNumbers.{no-frame-named}
 use Rattle.theory.specs.ReaderRefusals.{reader-refusals, reader-frames, in-file}
 

@@ -25,14 +25,14 @@ scopeTrees h E = treesAt (trees h) E
 pub tree-grown : {h g : List Cell} → Grown h g → (l : ℕ) → l < length h → treeAt g l ≡ treeAt h l
 tree-grown {h} w l less = rw (w .is) (tree-append h (w .more) l less)
 
-scope-trees-grown : {h g : List Cell} {E : List ℕ} → Grown h g → All (λ l. l < length h) E → scopeTrees g E ≡ scopeTrees h E
+pub scope-trees-grown : {h g : List Cell} {E : List ℕ} → Grown h g → All (λ l. l < length h) E → scopeTrees g E ≡ scopeTrees h E
 scope-trees-grown {h} w low = rw (w .is) (fields-append h (w .more) low)
 
-map-trees-grown : {h g : List Cell} {ls : List ℕ} → Grown h g → All (λ l. l < length h) ls → map (treeAt g) ls ≡ map (treeAt h) ls
+pub map-trees-grown : {h g : List Cell} {ls : List ℕ} → Grown h g → All (λ l. l < length h) ls → map (treeAt g) ls ≡ map (treeAt h) ls
 map-trees-grown w all-nil = refl
 map-trees-grown w (all-cons {a = l} less low) = rw (tree-grown w l less, map-trees-grown w low)
 
-scope-trees-append : (h : List Cell) (E ls : List ℕ) → scopeTrees h (E ++ ls) ≡ appendTrees (scopeTrees h E) (scopeTrees h ls)
+pub scope-trees-append : (h : List Cell) (E ls : List ℕ) → scopeTrees h (E ++ ls) ≡ appendTrees (scopeTrees h E) (scopeTrees h ls)
 unfolding treesAt appendTrees
 scope-trees-append h [] ls = refl
 scope-trees-append h (l ∷ E) ls = ap (vcons (treeAt h l)) (scope-trees-append h E ls)

@@ -20,7 +20,7 @@ use Rattle.theory.specs.Outcomes.{Outcome, accepted, refused, bind-outco
 use Rattle.theory.specs.FrameNumbers.{frameTotal, FrameOf, function-frame}
 use Rattle.theory.specs.CheckerSteps.{named-holds, atSplit, foundOr-outcome}
 use Rattle.theory.specs.SameTests.{type-same, types-same}
-use Rattle.theory.specs.PlainTyping.{PlainTyping, p-bool, p-int, p-var, p-node, p-atlast, p-let, p-if, p-op, p-call, p-ctor, p-case, p-adj, p-fit, PlainTypings, ps-nil, ps-cons, PlainBranches, p-none, p-branch, WellPlain}
+use Rattle.language.specs.PlainTyping.{PlainTyping, p-bool, p-int, p-var, p-node, p-atlast, p-let, p-if, p-op, p-call, p-ctor, p-case, p-adj, p-fit, PlainTypings, ps-nil, ps-cons, PlainBranches, p-none, p-branch, WellPlain}
 use Rattle.theory.specs.PlainSizes.{bool-plain, named-plain, operand-plain, base-plain, result-plain, plainsOfTypes, plains-joined, plain-named, parameters-plain, fields-plain, own-parameters, look-none-plain}
 
 -- "sizes: 10 to 14"

@@ -1,32 +1,29 @@
 -- A start that is answered 0 writes the state to which the rules lead: figure 4 derives a value for each initial value, the cells laid are
--- those that it lays, the trees are the initial trees, and these are what the plain machine's rules derive too.
+-- those that it lays, the trees are the initial trees, and these are what the plain machine's rules derive too. With what is said of the
+-- line and of an iteration it is demand 2 of the evaluator.
 use Prim.Native.Nat.{ℕ, _≤_}
 use mathlib.Core.List.{List, [], map}
-use mathlib.Core.Option.{some}
 use mathlib.Core.Path.{_≡_}
 use native.Mathlib.Omega.{arith}
 use lib.ListN.{length}
 use Rattle.language.specs.Limits.{sizeMost}
-use Rattle.language.specs.Result.{ok}
 use Rattle.language.specs.Syntax.{Ty, Input, Node, File, declaredTypes, initialValues}
 use Rattle.language.specs.Within.{All, all-nil, all-cons, WithinDeclared, w-tbool, w-tint, w-tnamed, WithinNodes, wn-nil, wn-cons, Within}
-use Rattle.language.specs.Reader.{readFile}
 use Rattle.language.specs.Sizes.{sizeOfType}
-use Rattle.language.specs.Heap.{vnil}
-use Rattle.language.specs.Slide.{State}
-use Rattle.language.specs.Layout.{loadState}
 use Rattle.language.specs.Estimate.{Estimate}
-use Rattle.language.specs.PlainMachine.{noTrees, Derives, initialTree, initialTrees}
-use Rattle.language.specs.Machine.{Board, Record, written, startState, start}
+use Rattle.language.specs.Machine.{Board, Record, startState, start}
 use Rattle.language.specs.InitialValues.{FileBegins}
-use Rattle.language.specs.Run.{channelTrees}
+use Rattle.language.specs.Evaluation.{StartDone, EvaluatorDemand}
 use Rattle.theory.specs.Alls.{all-append, all-map, all-to-map}
 use Rattle.theory.specs.AcceptedFiles.{AcceptedFile}
+use Rattle.theory.specs.ReaderExact.{reader-forth}
+use Rattle.theory.specs.LineExact.{line-exact}
 use Rattle.theory.specs.StateWords.{state-loaded}
 use Rattle.theory.specs.InitialTrees.{initials-formed, initial-trees-fit, initial-trees-derived}
 use Rattle.theory.specs.Starts.{start-trees, start-writes, starts}
 use Rattle.theory.specs.FileAnswers.{zero-is-accepted}
 use Rattle.theory.specs.InitialRuns.{initials-begin}
+use Rattle.theory.specs.IterationSteps.{zero-is-done, zero-iff-rules-lead, refused-iff-rules-meet}
 
 -- ---- declared sizes are within 64
 declared-small : {types : ℕ} {τ : Ty} → WithinDeclared types τ → sizeOfType τ ≤ sizeMost
@@ -48,17 +45,6 @@ pub start-by-rules : {t : List ℕ} {P : File} {x : Estimate} (a : AcceptedFile 
 unfolding startState
 start-by-rules {P} a b room = initials-begin (a .within) b (initialValues P) (declaredTypes P) [] [] (initials-formed (a .plain)) (initial-trees-fit a) (all-declared-small (a .within)) room
 
--- what a start that is answered 0 did
-pub record StartDone (t : List ℕ) (b : Board) (list : List Record) (state scratch slots : List ℕ) : Type 0 where
-  pub file : File
-  pub read : readFile t ≡ ok file
-  pub begun : State
-  pub begins : FileBegins file b begun
-  pub trees : channelTrees begun ≡ initialTrees file
-  pub derives : All (λ e. Derives file noTrees vnil e (initialTree e)) (initialValues file)
-  pub writes : start t b list state scratch slots .state ≡ written (b .cells) begun state
-  pub valid : loadState file (b .cells) (start t b list state scratch slots .state) ≡ some begun
-
 pub zero-is-begun : (t : List ℕ) (b : Board) (list : List Record) (state scratch slots : List ℕ) → start t b list state scratch slots .answer .number ≡ 0 → StartDone t b list state scratch slots
 zero-is-begun t b list state scratch slots e =
     let x = zero-is-accepted t b list state scratch slots e in
@@ -67,7 +53,7 @@ zero-is-begun t b list state scratch slots e =
     let loads = starts a (x .allowed) .loads in
     record {
       file = P;
-      read = a .read;
+      is = record { text = reader-forth t P (a .read) .0; within = a .within };
       begun = startState P;
       begins = start-by-rules a b (state-loaded (a .within) loads .room);
       trees = start-trees P;
@@ -75,3 +61,6 @@ zero-is-begun t b list state scratch slots e =
       writes = start-writes a (x .allowed);
       valid = loads;
     }
+
+pub evaluator-demand : EvaluatorDemand
+evaluator-demand = record { line = line-exact; starts = zero-is-begun; done = zero-is-done; leads = zero-iff-rules-lead; meets = refused-iff-rules-meet }
