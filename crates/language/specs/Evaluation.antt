@@ -3,9 +3,9 @@ use Prim.Native.Nat.{ℕ, _≤_}
 use mathlib.Core.List.{List, map}
 use mathlib.Core.Bool.{Bool, true}
 use mathlib.Core.Logic.{_↔_}
-use mathlib.Core.Option.{some}
+use mathlib.Core.Option.{none, some}
 use mathlib.Core.Path.{_≡_}
-use Rattle.language.specs.Refusals.{noRefusal, heapSpent}
+use Rattle.language.specs.Refusals.{noRefusal, notLent, badInputLine, heapSpent}
 use Rattle.language.specs.Syntax.{Input, File, initialValues}
 use Rattle.language.specs.Within.{All, Within}
 use Rattle.language.specs.PlainTyping.{WellPlain}
@@ -37,7 +37,24 @@ pub record Runnable (t : List ℕ) (b : Board) (lent : Bool) (ws line : List ℕ
   pub spelled : line ≡ inputText inputs
   pub fit : InputsFit file inputs
 
--- from there the rules lead to a state, or meet a refusal
+-- 18: "board over its maximum, a buffer too short, or state not as above for this file"
+pub record NotLent (t : List ℕ) (b : Board) (lent : Bool) (ws : List ℕ) : Type 0 where
+  pub file : File
+  pub is : TextOf file t
+  pub plain : WellPlain file
+  pub invalid : lent ≡ true → loadState file (b .cells) ws ≡ none
+
+-- 19: "input line wrong"
+pub record LineWrong (t : List ℕ) (b : Board) (lent : Bool) (ws line : List ℕ) : Type 0 where
+  pub file : File
+  pub is : TextOf file t
+  pub plain : WellPlain file
+  pub enough : lent ≡ true
+  pub before : State
+  pub loads : loadState file (b .cells) ws ≡ some before
+  pub wrong : (vs : List Tree) → line ≡ inputText vs → InputsFit file vs → ⊥
+
+-- on what is right the rules lead to a state, or meet a refusal
 pub record FileIterates (t : List ℕ) (b : Board) (lent : Bool) (ws line : List ℕ) (after : State) : Type 0 where
   pub given : Runnable t b lent ws line
   pub iterates : Iterates (given .file) b (given .before) (given .inputs) after
@@ -71,6 +88,8 @@ pub record IterateDone (t : List ℕ) (b : Board) (state scratch slots line : Li
 pub record EvaluatorDemand : Type 0 where
   pub line : (P : File) → Within P → (line : List ℕ) (vs : List Tree) → (lineTrees P line ≡ some vs) ↔ ((line ≡ inputText vs) × InputsFit P vs)
   pub starts : (t : List ℕ) (b : Board) (list : List Record) (state scratch slots : List ℕ) → start t b list state scratch slots .answer .number ≡ noRefusal → StartDone t b list state scratch slots
+  pub lending : (t : List ℕ) (b : Board) (state scratch slots line : List ℕ) → (iterate t b state scratch slots line .answer .number ≡ notLent) ↔ NotLent t b (buffersLent b state scratch slots) state
+  pub wrong : (t : List ℕ) (b : Board) (state scratch slots line : List ℕ) → (iterate t b state scratch slots line .answer .number ≡ badInputLine) ↔ LineWrong t b (buffersLent b state scratch slots) state line
   pub done : (t : List ℕ) (b : Board) (state scratch slots line : List ℕ) → iterate t b state scratch slots line .answer .number ≡ noRefusal → IterateDone t b state scratch slots line
   pub leads : (t : List ℕ) (b : Board) (state scratch slots line : List ℕ) →
       (iterate t b state scratch slots line .answer .number ≡ noRefusal) ↔ ((after : State) × FileIterates t b (buffersLent b state scratch slots) state line after)

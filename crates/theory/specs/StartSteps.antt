@@ -23,7 +23,7 @@ use Rattle.theory.specs.InitialTrees.{initials-formed, initial-trees-fit
 use Rattle.theory.specs.Starts.{start-trees, start-writes, starts}
 use Rattle.theory.specs.FileAnswers.{zero-is-accepted}
 use Rattle.theory.specs.InitialRuns.{initials-begin}
-use Rattle.theory.specs.IterationSteps.{zero-is-done, zero-iff-rules-lead, refused-iff-rules-meet}
+use Rattle.theory.specs.IterationSteps.{zero-is-done, zero-iff-rules-lead, refused-iff-rules-meet, lending-iff, wrong-iff}
 
 -- ---- declared sizes are within 64
 declared-small : {types : ℕ} {τ : Ty} → WithinDeclared types τ → sizeOfType τ ≤ sizeMost
@@ -63,4 +63,4 @@ zero-is-begun t b list state scratch slots e =
     }
 
 pub evaluator-demand : EvaluatorDemand
-evaluator-demand = record { line = line-exact; starts = zero-is-begun; done = zero-is-done; leads = zero-iff-rules-lead; meets = refused-iff-rules-meet }
+evaluator-demand = record { line = line-exact; starts = zero-is-begun; lending = lending-iff; wrong = wrong-iff; done = zero-is-done; leads = zero-iff-rules-lead; meets = refused-iff-rules-meet }
