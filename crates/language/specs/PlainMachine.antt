@@ -1,17 +1,18 @@
 -- The plain machine is document 01's term ("The third demand's run"): it "is fed the lines alone and sees no memory. It holds a
--- tree for each channel". Its expressions are figure 4 on trees, "with memory without limit"; refusal 23's premises stay.
-use Prim.Native.Nat.{ℕ, _+_, _≤_, _<_}
+-- tree for each channel". Its expressions are figure 4 on trees, "with memory without limit", rule by rule as in `Rules`; refusal
+-- 23's premises stay.
+use Prim.Native.Nat.{ℕ, _≤_, _<_}
 use mathlib.Core.List.{List, [], _∷_, _++_, map}
 use mathlib.Core.Bool.{Bool, true, false}
 use mathlib.Core.Option.{none, some}
 use mathlib.Core.Path.{_≡_}
 use lib.ListN.{length, drop, getElem? as look}
 use Rattle.language.specs.Limits.{sizeMost}
-use Rattle.language.specs.Syntax.{Constructor, Size, ResultType, Op, Expr, ebool, eint, evar, enow, elast, elet, eif, eop, ecall, econ, ecase, eadj, efit, Exprs, enil, econs, lookExpr, Function, Node, File, constructorsOf, initialValues}
+use Rattle.language.specs.Syntax.{Constructor, fbool, fint, own, other, Size, ResultType, Op, Expr, ebool, eint, evar, enow, elast, elet, eif, eop, ecall, econ, ecase, eadj, efit, Exprs, enil, econs, lookExpr, Function, Node, File, constructorsOf, initialValues}
 use Rattle.language.specs.PlainTypes.{operandType}
-use Rattle.language.specs.Sizes.{sizeOfType}
+use Rattle.language.specs.Sizes.{sum, sizeOfType}
 use Rattle.language.specs.Heap.{Constant, kbool, kint, Tree, vleaf, vcon, Trees, vnil, vcons, constantType, applyOp}
-use Rattle.language.specs.Values.{appendTrees, lookTree, treeSize, ownTreeSum, treesWithin}
+use Rattle.language.specs.Values.{appendTrees, lookTree, treeCount, treeSize}
 use Rattle.language.specs.Line.{lineTrees}
 
 -- the trees that `13` and `14` read: as they stand now, and before the line
@@ -23,6 +24,14 @@ abbrev pub noTrees : TreeChannels
 noTrees = record { now = []; last = [] }
 
 module _ (P : File) where
+  -- the sizes at a constructor's own-type fields, each a constructor χ[k](..); a field of another type is one too, not "above its k"
+  pub data TreeSizes : Constructor → Trees → List ℕ → Type 0 where
+    y-none : TreeSizes [] vnil []
+    y-bool : {w : Tree} {fs : Constructor} {ws : Trees} {ks : List ℕ} → TreeSizes fs ws ks → TreeSizes (fbool ∷ fs) (vcons w ws) ks
+    y-int : {w : Tree} {fs : Constructor} {ws : Trees} {ks : List ℕ} → TreeSizes fs ws ks → TreeSizes (fint ∷ fs) (vcons w ws) ks
+    y-own : {t c k : ℕ} {us ws : Trees} {fs : Constructor} {ks : List ℕ} → treeSize P (vcon t c us) ≡ k → TreeSizes fs ws ks → TreeSizes (own ∷ fs) (vcons (vcon t c us) ws) (k ∷ ks)
+    y-other : {t c u j : ℕ} {us ws : Trees} {fs : Constructor} {ks : List ℕ} → treeSize P (vcon t c us) ≤ j → TreeSizes fs ws ks → TreeSizes (other u j ∷ fs) (vcons (vcon t c us) ws) ks
+
   mutual
     pub data Derives : TreeChannels → Trees → Expr → Tree → Type 0 where
       p-bool : {N : TreeChannels} {E : Trees} {b : Bool} → Derives N E (ebool b) (vleaf (kbool b))
@@ -35,14 +44,16 @@ module _ (P : File) where
       p-if-else : {N : TreeChannels} {E : Trees} {a b d : Expr} {v : Tree} → Derives N E a (vleaf (kbool false)) → Derives N E d v → Derives N E (eif a b d) v
       p-op : {N : TreeChannels} {E : Trees} {o : Op} {a b : Expr} {x y z : Constant} → Derives N E a (vleaf x) → Derives N E b (vleaf y) →
           constantType x ≡ operandType o → constantType y ≡ operandType o → z ≡ applyOp o x y → Derives N E (eop o a b) (vleaf z)
-      p-call : {N : TreeChannels} {E vs : Trees} {f : ℕ} {es : Exprs} {F : Function} {v : Tree} → look (P .functions) f ≡ some F → DerivesAll N E es vs → Derives noTrees vs (F .body) v → Derives N E (ecall f es) v
-      p-ctor : {N : TreeChannels} {E vs : Trees} {t c : ℕ} {es : Exprs} {fs : Constructor} → DerivesAll N E es vs → look (constructorsOf P t) c ≡ some fs →
-          ownTreeSum P vs fs < sizeMost → treesWithin P vs fs ≡ true → Derives N E (econ t c es) (vcon t c vs)
-      p-case : {N : TreeChannels} {E vs : Trees} {t c : ℕ} {e b : Expr} {r : ResultType} {bs : Exprs} {v : Tree} → Derives N E e (vcon t c vs) → lookExpr bs c ≡ some b →
-          Derives N (appendTrees E vs) b v → Derives N E (ecase t e r bs) v
+      p-call : {N : TreeChannels} {E vs : Trees} {f : ℕ} {es : Exprs} {F : Function} {v : Tree} → look (P .functions) f ≡ some F → DerivesAll N E es vs →
+          treeCount vs ≡ length (F .parameters) → Derives noTrees vs (F .body) v → Derives N E (ecall f es) v
+      p-ctor : {N : TreeChannels} {E vs : Trees} {t c : ℕ} {ks : List ℕ} {es : Exprs} {fs : Constructor} → DerivesAll N E es vs → look (constructorsOf P t) c ≡ some fs →
+          TreeSizes fs vs ks → sum ks < sizeMost → Derives N E (econ t c es) (vcon t c vs)
+      p-case : {N : TreeChannels} {E vs : Trees} {t c : ℕ} {e b : Expr} {r : ResultType} {bs : Exprs} {fs : Constructor} {v : Tree} → Derives N E e (vcon t c vs) → look (constructorsOf P t) c ≡ some fs →
+          treeCount vs ≡ length fs → lookExpr bs c ≡ some b → Derives N (appendTrees E vs) b v → Derives N E (ecase t e r bs) v
       p-adj : {N : TreeChannels} {E : Trees} {s : Size} {e : Expr} {v : Tree} → Derives N E e v → Derives N E (eadj s e) v
-      p-fit-success : {N : TreeChannels} {E : Trees} {k : ℕ} {a b d : Expr} {w v : Tree} → Derives N E a w → treeSize P w ≤ k → Derives N (appendTrees E (vcons w vnil)) b v → Derives N E (efit k a b d) v
-      p-fit-fail : {N : TreeChannels} {E : Trees} {k : ℕ} {a b d : Expr} {w v : Tree} → Derives N E a w → k < treeSize P w → Derives N E d v → Derives N E (efit k a b d) v
+      p-fit-success : {N : TreeChannels} {E ws : Trees} {t c k : ℕ} {a b d : Expr} {v : Tree} → Derives N E a (vcon t c ws) → treeSize P (vcon t c ws) ≤ k →
+          Derives N (appendTrees E (vcons (vcon t c ws) vnil)) b v → Derives N E (efit k a b d) v
+      p-fit-fail : {N : TreeChannels} {E ws : Trees} {t c k : ℕ} {a b d : Expr} {v : Tree} → Derives N E a (vcon t c ws) → k < treeSize P (vcon t c ws) → Derives N E d v → Derives N E (efit k a b d) v
 
     pub data DerivesAll : TreeChannels → Trees → Exprs → Trees → Type 0 where
       ps-nil : {N : TreeChannels} {E : Trees} → DerivesAll N E enil vnil

@@ -19,6 +19,10 @@ lookTree vnil i = none
 lookTree (vcons v vs) zero = some v
 lookTree (vcons v vs) (suc i) = lookTree vs i
 
+unfoldable pub treeCount : Trees → ℕ
+treeCount vnil = 0
+treeCount (vcons v vs) = suc (treeCount vs)
+
 -- "one a constructor, one a Bool or Int"
 unfoldable mutual
   pub treeCells : Tree → ℕ
@@ -61,14 +65,6 @@ module _ (P : File) where
     ownTreeSum (vcons w ws) (fint ∷ fs) = ownTreeSum ws fs
     ownTreeSum (vcons w ws) (own ∷ fs) = treeSize w + ownTreeSum ws fs
     ownTreeSum (vcons w ws) (other t k ∷ fs) = ownTreeSum ws fs
-
-  unfoldable pub treesWithin : Trees → List Field → Bool
-  treesWithin vnil fs = true
-  treesWithin (vcons w ws) [] = true
-  treesWithin (vcons w ws) (fbool ∷ fs) = treesWithin ws fs
-  treesWithin (vcons w ws) (fint ∷ fs) = treesWithin ws fs
-  treesWithin (vcons w ws) (own ∷ fs) = treesWithin ws fs
-  treesWithin (vcons w ws) (other t k ∷ fs) = both (leb (treeSize w) k) (treesWithin ws fs)
 
   -- a value of a type, "no size in it above its declaration or field k"
   unfoldable mutual

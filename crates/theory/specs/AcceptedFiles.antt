@@ -19,7 +19,7 @@ use Rattle.language.specs.Run.{Enough, Reported}
 use Rattle.theory.specs.Lists.{both-left}
 use Rattle.theory.specs.Outcomes.{Outcome, accepted as passed, refused, bind-outcome, need-outcome}
 use Rattle.theory.specs.FilePasses.{plain-outcome, outcome-of}
-use Rattle.theory.specs.PlainTyping.{WellPlain}
+use Rattle.language.specs.PlainTyping.{WellPlain}
 use Rattle.theory.specs.PlainTypesAgree.{well-plain-passes}
 use Rattle.theory.specs.PlainFileSizes.{well-plain-refusals}
 use Rattle.theory.specs.ReaderExact.{reader-forth}
@@ -28,19 +28,19 @@ use Rattle.theory.specs.Judged.{BoardAllowed, board-allowed, judge-accep
 
 -- ---- the passes over a file
 -- what an accepted check says of a file that was read
-record Passed (P : File) (lent : Bool) (a : Accepted) : Type 0 where
-  given : lent ≡ true
-  plain : WellPlain P
-  file : a .file ≡ P
-  sized : sizedFile P ≡ ok (a .sizes)
+pub record Passed (P : File) (lent : Bool) (a : Accepted) : Type 0 where
+  pub given : lent ≡ true
+  pub plain : WellPlain P
+  pub file : a .file ≡ P
+  pub sized : sizedFile P ≡ ok (a .sizes)
 
 -- a refusal has a number
-abbrev Numbered : ℕ → ℕ → Type 0
+abbrev pub Numbered : ℕ → ℕ → Type 0
 Numbered n frame = 1 ≤ n
 
-file-outcome : (t : List ℕ) (P : File) (lent : Bool) → readFile t ≡ ok P → Outcome (Passed P lent) Numbered (checkFile t lent)
+pub file-outcome : (t : List ℕ) (P : File) (lent : Bool) → readFile t ≡ ok P → Outcome (Passed P lent) Numbered (checkFile t lent)
 unfolding checkFile bind
-file-outcome t P lent read = rw read (plain-outcome P (λ frame. omega arith) (λ plain.
+file-outcome t P lent read = rw read (plain-outcome P (λ frame _. omega arith) (λ plain.
     need-outcome lent 18 0 (λ _. omega arith) (λ given.
     bind-outcome (outcome-of (sizedFile P) (λ n frame e. omega (arith, well-plain-refusals plain e))) (λ q sized _.
     passed (record { given = given; plain = plain; file = refl; sized = sized })))))
@@ -61,7 +61,7 @@ below-the-stop : (n : ℕ) → stop n < numberMost → stop n ≡ n
 below-the-stop n less = omega arith
 
 -- numbers that an allowed board lends are below the stop
-lent-exact : (b : Board) (y : Estimate) → BoardAllowed b → Enough (stopped y) b → stopped y ≡ y
+pub lent-exact : (b : Board) (y : Estimate) → BoardAllowed b → Enough (stopped y) b → stopped y ≡ y
 lent-exact b y allowed e = λ i. record { env = below-the-stop (y .env) (omega arith) i; heap = below-the-stop (y .heap) (omega arith) i; stack = below-the-stop (y .stack) (omega arith) i }
 
 pub reported-accepted : {t : List ℕ} {P : File} {x : Estimate} → readFile t ≡ ok P → Reported t x → AcceptedFile t P x

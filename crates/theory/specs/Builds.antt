@@ -15,7 +15,7 @@ use Rattle.language.specs.Slide.{State}
 use Rattle.language.specs.Machine.{Built, BuiltAll, newCell, build, buildFields, buildAll}
 use Rattle.theory.specs.Lists.{look-new}
 use Rattle.theory.specs.HeapTrees.{tree-new}
-use Rattle.theory.specs.Heaps.{Grown, grown-refl, grown-one, grown-trans, look-grown}
+use Rattle.theory.specs.Heaps.{Grown, grown-refl, grown-one, grown-trans, grown-length, look-grown}
 use Rattle.theory.specs.ScopeTrees.{tree-grown}
 use Rattle.theory.specs.Alls.{all-map, all-append, all-first, all-left, all-rest, all-right}
 use Rattle.theory.specs.Places.{below-or-not, below-or-last}
@@ -40,9 +40,6 @@ pub record BuildsAll (vs : List Tree) (h : List Cell) (roots : List ℕ) (s : St
   pub count : length (s .heap) ≡ length h + sum (map treeCells vs)
   pub low : All (λ l. l < length (s .heap)) (s .roots)
   pub trees : map (treeAt (s .heap)) (s .roots) ≡ map (treeAt h) roots ++ vs
-
-grown-length : {h g : List Cell} → Grown h g → length h ≤ length g
-grown-length {h} w = omega (arith, ap length (w .is), length-append h (w .more))
 
 leaf-builds : (x : Constant) (h : List Cell) → Builds (vleaf x) h (newCell h (leaf x))
 unfolding newCell treeCells treeOf
@@ -101,6 +98,9 @@ module _ (P : File) where
   unfolding buildAll
   all-grown [] h roots = grown-refl h
   all-grown (v ∷ vs) h roots = grown-trans (build-builds v h .grown) (all-grown vs (build P v h .heap) (roots ++ (build P v h .location ∷ [])))
+
+pub all-grows : (P : File) (vs : List Tree) (h : List Cell) (roots : List ℕ) → length h ≤ length (buildAll P vs h roots .heap)
+all-grows P vs h roots = grown-length (all-grown P vs h roots)
 
 -- ---- what holds of a location, and with each cell of those that it names, holds of all cells built for it
 module _ (P : File) (g : List Cell) (Q : ℕ → Type 0) (fields : (l : ℕ) (c : Cell) → look g l ≡ some c → Q l → All Q (fieldsIn c)) where

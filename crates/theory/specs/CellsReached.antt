@@ -129,7 +129,7 @@ module _ (P : File) (t M : ℕ) (table : List ℕ) (earlier : (u k : ℕ) → u 
       record { trees = vcons (v .tree) (r .trees); sizes = r .sizes; are = fields-other (v .has) (r .are); small = r .small; cells = omega (arith, v .cells, r .cells) }
 
 -- ---- types in order, sizes in order
-type-at : {n : ℕ} {ts : List TypeDef} → WithinTypes n ts → (j t : ℕ) → j < length ts → n + j ≡ t → WithinType t (getD ts j [])
+pub type-at : {n : ℕ} {ts : List TypeDef} → WithinTypes n ts → (j t : ℕ) → j < length ts → n + j ≡ t → WithinType t (getD ts j [])
 type-at wt-nil j t less e = absurd (omega arith)
 type-at (wt-cons {d} w ws) zero t less e = subst (λ n. WithinType n d) (omega arith) w
 type-at (wt-cons w ws) (suc j) t less e = type-at ws j t (omega arith) (omega arith)

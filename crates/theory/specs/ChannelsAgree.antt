@@ -15,7 +15,7 @@ use Rattle.theory.specs.Alls.{all-left, all-right}
 use Rattle.theory.specs.Outcomes.{Outcome, accepted, Whatever, outcome-map, bind-outcome, need-outcome, need-holds}
 use Rattle.theory.specs.SameTests.{same-type, type-same}
 use Rattle.theory.specs.Calls.{Ordered, calls-anything}
-use Rattle.theory.specs.Instances.{Key, instancesOf, instancesOfInitials, instancesOfUpdates}
+use Rattle.language.specs.Instances.{Key, instancesOf, instancesOfInitials, instancesOfUpdates}
 use Rattle.theory.specs.InstanceList.{Grown, grown-not, grown-then, Settled, ready-settled, settled-grown, AnyKey}
 use Rattle.theory.specs.AcceptedDerived.{DoneIn, Counts, retype, derived, enters-derived}
 use Rattle.theory.specs.DerivedAccepted.{Sole, TooMany, Listed, SameCount, listed-not, listed-then, agrees}

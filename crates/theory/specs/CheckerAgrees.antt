@@ -13,12 +13,14 @@ use Rattle.language.specs.Syntax.{File, declaredTypes, initialValues}
 use Rattle.language.specs.Estimate.{Estimate}
 use Rattle.language.specs.Typing.{WellSized}
 use Rattle.language.specs.Checker.{Instance, SizedFile, sizedFile}
+use Rattle.language.specs.Instances.{Key, Distinct, MoreThan, AtMost, Needed, instancesOfInitials, instancesOfFile}
+use Rattle.language.specs.Acceptance.{FewInstances}
 use Rattle.language.specs.Within.{All, Within}
 use Rattle.theory.specs.Alls.{all-in, all-left, all-member, all-right}
 use Rattle.theory.specs.Outcomes.{Outcome, accepted, refused, Whatever, when-accepted, when-refused, outcome-map, bind-outcome}
-use Rattle.theory.specs.Different.{Distinct, MoreThan, AtMost, not-more-and-at-most}
+use Rattle.theory.specs.Different.{not-more-and-at-most}
 use Rattle.theory.specs.Calls.{Ordered, within-ordered}
-use Rattle.theory.specs.Instances.{Key, keyOf, keysOf, instancesOfInitials, instancesOfFile}
+use Rattle.theory.specs.Instances.{keyOf, keysOf}
 use Rattle.theory.specs.InstanceList.{settled-start, settled-grown}
 use Rattle.theory.specs.AcceptedDerived.{Done}
 use Rattle.theory.specs.DerivedAccepted.{TooMany, listed-then}
@@ -46,10 +48,6 @@ pub accepted-is-derived : {P : File} {q : SizedFile} → Within P → sizedFile 
 accepted-is-derived {P} within is = when-accepted (accepted-outcome P (within-ordered within)) is
 
 -- ---- derived, so accepted, or too many instances
--- the instances that a derivation needs
-abbrev pub Needed : {P : File} {xs : List Estimate} → WellSized P xs → Key → Type 0
-Needed w k = In k (instancesOfFile w)
-
 pub record Exactly {P : File} {xs : List Estimate} (w : WellSized P xs) (q : SizedFile) : Type 0 where
   pub numbers : q .updates ≡ xs
   pub instances : (k : Key) → In k (keysOf (q .list)) ↔ Needed w k
@@ -84,10 +82,6 @@ pub record Accepts (P : File) (xs : List Estimate) : Type 0 where
 pub record Refuses (P : File) (n : ℕ) : Type 0 where
   pub frame : ℕ
   pub is : sizedFile P ≡ no n frame
-
-pub record FewInstances (P : File) (xs : List Estimate) : Type 0 where
-  pub sizes : WellSized P xs
-  pub few : AtMost instancesMost (Needed sizes)
 
 accepted-few : {P : File} {xs : List Estimate} → Within P → Accepts P xs → FewInstances P xs
 accepted-few within a = let w = accepted-is-derived within (a .is) .sizes in record { sizes = w; few = accepted-needs-few within w (a .is) }

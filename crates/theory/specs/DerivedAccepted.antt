@@ -24,7 +24,8 @@ use Rattle.theory.specs.SameTests.{type-same, types-same}
 use Rattle.theory.specs.Alls.{all-append, all-map, all-first, all-left, all-rest, all-right}
 use Rattle.theory.specs.Different.{MoreThan}
 use Rattle.theory.specs.Calls.{Calls, CallsAll, Allowed}
-use Rattle.theory.specs.Instances.{Key, key, keysOf, instancesOf, instancesOfAll, instancesOfBranches, instancesAtSplits, BodyTyping}
+use Rattle.language.specs.Instances.{Key, key, instancesOf, instancesOfAll, instancesOfBranches, instancesAtSplits}
+use Rattle.theory.specs.Instances.{keysOf, BodyTyping}
 use Rattle.theory.specs.InstanceList.{Tidy, Ready, Grown, Lasting, grown-not, ready-grown, grown-then, grown-keys, ready-called}
 
 -- all of these instances stand in the list

@@ -1,17 +1,13 @@
 -- Lists without repeats, and how many different things satisfy a predicate.
-use Prim.Native.Nat.{ℕ, suc, _≤_, _<_}
+use Prim.Native.Nat.{ℕ, suc, _≤_}
 use mathlib.Core.List.{List, [], _∷_, _++_, List·Memᴰ as In, List·Memᴰ·head as in-head, List·Memᴰ·tail as in-tail}
 use mathlib.Core.Path.{_≡_, refl, sym, _∙_}
 use native.Mathlib.Omega.{arith}
 use lib.ListN.{length}
-use Rattle.language.specs.Within.{All}
+pub use Rattle.language.specs.Instances.{Distinct, distinct-nil, distinct-cons, MoreThan, AtMost}
 use Rattle.theory.specs.Alls.{all-member}
 
 -- ---- no repeats
-pub data Distinct {A : Type 0} : List A → Type 0 where
-  distinct-nil : Distinct []
-  distinct-cons : {a : A} {l : List A} → (In a l → ⊥) → Distinct l → Distinct (a ∷ l)
-
 in-appended : {A : Type 0} {a b : A} (l : List A) → In b (l ++ (a ∷ [])) → (In b l → ⊥) → b ≡ a
 in-appended [] (in-head e) f = e
 in-appended (x ∷ l) (in-head e) f = absurd (f (in-head e))
@@ -23,19 +19,6 @@ distinct-append {a} (distinct-cons {a = b} {l} g d) f =
     distinct-cons (λ i. f (in-head (sym (in-appended l i g)))) (distinct-append d (λ i. f (in-tail i)))
 
 -- ---- how many
--- more than n different things satisfy K
-pub record MoreThan {A : Type 0} (n : ℕ) (K : A → Type 0) : Type 0 where
-  pub these : List A
-  pub distinct : Distinct these
-  pub many : n < length these
-  pub all : All K these
-
--- at most n things satisfy K: those of a list of at most n
-pub record AtMost {A : Type 0} (n : ℕ) (K : A → Type 0) : Type 0 where
-  pub these : List A
-  pub few : length these ≤ n
-  pub all : (a : A) → K a → In a these
-
 -- a list without one thing that stands in it
 record Without {A : Type 0} (a : A) (l : List A) : Type 0 where
   rest : List A

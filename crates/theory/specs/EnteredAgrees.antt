@@ -19,7 +19,8 @@ use Rattle.theory.specs.SameTests.{type-same}
 use Rattle.theory.specs.Alls.{all-map, all-in}
 use Rattle.theory.specs.Different.{distinct-cons}
 use Rattle.theory.specs.Calls.{Ordered}
-use Rattle.theory.specs.Instances.{Key, key, entered, keyOf, keysOf, instancesOf, BodyTyping}
+use Rattle.language.specs.Instances.{Key, key, instancesOf}
+use Rattle.theory.specs.Instances.{entered, keyOf, keysOf, BodyTyping}
 use Rattle.theory.specs.InstanceList.{Ready, none-left-is-full, grown-not, found-is-finished, key-stands, found-stands, not-found-is-new, ready-entered, grown-left, left-keys, left-stands, AnyKey}
 use Rattle.theory.specs.DerivedAccepted.{Stand, Sole, sole-lasts, TooMany, Same, SameCount, ReadyFor, EntersAgree, agrees}
 

@@ -30,7 +30,7 @@ digit-no-feed d = go (ltb d 10)
     go true = ne-eqb (0x30 + d) lineFeed (λ e. omega arith)
     go false = ne-eqb (0x37 + d) lineFeed (λ e. omega arith)
 
-line-ended : (bs t : List ℕ) → linesOf (spellAll pairOf bs ++ (lineFeed ∷ t)) ≡ record { ended = spellAll pairOf bs ∷ linesOf t .ended; rest = linesOf t .rest }
+pub line-ended : (bs t : List ℕ) → linesOf (spellAll pairOf bs ++ (lineFeed ∷ t)) ≡ record { ended = spellAll pairOf bs ∷ linesOf t .ended; rest = linesOf t .rest }
 unfolding linesOf spellAll pairOf choose longer
 line-ended [] t = refl
 line-ended (b ∷ bs) t = rw (digit-no-feed (b / 16), digit-no-feed (b % 16), line-ended bs t)
@@ -40,10 +40,10 @@ unfolding linesOf spellAll lineText
 lines-back [] = refl
 lines-back (bs ∷ fs) = rw (append-assoc (spellAll pairOf bs) (lineFeed ∷ []) (spellAll lineText fs), line-ended bs (spellAll lineText fs), lines-back fs)
 
-abbrev ended : List ℕ → List ℕ
+abbrev pub ended : List ℕ → List ℕ
 ended l = l ++ (lineFeed ∷ [])
 
-lines-forth : (t : List ℕ) → t ≡ spellAll ended (linesOf t .ended) ++ linesOf t .rest
+pub lines-forth : (t : List ℕ) → t ≡ spellAll ended (linesOf t .ended) ++ linesOf t .rest
 unfolding linesOf spellAll choose longer
 lines-forth [] = refl
 lines-forth (c ∷ t) = go (eqb c lineFeed) refl (linesOf t .ended) (linesOf t .rest) (lines-forth t)
@@ -55,11 +55,11 @@ lines-forth (c ∷ t) = go (eqb c lineFeed) refl (linesOf t .ended) (linesOf t .
     go false e (l ∷ ls) rest is = ap (λ (l : List ℕ). c ∷ l) is
 
 -- ---- the frames of the lines
-line-back : (bs : List ℕ) → Filled bs → lineBytes (spellAll pairOf bs) ≡ some bs
+pub line-back : (bs : List ℕ) → Filled bs → lineBytes (spellAll pairOf bs) ≡ some bs
 unfolding lineBytes spellAll pairOf
 line-back (b ∷ bs) (filled w ws) = pairs-back (b ∷ bs) (all-cons w ws)
 
-line-forth : (l : List ℕ) → Whenever (λ bs. (l ≡ spellAll pairOf bs) × Filled bs) (lineBytes l)
+pub line-forth : (l : List ℕ) → Whenever (λ bs. (l ≡ spellAll pairOf bs) × Filled bs) (lineBytes l)
 unfolding lineBytes spellAll
 line-forth [] = w-none
 line-forth (c ∷ l) = whenever-map (λ bs s. (s .is, not-empty bs (s .is) (s .small))) (pairs-forth (c ∷ l))

@@ -1,28 +1,32 @@
 -- Passes over a file, in the style of outcomes: the tests of the frames one after the other, the plain types, and any pass by its answer.
-use Prim.Native.Nat.{ℕ, suc}
-use mathlib.Core.List.{List, [], _∷_}
+use Prim.Native.Nat.{ℕ, suc, _+_, _≤_, _<_}
+use mathlib.Core.List.{List, [], _∷_, _++_, map}
 use mathlib.Core.Bool.{Bool, true}
 use mathlib.Core.Path.{_≡_, refl}
+use native.Mathlib.Omega.{arith}
+use lib.ListN.{length, length-append, length-map}
 use Rattle.language.specs.Result.{Result, ok, no, needEach}
 use Rattle.language.specs.Syntax.{File}
 use Rattle.language.specs.Within.{all-nil, all-cons}
-use Rattle.language.specs.PlainTypes.{plainTypes}
+use Rattle.language.specs.PlainTypes.{plainFunction, plainInput, plainNode, plainTypes}
 use Rattle.theory.specs.Tests.{AllTrue, each-passes}
 use Rattle.theory.specs.Outcomes.{Outcome, accepted, refused, need-outcome}
-use Rattle.theory.specs.PlainTyping.{WellPlain}
+use Rattle.language.specs.PlainTyping.{WellPlain}
 use Rattle.theory.specs.PlainTypesAgree.{well-plain}
+use Rattle.theory.specs.FrameNumbers.{FrameOf}
 use Rattle.theory.specs.SizeRefusals.{Anything}
 
 module _ {B : Type 0} {R : B → Type 0} {N : ℕ → ℕ → Type 0} where
-  each-outcome : (n frame : ℕ) (bs : List Bool) {r : Result B} → ((f : ℕ) → N n f) → (AllTrue bs → Outcome R N r) → Outcome R N (needEach n frame bs r)
+  each-outcome : (n frame : ℕ) (bs : List Bool) {r : Result B} → ((f : ℕ) → frame ≤ f → f < frame + length bs → N n f) → (AllTrue bs → Outcome R N r) → Outcome R N (needEach n frame bs r)
   unfolding needEach
   each-outcome n frame [] no-pass pass = pass all-nil
-  each-outcome n frame (b ∷ bs) no-pass pass = need-outcome b n frame (λ e. no-pass frame) (λ e. each-outcome n (suc frame) bs no-pass (λ es. pass (all-cons e es)))
+  each-outcome n frame (b ∷ bs) no-pass pass = need-outcome b n frame (λ e. no-pass frame (omega arith) (omega arith)) (λ e. each-outcome n (suc frame) bs (λ f low high. no-pass f (omega arith) (omega arith)) (λ es. pass (all-cons e es)))
 
-  -- refusal 9, or the plain types hold
-  pub plain-outcome : (P : File) {r : Result B} → ((f : ℕ) → N 9 f) → (WellPlain P → Outcome R N r) → Outcome R N (plainTypes P r)
+  -- refusal 9 in a frame of the file, or the plain types hold
+  pub plain-outcome : (P : File) {r : Result B} → ((f : ℕ) → FrameOf P f → N 9 f) → (WellPlain P → Outcome R N r) → Outcome R N (plainTypes P r)
   unfolding plainTypes
-  plain-outcome P no-pass pass = each-outcome 9 _ _ no-pass (λ es. pass (well-plain P (ok true) (each-passes 9 _ (ok true) es)))
+  plain-outcome P no-pass pass = each-outcome 9 _ _ (λ f low high. no-pass f (omega (arith, length-map (P .functions) (plainFunction P), length-map (P .inputs) (plainInput P), length-map (P .nodes) (plainNode P),
+      length-append (map (plainFunction P) (P .functions)) (map (plainInput P) (P .inputs) ++ map (plainNode P) (P .nodes)), length-append (map (plainInput P) (P .inputs)) (map (plainNode P) (P .nodes))))) (λ es. pass (well-plain P (ok true) (each-passes 9 _ (ok true) es)))
 
 pub outcome-of : {A : Type 0} {N : ℕ → ℕ → Type 0} (r : Result A) → ((n frame : ℕ) → r ≡ no n frame → N n frame) → Outcome Anything N r
 outcome-of (ok a) f = accepted tt

@@ -1,5 +1,5 @@
--- Initial values: whatever the plain machine derives for one is its initial tree, and in an accepted file that tree fits the
--- channel's declared type.
+-- Initial values: whatever the plain machine derives for one is its initial tree, and in an accepted file it derives that tree, which fits
+-- the channel's declared type.
 use Prim.Native.Nat.{ℕ}
 use mathlib.Core.List.{List, [], map}
 use mathlib.Core.Bool.{true}
@@ -12,13 +12,13 @@ use Rattle.language.specs.Within.{All, all-nil, all-cons, WithinExpr, WithinNod
 use Rattle.language.specs.PlainTypes.{isInitial, areInitial}
 use Rattle.language.specs.Estimate.{Estimate}
 use Rattle.language.specs.Typing.{outside, channelsAt, Typing, Initials, c-none, c-init}
-use Rattle.language.specs.Heap.{Tree, vcon, Trees}
+use Rattle.language.specs.Heap.{Tree, vcon, Trees, vnil, treesAt}
 use Rattle.language.specs.Values.{fits}
 use Rattle.language.specs.Line.{treesFit}
-use Rattle.language.specs.PlainMachine.{TreeChannels, Derives, p-bool, p-int, p-var, p-node, p-atlast, p-let, p-if-then, p-if-else, p-op, p-call, p-ctor, p-case, p-adj, p-fit-success, p-fit-fail, DerivesAll, ps-nil, ps-cons, initialTree, initialFields, initialTrees}
+use Rattle.language.specs.PlainMachine.{TreeChannels, noTrees, Derives, p-bool, p-int, p-var, p-node, p-atlast, p-let, p-if-then, p-if-else, p-op, p-call, p-ctor, p-case, p-adj, p-fit-success, p-fit-fail, DerivesAll, ps-nil, ps-cons, initialTree, initialFields, initialTrees}
 use Rattle.theory.specs.Lists.{false-is-not-true, both-left, both-right, both-true}
 use Rattle.theory.specs.Alls.{all-append, all-map, all-to-map, all-each}
-use Rattle.theory.specs.PlainTyping.{WellPlain}
+use Rattle.language.specs.PlainTyping.{WellPlain}
 use Rattle.theory.specs.HeapValues.{env-nil, scoped-body}
 use Rattle.theory.specs.Simulated.{Enough}
 use Rattle.theory.specs.Simulates.{estimate-sound, value-fits-type}
@@ -39,9 +39,9 @@ module _ {P : File} where
     initial-tree (p-if-then p q) i = false-is-not-true i
     initial-tree (p-if-else p q) i = false-is-not-true i
     initial-tree (p-op p q a b e) i = false-is-not-true i
-    initial-tree (p-call e p q) i = false-is-not-true i
-    initial-tree (p-ctor {t} {c} p e less within) i = ap (vcon t c) (initial-fields p i)
-    initial-tree (p-case p e q) i = false-is-not-true i
+    initial-tree (p-call e p many q) i = false-is-not-true i
+    initial-tree (p-ctor {t} {c} p e sizes less) i = ap (vcon t c) (initial-fields p i)
+    initial-tree (p-case p known many e q) i = false-is-not-true i
     initial-tree (p-adj p) i = initial-tree p i
     initial-tree (p-fit-success p le q) i = false-is-not-true i
     initial-tree (p-fit-fail p less q) i = false-is-not-true i
@@ -60,26 +60,40 @@ module _ {P : File} (within : Within P) where
       subst (λ v. fits P v τ ≡ true) (initial-tree (estimate-sound within (x .heap) typed limited {u = x .stack} {s = x .env} scoped enough .is .derives) form)
       (value-fits-type within (x .heap) typed limited {u = x .stack} {s = x .env} scoped enough)
 
+  initial-derives : {n frame : ℕ} {S : Scope} {e : Expr} {τ : Ty} {x : Estimate} → Typing P (outside frame []) [] [] e τ x → WithinExpr n S e → isInitial e ≡ true → Derives P noTrees vnil e (initialTree e)
+  unfolding channelsAt treesAt
+  initial-derives {e} {x} typed limited form =
+      let enough : Enough x (x .stack) (x .env) (x .heap) [] = omega arith in
+      let derives : Derives P noTrees vnil e _ = estimate-sound within (x .heap) typed limited {u = x .stack} {s = x .env} (scoped-body {P = P} {h = []} env-nil) enough .is .derives in
+      subst (Derives P noTrees vnil e) (initial-tree derives form) derives
+
+  initials-derive : {c : ℕ} {S : Scope} {es : List Expr} {τs : List Ty} → Initials P c es τs → All (WithinExpr nestingMost S) es → All (λ e. isInitial e ≡ true) es → All (λ e. Derives P noTrees vnil e (initialTree e)) es
+  initials-derive c-none all-nil all-nil = all-nil
+  initials-derive (c-init typed rest) (all-cons w ws) (all-cons i is) = all-cons (initial-derives typed w i) (initials-derive rest ws is)
+
   initials-fit : {c : ℕ} {S : Scope} {es : List Expr} {τs : List Ty} → Initials P c es τs → All (WithinExpr nestingMost S) es → All (λ e. isInitial e ≡ true) es → treesFit P (map initialTree es) τs ≡ true
   unfolding treesFit
   initials-fit c-none all-nil all-nil = refl
   initials-fit (c-init typed rest) (all-cons w ws) (all-cons i is) = both-true (initial-fits typed w i) (initials-fit rest ws is)
 
 -- ---- the initial values of a file
-abbrev initialScope : File → Scope
+abbrev pub initialScope : File → Scope
 initialScope P = outerScope (P .types) (P .functions) 0 0
 
 nodes-within : {P : File} {earlier : ℕ} {ns : List Node} → WithinNodes P earlier ns → All (WithinExpr nestingMost (initialScope P)) (map (λ (n : Node). n .initial) ns)
 nodes-within wn-nil = all-nil
 nodes-within (wn-cons w ws) = all-cons (w .initial) (nodes-within ws)
 
-initials-within : {P : File} → Within P → All (WithinExpr nestingMost (initialScope P)) (initialValues P)
+pub initials-within : {P : File} → Within P → All (WithinExpr nestingMost (initialScope P)) (initialValues P)
 initials-within within = all-append (all-to-map (λ (i : Input). i .initial) (all-map (λ i w. w .initial) (within .inputs))) (nodes-within (within .nodes))
 
-initials-formed : {P : File} → WellPlain P → All (λ e. isInitial e ≡ true) (initialValues P)
+pub initials-formed : {P : File} → WellPlain P → All (λ e. isInitial e ≡ true) (initialValues P)
 initials-formed {P} plain = all-append
     (all-to-map (λ (i : Input). i .initial) (all-each (P .inputs) (λ i I at. plain .inputs i I at .form)))
     (all-to-map (λ (n : Node). n .initial) (all-each (P .nodes) (λ n M at. plain .nodes n M at .initial .form)))
 
 pub initial-trees-fit : {t : List ℕ} {P : File} {x : Estimate} → AcceptedFile t P x → treesFit P (initialTrees P) (declaredTypes P) ≡ true
 initial-trees-fit a = initials-fit (a .within) (a .derived .initials) (initials-within (a .within)) (initials-formed (a .plain))
+
+pub initial-trees-derived : {t : List ℕ} {P : File} {x : Estimate} → AcceptedFile t P x → All (λ e. Derives P noTrees vnil e (initialTree e)) (initialValues P)
+initial-trees-derived a = initials-derive (a .within) (a .derived .initials) (initials-within (a .within)) (initials-formed (a .plain))

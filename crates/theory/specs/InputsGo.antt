@@ -15,7 +15,7 @@ use Rattle.language.specs.Heap.{Cell, Tree}
 use Rattle.language.specs.Values.{treeCells}
 use Rattle.language.specs.Line.{treesFit, lineTrees}
 use Rattle.language.specs.Machine.{buildAll, putInputs}
-use Rattle.theory.specs.Tests.{Whenever, whenever, whenever-chain, whenever-when, whenever-is}
+use Rattle.theory.specs.LineExact.{line-forth-exact}
 use Rattle.theory.specs.HeapValues.{env-nil}
 use Rattle.theory.specs.Growth.{AllValues}
 use Rattle.theory.specs.HeldChannels.{inputTypes}
@@ -24,12 +24,8 @@ use Rattle.theory.specs.CellsKept.{trees-cells-at-most}
 use Rattle.theory.specs.TypedBuilds.{all-hold}
 use Rattle.theory.specs.InputsPut.{inputs-fit}
 
-line-whenever : (P : File) (line : List ℕ) → Whenever (λ vs. treesFit P vs (inputTypes P) ≡ true) (lineTrees P line)
-unfolding lineTrees
-line-whenever P line = whenever-chain (whenever _) (λ l _. whenever-chain (whenever _) (λ bs _. whenever-chain (whenever _) (λ vs _. whenever-when _ vs (λ e. e))))
-
 pub line-fits : (P : File) (line : List ℕ) {vs : List Tree} → lineTrees P line ≡ some vs → treesFit P vs (inputTypes P) ≡ true
-line-fits P line e = whenever-is (line-whenever P line) e
+line-fits P line {vs} e = line-forth-exact P line vs e .1
 
 module _ (P : File) (vs : List Tree) (fit : treesFit P vs (inputTypes P) ≡ true) where
   pub inputs-cells : Within P → sum (map treeCells vs) ≤ inputCells P

@@ -1,15 +1,18 @@
--- The verdict on a board: it is accepted exactly where it lends the three numbers, and the numbers are what is reported.
+-- The verdict on a board: it is accepted exactly where it lends the three numbers, else the first of 15 to 17 that it is short of is
+-- answered; and the numbers are what is reported.
 use Prim.Native.Nat.{ℕ, suc, _≤_}
 use mathlib.Core.Bool.{Bool, true, false}
 use mathlib.Core.Path.{_≡_, refl, ap}
 use native.Mathlib.Omega.{arith}
 use lib.Dec.{leb}
-use borrow.Author.Tests.{le-leb, leb-true}
+use borrow.Author.Tests.{le-leb, lt-leb, leb-true, leb-false}
 use Rattle.language.specs.Limits.{cellsMost, slotsMost, callsMost}
+use Rattle.language.specs.Refusals.{heapShort, environmentShort, stackShort}
 use Rattle.language.specs.Result.{choose}
 use Rattle.language.specs.Estimate.{Estimate}
 use Rattle.language.specs.Machine.{Board, boardAllowed, Answer, Verdict, accepted, short, answer, judge}
 use Rattle.language.specs.Run.{Enough}
+use Rattle.language.specs.Acceptance.{ShortOf, heap-short, environment-short, stack-short}
 use Rattle.theory.specs.Lists.{both-left, both-right}
 
 -- "A board has at most 2,048 cells, 256 slots, 64 calls."
@@ -54,3 +57,26 @@ chosen-zero false v n y e f = absurd (omega arith)
 pub judge-zero : (b : Board) (y : Estimate) → answer (judge b y) .number ≡ 0 → answer (judge b y) ≡ answer (accepted y)
 unfolding judge
 judge-zero b y e = chosen-zero _ _ 14 y e (λ f. chosen-zero _ _ 15 y f (λ g. chosen-zero _ _ 16 y g (λ _. refl)))
+
+-- ---- 15, 16, 17: the first that the board is short of, and all three numbers
+pub judge-short : (b : Board) (x : Estimate) {n : ℕ} → ShortOf x b n → judge b x ≡ short n x
+unfolding judge choose
+judge-short b x (heap-short less) = rw (lt-leb (x .heap) (b .cells) less)
+judge-short b x (environment-short cells less) = rw (le-leb (x .heap) (b .cells) cells, lt-leb (x .env) (b .slots) less)
+judge-short b x (stack-short cells slots less) = rw (le-leb (x .heap) (b .cells) cells, le-leb (x .env) (b .slots) slots, lt-leb (x .stack) (b .calls) less)
+
+-- a verdict is an acceptance or one of them
+pub judge-cases : (b : Board) (x : Estimate) {X : Type 0} → (Enough x b → X) → ((n : ℕ) → ShortOf x b n → X) → X
+judge-cases b x {X} has lacks = by-cells (leb (x .heap) (b .cells)) refl
+  where
+    by-calls : (t : Bool) → leb (x .stack) (b .calls) ≡ t → x .heap ≤ b .cells → x .env ≤ b .slots → X
+    by-calls true e cells slots = has (record { cells = cells; slots = slots; calls = leb-true (x .stack) (b .calls) e })
+    by-calls false e cells slots = lacks stackShort (stack-short cells slots (leb-false (x .stack) (b .calls) e))
+
+    by-slots : (t : Bool) → leb (x .env) (b .slots) ≡ t → x .heap ≤ b .cells → X
+    by-slots true e cells = by-calls (leb (x .stack) (b .calls)) refl cells (leb-true (x .env) (b .slots) e)
+    by-slots false e cells = lacks environmentShort (environment-short cells (leb-false (x .env) (b .slots) e))
+
+    by-cells : (t : Bool) → leb (x .heap) (b .cells) ≡ t → X
+    by-cells true e = by-slots (leb (x .env) (b .slots)) refl (leb-true (x .heap) (b .cells) e)
+    by-cells false e = lacks heapShort (heap-short (leb-false (x .heap) (b .cells) e))

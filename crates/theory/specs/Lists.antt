@@ -70,6 +70,16 @@ pub both-true : {a b : Bool} → a ≡ true → b ≡ true → both a b ≡ true
 unfolding both
 both-true p q = rw (p, q)
 
+pub both-fails : {a : Bool} (b : Bool) → a ≡ false → both a b ≡ false
+unfolding both
+both-fails b e = rw e
+
+-- where the second holds, it is the first that fails
+pub both-first : {a b : Bool} → both a b ≡ false → b ≡ true → a ≡ false
+unfolding both
+both-first {a = true} e f = rw f at e
+both-first {a = false} e f = refl
+
 pub both-never : (a : Bool) {b : Bool} → b ≡ false → both a b ≡ false
 unfolding both
 both-never true e = e

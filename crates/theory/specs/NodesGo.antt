@@ -31,7 +31,7 @@ use Rattle.theory.specs.Simulated.{Enough, simulated-eval}
 use Rattle.theory.specs.Simulates.{estimate-sound}
 
 -- ---- the plain machine's step, from the heap before it to the heap after it
-node-plain : {P : File} {h g : List Cell} {last now old : List ℕ} {ρs σs : List Ty} {n : Node} {ns : List Node} {result : List Tree} (l : ℕ) →
+pub node-plain : {P : File} {h g : List Cell} {last now old : List ℕ} {ρs σs : List Ty} {n : Node} {ns : List Node} {result : List Tree} (l : ℕ) →
     Grown h g → Env P h last ρs → Env P h now σs → Env P h old (nodeTypes (n ∷ ns)) →
     Derives P (record { now = map (treeAt h) (now ++ old); last = map (treeAt h) last }) vnil (n .update) (treeAt g l) → treeSize P (treeAt g l) ≤ sizeOfType (n .declared) →
     Nodes P (map (treeAt g) last) ns (map (treeAt g) (now ++ (l ∷ []))) (map (treeAt g) (drop 1 old)) result →

@@ -32,9 +32,9 @@ module _ {P : File} where
     one-tree (p-if-else p q) (p-if-then r s) = absurd (true-is-not-false (sym (one-tree p r)))
     one-tree (p-if-else p q) (p-if-else r s) = one-tree q s
     one-tree (p-op p q a b e) (p-op r s c d f) = let x = one-tree p r in let y = one-tree q s in cc
-    one-tree (p-call {F} e p q) (p-call {F = G} f r s) = let same : G ≡ F = cc in one-tree q (derives-in (sym (one-trees p r)) (ap (λ x. x .body) same) s)
-    one-tree (p-ctor {t} {c} p e l w) (p-ctor r f m x) = ap (vcon t c) (one-trees p r)
-    one-tree (p-case {E} {vs} {b} p e q) (p-case {vs = ws} {b = d} r f s) =
+    one-tree (p-call {F} e p m q) (p-call {F = G} f r n s) = let same : G ≡ F = cc in one-tree q (derives-in (sym (one-trees p r)) (ap (λ x. x .body) same) s)
+    one-tree (p-ctor {t} {c} p e z l) (p-ctor r f y m) = ap (vcon t c) (one-trees p r)
+    one-tree (p-case {E} {vs} {b} p k m e q) (p-case {vs = ws} {b = d} r l n f s) =
         let subject = one-tree p r in
         let fields : ws ≡ vs = cc in
         let branch : d ≡ b = cc in

@@ -1,17 +1,18 @@
 -- What the operators on Int mean over the integers: "four bytes, two's complement"; "Int is 32 bits, and sums, differences and products
--- wrap"; "`04` <, `05` ≤ on Int". The definitions work on the bits alone.
+-- wrap"; "`03` =, `04` <, `05` ≤ on Int". The definitions work on the bits alone.
 use Prim.Native.Nat.{ℕ, zero, suc, _+_, _-_, _*_, _%_, _≤_, _<_}
 use mathlib.Core.Bool.{Bool, true, false, not, cond}
+use mathlib.Core.Logic.{_↔_}
 use mathlib.Core.Path.{_≡_, refl, sym, ap, _∙_}
 use native.Mathlib.Nat.{mul-add, add-mul, mul-comm}
 use native.Mathlib.Omega.{arith}
-use lib.Dec.{ltb, leb}
+use lib.Dec.{ltb, leb, eqb}
 use lib.IntN.{ℤ, pos, negsuc, negℤ, subℕ, _+ℤ_, _-ℤ_, _*ℤ_}
 use lib.Signed.{ltZ, leZ}
-use borrow.Author.Tests.{lt-ltb, le-ltb, ltb-true, ltb-false, le-leb, lt-leb}
+use borrow.Author.Tests.{lt-ltb, le-ltb, ltb-true, ltb-false, le-leb, lt-leb, eq-eqb, eqb-true}
 use Rattle.language.specs.Limits.{intRange, signBit}
 use Rattle.language.specs.Result.{choose}
-use Rattle.language.specs.Syntax.{oadd, osub, omul, olt, ole}
+use Rattle.language.specs.Syntax.{oadd, osub, omul, oeq, olt, ole}
 use Rattle.language.specs.Heap.{kbool, kint, number, signedLess, applyOp}
 
 -- the integer that 32 bits are; negsuc m is -(m + 1)
@@ -139,3 +140,11 @@ less-is-signed a b p q = ap kbool (less-of-integers (reading a p) (reading b q))
 pub at-most-is-signed : (a b : ℕ) → a < intRange → b < intRange → applyOp ole (kint a) (kint b) ≡ kbool (leZ (integer a) (integer b))
 unfolding applyOp number
 at-most-is-signed a b p q = ap kbool (ap not (less-of-integers (reading b q) (reading a p)) ∙ not-less (integer a) (integer b))
+
+-- no two numbers of 32 bits are one integer
+pub equal-is-equal : (a b : ℕ) → a < intRange → b < intRange → (applyOp oeq (kint a) (kint b) ≡ kbool true) ↔ (integer a ≡ integer b)
+unfolding applyOp number
+equal-is-equal a b p q = (
+  (λ e. let same : eqb a b ≡ true = cc in ap integer (eqb-true a b same)),
+  (λ e. ap kbool (eq-eqb a b (sym (bits-of-integer a p) ∙ ap bits e ∙ bits-of-integer b q))),
+)

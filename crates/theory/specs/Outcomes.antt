@@ -30,6 +30,10 @@ pub outcome-map : {A : Type 0} {Q R : A → Type 0} {N : ℕ → ℕ → Type 0}
 outcome-map f (accepted {a} q) = accepted (f a q)
 outcome-map f (refused x) = refused x
 
+pub refusal-map : {A : Type 0} {Q : A → Type 0} {M N : ℕ → ℕ → Type 0} {r : Result A} → ((n frame : ℕ) → M n frame → N n frame) → Outcome Q M r → Outcome Q N r
+refusal-map f (accepted q) = accepted q
+refusal-map f (refused {n} {frame} x) = refused (f n frame x)
+
 module _ {B : Type 0} {R : B → Type 0} {N : ℕ → ℕ → Type 0} where
   pub bind-outcome : {A : Type 0} {Q : A → Type 0} {r : Result A} {k : A → Result B} → Outcome Q N r → ((a : A) → r ≡ ok a → Q a → Outcome R N (k a)) → Outcome R N (bind r k)
   unfolding bind

@@ -15,7 +15,7 @@ use Rattle.language.specs.PlainTypes.{samePlain, samePlains, isPlain, arePlain,
 use Rattle.theory.specs.Alls.{all-append, all-left, all-right, all-to-map, all-of-map, all-at, all-each}
 use Rattle.theory.specs.Lists.{both-true, both-left, both-right}
 use Rattle.theory.specs.Tests.{Whenever, w-some, whenever, whenever-map, whenever-chain, whenever-when, whenever-is, AllTrue, each-test, each-rest, each-passes}
-use Rattle.theory.specs.PlainTyping.{PlainTyping, p-bool, p-int, p-var, p-node, p-atlast, p-let, p-if, p-op, p-call, p-ctor, p-case, p-adj, p-fit, PlainTypings, ps-nil, ps-cons, PlainBranches, p-none, p-branch, PlainInitial, PlainNode, WellPlain, channelTypes}
+use Rattle.language.specs.PlainTyping.{PlainTyping, p-bool, p-int, p-var, p-node, p-atlast, p-let, p-if, p-op, p-call, p-ctor, p-case, p-adj, p-fit, PlainTypings, ps-nil, ps-cons, PlainBranches, p-none, p-branch, PlainInitial, PlainNode, WellPlain, channelTypes}
 
 -- ---- the tests on plain types
 pub same-plain : (σ τ : Plain) → samePlain σ τ ≡ true → σ ≡ τ

@@ -5,13 +5,16 @@ use mathlib.Core.Bool.{Bool, true, false, true≢false}
 use mathlib.Core.Option.{some}
 use mathlib.Core.Path.{_≡_, refl, ap, _∙_, subst}
 use lib.ListN.{length, getD, getElem? as look, length-map}
-use borrow.Author.Tests.{leb-true}
+use lib.Dec.{leb}
+use borrow.Author.Tests.{leb-true, leb-false}
+use Rattle.language.specs.Result.{both}
 use Rattle.language.specs.Syntax.{fbool, fint, own, other, Constructor, Plain, pbool, pint, pnamed, Op, oadd, osub, omul, oeq, olt, ole, oand, oor, File, constructorsOf}
 use Rattle.language.specs.PlainTypes.{plainField, plainFields, operandType, opType, isNamed}
 use Rattle.language.specs.Heap.{Constant, kbool, kint, Cell, leaf, con, constantType, truth, applyOp, cellAt, constantIn, constructorIn, sizeIn, fieldsIn, ownSum, fieldsWithin}
 use Rattle.language.specs.Sizes.{sum}
 use Rattle.language.specs.Evaluator.{Channels, noChannels}
 use Rattle.language.specs.Rules.{FieldSizes, z-none, z-bool, z-int, z-own, z-other}
+use Rattle.language.specs.Meets.{FieldAbove, above, above-later}
 use Rattle.theory.specs.Lists.{look-new, none-is-not-some, both-left, both-right}
 use Rattle.theory.specs.Heaps.{cell-at, Grown, grown-one, look-grown}
 
@@ -137,6 +140,19 @@ sizes-at {h} t (own ∷ fs) (vs-cons {l} v vs) w = let r = sizes-at t fs vs w in
     record { sizes = sizeIn (cellAt h l) ∷ r .sizes; are = z-own (con-cell v .is) (r .are); total = rw (r .total) }
 sizes-at {h} t (other u j ∷ fs) (vs-cons {l} v vs) w = let r = sizes-at t fs vs (both-right _ _ w) in
     record { sizes = r .sizes; are = z-other (con-cell v .is) (leb-true _ _ (both-left _ _ w)) (r .are); total = r .total }
+
+-- else one is
+pub field-above : {P : File} {h : List Cell} (t : ℕ) (fs : Constructor) {ls : List ℕ} → PlainValues P h ls (plainFields t fs) → fieldsWithin h fs ls ≡ false → FieldAbove h fs ls
+unfolding plainField fieldsWithin both
+field-above t [] vs-nil w = absurd (true≢false w)
+field-above t (fbool ∷ fs) (vs-cons v vs) w = above-later (field-above t fs vs w)
+field-above t (fint ∷ fs) (vs-cons v vs) w = above-later (field-above t fs vs w)
+field-above t (own ∷ fs) (vs-cons v vs) w = above-later (field-above t fs vs w)
+field-above {P} {h} t (other u j ∷ fs) (vs-cons {l} {ls} v vs) w = by-size (leb (sizeIn (cellAt h l)) j) refl (λ less. field-above t fs vs less)
+  where
+    by-size : (b : Bool) → leb (sizeIn (cellAt h l)) j ≡ b → (fieldsWithin h fs ls ≡ false → FieldAbove h fs ls) → FieldAbove h (other u j ∷ fs) (l ∷ ls)
+    by-size true e later = above-later (later (rw e at w))
+    by-size false e later = above (con-cell v .is) (leb-false (sizeIn (cellAt h l)) j e)
 
 -- ---- new cells
 pub new-leaf : {P : File} (h : List Cell) (x : Constant) → PlainValue P (h ++ (leaf x ∷ [])) (length h) (constantType x)

@@ -1,19 +1,23 @@
--- The reader refuses only with 1 to 8: a frame's bytes with 4 to 7, and so no refusal of it bears the number 0.
-use Prim.Native.Nat.{ℕ, zero, suc, _≤_}
+-- The reader refuses only with 1 to 8: a frame's bytes with 4 to 7, and so no refusal of it bears the number 0. With 2 to 8 it names a
+-- frame of the text, or with 3 the one after the last.
+use Prim.Native.Nat.{ℕ, zero, suc, _+_, _≤_}
 use mathlib.Core.List.{List, [], _∷_}
 use mathlib.Core.Bool.{Bool, true, false}
 use mathlib.Core.Option.{Option, none, some}
-use mathlib.Core.Path.{_≡_}
+use mathlib.Core.Path.{_≡_, refl}
 use native.Mathlib.Omega.{arith}
-use Rattle.language.specs.Result.{Result, no, bind}
+use lib.ListN.{length, length-append}
+use Rattle.language.specs.Result.{Result, ok, no, need, choose}
 use Rattle.language.specs.Syntax.{Constructor, Expr, Size, File}
 use Rattle.language.specs.Scope.{Scope}
 use Rattle.language.specs.Parser.{Read, got, bad, Parser, andThen, must, return, fromOption, byte, index, count, code, codeIn, many, counted}
 use Rattle.language.specs.ReadExpr.{bound, FieldForm, boolField, intField, ownField, otherField, fieldBehind, field, TypeForm, boolType, intType, namedType, plainBehind, plain, declaredBehind, declared, SizeForm, litSize, varSize, plusSize, minusSize, sizeBehind, sizeAt, resultBehind, result}
 use Rattle.language.specs.ReadExpr.{Form, boolForm, intForm, varForm, nowForm, lastForm, letForm, ifForm, opForm, callForm, conForm, caseForm, adjForm, fitForm, int, exprs, branches, exprBehind, exprAt}
-use Rattle.language.specs.Reader.{typeDef, condition, function, input, node, whole, Kind, typeKind, functionKind, inputKind, nodeKind, readKind, readFrame, readFrames, linesOf, framesOf, channelCount, emptyFile, readFile}
+use Rattle.language.specs.Reader.{typeDef, condition, function, input, node, whole, Kind, typeKind, functionKind, inputKind, nodeKind, isEmpty, withType, withFunction, withInput, withNode, readKind, readFrame, readFrames, linesOf, framesOf, channelCount, emptyFile, readFile}
+use Rattle.language.specs.Answers.{frameCount, FrameNamed}
+use Rattle.theory.specs.FrameNumbers.{frameTotal, FrameOf, frame-named}
 use Rattle.theory.specs.SizeRefusals.{Anything}
-use Rattle.theory.specs.Outcomes.{Outcome, accepted, refused, when-refused, bind-outcome, need-outcome, from-outcome, choose-outcome}
+use Rattle.theory.specs.Outcomes.{Outcome, accepted, refused, when-accepted, when-refused, outcome-map, bind-outcome, need-outcome, from-outcome, choose-outcome}
 
 -- ---- the bytes of a frame
 pub record ByteRefusal (n : ℕ) : Type 0 where
@@ -193,48 +197,88 @@ node-fair : (channels : ℕ) (known : File) → FairReader (node channels known)
 unfolding node
 node-fair channels known bs = then-fair (declared-fair _ bs) (λ τ cs. then-fair (exprAt-fair _ _ cs) (λ e ds. then-fair (exprAt-fair _ _ ds) (λ u. return-fair _)))
 
--- ---- the text
-pub record ReaderRefusal (n frame : ℕ) : Type 0 where
+-- ---- the text, of which last is the number of frames
+pub record ReaderRefusal (last n frame : ℕ) : Type 0 where
   pub least : 1 ≤ n
   pub most : n ≤ 8
+  pub none : n ≤ 1 → frame ≡ 0
+  pub from-first : 2 ≤ n → 1 ≤ frame
+  pub to-last : (n ≡ 3 → ⊥) → frame ≤ last
+  pub one-after : frame ≤ last + 1
 
-abbrev Numbered : {A : Type 0} → Result A → Type 0
-Numbered r = Outcome Anything ReaderRefusal r
+-- in a frame of the text
+in-frame : {last n frame : ℕ} → 1 ≤ frame → frame ≤ last → 2 ≤ n → n ≤ 8 → ReaderRefusal last n frame
+in-frame first behind low high = record { least = omega arith; most = high; none = λ few. absurd (omega arith); from-first = λ _. first; to-last = λ _. behind; one-after = omega arith }
 
-whole-numbered : {A : Type 0} (frame : ℕ) {r : Read A} → Fair r → Numbered (whole frame r)
+whole-numbered : {A : Type 0} {last : ℕ} (frame : ℕ) → 1 ≤ frame → frame ≤ last → {r : Read A} → Fair r → Outcome Anything (ReaderRefusal last) (whole frame r)
 unfolding whole
-whole-numbered frame (reads {rest = []}) = accepted tt
-whole-numbered frame (reads {rest = b ∷ bs}) = refused {n = 4} {frame = frame} (omega arith)
-whole-numbered frame (fails {n} r) = refused {n = n} {frame = frame} (omega arith)
+whole-numbered frame first behind (reads {rest = []}) = accepted tt
+whole-numbered frame first behind (reads {rest = b ∷ bs}) = refused {n = 4} {frame = frame} (in-frame first behind (omega arith) (omega arith))
+whole-numbered frame first behind (fails {n} r) = refused {n = n} {frame = frame} (in-frame first behind (omega arith) (omega arith))
 
-then-numbered : {A B : Type 0} {r : Result A} {k : A → Result B} → Numbered r → ((a : A) → Numbered (k a)) → Numbered (bind r k)
-then-numbered x f = bind-outcome x (λ a _ _. f a)
+-- a frame gives one frame more
+module _ {last : ℕ} (channels frame : ℕ) (first : 1 ≤ frame) (behind : frame ≤ last) (f : File) where
+  abbrev OneMore : Result File → Type 0
+  OneMore r = Outcome (λ g. frameTotal g ≡ suc (frameTotal f)) (ReaderRefusal last) r
 
-kind-numbered : (channels frame : ℕ) (f : File) (bs : List ℕ) (kind : Kind) → Numbered (readKind channels frame f bs kind)
-unfolding readKind
-kind-numbered channels frame f bs typeKind = then-numbered (whole-numbered frame (typeDef-fair f bs)) (λ d. need-outcome _ _ _ (λ _. omega arith) (λ _. accepted tt))
-kind-numbered channels frame f bs functionKind = then-numbered (whole-numbered frame (function-fair f bs)) (λ F. accepted tt)
-kind-numbered channels frame f bs inputKind = then-numbered (whole-numbered frame (input-fair f bs)) (λ i. accepted tt)
-kind-numbered channels frame f bs nodeKind = then-numbered (whole-numbered frame (node-fair channels f bs)) (λ n. accepted tt)
+  kind-numbered : (bs : List ℕ) (kind : Kind) → OneMore (readKind channels frame f bs kind)
+  unfolding readKind withType withFunction withInput withNode
+  kind-numbered bs typeKind = bind-outcome (whole-numbered frame first behind (typeDef-fair f bs)) (λ d _ _.
+      need-outcome _ 8 _ (λ _. in-frame first behind (omega arith) (omega arith)) (λ _. accepted (omega (arith, length-append (f .types) (d ∷ [])))))
+  kind-numbered bs functionKind = bind-outcome (whole-numbered frame first behind (function-fair f bs)) (λ F _ _. accepted (omega (arith, length-append (f .functions) (F ∷ []))))
+  kind-numbered bs inputKind = bind-outcome (whole-numbered frame first behind (input-fair f bs)) (λ i _ _. accepted (omega (arith, length-append (f .inputs) (i ∷ []))))
+  kind-numbered bs nodeKind = bind-outcome (whole-numbered frame first behind (node-fair channels f bs)) (λ n _ _. accepted (omega (arith, length-append (f .nodes) (n ∷ []))))
 
-frame-numbered : (channels frame : ℕ) (f : File) (bs : List ℕ) → Numbered (readFrame channels frame f bs)
-unfolding readFrame
-frame-numbered channels frame f [] = refused {n = 4} {frame = frame} (omega arith)
-frame-numbered channels frame f (k ∷ bs) = from-outcome _ 3 frame (λ _. omega arith) (λ kind _. need-outcome _ 3 frame (λ _. omega arith) (λ _. kind-numbered channels frame f bs kind))
+  frame-numbered : (bs : List ℕ) → OneMore (readFrame channels frame f bs)
+  unfolding readFrame
+  frame-numbered [] = refused {n = 4} {frame = frame} (in-frame first behind (omega arith) (omega arith))
+  frame-numbered (k ∷ bs) = from-outcome _ 3 frame (λ _. in-frame first behind (omega arith) (omega arith)) (λ kind _.
+      need-outcome _ 3 frame (λ _. in-frame first behind (omega arith) (omega arith)) (λ _. kind-numbered bs kind))
 
-frames-numbered : (channels frame : ℕ) (f : File) (ls : List (List ℕ)) → Numbered (readFrames channels frame f ls)
+after-last : {last frame : ℕ} → 1 ≤ frame → frame ≤ last + 1 → ReaderRefusal last 3 frame
+after-last first behind = record { least = omega arith; most = omega arith; none = λ few. absurd (omega arith); from-first = λ _. first; to-last = λ other. absurd (other refl); one-after = behind }
+
+frames-numbered : {last : ℕ} (channels frame : ℕ) (f : File) (ls : List (List ℕ)) → 1 ≤ frame → frame + length ls ≤ last + 1 →
+    Outcome (λ g. frameTotal g ≡ frameTotal f + length ls) (ReaderRefusal last) (readFrames channels frame f ls)
 unfolding readFrames
-frames-numbered channels frame f [] = choose-outcome _ (λ _. refused {n = 3} {frame = frame} (omega arith)) (λ _. accepted tt)
-frames-numbered channels frame f (l ∷ ls) = then-numbered (frame-numbered channels frame f l) (λ g. frames-numbered channels (suc frame) g ls)
+frames-numbered channels frame f [] first behind = choose-outcome _ (λ _. refused {n = 3} {frame = frame} (after-last first (omega arith))) (λ _. accepted (omega arith))
+frames-numbered channels frame f (l ∷ ls) first behind = bind-outcome (frame-numbered channels frame first (omega arith) f l) (λ g _ more.
+    outcome-map (λ P sum. omega arith) (frames-numbered channels (suc frame) g ls (omega arith) (omega arith)))
 
-lines-numbered : (frame : ℕ) (ls : List (List ℕ)) (rest : List ℕ) → Numbered (framesOf frame ls rest)
-unfolding framesOf
-lines-numbered frame [] rest = need-outcome _ 2 frame (λ _. omega arith) (λ _. accepted tt)
-lines-numbered frame (l ∷ ls) rest = from-outcome _ 2 frame (λ _. omega arith) (λ bs _. then-numbered (lines-numbered (suc frame) ls rest) (λ fs. accepted tt))
+-- the lines from this frame on, with what stands after the last LF
+lines-numbered : {last : ℕ} (frame : ℕ) (ls : List (List ℕ)) (rest : List ℕ) → 1 ≤ frame → frame + (length ls + choose (isEmpty rest) 0 1) ≤ last + 1 →
+    Outcome (λ fs. length fs ≡ length ls + choose (isEmpty rest) 0 1) (ReaderRefusal last) (framesOf frame ls rest)
+unfolding framesOf isEmpty choose need
+lines-numbered frame [] [] first behind = accepted refl
+lines-numbered frame [] (c ∷ rest) first behind = refused {n = 2} {frame = frame} (in-frame first (omega arith) (omega arith) (omega arith))
+lines-numbered frame (l ∷ ls) rest first behind = from-outcome _ 2 frame (λ _. in-frame first (omega arith) (omega arith) (omega arith)) (λ bs _.
+    bind-outcome (lines-numbered (suc frame) ls rest (omega arith) (omega arith)) (λ fs _ long. accepted (omega arith)))
 
-read-numbered : (t : List ℕ) → Numbered (readFile t)
-unfolding readFile
-read-numbered t = need-outcome _ 1 0 (λ _. omega arith) (λ _. then-numbered (lines-numbered 1 (linesOf t .ended) (linesOf t .rest)) (λ fs. frames-numbered (channelCount fs) 1 emptyFile fs))
+-- and a file that is read has a frame for each of the text
+read-numbered : (t : List ℕ) → Outcome (λ P. frameTotal P ≡ frameCount t) (ReaderRefusal (frameCount t)) (readFile t)
+unfolding readFile frameCount
+read-numbered t = need-outcome _ 1 0 (λ _. record { least = omega arith; most = omega arith; none = λ _. refl; from-first = λ more. absurd (omega arith); to-last = λ _. omega arith; one-after = omega arith }) (λ _.
+    bind-outcome (lines-numbered 1 (linesOf t .ended) (linesOf t .rest) (omega arith) (omega arith)) (λ fs _ long.
+    outcome-map (λ P sum. omega arith) (frames-numbered (channelCount fs) 1 emptyFile fs (omega arith) (omega arith))))
 
-pub reader-refusals : (t : List ℕ) {n frame : ℕ} → readFile t ≡ no n frame → ReaderRefusal n frame
+pub reader-refusals : (t : List ℕ) {n frame : ℕ} → readFile t ≡ no n frame → ReaderRefusal (frameCount t) n frame
 reader-refusals t e = when-refused (read-numbered t) e
+
+pub reader-frames : (t : List ℕ) {n frame : ℕ} → readFile t ≡ no n frame → FrameNamed t n frame
+reader-frames t e =
+    let r = reader-refusals t e in
+    record {
+      none = r .none;
+      none-at-board = λ many few. absurd (omega (arith, r .most));
+      least = λ low few. r .from-first low;
+      least-in-run = λ many. absurd (omega (arith, r .most));
+      most = r .to-last;
+      one-after = r .one-after;
+    }
+
+pub frames-read : (t : List ℕ) {P : File} → readFile t ≡ ok P → frameTotal P ≡ frameCount t
+frames-read t e = when-accepted (read-numbered t) e
+
+-- a frame of a file that was read is one of its text
+pub in-file : {t : List ℕ} {P : File} {n frame : ℕ} → readFile t ≡ ok P → FrameOf P frame → 2 ≤ n → (15 ≤ n → 20 ≤ n) → FrameNamed t n frame
+in-file {t} read f low gap = frame-named (f .least) (omega (arith, f .most, frames-read t read)) low gap

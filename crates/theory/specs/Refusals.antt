@@ -9,12 +9,11 @@ use lib.ListN.{length, replicate}
 use Rattle.language.specs.Result.{Result, ok, no}
 use Rattle.language.specs.Slide.{State}
 use Rattle.language.specs.Machine.{Board, Record, emptyRecord, Answer, Verdict, accepted, done, refusal, short, answer, Accepted, judged, verdictOf, finalList, check, written, startWords, buffersLent, zeros, start, iterateFile, iterated, iterate}
+use Rattle.language.specs.Answers.{Refused}
 use Rattle.language.specs.Run.{Reported}
 use Rattle.theory.specs.Judged.{judge-zero}
-use Rattle.theory.specs.RefusalNumbers.{CheckRefusal, check-refusals, iterate-refusals}
-
-abbrev pub Refused : Answer → Type 0
-Refused a = a .number ≡ 0 → ⊥
+use Rattle.theory.specs.RefusalNumbers.{CheckRefusal, check-refusals}
+use Rattle.theory.specs.FileIterates.{iterate-refusals}
 
 -- ---- check
 refused-list : (v : Verdict) (r : Result Accepted) (n : ℕ) → Refused (answer v) → finalList v r n ≡ replicate n emptyRecord
@@ -84,9 +83,9 @@ module _ (t : List ℕ) (b : Board) (state scratch slots line : List ℕ) where
   iterate-clears-slots = cleared-slots (b .cells) state scratch slots _
 
 -- ---- a call that answers 0 was not refused
-verdict-zero : (b : Board) (o : Result Accepted) → ((n frame : ℕ) → o ≡ no n frame → CheckRefusal n frame) → answer (verdictOf b o) .number ≡ 0 → answer (verdictOf b o) ≡ answer (accepted (answer (verdictOf b o) .bounds))
+verdict-zero : {t : List ℕ} (b : Board) (o : Result Accepted) → ((n frame : ℕ) → o ≡ no n frame → CheckRefusal t n frame) → answer (verdictOf b o) .number ≡ 0 → answer (verdictOf b o) ≡ answer (accepted (answer (verdictOf b o) .bounds))
 unfolding verdictOf judged answer
-verdict-zero b (no n frame) numbered e = absurd (omega (arith, numbered n frame refl))
+verdict-zero b (no n frame) numbered e = absurd (omega (arith, numbered n frame refl .least))
 verdict-zero b (ok a) numbered e = let is = judge-zero b _ e in is ∙ ap (λ (r : Answer). answer (accepted (r .bounds))) (sym is)
 
 -- so where the checker answers 0, the numbers in its answer are reported
@@ -115,4 +114,4 @@ zero-is-iterated t b state scratch slots line e = by-result (iterateFile t b len
 
     by-result : (r : Result State) → iterateFile t b lent state line ≡ r → Iteration t b state scratch slots line
     by-result (ok s) is = record { after = s; is = is; answers = rw is; writes = rw is }
-    by-result (no n frame) is = absurd (let z : n ≡ 0 = rw is at e in omega (arith, iterate-refusals t b lent state line is))
+    by-result (no n frame) is = absurd (let z : n ≡ 0 = rw is at e in omega (arith, iterate-refusals t b lent state line is .least))

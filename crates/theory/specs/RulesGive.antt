@@ -31,19 +31,19 @@ unfolding alloc needs
 new-alloc {cap} {h} w = rw (w .at, w .is, lt-ltb (length h) cap (w .free))
 
 -- slots taken, as the rules say it and as the evaluator tests it
-slots-free : {s : ℕ} (m r : ℕ) → s ≡ m + r → leb m s ≡ true
+pub slots-free : {s : ℕ} (m r : ℕ) → s ≡ m + r → leb m s ≡ true
 slots-free {s} m r e = le-leb m s (omega arith)
 
-slots-left : {s r : ℕ} (m : ℕ) → s ≡ m + r → s - m ≡ r
+pub slots-left : {s r : ℕ} (m : ℕ) → s ≡ m + r → s - m ≡ r
 slots-left m e = omega arith
 
 -- a call with one left enters the body
-run-enters : (P : File) (cap : ℕ) {u : ℕ} (v f : ℕ) {F : Function} (ls : List ℕ) (s : ℕ) (h : List Cell) → u ≡ 1 + v → look (P .functions) f ≡ some F →
+pub run-enters : (P : File) (cap : ℕ) {u : ℕ} (v f : ℕ) {F : Function} (ls : List ℕ) (s : ℕ) (h : List Cell) → u ≡ 1 + v → look (P .functions) f ≡ some F →
     run P cap u f ls s h ≡ eval P (run P cap v) cap noChannels (F .body) ls s h
 unfolding run enterBody
 run-enters P cap {u} v f ls s h w e = let z : u ≡ suc v = omega arith in rw (z, e)
 
-branch-at : (P : File) (B : Body) (cap : ℕ) (N : Channels) (bs : Exprs) (c : ℕ) {b : Expr} (ls E : List ℕ) (s : ℕ) (h : List Cell) → lookExpr bs c ≡ some b →
+pub branch-at : (P : File) (B : Body) (cap : ℕ) (N : Channels) (bs : Exprs) (c : ℕ) {b : Expr} (ls E : List ℕ) (s : ℕ) (h : List Cell) → lookExpr bs c ≡ some b →
     evalBranch P B cap N bs c ls E s h ≡ needs (leb (length ls) s) 21 (eval P B cap N b (E ++ ls) (s - length ls) h)
 unfolding eval lookExpr
 branch-at P B cap N enil c ls E s h e = none-is-not-some e
@@ -51,7 +51,7 @@ branch-at P B cap N (econs a bs) zero {b} ls E s h e = let z : a ≡ b = cc in r
 branch-at P B cap N (econs a bs) (suc c) ls E s h e = branch-at P B cap N bs c ls E s h e
 
 -- the sizes that the rules read are those that the evaluator sums and tests
-sizes-sum : {h : List Cell} {fs : Constructor} {ls ks : List ℕ} → FieldSizes h fs ls ks → ownSum h fs ls ≡ sum ks
+pub sizes-sum : {h : List Cell} {fs : Constructor} {ls ks : List ℕ} → FieldSizes h fs ls ks → ownSum h fs ls ≡ sum ks
 unfolding ownSum sum sizeIn
 sizes-sum z-none = refl
 sizes-sum (z-bool z) = sizes-sum z
@@ -59,7 +59,7 @@ sizes-sum (z-int z) = sizes-sum z
 sizes-sum {h} (z-own {l} e z) = rw (cell-at h l e, sizes-sum z)
 sizes-sum (z-other e le z) = sizes-sum z
 
-sizes-within : {h : List Cell} {fs : Constructor} {ls ks : List ℕ} → FieldSizes h fs ls ks → fieldsWithin h fs ls ≡ true
+pub sizes-within : {h : List Cell} {fs : Constructor} {ls ks : List ℕ} → FieldSizes h fs ls ks → fieldsWithin h fs ls ≡ true
 unfolding fieldsWithin sizeIn
 sizes-within z-none = refl
 sizes-within (z-bool z) = sizes-within z

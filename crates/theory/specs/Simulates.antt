@@ -28,11 +28,11 @@ use Rattle.theory.specs.SimulatesRules.{bool-simulates, int-simulates, v
 use Rattle.theory.specs.SimulatesCase.{ctor-simulates, case-simulates, none-simulate, skip-simulates, branch-simulates}
 
 -- ---- the body of a function is within the limits
-record BodyWithin (types : List TypeDef) (F : Function) : Type 0 where
-  earlier : List Function
-  is : WithinExpr nestingMost (bodyScope types earlier (F .parameters)) (F .body)
+pub record BodyWithin (types : List TypeDef) (F : Function) : Type 0 where
+  pub earlier : List Function
+  pub is : WithinExpr nestingMost (bodyScope types earlier (F .parameters)) (F .body)
 
-body-within : {types : List TypeDef} {earlier Fs : List Function} → WithinFunctions types earlier Fs → (f : ℕ) {F : Function} → look Fs f ≡ some F → BodyWithin types F
+pub body-within : {types : List TypeDef} {earlier Fs : List Function} → WithinFunctions types earlier Fs → (f : ℕ) {F : Function} → look Fs f ≡ some F → BodyWithin types F
 body-within wf-nil f e = none-is-not-some e
 body-within {types} {earlier} (wf-cons {F = G} w ws) zero {F} e = let same : G ≡ F = cc in rw same at (first w)
   where

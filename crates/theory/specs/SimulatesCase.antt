@@ -2,7 +2,7 @@
 use Prim.Native.Nat.{ℕ, zero, suc, _+_, _-_, _≤_, _<_}
 use mathlib.Core.List.{List, [], _∷_, _++_, List·Memᴰ}
 use mathlib.Core.Option.{some}
-use mathlib.Core.Path.{_≡_, refl, ap, subst}
+use mathlib.Core.Path.{_≡_, refl, ap, _∙_, subst}
 use native.Mathlib.Omega.{arith}
 use lib.ListN.{length, getElem? as look}
 use Rattle.language.specs.Limits.{sizeMost}
@@ -15,13 +15,12 @@ use Rattle.language.specs.Rules.{e-ctor, e-case}
 use Rattle.language.specs.PlainMachine.{p-ctor, p-case}
 use Rattle.theory.specs.Lists.{none-is-not-some}
 use Rattle.theory.specs.HeapTrees.{tree-con}
-use Rattle.theory.specs.TypedTrees.{fields-sum}
 use Rattle.theory.specs.SplitsCover.{Positive, positive-sum, Covered, cover}
 use Rattle.theory.specs.HeapValues.{vals-low, scoped-grown, scoped-append}
 use Rattle.theory.specs.FieldValues.{vals-length, vals-owns, vals-positive, vals-sizes, vals-env, env-vals}
-use Rattle.theory.specs.ValuesFit.{vals-trees, fields-within}
+use Rattle.theory.specs.ValuesFit.{vals-trees, fields-sizes}
 use Rattle.theory.specs.ValueCells.{con-cases, new-con-has}
-use Rattle.theory.specs.ScopeTrees.{derives-tree, derives-bound}
+use Rattle.theory.specs.ScopeTrees.{scope-trees-count, derives-tree, derives-bound}
 use Rattle.theory.specs.Simulated.{AtMost, then, Simulates, SimulatesAll, BranchFound, SimulatesBranches, new-ends, last-ends}
 
 module _ {P : File} {cap : ℕ} {C Γ : List Ty} where
@@ -34,7 +33,7 @@ module _ {P : File} {cap : ℕ} {C Γ : List Ty} where
         let r = env-vals t fs ks (rw types (x .has)) in
         new-ends (x .grew) (con t c (1 + sum (r .sizes)) ls) (omega arith) (omega arith) (new-con-has c k e (r .are) (omega arith))
         (e-ctor (x .runs) e (vals-sizes (r .are)) (omega arith))
-        (p-ctor (x .derives) e (omega (arith, fields-sum (vals-trees (r .are)))) (fields-within (vals-trees (r .are)))));
+        (p-ctor (x .derives) e (fields-sizes (vals-trees (r .are))) (omega arith)));
   })
 
   -- ---- branches
@@ -80,5 +79,5 @@ module _ {P : File} {cap : ℕ} {C Γ : List Ty} where
         let f = q .found c fs ks known (vals-positive vs) (vals-owns vs) le in
         last-ends (x .grew) (f .simulates .ends N u (s - length fs) (E ++ ls) i (scoped-append (scoped-grown (x .grew .grown) S) (vals-env vs (f .over))) (omega arith)) (omega arith)
         (λ k g. e-case (x .runs) cell known (vals-length vs) (f .is) (omega arith))
-        (λ z d. p-case (derives-tree (tree-con i l cell (vals-low vs)) (x .derives)) (f .is) (derives-bound (x .grew .grown) S ls d))));
+        (λ z d. p-case (derives-tree (tree-con i l cell (vals-low vs)) (x .derives)) known (scope-trees-count i ls ∙ vals-length vs) (f .is) (derives-bound (x .grew .grown) S ls d))));
   })

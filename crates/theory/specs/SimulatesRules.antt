@@ -15,13 +15,13 @@ use Rattle.language.specs.Typing.{baseType}
 use Rattle.language.specs.Heap.{kbool, kint, leaf, applyOp, treesAt, treeOf, treeAt}
 use Rattle.language.specs.Evaluator.{noChannels}
 use Rattle.language.specs.Rules.{e-bool, e-int, e-var, e-node, e-atlast, e-let, e-if-then, e-if-else, e-op, e-call, e-adj, e-fit-success, e-fit-fail, es-nil, es-cons}
-use Rattle.language.specs.PlainMachine.{p-bool, p-int, p-var, p-node, p-atlast, p-let, p-if-then, p-if-else, p-op, p-call, p-adj, p-fit-success, p-fit-fail, ps-nil, ps-cons}
+use Rattle.language.specs.PlainMachine.{p-bool, p-int, p-var, p-node, p-atlast, p-let, p-if-then, p-if-else, p-op, p-call, p-adj, ps-nil, ps-cons}
 use Rattle.theory.specs.Lists.{look-new, look-map}
 use Rattle.theory.specs.HeapValues.{h-bool, h-int, h-named, Env, env-nil, env-cons, has-grown, scoped-grown, scoped-one, scoped-body, env-look, env-length, has-less, has-larger}
 use Rattle.theory.specs.Growth.{grew-none, grew-trans}
-use Rattle.theory.specs.ValuesFit.{tree-leaf, val-tree-size}
+use Rattle.theory.specs.ValuesFit.{tree-leaf, val-tree-size, cell-tree}
 use Rattle.theory.specs.ValueCells.{base-constant, result-has, bool-cases, fit-cases, val-cell}
-use Rattle.theory.specs.ScopeTrees.{tree-grown, derives-tree, derives-before, derives-all-before, derives-bound, scope-trees-look}
+use Rattle.theory.specs.ScopeTrees.{scope-trees-count, tree-grown, derives-tree, fit-derives, no-fit-derives, derives-before, derives-all-before, derives-bound, scope-trees-look}
 use Rattle.theory.specs.Simulated.{then, Simulates, SimulatesAll, held-ends, new-ends, last-ends}
 
 parameters-length : (ps : List Plain) (ks : List ℕ) → length (parameterTypes ps ks) ≡ length ps
@@ -107,7 +107,7 @@ module _ {P : File} {cap : ℕ} {C Γ : List Ty} where
         let args : Env P i ls (parameterTypes (F .parameters) ks) = rw types (x .has) in
         last-ends (x .grew) (q .ends noChannels (u - 1) r ls i (scoped-body args) (omega arith)) (omega arith)
         (λ l g. e-call e (omega arith) (x .runs) (env-length args ∙ parameters-length (F .parameters) ks) (omega arith))
-        (λ z. p-call e (x .derives)));
+        (λ z. p-call e (x .derives) (scope-trees-count i ls ∙ env-length args ∙ parameters-length (F .parameters) ks)));
   })
 
   pub adj-simulates : {z : Size} {e : Expr} {t j k : ℕ} {m : Estimate} → Simulates P cap C Γ e (tnamed t j) m → j ≤ k → Simulates P cap C Γ (eadj z e) (tnamed t k) m
@@ -123,9 +123,9 @@ module _ {P : File} {cap : ℕ} {C Γ : List Ty} where
     ends = λ N u s E h S room.
         then (p .ends N u s E h S (omega arith)) (λ l i x. fit-cases k (x .has)
         (λ n v le. last-ends (x .grew) (q .ends N u (s - 1) (E ++ (l ∷ [])) i (scoped-one (x .grew .grown) S (h-named v le)) (omega arith)) (omega arith)
-        (λ j g. e-fit-success (x .runs) (val-cell v .is) le (omega arith)) (λ z d. p-fit-success (x .derives) (rw (val-tree-size v) le) (derives-bound (x .grew .grown) S (l ∷ []) d)))
+        (λ j g. e-fit-success (x .runs) (val-cell v .is) le (omega arith)) (λ z d. fit-derives (cell-tree (x .has) (val-cell v .is)) (x .derives) (rw (val-tree-size v) le) (derives-bound (x .grew .grown) S (l ∷ []) d)))
         (λ n v less. last-ends (x .grew) (r .ends N u s E i (scoped-grown (x .grew .grown) S) (omega arith)) (omega arith)
-        (λ j g. e-fit-fail (x .runs) (val-cell v .is) less) (λ z d. p-fit-fail (x .derives) (rw (val-tree-size v) less) (derives-before (x .grew .grown) S d))));
+        (λ j g. e-fit-fail (x .runs) (val-cell v .is) less) (λ z d. no-fit-derives (cell-tree (x .has) (val-cell v .is)) (x .derives) (rw (val-tree-size v) less) (derives-before (x .grew .grown) S d))));
   })
 
   -- ---- arguments and fields

@@ -29,7 +29,7 @@ pub record StartGoes (t : List ℕ) (P : File) (x : Estimate) (c : FirstCall) : 
   pub beyond : drop (stateLength (c .board .cells)) (begun t c .state) ≡ drop (stateLength (c .board .cells)) (c .state)
 
 -- the state at the start holds the initial trees
-start-trees : (P : File) → channelTrees (startState P) ≡ initialTrees P
+pub start-trees : (P : File) → channelTrees (startState P) ≡ initialTrees P
 unfolding startState
 start-trees P = all-build P (initialTrees P) [] [] all-nil .trees
 
@@ -50,7 +50,7 @@ module _ {t : List ℕ} {P : File} {x : Estimate} (a : AcceptedFile t P x) where
     unfolding start
     start-answers = rw (start-checks, start-accepts)
 
-    start-writes : begun t c .state ≡ written (c .board .cells) (startState P) (c .state)
+    pub start-writes : begun t c .state ≡ written (c .board .cells) (startState P) (c .state)
     unfolding start startWords
     start-writes = rw (start-checks, start-accepts)
 

@@ -1,21 +1,22 @@
--- Document 01's starred cases ("Tins to try"), as one table and one computed fact, through the definitions.
+-- Document 01's starred cases ("Tins to try"), with the operators on signs and on pairs of Bools, as one table and one computed fact,
+-- through the definitions.
 use Prim.Native.Nat.{ℕ, _+_}
 use Prim.Native.Char.{code}
 use Prim.Native.String.{String, [] as empty, _∷_ as _then_}
-use mathlib.Core.List.{List, [], _∷_, map}
-use mathlib.Core.Bool.{true}
+use mathlib.Core.List.{List, [], _∷_, _++_, map}
+use mathlib.Core.Bool.{true, false}
 use mathlib.Core.Option.{none, some}
 use mathlib.Core.Path.{_≡_, refl}
 use lib.ListN.{length, getD, replicate, getElem? as look}
 use Rattle.language.specs.Limits.{instancesMost, scratchWords}
 use Rattle.language.specs.Result.{Result, ok, no, from}
-use Rattle.language.specs.Syntax.{File, Ty, Expr, eint, eop, oadd, omul}
+use Rattle.language.specs.Syntax.{File, Ty, Expr, ebool, eint, Op, oadd, osub, omul, olt, ole, oand, oor, eop}
 use Rattle.language.specs.Reader.{readFile, emptyFile}
 use Rattle.language.specs.Sizes.{typeAt, sizeOfType}
 use Rattle.language.specs.Checker.{Counted, enterAt}
 use Rattle.language.specs.Cells.{cellsNamed}
-use Rattle.language.specs.Heap.{number, constantIn, cellAt}
-use Rattle.language.specs.Layout.{stateLength}
+use Rattle.language.specs.Heap.{kbool, kint, Cell, leaf, cellAt}
+use Rattle.language.specs.Layout.{boolTag, cellTag, cellValue, stateLength}
 use Rattle.language.specs.Evaluator.{Out, value, refused, noChannels, eval, run}
 use Rattle.language.specs.Machine.{Board, Answer, Accepted, checkFile, check, emptyRecord, start, iterate}
 use Rattle.theory.specs.Opened.{reading, sizing, running}
@@ -49,13 +50,24 @@ numbersOf τ (no n frame) = n ∷ frame ∷ []
 instance : ℕ → List ℕ → File → List ℕ
 instance g ks P = elim (look (P .functions) g) [ some F ↦ elim (typeAt ks (F .result)) [ some τ ↦ numbersOf τ (enterAt P instancesMost instancesMost 0 g F ks τ []) | none ↦ [] ] | none ↦ [] ]
 
--- the Int that an expression gives
-intOf : Out → List ℕ
-intOf (value l h) = number (constantIn (cellAt h l)) ∷ []
-intOf (refused n) = []
+-- the Bool or Int that an operator gives: what its cell is, and which
+constant : Cell → List ℕ
+constant c = cellTag c ∷ cellValue c ∷ []
 
-evaluated : Expr → List ℕ
-evaluated e = intOf (eval emptyFile (run emptyFile 3 0) 3 noChannels e [] 0 [])
+resultOf : Out → List ℕ
+resultOf (value l h) = constant (cellAt h l)
+resultOf (refused n) = []
+
+operated : Op → Expr → Expr → List ℕ
+operated o a b = resultOf (eval emptyFile (run emptyFile 3 0) 3 noChannels (eop o a b) [] 0 [])
+
+-- -1 in two's complement
+minusOne : Expr
+minusOne = eint 4294967295
+
+-- an operator on all four pairs of Bools
+onPairs : Op → List ℕ
+onPairs o = operated o (ebool false) (ebool false) ++ operated o (ebool false) (ebool true) ++ operated o (ebool true) (ebool false) ++ operated o (ebool true) (ebool true)
 
 -- the value of the second channel after a start and one line
 secondValue : List ℕ → List ℕ
@@ -103,8 +115,17 @@ tins =
     -- cells of that list at 1 and 5
     ∷ record { got = fromFile listing3 (λ P. cellsNamed P 0 1 ∷ cellsNamed P 0 5 ∷ []); want = 1 ∷ 9 ∷ [] }
     -- 2147483647 + 1 = −2147483648, in two's complement; 65536 × 65536 = 0
-    ∷ record { got = evaluated (eop oadd (eint 2147483647) (eint 1)); want = 2147483648 ∷ [] }
-    ∷ record { got = evaluated (eop omul (eint 65536) (eint 65536)); want = 0 ∷ [] }
+    ∷ record { got = operated oadd (eint 2147483647) (eint 1); want = constant (leaf (kint 2147483648)) }
+    ∷ record { got = operated omul (eint 65536) (eint 65536); want = constant (leaf (kint 0)) }
+    -- −1 < 0; not 0 < −1; −2147483648 ≤ 2147483647; 0 − 1 = −1; −1 × −1 = 1
+    ∷ record { got = operated olt minusOne (eint 0); want = constant (leaf (kbool true)) }
+    ∷ record { got = operated olt (eint 0) minusOne; want = constant (leaf (kbool false)) }
+    ∷ record { got = operated ole (eint 2147483648) (eint 2147483647); want = constant (leaf (kbool true)) }
+    ∷ record { got = operated osub (eint 0) (eint 1); want = constant (leaf (kint 4294967295)) }
+    ∷ record { got = operated omul minusOne minusOne; want = constant (leaf (kint 1)) }
+    -- and, or
+    ∷ record { got = onPairs oand; want = boolTag ∷ 0 ∷ boolTag ∷ 0 ∷ boolTag ∷ 0 ∷ boolTag ∷ 1 ∷ [] }
+    ∷ record { got = onPairs oor; want = boolTag ∷ 0 ∷ boolTag ∷ 1 ∷ boolTag ∷ 1 ∷ boolTag ∷ 1 ∷ [] }
     -- adj from 5 to 4; fit to 4: size 4 passes, size 5 takes the other arm
     ∷ record { got = checked lowered 25 18 5; want = 11 ∷ 2 ∷ 0 ∷ 0 ∷ 0 ∷ [] }
     ∷ record { got = afterLine fitting "05190001110000000119000111000000021900011100000003190000\n"; want = 1 ∷ [] }
@@ -112,5 +133,5 @@ tins =
     ∷ []
 
 all-tins : map (λ (t : Tin). t .got) tins ≡ map (λ (t : Tin). t .want) tins
-unfolding reading sizing running codes shown checked instancesOf fromFile numbersOf instance intOf evaluated secondValue afterLine listing3 lowered fitting tins
+unfolding reading sizing running codes shown checked instancesOf fromFile numbersOf instance constant resultOf operated minusOne onPairs secondValue afterLine listing3 lowered fitting tins
 all-tins = refl

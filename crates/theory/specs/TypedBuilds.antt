@@ -35,9 +35,9 @@ record MakesValue (P : File) (v : Tree) (t j : ℕ) (h : List Cell) (r : Built) 
   grew : Grew P h (r .heap) (treeCells v)
   value : Val P (r .heap) (r .location) t j
 
-record MakesFields (P : File) (ws : Trees) (t : ℕ) (fs : List Field) (ks : List ℕ) (h : List Cell) (r : BuiltAll) : Type 0 where
-  grew : Grew P h (r .heap) (treesCells ws)
-  values : Vals P (r .heap) (length (r .heap)) t fs (r .locations) ks
+pub record MakesFields (P : File) (ws : Trees) (t : ℕ) (fs : List Field) (ks : List ℕ) (h : List Cell) (r : BuiltAll) : Type 0 where
+  pub grew : Grew P h (r .heap) (treesCells ws)
+  pub values : Vals P (r .heap) (length (r .heap)) t fs (r .locations) ks
 
 -- ---- one lemma a rule
 module _ {P : File} where
@@ -73,7 +73,7 @@ module _ {P : File} where
         let true-size : treeSize P (vcon t c ws) ≡ j = val-size (val-con known fields size) in
         subst (λ x. MakesValue P (vcon t c ws) t x h (build P (vcon t c ws) h)) true-size (con-makes c (treeSize P (vcon t c ws)) known (true-size ∙ size) (fields-make fields h))
 
-    fields-make : {t : ℕ} {fs : List Field} {ws : Trees} {ks : List ℕ} → FieldTrees P t fs ws ks → (h : List Cell) → MakesFields P ws t fs ks h (buildFields P ws h)
+    pub fields-make : {t : ℕ} {fs : List Field} {ws : Trees} {ks : List ℕ} → FieldTrees P t fs ws ks → (h : List Cell) → MakesFields P ws t fs ks h (buildFields P ws h)
     fields-make fields-nil h = record { grew = grew-none h; values = vs-nil }
     fields-make (fields-bool {w} x r) h =
         let m = has-makes x h in

@@ -14,7 +14,7 @@ use Rattle.theory.specs.Alls.{all-in}
 use Rattle.theory.specs.Outcomes.{Outcome, accepted, refused, when-accepted}
 use Rattle.theory.specs.Different.{not-more-and-at-most}
 use Rattle.theory.specs.Calls.{Calls, Allowed, Ordered, calls-anything, within-ordered}
-use Rattle.theory.specs.Instances.{instancesOf}
+use Rattle.language.specs.Instances.{instancesOf}
 use Rattle.theory.specs.InstanceList.{ready-settled, settled-start, AnyKey}
 use Rattle.theory.specs.DerivedAccepted.{TooMany, Same, EntersAgree, agrees}
 use Rattle.theory.specs.EnteredAgrees.{enters-agree}

@@ -1,15 +1,16 @@
--- A location that has a type has a tree that fits it, and its size word is the tree's true size.
-use Prim.Native.Nat.{ℕ}
+-- A location that has a type has a tree that fits it, and its size word is the tree's true size; the sizes that E-CTOR reads at its
+-- fields are those of their trees.
+use Prim.Native.Nat.{ℕ, _≤_}
 use mathlib.Core.List.{List}
 use mathlib.Core.Bool.{true}
 use mathlib.Core.Option.{some}
-use mathlib.Core.Path.{_≡_, refl, sym, _∙_}
+use mathlib.Core.Path.{_≡_, sym, _∙_, subst}
+use native.Mathlib.Omega.{arith}
 use lib.ListN.{getElem? as look}
-use borrow.Author.Tests.{le-leb}
 use Rattle.language.specs.Syntax.{Field, Ty, File}
-use Rattle.language.specs.Heap.{Constant, Cell, leaf, vleaf, Trees, treesAt, treeOf, trees, treeAt, cellAt, sizeIn}
-use Rattle.language.specs.Values.{treeSize, treesWithin, fits}
-use Rattle.theory.specs.Lists.{both-true}
+use Rattle.language.specs.Heap.{Constant, Cell, leaf, con, vleaf, vcon, Trees, treesAt, treeOf, trees, treeAt, cellAt, sizeIn}
+use Rattle.language.specs.Values.{treeSize, fits}
+use Rattle.language.specs.PlainMachine.{TreeSizes, y-none, y-bool, y-int, y-own, y-other}
 use Rattle.theory.specs.Heaps.{cell-at}
 use Rattle.theory.specs.HeapTrees.{tree-cell, tree-con}
 use Rattle.theory.specs.TypedTrees.{TreeHas, has-bool, has-int, has-named, TreeVal, val-con, FieldTrees, fields-nil, fields-bool, fields-int, fields-own, fields-other, val-size, has-fits}
@@ -52,11 +53,16 @@ module _ {P : File} {h : List Cell} where
   size-word (h-int {l} e less) = rw (tree-leaf h l e, cell-at h l e)
   size-word (h-named v le) = val-tree-size v ∙ sym (val-size-word v)
 
--- no field of another type is above its k
-pub fields-within : {P : File} {t : ℕ} {fs : List Field} {ws : Trees} {ks : List ℕ} → FieldTrees P t fs ws ks → treesWithin P ws fs ≡ true
-unfolding treesWithin
-fields-within fields-nil = refl
-fields-within (fields-bool w r) = fields-within r
-fields-within (fields-int w r) = fields-within r
-fields-within (fields-own w r) = fields-within r
-fields-within (fields-other {k} (has-named {j} w le) r) = both-true (rw (val-size w) (le-leb j k le)) (fields-within r)
+  -- the tree of a constructor's cell
+  pub cell-tree : {l t c n : ℕ} {ls : List ℕ} {τ : Ty} → Has P h l τ → look h l ≡ some (con t c n ls) → treeAt h l ≡ vcon t c (treesAt (trees h) ls)
+  cell-tree (h-bool e) at = absurd (let z : _≡_ {A = ℕ} 0 1 = cc in omega arith)
+  cell-tree (h-int e less) at = absurd (let z : _≡_ {A = ℕ} 0 1 = cc in omega arith)
+  cell-tree (h-named (v-con {l} e f vs s) le) at = let z = tree-con h l e (vals-low vs) in cc
+
+-- the fields of a typed constructor have the sizes that the rule asks for, and none of another type is above its k
+pub fields-sizes : {P : File} {t : ℕ} {fs : List Field} {ws : Trees} {ks : List ℕ} → FieldTrees P t fs ws ks → TreeSizes P fs ws ks
+fields-sizes fields-nil = y-none
+fields-sizes (fields-bool w r) = y-bool (fields-sizes r)
+fields-sizes (fields-int w r) = y-int (fields-sizes r)
+fields-sizes (fields-own (val-con e w s) r) = y-own (val-size (val-con e w s)) (fields-sizes r)
+fields-sizes (fields-other {k} (has-named (val-con e w s) le) r) = y-other (subst (λ n. n ≤ k) (sym (val-size (val-con e w s))) le) (fields-sizes r)
