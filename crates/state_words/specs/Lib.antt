@@ -4,3 +4,4 @@ pub mod WriteLaws
 pub mod Holds
 pub mod HoldLaws
 pub mod ReadLaws
+pub mod StateLaws
