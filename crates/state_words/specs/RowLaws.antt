@@ -6,11 +6,12 @@ use mathlib.Core.Path.{_≡_, refl, sym, ap, ap₂, _∙_}
 use native.Mathlib.Nat.{add-zero}
 use native.Mathlib.Numerals.{add-one}
 use native.Mathlib.Omega.{arith}
-use lib.ListN.{length, getD, take, drop, set, replicate, length-append, length-take, length-drop, List·getD-eq-default}
-use lib.Seq.{sets, length-sets, sets-eq, take-suc, take-all, length-take-le, getD-take, getD-drop, drop-drop}
+use lib.ListN.{length, getD, take, drop, set, replicate, length-append, length-take, length-drop, List·getD-eq-default, List·getD-append}
+use lib.Seq.{sets, length-sets, sets-eq, take-suc, take-all, length-take-le, getD-take, getD-drop, getD-at, drop-drop}
 use lib.Dec.{eqb}
 use Rattle.language.specs.Result.{both}
 use Rattle.language.specs.Layout.{allZero}
+use Rattle.theory.specs.Places.{below-or-last}
 use Rattle.state_words.specs.Words.{firsts}
 
 -- ---- words stored from a place on
@@ -106,3 +107,13 @@ firsts-length f (suc n) = omega (arith, length-append (firsts f n) (f n ∷ []),
 -- so many words from a place on
 pub firsts-taken : (words : List ℕ) (from n : ℕ) → from + n ≤ length words → firsts (λ j. getD words (from + j) 0) n ≡ take n (drop from words)
 firsts-taken words from n room = firsts-are (λ j. getD words (from + j) 0) n (drop from words) (omega (arith, length-drop from words)) (λ j less. sym (getD-drop from words j 0))
+
+pub firsts-at : (f : ℕ → ℕ) (n j : ℕ) → j < n → getD (firsts f n) j 0 ≡ f j
+unfolding firsts
+firsts-at f zero j less = absurd (omega arith)
+firsts-at f (suc n) j less = below-or-last j n less
+    (λ below. List·getD-append (firsts f n) (f n ∷ []) 0 j (omega (arith, firsts-length f n)) ∙ firsts-at f n j below)
+    (λ last. rw last (getD-at (firsts f n) (f n) [] 0 n (firsts-length f n)))
+
+pub firsts-start : (f : ℕ → ℕ) (n m : ℕ) → n ≤ m → take n (firsts f m) ≡ firsts f n
+firsts-start f n m le = sym (firsts-are f n (firsts f m) (omega (arith, firsts-length f m)) (λ j less. sym (firsts-at f m j (omega arith))))

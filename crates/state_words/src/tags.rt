@@ -1,6 +1,7 @@
 // Tags: a Bool, an Int, or a type and its constructor.
 ghost use mathlib.Core.Path.{_≡_};
 ghost use Prim.Native.Nat.{_+_, _-_, _*_, _/_, _%_, _<_, _≤_};
+ghost use lib.Dec.{eqb};
 ghost use Rattle.language.specs.Limits.{byteRange};
 ghost use Rattle.language.specs.Layout.{tagStep};
 ghost use Rattle.index.specs.Sections.{typesOf};
@@ -37,6 +38,20 @@ pub fn tag_constructor(tag: u32) -> u32
     ensures { λ r. ⌜ r ≡ tag % tagStep ⌝ }
 {
     tag % TYPE_STEP
+}
+
+// Whether two tags, or a tag and the word of a type, name the same type.
+pub fn same_type(a: u32, b: u32) -> bool
+    ensures { λ r. ⌜ r ≡ eqb (a / tagStep) (b / tagStep) ⌝ }
+{
+    a / TYPE_STEP == b / TYPE_STEP
+}
+
+// The size in the word of a type.
+pub fn word_size(word: u32) -> u32
+    ensures { λ r. ⌜ r ≡ word % tagStep ⌝ }
+{
+    word % TYPE_STEP
 }
 
 // How many fields a cell with this tag has.
