@@ -209,15 +209,19 @@ some-below l i d = below-or-not i (length l) (λ less. lt-ltb i (length l) less 
 
 pub type-unknown : {index : List ℕ} {types tag t : ℕ} → t ≡ tag / tagStep - 1 → types ≤ t → KnownJudged index types tag false
 unfolding isSome
-type-unknown {index} {types} {tag} {t} p le = record { says = λ text P x count.
-    let none-there : constructorsOf P (tag / tagStep - 1) ≡ [] = List·getD-eq-default (P .types) [] {n = tag / tagStep - 1} (omega arith) in
-    ap (λ l. isSome (look l (tag % tagStep))) (sym none-there) }
+type-unknown {index} {types} {tag} {t} p le = record {
+  says = λ text P x count.
+      let none-there : constructorsOf P (tag / tagStep - 1) ≡ [] = List·getD-eq-default (P .types) [] {n = tag / tagStep - 1} (omega arith) in
+      ap (λ l. isSome (look l (tag % tagStep))) (sym none-there);
+}
 
 pub type-known : {index : List ℕ} {types tag t c n : ℕ} → t ≡ tag / tagStep - 1 → t < types → c ≡ tag % tagStep → (n ≡ getD (typesOf index) (typeWords * t) 0 % byteRange) × (n < byteRange) → KnownJudged index types tag (ltb c n)
-type-known {index} {types} {tag} {t} {c} {n} p less q e = record { says = λ text P x count.
-    let tells = x .eachType t (omega arith) .tells in
-    let all : n ≡ length (constructorsOf P t) = omega (arith, e .0, tells .constructors, tells .few) in
-    rw (all, ← p, ← q) (some-below (constructorsOf P t) c []) }
+type-known {index} {types} {tag} {t} {c} {n} p less q e = record {
+  says = λ text P x count.
+      let tells = x .eachType t (omega arith) .tells in
+      let all : n ≡ length (constructorsOf P t) = omega (arith, e .0, tells .constructors, tells .few) in
+      rw (all, ← p, ← q) (some-below (constructorsOf P t) c []);
+}
 
 -- ---- the cell
 pub some-of : {A : Type 0} (o : Option A) → isSome o ≡ true → (X : Type 0) → ((a : A) → o ≡ some a → X) → X
@@ -232,12 +236,16 @@ none-of none e = refl
 
 module _ (index words : List ℕ) (types cell : ℕ) {tag : ℕ} (p : tag ≡ tagAt words cell) where
   pub judged-leaf : {r : Bool} → valueAt words cell < intRange → tag < tagStep → r ≡ leafFits words cell tag → CellJudged index types words cell r
-  judged-leaf {r} width low e = record { says = λ P h w count.
-      e ∙ sym (ap (λ n. isSome (nextHeap P h n (valueAt words cell) (firsts (fieldAt words cell) fieldsMost))) (sym p) ∙ leaf-judged P h words cell tag width low) }
+  judged-leaf {r} width low e = record {
+    says = λ P h w count.
+        e ∙ sym (ap (λ n. isSome (nextHeap P h n (valueAt words cell) (firsts (fieldAt words cell) fieldsMost))) (sym p) ∙ leaf-judged P h words cell tag width low);
+  }
 
   pub judged-unknown : {b : Bool} → tagStep ≤ tag → KnownJudged index types tag b → b ≡ false → CellJudged index types words cell false
-  judged-unknown {b} high k e = record { says = λ P h w count. sym (ap (λ n. isSome (nextHeap P h n (valueAt words cell) (firsts (fieldAt words cell) fieldsMost))) (sym p)
-      ∙ unknown-judged P h (valueAt words cell) (firsts (fieldAt words cell) fieldsMost) tag high (none-of _ (sym (k .says (w .text) P (w .indexed) count) ∙ e))) }
+  judged-unknown {b} high k e = record {
+    says = λ P h w count. sym (ap (λ n. isSome (nextHeap P h n (valueAt words cell) (firsts (fieldAt words cell) fieldsMost))) (sym p)
+        ∙ unknown-judged P h (valueAt words cell) (firsts (fieldAt words cell) fieldsMost) tag high (none-of _ (sym (k .says (w .text) P (w .indexed) count) ∙ e)));
+  }
 
   -- the fields of the constructor that the tag names
   module _ (high : tagStep ≤ tag) {b : Bool} (k : KnownJudged index types tag b) (known : b ≡ true) {n : ℕ} (q : n ≡ fieldCount (typesOf index) tag) where
@@ -265,10 +273,14 @@ module _ (index words : List ℕ) (types cell : ℕ) {tag : ℕ} (p : tag ≡ ta
     module _ {clear : Bool} (z : clear ≡ allZero (drop n (firsts (fieldAt words cell) fieldsMost))) where
       pub judged-unclear : clear ≡ false → CellJudged index types words cell false
       unfolding both
-      judged-unclear e = record { says = λ P h w count. some-of (look (constructorsOf P (tag / tagStep - 1)) (tag % tagStep)) (sym (k .says (w .text) P (w .indexed) count) ∙ known) _ (λ fs there.
-          sym (whole P h w there ∙ rw (← z, e))) }
+      judged-unclear e = record {
+        says = λ P h w count. some-of (look (constructorsOf P (tag / tagStep - 1)) (tag % tagStep)) (sym (k .says (w .text) P (w .indexed) count) ∙ known) _ (λ fs there.
+            sym (whole P h w there ∙ rw (← z, e)));
+      }
 
       pub judged-fields : {r : Bool} → clear ≡ true → FieldsJudged index words cell tag n r → CellJudged index types words cell r
       unfolding both
-      judged-fields {r} e f = record { says = λ P h w count. some-of (look (constructorsOf P (tag / tagStep - 1)) (tag % tagStep)) (sym (k .says (w .text) P (w .indexed) count) ∙ known) _ (λ fs there.
-          f .says P h w (tag / tagStep - 1) (tag % tagStep) (tag-of P there) (counted P (w .indexed) there) ∙ sym (whole P h w there ∙ rw (← z, e))) }
+      judged-fields {r} e f = record {
+        says = λ P h w count. some-of (look (constructorsOf P (tag / tagStep - 1)) (tag % tagStep)) (sym (k .says (w .text) P (w .indexed) count) ∙ known) _ (λ fs there.
+            f .says P h w (tag / tagStep - 1) (tag % tagStep) (tag-of P there) (counted P (w .indexed) there) ∙ sym (whole P h w there ∙ rw (← z, e)));
+      }

@@ -76,10 +76,12 @@ location-beyond {l} le = record { says = λ P h v all τ w e. rw (le-ltb l (leng
 
 pub location-judged : {words : List ℕ} {used l word tag v : ℕ} {r : Bool} → l < used → tag ≡ tagAt words l → v ≡ valueAt words l → r ≡ typeFits word tag v → LocationJudged words used l word r
 unfolding locationFits both
-location-judged {words} {used} {l} {word} {tag} {v} {r} less p q e = record { says = λ P h hs all τ w is.
-    let tag-is : tag ≡ cellTag (cellAt h l) = p ∙ tag-held hs l less in
-    let value-is : v ≡ cellValue (cellAt h l) = q ∙ value-held hs l less in
-    rw (lt-ltb l (length h) (omega (arith, hs .count))) (e ∙ rw (tag-is, value-is, is) (fits-as-cell (all-getD all l (leaf (kbool false)) (omega (arith, hs .count))) w)) }
+location-judged {words} {used} {l} {word} {tag} {v} {r} less p q e = record {
+  says = λ P h hs all τ w is.
+      let tag-is : tag ≡ cellTag (cellAt h l) = p ∙ tag-held hs l less in
+      let value-is : v ≡ cellValue (cellAt h l) = q ∙ value-held hs l less in
+      rw (lt-ltb l (length h) (omega (arith, hs .count))) (e ∙ rw (tag-is, value-is, is) (fits-as-cell (all-getD all l (leaf (kbool false)) (omega (arith, hs .count))) w));
+}
 
 -- ---- a field of the type itself
 own-test : {P : File} {d : Cell} → Writable P d → (t c : ℕ) → c < tagStep → eqb (cellTag d / tagStep) ((tagStep * (t + 1) + c) / tagStep) ≡ ownType t d
@@ -114,10 +116,12 @@ module _ {words : List ℕ} {cell tag l told : ℕ} {b : Bool} (less : l < cell)
 
   pub own-taken : {left size r : ℕ} → b ≡ true → size ≡ valueAt words l → r ≡ left - size → OwnLeft words cell tag l left r
   unfolding fieldLeft choose both
-  own-taken {left} {size} {r} e z s = record { says = λ P h v all t c g.
-      let is = own-is v all t c g in
-      let size-is : size ≡ sizeIn (cellAt h l) = z ∙ value-held v l less ∙ own-size t (cellAt h l) (sym is ∙ e) in
-      s ∙ rw (lt-ltb l (length h) (omega (arith, v .count)), ← is, e, size-is) }
+  own-taken {left} {size} {r} e z s = record {
+    says = λ P h v all t c g.
+        let is = own-is v all t c g in
+        let size-is : size ≡ sizeIn (cellAt h l) = z ∙ value-held v l less ∙ own-size t (cellAt h l) (sym is ∙ e) in
+        s ∙ rw (lt-ltb l (length h) (omega (arith, v .count)), ← is, e, size-is);
+  }
 
 -- ---- a field by its word
 own-word : (f : Field) → fieldWord f ≡ fieldOwn → f ≡ own
@@ -167,9 +171,11 @@ module _ {index words : List ℕ} {cell tag j word l : ℕ} (f : FieldRead index
       f .told ∙ rw (t-is, c-is) (x .eachType t (look-inner-less (P .types) t c (g .known)) .fields c (look-less (constructorsOf P t) c (g .known)) j (rw same less) ∙ rw same (List·getD-map fieldWord fs j fbool))
 
   pub field-own : {left r : ℕ} → word ≡ fieldOwn → OwnLeft words cell tag l left r → FieldLeft index words cell tag j left r
-  field-own {left} {r} is o = record { says = λ P h b t c {fs} g less.
-      let f-is : getD fs j fbool ≡ own = own-word (getD fs j fbool) (sym (word-told (b .indexed) t c g less) ∙ is) in
-      o .says P h (b .holds) (b .writable) t c g ∙ rw (f-is, f .at) }
+  field-own {left} {r} is o = record {
+    says = λ P h b t c {fs} g less.
+        let f-is : getD fs j fbool ≡ own = own-word (getD fs j fbool) (sym (word-told (b .indexed) t c g less) ∙ is) in
+        o .says P h (b .holds) (b .writable) t c g ∙ rw (f-is, f .at);
+  }
 
   module _ {b : Bool} (ne : (word ≡ fieldOwn) → ⊥) (v : LocationJudged words cell l word b) where
     other-left : (left : ℕ) (P : File) (h : List Cell) → Below index words cell P h → (t c : ℕ) {fs : Constructor} → TagOf P tag t c fs → j < length fs → fieldLeft h t (getD fs j fbool) (fieldAt words cell j) left ≡ choose b left 0
@@ -196,16 +202,20 @@ left-start index words cell tag n e = record { says = λ P h b t c {fs} g same. 
 
 pub left-on : {index words : List ℕ} {cell tag n j left r : ℕ} → LeftTo index words cell tag n j left → j < n → FieldLeft index words cell tag j left r → LeftTo index words cell tag n (j + 1) r
 unfolding fieldsLeft
-left-on {index} {words} {cell} {tag} {n} {j} {left} {r} v less f = record { says = λ P h b t c {fs} g same.
-    let ls = firsts (fieldAt words cell) n in
-    let inside : j < length ls = omega (arith, firsts-length (fieldAt words cell) n) in
-    v .says P h b t c g same ∙ rw (add-one, drop-cons fs j fbool (omega (arith, same)), drop-cons ls j 0 inside, firsts-at (fieldAt words cell) n j less)
-    (ap (fieldsLeft h t (drop (suc j) fs) (drop (suc j) ls)) (sym (f .says P h b t c g (omega (arith, same))))) }
+left-on {index} {words} {cell} {tag} {n} {j} {left} {r} v less f = record {
+  says = λ P h b t c {fs} g same.
+      let ls = firsts (fieldAt words cell) n in
+      let inside : j < length ls = omega (arith, firsts-length (fieldAt words cell) n) in
+      v .says P h b t c g same ∙ rw (add-one, drop-cons fs j fbool (omega (arith, same)), drop-cons ls j 0 inside, firsts-at (fieldAt words cell) n j less)
+      (ap (fieldsLeft h t (drop (suc j) fs) (drop (suc j) ls)) (sym (f .says P h b t c g (omega (arith, same)))));
+}
 
 pub left-end : {index words : List ℕ} {cell tag n j left : ℕ} → j ≤ n → n ≤ j → LeftTo index words cell tag n j left → FieldsJudged index words cell tag n (eqb left 1)
 unfolding fieldsLeft
-left-end {index} {words} {cell} {tag} {n} {j} {left} low high v = record { says = λ P h b t c {fs} g same.
-    let ls = firsts (fieldAt words cell) n in
-    let all : j ≡ length fs = omega (arith, same) in
-    let whole : j ≡ length ls = omega (arith, firsts-length (fieldAt words cell) n) in
-    ap (λ x. eqb x 1) (sym (v .says P h b t c g same ∙ ap (λ x. fieldsLeft h t x (drop j ls) left) (ap (λ i. drop i fs) all ∙ drop-length fs) ∙ ap (λ x. fieldsLeft h t [] x left) (ap (λ i. drop i ls) whole ∙ drop-length ls))) }
+left-end {index} {words} {cell} {tag} {n} {j} {left} low high v = record {
+  says = λ P h b t c {fs} g same.
+      let ls = firsts (fieldAt words cell) n in
+      let all : j ≡ length fs = omega (arith, same) in
+      let whole : j ≡ length ls = omega (arith, firsts-length (fieldAt words cell) n) in
+      ap (λ x. eqb x 1) (sym (v .says P h b t c g same ∙ ap (λ x. fieldsLeft h t x (drop j ls) left) (ap (λ i. drop i fs) all ∙ drop-length fs) ∙ ap (λ x. fieldsLeft h t [] x left) (ap (λ i. drop i ls) whole ∙ drop-length ls)));
+}

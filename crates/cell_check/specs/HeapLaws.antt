@@ -170,9 +170,11 @@ module _ {index words : List ℕ} {types i : ℕ} {b : Bool} (v : HeapSoFar inde
 
   pub heap-not : {used : ℕ} → i < used → b ≡ false → CellsJudged index types words used false
   unfolding isSome
-  heap-not {used} less e = record { says = λ text P x count room.
-      let place : (used - suc i) + suc i ≡ used = omega arith in
-      sym (ap isSome (ap (heapTo P words) (sym place) ∙ no-heap P words (suc i) (used - suc i) (none-of (heapTo P words (suc i)) (next-heap text P x count (omega arith) ∙ e)))) }
+  heap-not {used} less e = record {
+    says = λ text P x count room.
+        let place : (used - suc i) + suc i ≡ used = omega arith in
+        sym (ap isSome (ap (heapTo P words) (sym place) ∙ no-heap P words (suc i) (used - suc i) (none-of (heapTo P words (suc i)) (next-heap text P x count (omega arith) ∙ e))));
+  }
 
 pub heap-end : {index words : List ℕ} {types used i : ℕ} → i ≤ used → used ≤ i → HeapSoFar index types words i → CellsJudged index types words used true
 heap-end {index} {words} {types} {used} {i} low high v = let same : i ≡ used = omega arith in

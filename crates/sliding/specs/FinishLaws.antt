@@ -23,7 +23,7 @@ use Rattle.theory.specs.Ranks.{membersBelow}
 use Rattle.theory.specs.Reaches.{Reached, reached-closed}
 use Rattle.theory.specs.Slides.{newNumber, moved, slide-keeps-reached}
 use Rattle.state_words.specs.Words.{usedIn, channelAt, firsts, cleared}
-use Rattle.state_words.specs.RowLaws.{sets-append, firsts-length}
+use Rattle.state_words.specs.RowLaws.{sets-append, firsts-length, zeros-taken}
 use Rattle.state_words.specs.WriteLaws.{drop-of-take}
 use Rattle.state_words.specs.Holds.{Holds}
 use Rattle.state_words.specs.HoldLaws.{holds-kept}
@@ -164,8 +164,11 @@ module _ {index words marks marks₁ words₁ marks₂ words₂ words₃ words�
     heap₄ : Holds words₄ kept (slide s .heap)
     heap₄ =
         let h₂ = holds-kept heap₁ (wide₂ ∙ sym wide₁) below-kept in
-        record { count = h₂ .count; room = omega (arith, h₂ .room, wide₂, wide₄);
-          is = drop-of-take headerWords (cellWords * kept) words₄ ∙ ap (take (cellWords * kept)) cells₄ ∙ sym (drop-of-take headerWords (cellWords * kept) words₂) ∙ h₂ .is }
+        record {
+          count = h₂ .count;
+          room = omega (arith, h₂ .room, wide₂, wide₄);
+          is = drop-of-take headerWords (cellWords * kept) words₄ ∙ ap (take (cellWords * kept)) cells₄ ∙ sym (drop-of-take headerWords (cellWords * kept) words₂) ∙ h₂ .is;
+        }
 
     roots-are : row ≡ slide s .roots
     unfolding slide
@@ -204,11 +207,6 @@ module _ {index words marks marks₁ words₁ marks₂ words₂ words₃ words�
   reached-kept e = record { none = e ∙ ap (λ n. replicate n 0) (sw .long ∙ mk .long); says = state-slid }
 
 -- ---- with the scratch of which the marks are a part
-zeros-taken : (n m : ℕ) → n ≤ m → take n (replicate {A = ℕ} m 0) ≡ replicate n 0
-zeros-taken zero m le = refl
-zeros-taken (suc n) zero le = absurd (omega arith)
-zeros-taken (suc n) (suc m) le = ap (λ (x : List ℕ). 0 ∷ x) (zeros-taken n m (omega arith))
-
 pub collected : {index words scratch words′ part : List ℕ} {channels used : ℕ} → used ≤ length scratch → KeepsReached index channels used words (take used scratch) words′ part → Collects index channels used words scratch words′ (part ++ drop used scratch)
 collected {index} {words} {scratch} {words′} {part} {channels} {used} le k =
     let start : scratch ≡ replicate (length scratch) 0 → take used scratch ≡ replicate used 0 = λ z. ap (take used) z ∙ zeros-taken used (length scratch) le in

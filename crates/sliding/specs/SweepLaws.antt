@@ -97,7 +97,12 @@ module _ {index words₀ marks₀ words marks : List ℕ} {used i next : ℕ} (v
 pub sweep-start : (index words marks : List ℕ) (used : ℕ) → stateLength used ≤ length words → Sweeps index words marks used 0 0 words marks
 unfolding membersBelow spellAll
 sweep-start index words marks used room = record {
-  low = omega arith; wide = refl; long = refl; header = refl; high = refl; above = λ l le. refl;
+  low = omega arith;
+  wide = refl;
+  long = refl;
+  header = refl;
+  high = refl;
+  above = λ l le. refl;
   says = λ s g lower m. record {
     kept = refl;
     holds = record { count = refl; room = omega arith; is = drop-of-length-le (take headerWords words) {i = headerWords} (omega (arith, length-take-le headerWords words (omega arith))) };
@@ -108,7 +113,10 @@ sweep-start index words marks used room = record {
 pub sweep-on : {index words₀ marks₀ words marks words′ marks′ : List ℕ} {used i next r : ℕ} → stateLength used ≤ length words₀ → i < used → Sweeps index words₀ marks₀ used i next words marks → Moved index words marks i next r words′ marks′ →
     Sweeps index words₀ marks₀ used (i + 1) r words′ marks′
 sweep-on {index} {words₀} {marks₀} {words} {marks} {words′} {marks′} {used} {i} {next} room less v (stays-out z q e f) = rw (q, e, f) (record {
-  low = omega (arith, v .low); wide = v .wide; long = v .long; header = v .header;
+  low = omega (arith, v .low);
+  wide = v .wide;
+  long = v .long;
+  header = v .header;
   high = drop-more (stateLength i) (stateLength (i + 1)) words words₀ (omega arith) (v .high);
   above = λ l le. v .above l (omega arith);
   says = λ s g lower m. passed-by v less s g lower m z;

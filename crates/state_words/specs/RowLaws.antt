@@ -57,6 +57,11 @@ part-cleared words from to le long e =
     let place : from + (to - from) ≡ to = omega arith in
     rw (e, size, drop-drop (to - from) from words, place)
 
+pub zeros-taken : (n m : ℕ) → n ≤ m → take n (replicate {A = ℕ} m 0) ≡ replicate n 0
+zeros-taken zero m le = refl
+zeros-taken (suc n) zero le = absurd (omega arith)
+zeros-taken (suc n) (suc m) le = ap (λ (x : List ℕ). 0 ∷ x) (zeros-taken n m (omega arith))
+
 -- ---- zero so far
 pub record ZeroTo (row : List ℕ) (i : ℕ) (r : Bool) : Type 0 where
   pub low : i ≤ length row

@@ -3,18 +3,26 @@
 use Prim.Native.Nat.{ℕ, suc, _+_, _-_, _*_, _≤_}
 use mathlib.Core.List.{List, [], _∷_, _++_, append-assoc}
 use mathlib.Core.Bool.{true}
+use mathlib.Core.Option.{some}
 use mathlib.Core.Path.{_≡_, refl, sym, ap, _∙_}
 use native.Mathlib.Omega.{arith}
 use lib.ListN.{length, take, drop, replicate, length-append, length-drop, length-replicate, take-append-drop}
 use lib.Seq.{take-at, drop-at, take-add, drop-drop, length-take-le, take-take}
 use Rattle.language.specs.Limits.{channelsMost, headerWords, cellWords}
+use Rattle.language.specs.Syntax.{File}
+use Rattle.language.specs.Within.{All, Within}
 use Rattle.language.specs.Format.{spellAll}
 use Rattle.language.specs.Heap.{Cell}
 use Rattle.language.specs.Slide.{State}
-use Rattle.language.specs.Layout.{padded, wordsOf, stateLength, stateWords, allZero}
+use Rattle.language.specs.Layout.{padded, wordsOf, stateLength, stateWords, allZero, loadState}
 use Rattle.language.specs.Machine.{written}
 use Rattle.theory.specs.Padding.{zeros-zero, zero-is-zeros, padded-length}
+use Rattle.theory.specs.CellWords.{Writable}
 use Rattle.theory.specs.HeapWords.{heap-words-length}
+use Rattle.theory.specs.Reaches.{Linked}
+use Rattle.theory.specs.TypedStates.{holds-linked}
+use Rattle.theory.specs.StateWritable.{state-writable}
+use Rattle.theory.specs.StateWords.{state-loaded}
 use Rattle.state_words.specs.Words.{usedIn}
 use Rattle.state_words.specs.WriteLaws.{drop-of-take}
 use Rattle.state_words.specs.Holds.{Holds}
@@ -74,3 +82,14 @@ words-held {cells} words {s} room lent e =
       beyond = ap (λ x. allZero (take (cellWords * (cells - count)) x)) (sym (drop-drop (cellWords * count) headerWords words) ∙ ap (drop (cellWords * count)) behind ∙ drop-at heap (zeros ++ rest) (cellWords * count) long)
           ∙ ap allZero (take-at zeros rest (cellWords * (cells - count)) free) ∙ zeros-zero (cellWords * (cells - count));
     }
+
+-- ---- a state that is loaded is held
+pub loaded-held : {P : File} {cells : ℕ} {words : List ℕ} {s : State} → Within P → stateLength cells ≤ length words → loadState P cells words ≡ some s → HoldsState cells words s
+loaded-held {words = words} within lent e = let r = state-loaded within e in words-held words (r .room) lent (r .words lent)
+
+-- its cells are of the file, each names lower ones, and each channel one of them
+pub loaded-writable : {P : File} (cells : ℕ) (words : List ℕ) {s : State} → Within P → loadState P cells words ≡ some s → All (Writable P) (s .heap)
+loaded-writable cells words within e = state-writable within (state-loaded within e .typed)
+
+pub loaded-linked : {P : File} (cells : ℕ) (words : List ℕ) {s : State} → Within P → loadState P cells words ≡ some s → Linked s
+loaded-linked cells words within e = holds-linked (state-loaded within e .typed .holds)
