@@ -1,24 +1,23 @@
 -- Fields against their types: what a word and a cell's tag and value say, and what is left of a constructor's size.
 use Prim.Native.Nat.{ℕ, zero, suc, _+_, _-_, _*_, _/_, _%_, _≤_, _<_}
-use mathlib.Core.List.{List, [], _∷_, map}
-use mathlib.Core.Bool.{Bool, true, false, not}
-use mathlib.Core.Option.{Option, none, some}
-use mathlib.Core.Path.{_≡_, refl, sym, ap, _∙_, subst}
+use mathlib.Core.List.{List, []}
+use mathlib.Core.Bool.{Bool, true, false}
+use mathlib.Core.Path.{_≡_, refl, sym, ap, _∙_}
 use native.Mathlib.Numerals.{add-one}
 use native.Mathlib.Omega.{arith}
-use lib.ListN.{length, getD, drop, getElem? as look, List·getD-map}
+use lib.ListN.{length, getD, drop, List·getD-map}
 use lib.Seq.{drop-cons, drop-length}
-use lib.Dec.{ltb, leb, eqb}
-use borrow.Author.Tests.{eqb-true, eqb-false, eq-eqb, ne-eqb, lt-ltb, le-ltb, le-leb, lt-leb, leb-true, leb-false}
-use Rattle.language.specs.Limits.{byteRange, fieldsMost, sizeMost, intRange}
+use lib.Dec.{leb, eqb}
+use borrow.Author.Tests.{eqb-true, eqb-false, eq-eqb, ne-eqb, lt-ltb, le-ltb}
+use Rattle.language.specs.Limits.{intRange}
 use Rattle.language.specs.Codes.{fieldBool, fieldInt, fieldOwn}
 use Rattle.language.specs.Result.{both, choose}
 use Rattle.language.specs.Syntax.{Field, fbool, fint, own, other, Constructor, TypeDef, Ty, tbool, tint, tnamed, File, constructorsOf}
 use Rattle.language.specs.Within.{All, WithinField, w-fbool, w-fint, w-own, w-other, WithinDeclared, w-tbool, w-tint, w-tnamed, WithinType, WithinTypes, wt-nil, wt-cons, Within}
-use Rattle.language.specs.Heap.{kbool, kint, Cell, leaf, con, cellAt, sizeIn, ownSum}
+use Rattle.language.specs.Heap.{kbool, Cell, leaf, con, cellAt, sizeIn}
 use Rattle.language.specs.Values.{constantFits, namedAs}
-use Rattle.language.specs.Layout.{boolTag, intTag, tagStep, cellTag, cellValue, allZero, cellFits, locationFits, fieldsRight}
-use Rattle.theory.specs.Lists.{look-less, look-getD, look-inner-less, both-never}
+use Rattle.language.specs.Layout.{boolTag, intTag, tagStep, cellTag, cellValue, cellFits, locationFits}
+use Rattle.theory.specs.Lists.{look-less, look-getD, look-inner-less}
 use Rattle.theory.specs.Alls.{all-getD}
 use Rattle.theory.specs.CellWords.{Writable, bool-writable, int-writable, con-writable}
 use Rattle.text.specs.Bytes.{declaredWord, fieldWord}

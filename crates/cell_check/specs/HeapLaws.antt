@@ -9,15 +9,15 @@ use native.Mathlib.Numerals.{add-one}
 use native.Mathlib.Omega.{arith}
 use lib.ListN.{length, getD, take, drop, length-drop, getElem? as look}
 use lib.Seq.{length-take-le, drop-drop, getD-drop}
-use lib.Dec.{ltb, leb, eqb}
-use borrow.Author.Tests.{eqb-true, ltb-true, leb-true}
+use lib.Dec.{leb, eqb}
+use borrow.Author.Tests.{ltb-true, leb-true}
 use Rattle.language.specs.Limits.{fieldsMost, headerWords, cellWords, intRange}
-use Rattle.language.specs.Result.{both, when, chain, choose}
+use Rattle.language.specs.Result.{both, when, chain}
 use Rattle.language.specs.Syntax.{Constructor, File, constructorsOf}
 use Rattle.language.specs.Within.{All, all-nil, all-cons}
-use Rattle.language.specs.Heap.{kbool, kint, Cell, leaf, con}
+use Rattle.language.specs.Heap.{Cell}
 use Rattle.language.specs.Layout.{boolTag, intTag, tagStep, stateLength, allZero, constructorOfWords, cellOfWords, cellsOfWords, cellRight, cellsRight}
-use Rattle.theory.specs.Lists.{both-left, both-right, look-less, look-getD, look-inner-less}
+use Rattle.theory.specs.Lists.{both-left, look-less, look-getD, look-inner-less}
 use Rattle.theory.specs.Tests.{Whenever, w-some, w-none, whenever, whenever-chain, whenever-when, whenever-is}
 use Rattle.theory.specs.Choices.{whenever-choose}
 use Rattle.theory.specs.CellWords.{Writable, bool-writable, int-writable, con-writable}
@@ -27,7 +27,6 @@ use Rattle.index.specs.Indexed.{Indexed}
 use Rattle.state_words.specs.Words.{tagAt, valueAt, fieldAt, firsts}
 use Rattle.state_words.specs.RowLaws.{firsts-taken}
 use Rattle.state_words.specs.WriteLaws.{drop-of-take}
-use Rattle.state_words.specs.Holds.{Holds}
 use Rattle.cell_check.specs.CellLaws.{some-of, none-of}
 use Rattle.cell_check.specs.Judged.{nextHeap, heapWith, heapTo, Below, CellJudged, CellsJudged}
 

@@ -1,10 +1,10 @@
 -- The test of a lent heap cell by cell, beside the definition's, and what the functions promise that make it.
 use Prim.Native.Nat.{ℕ, zero, suc, _+_, _-_, _*_, _/_, _%_, _≤_, _<_}
 use mathlib.Core.List.{List, [], _∷_, _++_}
-use mathlib.Core.Bool.{Bool, true, false}
-use mathlib.Core.Option.{Option, none, some}
+use mathlib.Core.Bool.{Bool, false}
+use mathlib.Core.Option.{Option, some}
 use mathlib.Core.Path.{_≡_}
-use lib.ListN.{length, getD, drop, getElem? as look}
+use lib.ListN.{length, getD, getElem? as look}
 use lib.Dec.{ltb, leb, eqb}
 use Rattle.language.specs.Limits.{fieldsMost}
 use Rattle.language.specs.Codes.{fieldBool, fieldInt}

@@ -8,7 +8,7 @@ use Rattle.language.specs.Syntax.{File}
 use Rattle.language.specs.Within.{All}
 use Rattle.language.specs.Format.{bit}
 use Rattle.language.specs.Heap.{Cell}
-use Rattle.language.specs.Slide.{State, mem, reachedFrom, reached}
+use Rattle.language.specs.Slide.{mem, reachedFrom, reached}
 use Rattle.theory.specs.CellWords.{Writable}
 use Rattle.index.specs.Sections.{typesOf}
 use Rattle.index.specs.Indexed.{Indexed}

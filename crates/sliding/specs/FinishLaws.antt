@@ -7,12 +7,11 @@ use mathlib.Core.Path.{_≡_, refl, sym, ap, _∙_, subst}
 use native.Mathlib.Nat.{zero-add}
 use native.Mathlib.Numerals.{add-one}
 use native.Mathlib.Omega.{arith}
-use lib.ListN.{length, getD, take, drop, set, replicate, length-set, length-append, length-drop, length-replicate, take-append-drop}
+use lib.ListN.{length, getD, take, drop, set, replicate, length-append, length-drop, length-replicate, take-append-drop}
 use lib.Seq.{sets, length-sets, sets-eq, length-take-le, take-at, drop-at, drop-drop, take-take, getD-take, getD-set-other, take-append-add}
 use Rattle.language.specs.Limits.{channelsMost, headerWords, cellWords}
-use Rattle.language.specs.Within.{All}
 use Rattle.language.specs.Heap.{Cell, cellAt}
-use Rattle.language.specs.Slide.{State, mem, reached, renumber, slide}
+use Rattle.language.specs.Slide.{State, reached, slide}
 use Rattle.language.specs.Layout.{padded, stateLength, allZero}
 use Rattle.language.specs.Machine.{written}
 use Rattle.theory.specs.Lists.{take-fewer}
@@ -20,15 +19,15 @@ use Rattle.theory.specs.Padding.{zeros-zero, zero-joined, filled-up}
 use Rattle.theory.specs.Alls.{all-both}
 use Rattle.theory.specs.Members.{map-same}
 use Rattle.theory.specs.Ranks.{membersBelow}
-use Rattle.theory.specs.Reaches.{Reached, reached-closed}
-use Rattle.theory.specs.Slides.{newNumber, moved, slide-keeps-reached}
+use Rattle.theory.specs.Reaches.{reached-closed}
+use Rattle.theory.specs.Slides.{moved, slide-keeps-reached}
 use Rattle.state_words.specs.Words.{usedIn, channelAt, firsts, cleared}
 use Rattle.state_words.specs.RowLaws.{sets-append, firsts-length, zeros-taken}
 use Rattle.state_words.specs.WriteLaws.{drop-of-take}
 use Rattle.state_words.specs.Holds.{Holds}
 use Rattle.state_words.specs.HoldLaws.{holds-kept}
-use Rattle.state_words.specs.StateLaws.{HoldsState, held-written}
-use Rattle.marking.specs.Marks.{Marks, Marking, MarksReached}
+use Rattle.state_words.specs.StateLaws.{held-written}
+use Rattle.marking.specs.Marks.{Marking, MarksReached}
 use Rattle.sliding.specs.Sliding.{Slid, Sweeps, Unslid, KeepsReached, Collects}
 use Rattle.sliding.specs.SlideLaws.{drop-more}
 use Rattle.sliding.specs.SweepLaws.{firsts-mapped}

@@ -1,37 +1,19 @@
 -- The steps of sliding.
-use Prim.Native.Nat.{ℕ, zero, suc, _+_, _-_, _*_, _≤_, _<_}
-use mathlib.Core.List.{List, [], _∷_, _++_, map, map-append}
-use mathlib.Core.Bool.{Bool, true, false}
-use mathlib.Core.Option.{some}
+use Prim.Native.Nat.{ℕ, zero, suc, _+_, _-_, _≤_}
+use mathlib.Core.List.{List, [], _∷_, _++_}
 use mathlib.Core.Path.{_≡_, refl, sym, ap, _∙_, subst}
 use native.Mathlib.Numerals.{add-one}
 use native.Mathlib.Omega.{arith}
-use lib.ListN.{length, getD, take, drop, set, replicate, length-set, length-append, drop-of-length-le, getElem? as look}
-use lib.Seq.{sets, length-sets, length-take-le, take-take, drop-drop, getD-drop, getD-set-same, getD-set-other, set-out}
-use Rattle.language.specs.Limits.{fieldsMost, headerWords, cellWords}
-use Rattle.language.specs.Within.{All}
-use Rattle.language.specs.Heap.{kbool, Cell, leaf, con, cellAt, fieldsIn}
-use Rattle.language.specs.Slide.{State, mem, reached, renumber, renumberCell, slide}
-use Rattle.language.specs.Format.{spellAll}
-use Rattle.language.specs.Layout.{padded, cellTag, cellValue, wordsOf, stateLength, allZero}
-use Rattle.theory.specs.Lists.{take-fewer}
+use lib.ListN.{length, getD, take, drop, set, length-set, drop-of-length-le}
+use lib.Seq.{sets, drop-drop, getD-drop}
+use Rattle.language.specs.Limits.{fieldsMost}
+use Rattle.language.specs.Layout.{padded, stateLength, allZero}
 use Rattle.theory.specs.Padding.{padded-length, filled-up}
-use Rattle.theory.specs.Places.{below-or-not, below-or-last, look-at}
-use Rattle.theory.specs.Alls.{all-map}
-use Rattle.theory.specs.Members.{map-same}
-use Rattle.theory.specs.CellWords.{Writable}
-use Rattle.theory.specs.Ranks.{membersBelow, rank, member-next, no-member-next, rank-member}
-use Rattle.theory.specs.Reaches.{Reached, NamesLower}
-use Rattle.theory.specs.Slides.{newNumbers, newNumber, moved, new-number, renumbered-fields, reached-fields}
+use Rattle.theory.specs.Places.{below-or-not}
 use Rattle.index.specs.Sections.{typesOf}
 use Rattle.index.specs.Padded.{padded-none, padded-next}
 use Rattle.state_words.specs.Words.{tagAt, valueAt, fieldAt, firsts, fieldCount}
 use Rattle.state_words.specs.RowLaws.{firsts-length}
-use Rattle.state_words.specs.Holds.{Holds, Written}
-use Rattle.state_words.specs.HoldLaws.{cell-wide, tag-held, value-held, written-long, written-below, written-above, holds-pushed}
-use Rattle.state_words.specs.ReadLaws.{fields-held}
-use Rattle.marking.specs.Marks.{Marks, Marking}
-use Rattle.marking.specs.MarkLaws.{not-marked, marked}
 use Rattle.sliding.specs.Sliding.{Filled, movedWords, Moved, moves-down}
 
 -- ---- lists that agree from a place on

@@ -1,13 +1,12 @@
 -- A cell passed: what is kept so far is the definition's.
-use Prim.Native.Nat.{ℕ, zero, suc, _+_, _*_, _≤_, _<_}
-use mathlib.Core.List.{List, [], _∷_, _++_, map, map-append}
-use mathlib.Core.Bool.{true, false}
-use mathlib.Core.Option.{some}
+use Prim.Native.Nat.{ℕ, zero, suc, _+_, _≤_, _<_}
+use mathlib.Core.List.{List, [], _∷_, map, map-append}
+use mathlib.Core.Bool.{false}
 use mathlib.Core.Path.{_≡_, refl, sym, ap, _∙_, subst}
 use native.Mathlib.Numerals.{add-one}
 use native.Mathlib.Omega.{arith}
-use lib.ListN.{length, getD, take, drop, set, length-set, drop-of-length-le, getElem? as look}
-use lib.Seq.{sets, length-take-le, getD-set-same, getD-set-other}
+use lib.ListN.{length, getD, take, set, length-set, drop-of-length-le}
+use lib.Seq.{length-take-le, getD-set-same, getD-set-other}
 use Rattle.language.specs.Limits.{fieldsMost, headerWords, cellWords}
 use Rattle.language.specs.Format.{spellAll}
 use Rattle.language.specs.Heap.{kbool, Cell, leaf, con, cellAt, fieldsIn}
@@ -20,11 +19,11 @@ use Rattle.theory.specs.Alls.{all-map}
 use Rattle.theory.specs.Members.{map-same}
 use Rattle.theory.specs.Ranks.{membersBelow, member-next, no-member-next, rank-member}
 use Rattle.theory.specs.Reaches.{Reached, NamesLower}
-use Rattle.theory.specs.Slides.{newNumbers, newNumber, moved, new-number, renumbered-fields, reached-fields}
+use Rattle.theory.specs.Slides.{newNumbers, newNumber, moved, new-number, reached-fields}
 use Rattle.index.specs.Sections.{typesOf}
 use Rattle.state_words.specs.Words.{tagAt, valueAt, fieldAt, firsts, fieldCount}
-use Rattle.state_words.specs.Holds.{Holds, Written}
-use Rattle.state_words.specs.HoldLaws.{cell-wide, tag-held, value-held, written-long, written-below, written-above, holds-pushed}
+use Rattle.state_words.specs.Holds.{Written}
+use Rattle.state_words.specs.HoldLaws.{tag-held, value-held, written-long, written-below, written-above, holds-pushed}
 use Rattle.state_words.specs.ReadLaws.{fields-held}
 use Rattle.marking.specs.Marks.{Marks, Marking}
 use Rattle.marking.specs.MarkLaws.{not-marked, marked}

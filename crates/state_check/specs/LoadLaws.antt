@@ -4,7 +4,6 @@ use mathlib.Core.List.{List, [], _∷_, _++_, map}
 use mathlib.Core.Bool.{Bool, true, false, not}
 use mathlib.Core.Option.{Option, none, some}
 use mathlib.Core.Path.{_≡_, refl, sym, ap, _∙_, subst}
-use native.Mathlib.Nat.{zero-add}
 use native.Mathlib.Numerals.{add-one}
 use native.Mathlib.Omega.{arith}
 use lib.ListN.{length, getD, take, drop, replicate, length-append, length-map, length-replicate, take-append-drop, getElem? as look}
@@ -15,12 +14,11 @@ use Rattle.language.specs.Limits.{channelsMost, headerWords, cellWords}
 use Rattle.language.specs.Result.{both, when, chain, choose}
 use Rattle.language.specs.Syntax.{Ty, tbool, Input, Node, File, declaredTypes}
 use Rattle.language.specs.Within.{All, all-nil, all-cons, WithinDeclared, WithinNodes, wn-nil, wn-cons, Within}
-use Rattle.language.specs.Format.{bit}
 use Rattle.language.specs.Heap.{Cell}
-use Rattle.language.specs.Slide.{State, mem, reached}
+use Rattle.language.specs.Slide.{mem, reached}
 use Rattle.language.specs.Layout.{stateLength, allZero, cellsOfWords, stateOfWords, cellsRight, locationFits, rootsRight, allReached, stateRight, loadState}
-use Rattle.theory.specs.Lists.{both-left, both-right, both-never, look-past, look-append, look-map, look-getD}
-use Rattle.theory.specs.Places.{below-or-not, look-at}
+use Rattle.theory.specs.Lists.{both-left, both-never, look-past, look-append, look-map, look-getD}
+use Rattle.theory.specs.Places.{below-or-not}
 use Rattle.theory.specs.Alls.{all-map, all-to-map, all-append, all-getD}
 use Rattle.theory.specs.CellWords.{Writable}
 use Rattle.theory.specs.StateWritable.{channels-few}
@@ -32,7 +30,7 @@ use Rattle.index.specs.Indexed.{Indexed, declaredAt}
 use Rattle.state_words.specs.Words.{usedIn, channelAt, firsts}
 use Rattle.state_words.specs.RowLaws.{firsts-length, firsts-at, firsts-taken, zeros-taken}
 use Rattle.state_words.specs.Holds.{Holds}
-use Rattle.marking.specs.Marks.{Marks, Marking, MarksReached}
+use Rattle.marking.specs.Marks.{Marks, MarksReached}
 use Rattle.marking.specs.MarkLaws.{not-marked, marked, unmarked, has-mark}
 use Rattle.cell_check.specs.Judged.{heapTo, LocationJudged, CellsJudged}
 use Rattle.cell_check.specs.CellLaws.{some-of, none-of}

@@ -1,5 +1,5 @@
 -- The test of a lent state in its parts, beside the definition's, and what the functions promise that make it.
-use Prim.Native.Nat.{ℕ, _+_, _-_, _*_, _≤_, _<_}
+use Prim.Native.Nat.{ℕ, _-_, _*_, _≤_}
 use mathlib.Core.List.{List}
 use mathlib.Core.Bool.{Bool, true, false}
 use mathlib.Core.Option.{Option, none, some}
@@ -16,7 +16,7 @@ use Rattle.language.specs.Layout.{stateLength, allZero, rootsRight, allReached,
 use Rattle.theory.specs.CellWords.{Writable}
 use Rattle.text.specs.Lines.{isSome}
 use Rattle.index.specs.Indexed.{Indexed}
-use Rattle.state_words.specs.Words.{usedIn, channelAt, firsts}
+use Rattle.state_words.specs.Words.{channelAt, firsts}
 use Rattle.state_words.specs.Holds.{Holds}
 use Rattle.marking.specs.Marks.{Marks, Marking}
 use Rattle.cell_check.specs.Judged.{heapTo}

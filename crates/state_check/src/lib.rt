@@ -13,10 +13,10 @@ use index::frame_counts;
 use language::limits::CHANNELS_MOST;
 use marking::is_marked;
 use marking::mark_reached;
-use state_words::cell_place;
 use state_words::cells_clear;
 use state_words::channel_cell;
 use state_words::channels_clear;
+use state_words::state_length;
 use state_words::used_cells;
 
 // Whether the cell of each channel is one of those used, of its declared type.
@@ -109,7 +109,7 @@ pub fn valid_state(
 ) -> bool
     ensures { λ r. ⌜ StateJudged (now (index .entry)) (now (state .entry)) cells (now (scratch .entry)) r (now (scratch .exit)) ⌝ }
 {
-    if state.len() < cell_place(cells) {
+    if state.len() < state_length(cells) {
         return false;
     }
     if scratch.len() < (cells as usize) {

@@ -3,17 +3,18 @@
 --   bool-written, int-written, con-written   what the functions that write a cell leave: the words of that cell of the heap
 --   holds-pushed                       a cell written above the used ones is the next of the heap
 --   written-below, written-above, written-long   what that leaves as it was
---   holds-kept, holds-fewer            the heap is held as long as its words stay; its first cells alone
+--   holds-kept, holds-header, holds-fewer   the heap is held as long as its words stay, whatever the header; its first cells alone
+--   channel-held                       the cell of a channel
 --   cleared-restores                   the words from before, once the new cells are cleared again
 use Prim.Native.Nat.{ℕ, zero, suc, _+_, _-_, _*_, _≤_, _<_}
 use mathlib.Core.List.{List, [], _∷_, _++_, append-nil, append-assoc}
 use mathlib.Core.Bool.{Bool, true, false}
 use mathlib.Core.Path.{_≡_, refl, sym, ap, _∙_}
-use native.Mathlib.Nat.{add-zero, zero-add, suc-add}
+use native.Mathlib.Nat.{add-zero}
 use native.Mathlib.Omega.{arith}
-use lib.ListN.{length, getD, take, drop, replicate, length-append, length-drop, take-append-drop}
-use lib.Seq.{sets, length-sets, sets-eq, length-take-le, take-at, drop-at, take-nil, take-take, drop-drop, getD-drop, getD-take, drop-append-le, take-append-add}
-use Rattle.language.specs.Limits.{fieldsMost, headerWords, cellWords}
+use lib.ListN.{length, getD, take, drop, set, replicate, length-append, length-drop, length-set, take-append-drop}
+use lib.Seq.{drop-set-lt, sets, length-sets, sets-eq, length-take-le, take-at, drop-at, take-nil, take-take, drop-drop, getD-drop, getD-take, drop-append-le, take-append-add}
+use Rattle.language.specs.Limits.{fieldsMost, channelsMost, headerWords, cellWords}
 use Rattle.language.specs.Format.{bit, spellAll}
 use Rattle.language.specs.Heap.{kbool, kint, Cell, leaf, con, cellAt, fieldsIn}
 use Rattle.language.specs.Layout.{boolTag, intTag, tagStep, padded, cellTag, cellValue, wordsOf, stateLength, allZero}
@@ -21,7 +22,7 @@ use Rattle.theory.specs.Padding.{zero-is-zeros}
 use Rattle.theory.specs.HeapWords.{heap-words-length}
 use Rattle.index.specs.Padded.{padded-at}
 use Rattle.index.specs.Entries.{spell-at, spell-more}
-use Rattle.state_words.specs.Words.{tagAt, valueAt, fieldAt, cleared}
+use Rattle.state_words.specs.Words.{channelAt, tagAt, valueAt, fieldAt, cleared}
 use Rattle.state_words.specs.Holds.{Holds, Written}
 use Rattle.state_words.specs.WriteLaws.{drop-of-take}
 
@@ -107,6 +108,19 @@ con-written {words} {words′} {cell} {tag} t c k ls q room e = record { wide = 
 -- ---- as long as the words stay
 pub holds-kept : {words words′ : List ℕ} {used : ℕ} {h : List Cell} → Holds words used h → length words′ ≡ length words → take (stateLength used) words′ ≡ take (stateLength used) words → Holds words′ used h
 holds-kept {used} v long same = record { count = v .count; room = omega (arith, v .room); is = ap (drop headerWords) same ∙ v .is }
+
+-- a word of the header changes no cell
+pub holds-header : {words : List ℕ} {used : ℕ} {h : List Cell} (i v : ℕ) → i < headerWords → Holds words used h → Holds (set words i v) used h
+holds-header {words} {used} {h} i v less k = record {
+  count = k .count;
+  room = omega (arith, length-set words i v, k .room);
+  is = drop-of-take headerWords (cellWords * used) (set words i v) ∙ ap (take (cellWords * used)) (drop-set-lt headerWords words i v less) ∙ sym (drop-of-take headerWords (cellWords * used) words) ∙ k .is;
+}
+
+-- ---- the cell of a channel, where the header has the cells of the channels
+pub channel-held : (words roots : List ℕ) → take channelsMost (drop 1 words) ≡ padded channelsMost roots → (c : ℕ) → c < channelsMost → channelAt words c ≡ getD roots c 0
+channel-held words roots e c less =
+    sym (getD-drop 1 words c 0) ∙ sym (getD-take channelsMost (drop 1 words) c 0 less) ∙ ap (λ (x : List ℕ). getD x c 0) e ∙ padded-at channelsMost roots c less
 
 -- ---- its first cells alone
 spell-take : (h : List Cell) (i : ℕ) → spellAll wordsOf (take i h) ≡ take (cellWords * i) (spellAll wordsOf h)

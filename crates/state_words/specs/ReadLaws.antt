@@ -1,19 +1,18 @@
 -- What the words of a cell tell of it: one law for each way in which a cell is read.
-use Prim.Native.Nat.{ℕ, zero, suc, _+_, _-_, _*_, _/_, _%_, _≤_, _<_}
+use Prim.Native.Nat.{ℕ, _+_, _-_, _*_, _/_, _%_, _≤_, _<_}
 use mathlib.Core.List.{List, []}
-use mathlib.Core.Bool.{Bool, true, false, not}
+use mathlib.Core.Bool.{true, false, not}
 use mathlib.Core.Option.{some}
 use mathlib.Core.Path.{_≡_, refl, sym, ap, _∙_}
 use native.Mathlib.Omega.{arith}
 use lib.ListN.{length, getD, getElem? as look, List·getD-eq-default}
 use lib.Seq.{take-length}
-use lib.Dec.{leb, eqb}
+use lib.Dec.{eqb}
 use borrow.Author.Tests.{le-leb, lt-leb}
 use Rattle.language.specs.Limits.{byteRange, fieldsMost}
 use Rattle.language.specs.Result.{choose}
 use Rattle.language.specs.Syntax.{Constructor, File, constructorsOf}
 use Rattle.language.specs.Within.{All}
-use Rattle.language.specs.Format.{bit}
 use Rattle.language.specs.Heap.{kbool, kint, Cell, leaf, con, cellAt, truth, number, constantIn, constructorIn, sizeIn, fieldsIn}
 use Rattle.language.specs.Layout.{boolTag, intTag, tagStep, cellTag, cellValue}
 use Rattle.theory.specs.Alls.{all-getD}

@@ -7,7 +7,7 @@ use native.Mathlib.Nat.{add-zero}
 use native.Mathlib.Numerals.{add-one}
 use native.Mathlib.Omega.{arith}
 use lib.ListN.{length, getD, take, drop, set, replicate, length-append, length-take, length-drop, List·getD-eq-default, List·getD-append}
-use lib.Seq.{sets, length-sets, sets-eq, take-suc, take-all, length-take-le, getD-take, getD-drop, getD-at, drop-drop}
+use lib.Seq.{sets, length-sets, take-suc, take-all, length-take-le, getD-take, getD-drop, getD-at, drop-drop}
 use lib.Dec.{eqb}
 use Rattle.language.specs.Result.{both}
 use Rattle.language.specs.Layout.{allZero}

@@ -6,13 +6,12 @@ use mathlib.Core.Bool.{true}
 use mathlib.Core.Option.{some}
 use mathlib.Core.Path.{_≡_, refl, sym, ap, _∙_}
 use native.Mathlib.Omega.{arith}
-use lib.ListN.{length, take, drop, replicate, length-append, length-drop, length-replicate, take-append-drop}
-use lib.Seq.{take-at, drop-at, take-add, drop-drop, length-take-le, take-take}
+use lib.ListN.{length, take, drop, replicate, length-drop, length-replicate, take-append-drop}
+use lib.Seq.{take-at, drop-at, take-add, drop-drop, length-take-le}
 use Rattle.language.specs.Limits.{channelsMost, headerWords, cellWords}
 use Rattle.language.specs.Syntax.{File}
 use Rattle.language.specs.Within.{All, Within}
 use Rattle.language.specs.Format.{spellAll}
-use Rattle.language.specs.Heap.{Cell}
 use Rattle.language.specs.Slide.{State}
 use Rattle.language.specs.Layout.{padded, wordsOf, stateLength, stateWords, allZero, loadState}
 use Rattle.language.specs.Machine.{written}

@@ -25,11 +25,11 @@ const VALUE_WORD: usize = 1;
 
 const FIELDS_FROM: usize = CELL_WORDS - FIELDS_MOST;
 
-// Where a cell starts: as many words as a state of the cells before it has.
-pub fn cell_place(cell: u32) -> usize
-    ensures { λ r. ⌜ r ≡ stateLength cell ⌝ }
+// How many words a state of so many cells has. A cell starts where a state of the cells before it ends.
+pub fn state_length(cells: u32) -> usize
+    ensures { λ r. ⌜ r ≡ stateLength cells ⌝ }
 {
-    HEADER_WORDS + CELL_WORDS * (cell as usize)
+    HEADER_WORDS + CELL_WORDS * (cells as usize)
 }
 
 // How many cells are used.
@@ -62,19 +62,19 @@ pub fn put_channel_cell(state: &mut [u32], channel: u32, cell: u32)
 pub fn cell_tag(state: &[u32], cell: u32) -> u32
     ensures { λ r. ⌜ r ≡ tagAt (now (state .entry)) cell ⌝ }
 {
-    word_at(state, cell_place(cell))
+    word_at(state, state_length(cell))
 }
 
 pub fn cell_value(state: &[u32], cell: u32) -> u32
     ensures { λ r. ⌜ r ≡ valueAt (now (state .entry)) cell ⌝ }
 {
-    word_at(state, cell_place(cell) + VALUE_WORD)
+    word_at(state, state_length(cell) + VALUE_WORD)
 }
 
 pub fn cell_field(state: &[u32], cell: u32, j: u32) -> u32
     ensures { λ r. ⌜ r ≡ fieldAt (now (state .entry)) cell j ⌝ }
 {
-    word_at(state, cell_place(cell) + FIELDS_FROM + (j as usize))
+    word_at(state, state_length(cell) + FIELDS_FROM + (j as usize))
 }
 
 // A word of the first n of a row; 0 beyond them.
@@ -113,7 +113,7 @@ pub fn put_leaf(state: &mut [u32], cell: u32, tag: u32, value: u32)
     requires { ⌜ stateLength (cell + 1) ≤ length (now state) ⌝ }
     ensures { λ _. ⌜ now (state .exit) ≡ sets (now (state .entry)) (stateLength cell) (tag ∷ value ∷ padded fieldsMost []) ⌝ }
 {
-    let at = cell_place(cell);
+    let at = state_length(cell);
     state[at] = tag;
     state[at + VALUE_WORD] = value;
     clear_part(state, at + FIELDS_FROM, at + CELL_WORDS);
@@ -124,7 +124,7 @@ pub fn put_constructor(state: &mut [u32], cell: u32, tag: u32, size: u32, fields
     requires { ⌜ stateLength (cell + 1) ≤ length (now state) ⌝ }
     ensures { λ _. ⌜ now (state .exit) ≡ sets (now (state .entry)) (stateLength cell) (tag ∷ size ∷ padded fieldsMost (take n (now (fields .entry)))) ⌝ }
 {
-    let at = cell_place(cell);
+    let at = state_length(cell);
     state[at] = tag;
     state[at + VALUE_WORD] = size;
     put_fields(state, at + FIELDS_FROM, fields, n);
@@ -136,7 +136,7 @@ pub fn clear_cells(state: &mut [u32], from: u32, to: u32)
     requires { ⌜ stateLength to ≤ length (now state) ⌝ }
     ensures { λ _. ⌜ now (state .exit) ≡ cleared (now (state .entry)) from to ⌝ }
 {
-    clear_part(state, cell_place(from), cell_place(to));
+    clear_part(state, state_length(from), state_length(to));
 }
 
 // Whether every word is zero.
@@ -158,7 +158,7 @@ pub fn cells_clear(state: &[u32], from: u32, to: u32) -> bool
     requires { ⌜ stateLength to ≤ length (now state) ⌝ }
     ensures { λ r. ⌜ r ≡ allZero (take (cellWords * (to - from)) (drop (stateLength from) (now (state .entry)))) ⌝ }
 {
-    all_zero(&state[cell_place(from)..cell_place(to)])
+    all_zero(&state[state_length(from)..state_length(to)])
 }
 
 pub fn channels_clear(state: &[u32], from: u32) -> bool

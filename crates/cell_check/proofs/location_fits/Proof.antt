@@ -1,11 +1,12 @@
 -- A number beyond the cells fits nothing.
+use native.Mathlib.Omega.{arith}
 use borrow.Author.Needs.{needs}
 use Rattle.cell_check.specs.FieldLaws.{location-beyond, location-judged}
 use Rattle.cell_check.proofs.location_fits.Statement.{statement}
 use Rattle.cell_check.proofs.location_fits.Tie as tie
 
 returns : tie.Need-returns
-returns c = location-beyond (c .if1 .taken)
+returns c = location-beyond (omega (arith, (c .if1 .taken)))
 
 cell-tag-requires : tie.Need-cell-tag-requires
 cell-tag-requires c κs = search needs

@@ -8,7 +8,7 @@ use Rattle.cell_check.proofs.own_left.Statement.{statement}
 use Rattle.cell_check.proofs.own_left.Tie as tie
 
 returns : tie.Need-returns
-returns c = own-beyond (c .if1 .taken)
+returns c = own-beyond (omega (arith, (c .if1 .taken)))
 
 cell-tag-requires : tie.Need-cell-tag-requires
 cell-tag-requires c κs = search needs

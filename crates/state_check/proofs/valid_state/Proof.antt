@@ -8,11 +8,11 @@ use Rattle.state_check.specs.LoadLaws.{state-short, scratch-short, state
 use Rattle.state_check.proofs.valid_state.Statement.{statement}
 use Rattle.state_check.proofs.valid_state.Tie as tie
 
-cell-place-requires : tie.Need-cell-place-requires
-cell-place-requires c κs = search needs
+state-length-requires : tie.Need-state-length-requires
+state-length-requires c κs = search needs
 
 returns : tie.Need-returns
-returns c = state-short _ _ _ _ (c .before .cell-place .ensures) (c .if1 .taken)
+returns c = state-short _ _ _ _ (c .before .state-length .ensures) (c .if1 .taken)
 
 returns-2 : tie.Need-returns-2
 returns-2 c = scratch-short _ _ _ _ (c .if2 .taken)
@@ -30,7 +30,7 @@ laid-out-requires : tie.Need-laid-out-requires
 laid-out-requires c κs = search needs
 
 returns-3 : tie.Need-returns-3
-returns-3 c = state-unlaid _ _ _ _ (c .before .before .before .before .before .before .before .cell-place .ensures) (c .before .before .before .before .before .before .if1 .left) (c .before .before .before .before .before .if2 .left) (c .before .before .before .before .used-cells .ensures) (c .before .before .before .frame-counts .ensures .0) (c .before .laid-out .ensures) (not-true _ (c .if3 .taken))
+returns-3 c = state-unlaid _ _ _ _ (c .before .before .before .before .before .before .before .state-length .ensures) (c .before .before .before .before .before .before .if1 .left) (c .before .before .before .before .before .if2 .left) (c .before .before .before .before .used-cells .ensures) (c .before .before .before .frame-counts .ensures .0) (c .before .laid-out .ensures) (not-true _ (c .if3 .taken))
 
 cast-state-right : tie.Need-cast-state-right
 cast-state-right c = search needs
@@ -48,13 +48,13 @@ same-length : tie.Need-same-length
 same-length c = search needs
 
 returns-4 : tie.Need-returns-4
-returns-4 c = state-judged _ _ _ _ (c .before .before .before .before .before .before .before .before .before .before .before .cell-place .ensures) (c .before .before .before .before .before .before .before .before .before .before .if1 .left) (c .before .before .before .before .before .before .before .before .before .if2 .left) (c .before .before .before .before .before .before .before .before .used-cells .ensures) (c .before .before .before .before .before .before .before .frame-counts .ensures .0) (c .before .before .before .before .before .laid-out .ensures) (not-false _ (c .before .before .before .before .if3 .left)) (omega (arith, (c .before .before .before .before .before .laid-out .ensures .room) (not-false _ (c .before .before .before .before .if3 .left)), (c .before .before .before .before .before .before .before .before .before .if2 .left))) (c .before .before .state-right .ensures)
+returns-4 c = state-judged _ _ _ _ (c .before .before .before .before .before .before .before .before .before .before .before .state-length .ensures) (c .before .before .before .before .before .before .before .before .before .before .if1 .left) (c .before .before .before .before .before .before .before .before .before .if2 .left) (c .before .before .before .before .before .before .before .before .used-cells .ensures) (c .before .before .before .before .before .before .before .frame-counts .ensures .0) (c .before .before .before .before .before .laid-out .ensures) (not-false _ (c .before .before .before .before .if3 .left)) (omega (arith, (c .before .before .before .before .before .laid-out .ensures .room) (not-false _ (c .before .before .before .before .if3 .left)), (c .before .before .before .before .before .before .before .before .before .if2 .left))) (c .before .before .state-right .ensures)
 
 pub valid-state-spec : {M : Type 1} → statement M
 valid-state-spec =
     tie.close
     (tie.spec
-    cell-place-requires
+    state-length-requires
     returns
     returns-2
     used-cells-requires

@@ -6,8 +6,8 @@ use borrow.Author.Needs.{needs}
 use Rattle.state_words.proofs.cell_value.Statement.{statement}
 use Rattle.state_words.proofs.cell_value.Tie as tie
 
-cell-place-requires : tie.Need-cell-place-requires
-cell-place-requires c κs = search needs
+state-length-requires : tie.Need-state-length-requires
+state-length-requires c κs = search needs
 
 add-word-at : tie.Need-add-word-at
 add-word-at c = search needs
@@ -16,7 +16,7 @@ word-at-requires : tie.Need-word-at-requires
 word-at-requires c κs = search needs
 
 returns : tie.Need-returns
-returns c = (c .word-at .ensures) ∙ ap (λ i. getD (c .before .before .before .args .state .now) (i + 1) 0) (c .before .cell-place .ensures)
+returns c = (c .word-at .ensures) ∙ ap (λ i. getD (c .before .before .before .args .state .now) (i + 1) 0) (c .before .state-length .ensures)
 
 pub cell-value-spec : {M : Type 1} → statement M
-cell-value-spec = tie.close (tie.spec cell-place-requires add-word-at word-at-requires returns)
+cell-value-spec = tie.close (tie.spec state-length-requires add-word-at word-at-requires returns)

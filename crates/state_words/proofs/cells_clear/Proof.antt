@@ -5,11 +5,11 @@ use Rattle.state_words.specs.WriteLaws.{cells-tested}
 use Rattle.state_words.proofs.cells_clear.Statement.{statement}
 use Rattle.state_words.proofs.cells_clear.Tie as tie
 
-cell-place-requires : tie.Need-cell-place-requires
-cell-place-requires c κs = search needs
+state-length-requires : tie.Need-state-length-requires
+state-length-requires c κs = search needs
 
-cell-place-requires-2 : tie.Need-cell-place-requires-2
-cell-place-requires-2 c κs = search needs
+state-length-requires-2 : tie.Need-state-length-requires-2
+state-length-requires-2 c κs = search needs
 
 mul-all-zero : tie.Need-mul-all-zero
 mul-all-zero c = search needs
@@ -27,14 +27,14 @@ all-zero-requires : tie.Need-all-zero-requires
 all-zero-requires c κs = search needs
 
 returns : tie.Need-returns
-returns c = (c .all-zero .ensures) ∙ cells-tested _ _ _ _ _ (c .before .before .before .cell-place .ensures) (c .before .before .cell-place2 .ensures) (c .before .before .before .before .before .pre .0)
+returns c = (c .all-zero .ensures) ∙ cells-tested _ _ _ _ _ (c .before .before .before .state-length .ensures) (c .before .before .state-length2 .ensures) (c .before .before .before .before .before .pre .0)
 
 pub cells-clear-spec : {M : Type 1} → statement M
 cells-clear-spec =
     tie.close
     (tie.spec
-    cell-place-requires
-    cell-place-requires-2
+    state-length-requires
+    state-length-requires-2
     mul-all-zero
     sub-all-zero
     part-all-zero-start

@@ -4,11 +4,11 @@ use Rattle.state_words.specs.WriteLaws.{cells-cleared}
 use Rattle.state_words.proofs.clear_cells.Statement.{statement}
 use Rattle.state_words.proofs.clear_cells.Tie as tie
 
-cell-place-requires : tie.Need-cell-place-requires
-cell-place-requires c κs = search needs
+state-length-requires : tie.Need-state-length-requires
+state-length-requires c κs = search needs
 
-cell-place-requires-2 : tie.Need-cell-place-requires-2
-cell-place-requires-2 c κs = search needs
+state-length-requires-2 : tie.Need-state-length-requires-2
+state-length-requires-2 c κs = search needs
 
 clear-part-requires : tie.Need-clear-part-requires
 clear-part-requires c κs = search needs
@@ -17,9 +17,9 @@ same-length : tie.Need-same-length
 same-length c = search needs
 
 returns : tie.Need-returns
-returns c = cells-cleared _ _ _ _ _ (c .before .before .before .before .cell-place .ensures) (c .before .before .before .cell-place2 .ensures) (c .before .before .before .before .before .before .before .pre .0) (c .before .before .clear-part .ensures)
+returns c = cells-cleared _ _ _ _ _ (c .before .before .before .before .state-length .ensures) (c .before .before .before .state-length2 .ensures) (c .before .before .before .before .before .before .before .pre .0) (c .before .before .clear-part .ensures)
 
 pub clear-cells-spec : {M : Type 1} → statement M
 clear-cells-spec =
     tie.close
-    (tie.spec cell-place-requires cell-place-requires-2 clear-part-requires same-length returns)
+    (tie.spec state-length-requires state-length-requires-2 clear-part-requires same-length returns)

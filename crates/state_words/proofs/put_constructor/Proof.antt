@@ -9,8 +9,8 @@ use Rattle.state_words.specs.WriteLaws.{cell-written}
 use Rattle.state_words.proofs.put_constructor.Statement.{statement}
 use Rattle.state_words.proofs.put_constructor.Tie as tie
 
-cell-place-requires : tie.Need-cell-place-requires
-cell-place-requires c κs = search needs
+state-length-requires : tie.Need-state-length-requires
+state-length-requires c κs = search needs
 
 mul-state : tie.Need-mul-state
 mul-state c = search needs
@@ -25,25 +25,25 @@ mul-state-2 : tie.Need-mul-state-2
 mul-state-2 c = search needs
 
 slice-write-state-2 : tie.Need-slice-write-state-2
-slice-write-state-2 c = simp length-set (omega (arith, (c .before .before .before .pre), (c .cell-place .ensures)))
+slice-write-state-2 c = simp length-set (omega (arith, (c .before .before .before .pre), (c .state-length .ensures)))
 
 add-put-fields : tie.Need-add-put-fields
 add-put-fields c = search needs
 
 put-fields-requires : tie.Need-put-fields-requires
-put-fields-requires c κs = simp length-set (omega (arith, (c .before .before .before .before .pre), (c .before .cell-place .ensures)))
+put-fields-requires c κs = simp length-set (omega (arith, (c .before .before .before .before .pre), (c .before .state-length .ensures)))
 
 same-length : tie.Need-same-length
 same-length c = (c .before .before .put-fields .kept .0) ∙ simp length-set
 
 returns : tie.Need-returns
-returns c = cell-written (c .before .before .before .before .before .before .before .args .state .now) (c .before .before .before .before .before .before .before .args .cell) (c .before .before .before .before .cell-place .result) (c .before .before .before .before .before .before .before .args .tag) (c .before .before .before .before .before .before .before .args .size) (padded fieldsMost (take (c .before .before .before .before .before .before .before .args .n) (c .before .before .before .before .before .before .before .args .fields .now))) (c .before .before .before .before .cell-place .ensures) (c .before .before .put-fields .ensures)
+returns c = cell-written (c .before .before .before .before .before .before .before .args .state .now) (c .before .before .before .before .before .before .before .args .cell) (c .before .before .before .before .state-length .result) (c .before .before .before .before .before .before .before .args .tag) (c .before .before .before .before .before .before .before .args .size) (padded fieldsMost (take (c .before .before .before .before .before .before .before .args .n) (c .before .before .before .before .before .before .before .args .fields .now))) (c .before .before .before .before .state-length .ensures) (c .before .before .put-fields .ensures)
 
 pub put-constructor-spec : {M : Type 1} → statement M
 put-constructor-spec =
     tie.close
     (tie.spec
-    cell-place-requires
+    state-length-requires
     mul-state
     slice-write-state
     add-state

@@ -7,8 +7,8 @@ use Rattle.state_words.specs.WriteLaws.{leaf-written}
 use Rattle.state_words.proofs.put_leaf.Statement.{statement}
 use Rattle.state_words.proofs.put_leaf.Tie as tie
 
-cell-place-requires : tie.Need-cell-place-requires
-cell-place-requires c κs = search needs
+state-length-requires : tie.Need-state-length-requires
+state-length-requires c κs = search needs
 
 mul-state : tie.Need-mul-state
 mul-state c = search needs
@@ -23,7 +23,7 @@ mul-state-2 : tie.Need-mul-state-2
 mul-state-2 c = search needs
 
 slice-write-state-2 : tie.Need-slice-write-state-2
-slice-write-state-2 c = simp length-set (omega (arith, (c .before .before .pre), (c .cell-place .ensures)))
+slice-write-state-2 c = simp length-set (omega (arith, (c .before .before .pre), (c .state-length .ensures)))
 
 add-clear-part : tie.Need-add-clear-part
 add-clear-part c = search needs
@@ -32,19 +32,19 @@ add-clear-part-2 : tie.Need-add-clear-part-2
 add-clear-part-2 c = search needs
 
 clear-part-requires : tie.Need-clear-part-requires
-clear-part-requires c κs = (omega arith, simp length-set (omega (arith, (c .before .before .before .pre), (c .before .cell-place .ensures))))
+clear-part-requires c κs = (omega arith, simp length-set (omega (arith, (c .before .before .before .pre), (c .before .state-length .ensures))))
 
 same-length : tie.Need-same-length
 same-length c = (c .before .before .clear-part .kept .0) ∙ simp length-set
 
 returns : tie.Need-returns
-returns c = leaf-written (c .before .before .before .before .before .before .args .state .now) (c .before .before .before .before .before .before .args .cell) (c .before .before .before .before .cell-place .result) (c .before .before .before .before .before .before .args .tag) (c .before .before .before .before .before .before .args .value) (c .before .before .before .before .cell-place .ensures) (c .before .before .before .before .before .before .pre) (c .before .before .clear-part .ensures)
+returns c = leaf-written (c .before .before .before .before .before .before .args .state .now) (c .before .before .before .before .before .before .args .cell) (c .before .before .before .before .state-length .result) (c .before .before .before .before .before .before .args .tag) (c .before .before .before .before .before .before .args .value) (c .before .before .before .before .state-length .ensures) (c .before .before .before .before .before .before .pre) (c .before .before .clear-part .ensures)
 
 pub put-leaf-spec : {M : Type 1} → statement M
 put-leaf-spec =
     tie.close
     (tie.spec
-    cell-place-requires
+    state-length-requires
     mul-state
     slice-write-state
     add-state
