@@ -1,0 +1,4 @@
+pub mod Judged
+pub mod FieldLaws
+pub mod CellLaws
+pub mod HeapLaws

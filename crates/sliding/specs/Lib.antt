@@ -1,0 +1,4 @@
+pub mod Sliding
+pub mod SlideLaws
+pub mod SweepLaws
+pub mod FinishLaws

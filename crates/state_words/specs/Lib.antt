@@ -1,0 +1,7 @@
+pub mod Words
+pub mod RowLaws
+pub mod WriteLaws
+pub mod Holds
+pub mod HoldLaws
+pub mod ReadLaws
+pub mod StateLaws
