@@ -22,8 +22,8 @@ use Rattle.text.specs.Lines.{isSome}
 use Rattle.index.specs.Sections.{typesOf}
 use Rattle.index.specs.Tables.{typeWords}
 use Rattle.index.specs.Indexed.{Indexed}
-use Rattle.state_words.specs.Words.{tagAt, valueAt, fieldAt, firsts, fieldCount}
-use Rattle.state_words.specs.RowLaws.{firsts-length, firsts-at, firsts-start}
+use Rattle.state_words.specs.Words.{tagAt, valueAt, fieldAt, rowOf, fieldCount}
+use Rattle.state_words.specs.RowLaws.{row-length, row-at, row-start}
 use Rattle.state_words.specs.ReadLaws.{constructor-counted}
 use Rattle.cell_check.specs.Judged.{nextHeap, heapWith, leafFits, ownType, fieldLeft, fieldsLeft, Below, TagOf, FieldsJudged, KnownJudged, CellJudged}
 
@@ -143,16 +143,16 @@ module _ (P : File) (h : List Cell) (v : ℕ) (ls : List ℕ) where
         cases false = refl
 
 -- ---- as the functions come by them: words for fields that are zero
-zero-from : (f : ℕ → ℕ) (j : ℕ) → j < fieldsMost → drop j (firsts f fieldsMost) ≡ f j ∷ drop (j + 1) (firsts f fieldsMost)
-zero-from f j less = drop-cons (firsts f fieldsMost) j 0 (omega (arith, firsts-length f fieldsMost)) ∙ rw (add-one, firsts-at f fieldsMost j less)
+zero-from : (f : ℕ → ℕ) (j : ℕ) → j < fieldsMost → drop j (rowOf f fieldsMost) ≡ f j ∷ drop (j + 1) (rowOf f fieldsMost)
+zero-from f j less = drop-cons (rowOf f fieldsMost) j 0 (omega (arith, row-length f fieldsMost)) ∙ rw (add-one, row-at f fieldsMost j less)
 
 pub record UnusedFrom (words : List ℕ) (cell n j : ℕ) : Type 0 where
-  pub is : allZero (drop n (firsts (fieldAt words cell) fieldsMost)) ≡ allZero (drop j (firsts (fieldAt words cell) fieldsMost))
+  pub is : allZero (drop n (rowOf (fieldAt words cell) fieldsMost)) ≡ allZero (drop j (rowOf (fieldAt words cell) fieldsMost))
 
 pub unused-start : (words : List ℕ) (cell n : ℕ) → UnusedFrom words cell n n
 unused-start words cell n = record { is = refl }
 
-pub unused-not : {words : List ℕ} {cell n j w : ℕ} → UnusedFrom words cell n j → j < fieldsMost → w ≡ fieldAt words cell j → ((w ≡ 0) → ⊥) → false ≡ allZero (drop n (firsts (fieldAt words cell) fieldsMost))
+pub unused-not : {words : List ℕ} {cell n j w : ℕ} → UnusedFrom words cell n j → j < fieldsMost → w ≡ fieldAt words cell j → ((w ≡ 0) → ⊥) → false ≡ allZero (drop n (rowOf (fieldAt words cell) fieldsMost))
 unfolding allZero both
 unused-not {words} {cell} {n} {j} v less e ne = sym (v .is ∙ ap allZero (zero-from (fieldAt words cell) j less) ∙ rw (ne-eqb (fieldAt words cell j) 0 (λ q. ne (e ∙ q))))
 
@@ -160,12 +160,12 @@ pub unused-on : {words : List ℕ} {cell n j w : ℕ} → UnusedFrom words cell 
 unfolding allZero both
 unused-on {words} {cell} {n} {j} v less e z = record { is = v .is ∙ ap allZero (zero-from (fieldAt words cell) j less) ∙ rw (eq-eqb (fieldAt words cell j) 0 (sym e ∙ z)) }
 
-pub unused-end : {words : List ℕ} {cell n j : ℕ} → UnusedFrom words cell n j → fieldsMost ≤ j → true ≡ allZero (drop n (firsts (fieldAt words cell) fieldsMost))
+pub unused-end : {words : List ℕ} {cell n j : ℕ} → UnusedFrom words cell n j → fieldsMost ≤ j → true ≡ allZero (drop n (rowOf (fieldAt words cell) fieldsMost))
 unfolding allZero
-unused-end {words} {cell} {n} {j} v le = sym (v .is ∙ ap allZero (drop-of-length-le (firsts (fieldAt words cell) fieldsMost) {i = j} (omega (arith, firsts-length (fieldAt words cell) fieldsMost))))
+unused-end {words} {cell} {n} {j} v le = sym (v .is ∙ ap allZero (drop-of-length-le (rowOf (fieldAt words cell) fieldsMost) {i = j} (omega (arith, row-length (fieldAt words cell) fieldsMost))))
 
 -- ---- a Bool or an Int
-module _ (words : List ℕ) (l tag : ℕ) {b : Bool} (z : b ≡ allZero (drop 0 (firsts (fieldAt words l) fieldsMost))) where
+module _ (words : List ℕ) (l tag : ℕ) {b : Bool} (z : b ≡ allZero (drop 0 (rowOf (fieldAt words l) fieldsMost))) where
   pub leaf-unclear : b ≡ false → false ≡ leafFits words l tag
   unfolding leafFits both
   leaf-unclear e = rw (← z, e)
@@ -179,7 +179,7 @@ module _ (words : List ℕ) (l tag : ℕ) {b : Bool} (z : b ≡ allZero (drop 0 
   leaf-int e ne = rw (← z, e, ne-eqb tag boolTag ne)
 
 -- whose value is a word of 32 bits, or of fewer
-leaf-judged : (P : File) (h : List Cell) (words : List ℕ) (l tag : ℕ) → valueAt words l < intRange → tag < tagStep → isSome (nextHeap P h tag (valueAt words l) (firsts (fieldAt words l) fieldsMost)) ≡ leafFits words l tag
+leaf-judged : (P : File) (h : List Cell) (words : List ℕ) (l tag : ℕ) → valueAt words l < intRange → tag < tagStep → isSome (nextHeap P h tag (valueAt words l) (rowOf (fieldAt words l) fieldsMost)) ≡ leafFits words l tag
 unfolding leafFits choose both
 leaf-judged P h words l tag width low = as-bool (eqb tag boolTag) refl
   where
@@ -189,12 +189,12 @@ leaf-judged P h words l tag width low = as-bool (eqb tag boolTag) refl
     swapped false true = refl
     swapped false false = refl
 
-    as-int : (b : Bool) → eqb tag intTag ≡ b → ((tag ≡ boolTag) → ⊥) → isSome (nextHeap P h tag (valueAt words l) (firsts (fieldAt words l) fieldsMost)) ≡ both (allZero (firsts (fieldAt words l) fieldsMost)) b
-    as-int true e ne = rw (eqb-true tag intTag e) (int-judged P h (valueAt words l) (firsts (fieldAt words l) fieldsMost) width ∙ swapped true (allZero (firsts (fieldAt words l) fieldsMost)))
-    as-int false e ne = other-judged P h (valueAt words l) (firsts (fieldAt words l) fieldsMost) tag low ne (eqb-false tag intTag e) ∙ sym (both-never (allZero (firsts (fieldAt words l) fieldsMost)) refl)
+    as-int : (b : Bool) → eqb tag intTag ≡ b → ((tag ≡ boolTag) → ⊥) → isSome (nextHeap P h tag (valueAt words l) (rowOf (fieldAt words l) fieldsMost)) ≡ both (allZero (rowOf (fieldAt words l) fieldsMost)) b
+    as-int true e ne = rw (eqb-true tag intTag e) (int-judged P h (valueAt words l) (rowOf (fieldAt words l) fieldsMost) width ∙ swapped true (allZero (rowOf (fieldAt words l) fieldsMost)))
+    as-int false e ne = other-judged P h (valueAt words l) (rowOf (fieldAt words l) fieldsMost) tag low ne (eqb-false tag intTag e) ∙ sym (both-never (allZero (rowOf (fieldAt words l) fieldsMost)) refl)
 
-    as-bool : (b : Bool) → eqb tag boolTag ≡ b → isSome (nextHeap P h tag (valueAt words l) (firsts (fieldAt words l) fieldsMost)) ≡ both (allZero (firsts (fieldAt words l) fieldsMost)) (choose b (leb (valueAt words l) 1) (eqb tag intTag))
-    as-bool true e = rw (eqb-true tag boolTag e) (bool-judged P h (valueAt words l) (firsts (fieldAt words l) fieldsMost) ∙ swapped (leb (valueAt words l) 1) (allZero (firsts (fieldAt words l) fieldsMost)))
+    as-bool : (b : Bool) → eqb tag boolTag ≡ b → isSome (nextHeap P h tag (valueAt words l) (rowOf (fieldAt words l) fieldsMost)) ≡ both (allZero (rowOf (fieldAt words l) fieldsMost)) (choose b (leb (valueAt words l) 1) (eqb tag intTag))
+    as-bool true e = rw (eqb-true tag boolTag e) (bool-judged P h (valueAt words l) (rowOf (fieldAt words l) fieldsMost) ∙ swapped (leb (valueAt words l) 1) (allZero (rowOf (fieldAt words l) fieldsMost)))
     as-bool false e = as-int (eqb tag intTag) refl (eqb-false tag boolTag e)
 
 -- ---- a constructor of the file
@@ -238,13 +238,13 @@ module _ (index words : List ℕ) (types cell : ℕ) {tag : ℕ} (p : tag ≡ ta
   pub judged-leaf : {r : Bool} → valueAt words cell < intRange → tag < tagStep → r ≡ leafFits words cell tag → CellJudged index types words cell r
   judged-leaf {r} width low e = record {
     says = λ P h w count.
-        e ∙ sym (ap (λ n. isSome (nextHeap P h n (valueAt words cell) (firsts (fieldAt words cell) fieldsMost))) (sym p) ∙ leaf-judged P h words cell tag width low);
+        e ∙ sym (ap (λ n. isSome (nextHeap P h n (valueAt words cell) (rowOf (fieldAt words cell) fieldsMost))) (sym p) ∙ leaf-judged P h words cell tag width low);
   }
 
   pub judged-unknown : {b : Bool} → tagStep ≤ tag → KnownJudged index types tag b → b ≡ false → CellJudged index types words cell false
   judged-unknown {b} high k e = record {
-    says = λ P h w count. sym (ap (λ n. isSome (nextHeap P h n (valueAt words cell) (firsts (fieldAt words cell) fieldsMost))) (sym p)
-        ∙ unknown-judged P h (valueAt words cell) (firsts (fieldAt words cell) fieldsMost) tag high (none-of _ (sym (k .says (w .text) P (w .indexed) count) ∙ e)));
+    says = λ P h w count. sym (ap (λ n. isSome (nextHeap P h n (valueAt words cell) (rowOf (fieldAt words cell) fieldsMost))) (sym p)
+        ∙ unknown-judged P h (valueAt words cell) (rowOf (fieldAt words cell) fieldsMost) tag high (none-of _ (sym (k .says (w .text) P (w .indexed) count) ∙ e)));
   }
 
   -- the fields of the constructor that the tag names
@@ -263,14 +263,14 @@ module _ (index words : List ℕ) (types cell : ℕ) {tag : ℕ} (p : tag ≡ ta
         omega (arith, x .eachType t (look-inner-less (P .types) t c e) .tells .fewFields c (look-less (constructorsOf P t) c e), ap length same)
 
     whole : (P : File) (h : List Cell) → Below index words cell P h → {fs : Constructor} → look (constructorsOf P (tag / tagStep - 1)) (tag % tagStep) ≡ some fs →
-        isSome (heapWith P words h cell) ≡ both (allZero (drop n (firsts (fieldAt words cell) fieldsMost))) (eqb (fieldsLeft h (tag / tagStep - 1) fs (firsts (fieldAt words cell) n) (valueAt words cell)) 1)
+        isSome (heapWith P words h cell) ≡ both (allZero (drop n (rowOf (fieldAt words cell) fieldsMost))) (eqb (fieldsLeft h (tag / tagStep - 1) fs (rowOf (fieldAt words cell) n) (valueAt words cell)) 1)
     whole P h w {fs} e =
         let same = counted P (w .indexed) e in
-        ap (λ i. isSome (nextHeap P h i (valueAt words cell) (firsts (fieldAt words cell) fieldsMost))) (sym p)
-        ∙ known-judged P h (valueAt words cell) (firsts (fieldAt words cell) fieldsMost) tag high fs e
-        ∙ rw (firsts-start (fieldAt words cell) (length fs) fieldsMost (few P (w .indexed) e), ← same)
+        ap (λ i. isSome (nextHeap P h i (valueAt words cell) (rowOf (fieldAt words cell) fieldsMost))) (sym p)
+        ∙ known-judged P h (valueAt words cell) (rowOf (fieldAt words cell) fieldsMost) tag high fs e
+        ∙ rw (row-start (fieldAt words cell) (length fs) fieldsMost (few P (w .indexed) e), ← same)
 
-    module _ {clear : Bool} (z : clear ≡ allZero (drop n (firsts (fieldAt words cell) fieldsMost))) where
+    module _ {clear : Bool} (z : clear ≡ allZero (drop n (rowOf (fieldAt words cell) fieldsMost))) where
       pub judged-unclear : clear ≡ false → CellJudged index types words cell false
       unfolding both
       judged-unclear e = record {

@@ -23,8 +23,8 @@ use Rattle.theory.specs.CellWords.{Writable, bool-writable, int-writable, con-w
 use Rattle.text.specs.Bytes.{declaredWord, fieldWord}
 use Rattle.index.specs.Sections.{typesOf}
 use Rattle.index.specs.Indexed.{Indexed, fieldAt as fieldWordAt}
-use Rattle.state_words.specs.Words.{tagAt, valueAt, fieldAt, firsts}
-use Rattle.state_words.specs.RowLaws.{firsts-length, firsts-at}
+use Rattle.state_words.specs.Words.{tagAt, valueAt, fieldAt, rowOf}
+use Rattle.state_words.specs.RowLaws.{row-length, row-at}
 use Rattle.state_words.specs.Holds.{Holds}
 use Rattle.state_words.specs.HoldLaws.{tag-held, value-held}
 use Rattle.cell_check.specs.Judged.{typeFits, ownType, fieldLeft, fieldsLeft, Below, TagOf, LocationJudged, OwnLeft, FieldLeft, FieldsJudged}
@@ -194,18 +194,18 @@ module _ {index words : List ℕ} {cell tag j word l : ℕ} (f : FieldRead index
 -- ---- all fields
 pub record LeftTo (index words : List ℕ) (cell tag n j left : ℕ) : Type 0 where
   pub says : (P : File) (h : List Cell) → Below index words cell P h → (t c : ℕ) {fs : Constructor} → TagOf P tag t c fs → n ≡ length fs →
-      fieldsLeft h t fs (firsts (fieldAt words cell) n) (valueAt words cell) ≡ fieldsLeft h t (drop j fs) (drop j (firsts (fieldAt words cell) n)) left
+      fieldsLeft h t fs (rowOf (fieldAt words cell) n) (valueAt words cell) ≡ fieldsLeft h t (drop j fs) (drop j (rowOf (fieldAt words cell) n)) left
 
 pub left-start : (index words : List ℕ) (cell tag n : ℕ) {left : ℕ} → left ≡ valueAt words cell → LeftTo index words cell tag n 0 left
-left-start index words cell tag n e = record { says = λ P h b t c {fs} g same. ap (fieldsLeft h t fs (firsts (fieldAt words cell) n)) (sym e) }
+left-start index words cell tag n e = record { says = λ P h b t c {fs} g same. ap (fieldsLeft h t fs (rowOf (fieldAt words cell) n)) (sym e) }
 
 pub left-on : {index words : List ℕ} {cell tag n j left r : ℕ} → LeftTo index words cell tag n j left → j < n → FieldLeft index words cell tag j left r → LeftTo index words cell tag n (j + 1) r
 unfolding fieldsLeft
 left-on {index} {words} {cell} {tag} {n} {j} {left} {r} v less f = record {
   says = λ P h b t c {fs} g same.
-      let ls = firsts (fieldAt words cell) n in
-      let inside : j < length ls = omega (arith, firsts-length (fieldAt words cell) n) in
-      v .says P h b t c g same ∙ rw (add-one, drop-cons fs j fbool (omega (arith, same)), drop-cons ls j 0 inside, firsts-at (fieldAt words cell) n j less)
+      let ls = rowOf (fieldAt words cell) n in
+      let inside : j < length ls = omega (arith, row-length (fieldAt words cell) n) in
+      v .says P h b t c g same ∙ rw (add-one, drop-cons fs j fbool (omega (arith, same)), drop-cons ls j 0 inside, row-at (fieldAt words cell) n j less)
       (ap (fieldsLeft h t (drop (suc j) fs) (drop (suc j) ls)) (sym (f .says P h b t c g (omega (arith, same)))));
 }
 
@@ -213,8 +213,8 @@ pub left-end : {index words : List ℕ} {cell tag n j left : ℕ} → j ≤ n �
 unfolding fieldsLeft
 left-end {index} {words} {cell} {tag} {n} {j} {left} low high v = record {
   says = λ P h b t c {fs} g same.
-      let ls = firsts (fieldAt words cell) n in
+      let ls = rowOf (fieldAt words cell) n in
       let all : j ≡ length fs = omega (arith, same) in
-      let whole : j ≡ length ls = omega (arith, firsts-length (fieldAt words cell) n) in
+      let whole : j ≡ length ls = omega (arith, row-length (fieldAt words cell) n) in
       ap (λ x. eqb x 1) (sym (v .says P h b t c g same ∙ ap (λ x. fieldsLeft h t x (drop j ls) left) (ap (λ i. drop i fs) all ∙ drop-length fs) ∙ ap (λ x. fieldsLeft h t [] x left) (ap (λ i. drop i ls) whole ∙ drop-length ls)));
 }

@@ -24,8 +24,8 @@ use Rattle.theory.specs.CellWords.{Writable, bool-writable, int-writable, con-w
 use Rattle.theory.specs.HeapWords.{cells-read}
 use Rattle.text.specs.Lines.{isSome}
 use Rattle.index.specs.Indexed.{Indexed}
-use Rattle.state_words.specs.Words.{tagAt, valueAt, fieldAt, firsts}
-use Rattle.state_words.specs.RowLaws.{firsts-taken}
+use Rattle.state_words.specs.Words.{tagAt, valueAt, fieldAt, rowOf}
+use Rattle.state_words.specs.RowLaws.{row-taken}
 use Rattle.state_words.specs.WriteLaws.{drop-of-take}
 use Rattle.cell_check.specs.CellLaws.{some-of, none-of}
 use Rattle.cell_check.specs.Judged.{nextHeap, heapWith, heapTo, Below, CellJudged, CellsJudged}
@@ -86,11 +86,11 @@ module _ (P : File) where
       cases false = refl
 
   -- ---- so the heap of the first n cells is the definition's
-  words-at : (words : List ℕ) (n : ℕ) → stateLength (suc n) ≤ length words → cellIn (drop headerWords words) n ≡ cellOfWords P (tagAt words n) (valueAt words n) (firsts (fieldAt words n) fieldsMost)
+  words-at : (words : List ℕ) (n : ℕ) → stateLength (suc n) ≤ length words → cellIn (drop headerWords words) n ≡ cellOfWords P (tagAt words n) (valueAt words n) (rowOf (fieldAt words n) fieldsMost)
   words-at words n room =
       let value : headerWords + (cellWords * n + 1) ≡ stateLength n + 1 = omega arith in
       let fields : headerWords + (cellWords * n + 2) ≡ stateLength n + 2 = omega arith in
-      rw (getD-drop headerWords words (cellWords * n) 0, getD-drop headerWords words (cellWords * n + 1) 0, drop-drop (cellWords * n + 2) headerWords words, value, fields, ← (firsts-taken words (stateLength n + 2) fieldsMost (omega arith)))
+      rw (getD-drop headerWords words (cellWords * n) 0, getD-drop headerWords words (cellWords * n + 1) 0, drop-drop (cellWords * n + 2) headerWords words, value, fields, ← (row-taken words (stateLength n + 2) fieldsMost (omega arith)))
 
   pub heap-is : (words : List ℕ) (n : ℕ) → stateLength n ≤ length words → heapTo P words n ≡ chain (cellsOfWords P n (drop headerWords words)) (λ h. when (cellsRight P [] h) h)
   unfolding heapTo nextHeap cellsOfWords cellsRight chain when

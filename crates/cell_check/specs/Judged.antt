@@ -17,7 +17,7 @@ use Rattle.theory.specs.CellWords.{Writable}
 use Rattle.text.specs.Bytes.{declaredWord}
 use Rattle.text.specs.Lines.{isSome}
 use Rattle.index.specs.Indexed.{Indexed}
-use Rattle.state_words.specs.Words.{tagAt, valueAt, fieldAt, firsts}
+use Rattle.state_words.specs.Words.{tagAt, valueAt, fieldAt, rowOf}
 use Rattle.state_words.specs.Holds.{Holds}
 
 -- ---- one more cell, over the heap below it
@@ -26,7 +26,7 @@ nextHeap P h tag v ls = chain (cellOfWords P tag v ls) (λ c. when (cellRight P 
 
 -- the words of a cell, as nextHeap takes them
 abbrev pub heapWith : File → List ℕ → List Cell → ℕ → Option (List Cell)
-heapWith P words h i = nextHeap P h (tagAt words i) (valueAt words i) (firsts (fieldAt words i) fieldsMost)
+heapWith P words h i = nextHeap P h (tagAt words i) (valueAt words i) (rowOf (fieldAt words i) fieldsMost)
 
 -- the heap that the first n cells of the words are
 unfoldable pub heapTo : File → List ℕ → ℕ → Option (List Cell)
@@ -39,7 +39,7 @@ typeFits word tag v = choose (eqb word fieldBool) (eqb tag boolTag) (choose (eqb
 
 -- a Bool or an Int; "Bool (0 or 1)"
 unfoldable pub leafFits : List ℕ → ℕ → ℕ → Bool
-leafFits words l tag = both (allZero (firsts (fieldAt words l) fieldsMost)) (choose (eqb tag boolTag) (leb (valueAt words l) 1) (eqb tag intTag))
+leafFits words l tag = both (allZero (rowOf (fieldAt words l) fieldsMost)) (choose (eqb tag boolTag) (leb (valueAt words l) 1) (eqb tag intTag))
 
 -- ---- what is left of a constructor's size, one more than is still to be found, when its fields are gone through; 0 where one does
 -- not fit
@@ -82,7 +82,7 @@ pub record FieldLeft (index words : List ℕ) (cell tag j left r : ℕ) : Type 0
   pub says : (P : File) (h : List Cell) → Below index words cell P h → (t c : ℕ) {fs : Constructor} → TagOf P tag t c fs → j < length fs → r ≡ fieldLeft h t (getD fs j fbool) (fieldAt words cell j) left
 
 pub record FieldsJudged (index words : List ℕ) (cell tag n : ℕ) (r : Bool) : Type 0 where
-  pub says : (P : File) (h : List Cell) → Below index words cell P h → (t c : ℕ) {fs : Constructor} → TagOf P tag t c fs → n ≡ length fs → r ≡ eqb (fieldsLeft h t fs (firsts (fieldAt words cell) n) (valueAt words cell)) 1
+  pub says : (P : File) (h : List Cell) → Below index words cell P h → (t c : ℕ) {fs : Constructor} → TagOf P tag t c fs → n ≡ length fs → r ≡ eqb (fieldsLeft h t fs (rowOf (fieldAt words cell) n) (valueAt words cell)) 1
 
 pub record KnownJudged (index : List ℕ) (types tag : ℕ) (r : Bool) : Type 0 where
   pub says : (text : List ℕ) (P : File) → Indexed text index P → types ≡ length (P .types) → r ≡ isSome (look (constructorsOf P (tag / tagStep - 1)) (tag % tagStep))

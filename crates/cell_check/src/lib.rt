@@ -4,7 +4,7 @@ ghost use Prim.Native.Nat.{_≤_};
 ghost use lib.ListN.{drop};
 ghost use Rattle.language.specs.Limits.{fieldsMost};
 ghost use Rattle.language.specs.Layout.{tagStep, allZero};
-ghost use Rattle.state_words.specs.Words.{fieldAt, firsts};
+ghost use Rattle.state_words.specs.Words.{fieldAt, rowOf};
 ghost use Rattle.cell_check.specs.Judged.{typeFits, leafFits, LocationJudged, OwnLeft, FieldLeft, FieldsJudged, KnownJudged, CellJudged, CellsJudged};
 use index::INDEX_WORDS;
 use index::types::OWN_FIELD;
@@ -27,7 +27,7 @@ use state_words::tags::word_size;
 
 // Whether a cell's words for fields are zero from number n on.
 fn unused_clear(state: &[u32], cell: u32, n: u32) -> bool
-    ensures { λ r. ⌜ r ≡ allZero (drop n (firsts (fieldAt (now (state .entry)) cell) fieldsMost)) ⌝ }
+    ensures { λ r. ⌜ r ≡ allZero (drop n (rowOf (fieldAt (now (state .entry)) cell) fieldsMost)) ⌝ }
 {
     let mut j = n;
     while j < (FIELDS_MOST as u32) {

@@ -15,7 +15,7 @@ use Rattle.language.specs.Heap.{kbool, Cell, leaf, cellAt, fieldsIn}
 use Rattle.language.specs.Slide.{mem, reachedFrom, reached}
 use Rattle.theory.specs.Members.{mem-append}
 use Rattle.index.specs.Sections.{typesOf}
-use Rattle.state_words.specs.Words.{channelAt, tagAt, fieldAt, firsts, fieldCount}
+use Rattle.state_words.specs.Words.{channelAt, tagAt, fieldAt, rowOf, fieldCount}
 use Rattle.state_words.specs.ReadLaws.{fields-held}
 use Rattle.marking.specs.Marks.{Marks, Touched, Visited, passed-by, named-marked, Marking, MarkedFrom, MarksReached}
 
@@ -30,20 +30,20 @@ one-more b l x marks v less e = cases (eqb l x) refl b e
     cases false q true e = getD-set-other marks x l 1 0 (eqb-false l x q) ∙ e
     cases false q false e = getD-set-other marks x l 1 0 (eqb-false l x q) ∙ e
 
-pub touched-start : (f : ℕ → ℕ) (marks : List ℕ) → Touched (firsts f 0) marks marks
-unfolding firsts mem choose
+pub touched-start : (f : ℕ → ℕ) (marks : List ℕ) → Touched (rowOf f 0) marks marks
+unfolding rowOf mem choose
 touched-start f marks = record { long = refl; at = λ l less. refl }
 
-pub touched-on : (f : ℕ → ℕ) {j x : ℕ} {marks₀ marks marks′ : List ℕ} → Touched (firsts f j) marks₀ marks → x ≡ f j → marks′ ≡ set marks x 1 → Touched (firsts f (j + 1)) marks₀ marks′
-unfolding firsts mem
+pub touched-on : (f : ℕ → ℕ) {j x : ℕ} {marks₀ marks marks′ : List ℕ} → Touched (rowOf f j) marks₀ marks → x ≡ f j → marks′ ≡ set marks x 1 → Touched (rowOf f (j + 1)) marks₀ marks′
+unfolding rowOf mem
 touched-on f {j} {x} {marks₀} {marks} {marks′} t q e = rw add-one (record {
   long = ap length e ∙ length-set marks x 1 ∙ t .long;
-  at = λ l less. ap (λ (m : List ℕ). getD m l 0) e ∙ one-more (mem l (firsts f j)) l x marks (getD marks₀ l 0) (omega (arith, t .long)) (t .at l less)
-      ∙ ap (λ b. choose b 1 (getD marks₀ l 0)) (ap (λ y. oneOf (mem l (firsts f j)) (oneOf (eqb l y) false)) q ∙ sym (mem-append l (firsts f j) (f j ∷ [])));
+  at = λ l less. ap (λ (m : List ℕ). getD m l 0) e ∙ one-more (mem l (rowOf f j)) l x marks (getD marks₀ l 0) (omega (arith, t .long)) (t .at l less)
+      ∙ ap (λ b. choose b 1 (getD marks₀ l 0)) (ap (λ y. oneOf (mem l (rowOf f j)) (oneOf (eqb l y) false)) q ∙ sym (mem-append l (rowOf f j) (f j ∷ [])));
 })
 
-pub touched-end : (f : ℕ → ℕ) {j n : ℕ} {marks₀ marks : List ℕ} → j ≤ n → n ≤ j → Touched (firsts f j) marks₀ marks → Touched (firsts f n) marks₀ marks
-touched-end f {j} {n} {marks₀} {marks} low high t = let same : j ≡ n = omega arith in subst (λ k. Touched (firsts f k) marks₀ marks) same t
+pub touched-end : (f : ℕ → ℕ) {j n : ℕ} {marks₀ marks : List ℕ} → j ≤ n → n ≤ j → Touched (rowOf f j) marks₀ marks → Touched (rowOf f n) marks₀ marks
+touched-end f {j} {n} {marks₀} {marks} low high t = let same : j ≡ n = omega arith in subst (λ k. Touched (rowOf f k) marks₀ marks) same t
 
 -- ---- marks of a list
 mark-added : (a b : Bool) → choose a 1 (bit b) ≡ bit (oneOf a b)
@@ -107,12 +107,12 @@ no-marks used = record { at = λ l less. zeros-at used l }
     zeros-at (suc n) zero = refl
     zeros-at (suc n) (suc l) = zeros-at n l
 
-pub reached-marked : {index words marks marks₁ marks′ : List ℕ} {channels used : ℕ} → Touched (firsts (channelAt words) channels) marks marks₁ → MarkedFrom index words used marks₁ 0 marks′ → MarksReached index words channels used marks marks′
+pub reached-marked : {index words marks marks₁ marks′ : List ℕ} {channels used : ℕ} → Touched (rowOf (channelAt words) channels) marks marks₁ → MarkedFrom index words used marks₁ 0 marks′ → MarksReached index words channels used marks marks′
 unfolding reached
 reached-marked {words} {marks} {marks₁} {channels} {used} t m = record {
   long = m .long ∙ t .long;
-  says = λ h g none. m .says h (record { text = g .text; file = g .file; indexed = g .indexed; holds = g .holds; writable = g .writable; each = t .long ∙ g .each }) (firsts (channelAt words) channels)
-      (subst (λ R. Marks marks₁ R) (append-nil (firsts (channelAt words) channels)) (touched-marks t (rw none (no-marks used))));
+  says = λ h g none. m .says h (record { text = g .text; file = g .file; indexed = g .indexed; holds = g .holds; writable = g .writable; each = t .long ∙ g .each }) (rowOf (channelAt words) channels)
+      (subst (λ R. Marks marks₁ R) (append-nil (rowOf (channelAt words) channels)) (touched-marks t (rw none (no-marks used))));
 }
 
 -- ---- what the test of a mark says
@@ -123,5 +123,5 @@ pub has-mark : {m : ℕ} {r : Bool} → r ≡ not (eqb m 0) → r ≡ true → m
 has-mark {m} q e = eqb-false m 0 (not-true (eqb m 0) (sym q ∙ e))
 
 pub visited-fields : {index words marks marks′ : List ℕ} {cell tag n : ℕ} {r : Bool} → r ≡ not (eqb (getD marks cell 0) 0) → r ≡ true → tag ≡ tagAt words cell → n ≡ fieldCount (typesOf index) tag →
-    Touched (firsts (fieldAt words cell) n) marks marks′ → Visited index words cell marks marks′
-visited-fields {index} {words} {marks} {marks′} {cell} q e p c t = named-marked (has-mark q e) (subst (λ k. Touched (firsts (fieldAt words cell) k) marks marks′) (c ∙ ap (fieldCount (typesOf index)) p) t)
+    Touched (rowOf (fieldAt words cell) n) marks marks′ → Visited index words cell marks marks′
+visited-fields {index} {words} {marks} {marks′} {cell} q e p c t = named-marked (has-mark q e) (subst (λ k. Touched (rowOf (fieldAt words cell) k) marks marks′) (c ∙ ap (fieldCount (typesOf index)) p) t)

@@ -12,7 +12,7 @@ use Rattle.language.specs.Slide.{mem, reachedFrom, reached}
 use Rattle.theory.specs.CellWords.{Writable}
 use Rattle.index.specs.Sections.{typesOf}
 use Rattle.index.specs.Indexed.{Indexed}
-use Rattle.state_words.specs.Words.{channelAt, tagAt, fieldAt, firsts, fieldCount}
+use Rattle.state_words.specs.Words.{channelAt, tagAt, fieldAt, rowOf, fieldCount}
 use Rattle.state_words.specs.Holds.{Holds}
 
 -- the marks are those of a list of cell numbers
@@ -27,7 +27,7 @@ pub record Touched (named marks marks′ : List ℕ) : Type 0 where
 -- what a cell names was marked, if it is marked itself
 pub data Visited (index words : List ℕ) (cell : ℕ) (marks marks′ : List ℕ) : Type 0 where
   passed-by : getD marks cell 0 ≡ 0 → marks′ ≡ marks → Visited index words cell marks marks′
-  named-marked : ((getD marks cell 0 ≡ 0) → ⊥) → Touched (firsts (fieldAt words cell) (fieldCount (typesOf index) (tagAt words cell))) marks marks′ → Visited index words cell marks marks′
+  named-marked : ((getD marks cell 0 ≡ 0) → ⊥) → Touched (rowOf (fieldAt words cell) (fieldCount (typesOf index) (tagAt words cell))) marks marks′ → Visited index words cell marks marks′
 
 -- the words hold this heap, of cells of the file that the index tells; a mark for each cell
 pub record Marking (index words : List ℕ) (used : ℕ) (marks : List ℕ) (h : List Cell) : Type 0 where
@@ -46,4 +46,4 @@ pub record MarkedFrom (index words : List ℕ) (used : ℕ) (marks : List ℕ) (
 -- from no marks, the cells that the channels reach
 pub record MarksReached (index words : List ℕ) (channels used : ℕ) (marks marks′ : List ℕ) : Type 0 where
   pub long : length marks′ ≡ length marks
-  pub says : (h : List Cell) → Marking index words used marks h → marks ≡ replicate used 0 → Marks marks′ (reached (record { heap = h; roots = firsts (channelAt words) channels }))
+  pub says : (h : List Cell) → Marking index words used marks h → marks ≡ replicate used 0 → Marks marks′ (reached (record { heap = h; roots = rowOf (channelAt words) channels }))

@@ -3,7 +3,7 @@ ghost use mathlib.Core.Path.{_≡_};
 ghost use mathlib.Core.Bool.{not};
 ghost use lib.ListN.{getD, set};
 ghost use lib.Dec.{eqb};
-ghost use Rattle.state_words.specs.Words.{channelAt, fieldAt, firsts};
+ghost use Rattle.state_words.specs.Words.{channelAt, fieldAt, rowOf};
 ghost use Rattle.marking.specs.Marks.{Touched, Visited, MarkedFrom, MarksReached};
 use index::INDEX_WORDS;
 use index::put;
@@ -28,7 +28,7 @@ pub fn is_marked(marks: &[u32], cell: u32) -> bool
 
 // Marks the cells that a cell names by its first n fields.
 fn mark_fields(state: &[u32], marks: &mut [u32], cell: u32, n: u32)
-    ensures { λ _. ⌜ Touched (firsts (fieldAt (now (state .entry)) cell) n) (now (marks .entry)) (now (marks .exit)) ⌝ }
+    ensures { λ _. ⌜ Touched (rowOf (fieldAt (now (state .entry)) cell) n) (now (marks .entry)) (now (marks .exit)) ⌝ }
 {
     let mut j: u32 = 0;
     while j < n {
@@ -40,7 +40,7 @@ fn mark_fields(state: &[u32], marks: &mut [u32], cell: u32, n: u32)
 
 // Marks the cells of the first n channels.
 fn mark_channels(state: &[u32], marks: &mut [u32], n: u32)
-    ensures { λ _. ⌜ Touched (firsts (channelAt (now (state .entry))) n) (now (marks .entry)) (now (marks .exit)) ⌝ }
+    ensures { λ _. ⌜ Touched (rowOf (channelAt (now (state .entry))) n) (now (marks .entry)) (now (marks .exit)) ⌝ }
 {
     let mut c: u32 = 0;
     while c < n {

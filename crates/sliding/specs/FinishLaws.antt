@@ -21,8 +21,8 @@ use Rattle.theory.specs.Members.{map-same}
 use Rattle.theory.specs.Ranks.{membersBelow}
 use Rattle.theory.specs.Reaches.{reached-closed}
 use Rattle.theory.specs.Slides.{moved, slide-keeps-reached}
-use Rattle.state_words.specs.Words.{usedIn, channelAt, firsts, cleared}
-use Rattle.state_words.specs.RowLaws.{sets-append, firsts-length, zeros-taken}
+use Rattle.state_words.specs.Words.{usedIn, channelAt, rowOf, cleared}
+use Rattle.state_words.specs.RowLaws.{sets-append, row-length, zeros-taken}
 use Rattle.state_words.specs.WriteLaws.{drop-of-take}
 use Rattle.state_words.specs.Holds.{Holds}
 use Rattle.state_words.specs.HoldLaws.{holds-kept}
@@ -30,7 +30,7 @@ use Rattle.state_words.specs.StateLaws.{held-written}
 use Rattle.marking.specs.Marks.{Marking, MarksReached}
 use Rattle.sliding.specs.Sliding.{Slid, Sweeps, Unslid, KeepsReached, Collects}
 use Rattle.sliding.specs.SlideLaws.{drop-more}
-use Rattle.sliding.specs.SweepLaws.{firsts-mapped}
+use Rattle.sliding.specs.SweepLaws.{row-mapped}
 
 -- ---- the channels renumbered one by one
 sets-beyond : (vs l : List ℕ) (i k : ℕ) → i + length vs ≤ k → getD (sets l i vs) k 0 ≡ getD l k 0
@@ -38,23 +38,23 @@ sets-beyond [] l i k le = refl
 sets-beyond (v ∷ vs) l i k le = sets-beyond vs (set l i v) (suc i) k (omega arith) ∙ getD-set-other l i k v 0 (λ e. omega arith)
 
 abbrev numbersOf : List ℕ → List ℕ → ℕ → List ℕ
-numbersOf words marks n = firsts (λ c. getD marks (channelAt words c) 0) n
+numbersOf words marks n = rowOf (λ c. getD marks (channelAt words c) 0) n
 
 pub record Renumbered (words₀ marks : List ℕ) (c : ℕ) (words : List ℕ) : Type 0 where
   pub is : words ≡ sets words₀ 1 (numbersOf words₀ marks c)
 
 pub renumbered-start : (words marks : List ℕ) → Renumbered words marks 0 words
-unfolding firsts
+unfolding rowOf
 renumbered-start words marks = record { is = refl }
 
 pub renumbered-long : {words₀ marks words : List ℕ} {c : ℕ} → Renumbered words₀ marks c words → length words ≡ length words₀
 renumbered-long {words₀} {marks} {c = c} v = ap length (v .is) ∙ length-sets words₀ 1 (numbersOf words₀ marks c)
 
 pub renumbered-on : {words₀ marks words words′ : List ℕ} {c l number : ℕ} → Renumbered words₀ marks c words → l ≡ channelAt words c → number ≡ getD marks l 0 → words′ ≡ set words (1 + c) number → Renumbered words₀ marks (c + 1) words′
-unfolding firsts
+unfolding rowOf
 renumbered-on {words₀} {marks} {words} {words′} {c} {l} {number} v p q e =
     let row = numbersOf words₀ marks c in
-    let long : length row ≡ c = firsts-length (λ i. getD marks (channelAt words₀ i) 0) c in
+    let long : length row ≡ c = row-length (λ i. getD marks (channelAt words₀ i) 0) c in
     let old : l ≡ channelAt words₀ c = p ∙ ap (λ (x : List ℕ). channelAt x c) (v .is) ∙ sets-beyond row words₀ 1 (1 + c) (omega arith) in
     let number-is : number ≡ getD marks (channelAt words₀ c) 0 = q ∙ ap (λ i. getD marks i 0) old in
     record { is = e ∙ rw (v .is, number-is, add-one) (ap (λ i. set (sets words₀ 1 row) (1 + i) (getD marks (channelAt words₀ c) 0)) (sym long) ∙ sym (sets-append row (getD marks (channelAt words₀ c) 0 ∷ []) words₀ 1)) }
@@ -76,10 +76,10 @@ header-set (w ∷ ws) row k n long room =
 unused-words : (n : ℕ) (l : List ℕ) → drop n (take channelsMost (drop 1 l)) ≡ drop (1 + n) (take headerWords l)
 unused-words n l = ap (drop n) (sym (drop-of-take 1 channelsMost l)) ∙ drop-drop n 1 (take headerWords l)
 
-firsts-same : (f g : ℕ → ℕ) (n : ℕ) → ((j : ℕ) → j < n → f j ≡ g j) → firsts f n ≡ firsts g n
-unfolding firsts
-firsts-same f g zero same = refl
-firsts-same f g (suc n) same = rw (firsts-same f g n (λ j less. same j (omega arith)), same n (omega arith))
+row-same : (f g : ℕ → ℕ) (n : ℕ) → ((j : ℕ) → j < n → f j ≡ g j) → rowOf f n ≡ rowOf g n
+unfolding rowOf
+row-same f g zero same = refl
+row-same f g (suc n) same = rw (row-same f g n (λ j less. same j (omega arith)), same n (omega arith))
 
 same-below : (n i : ℕ) (l k : List ℕ) → i < n → take n l ≡ take n k → getD l i 0 ≡ getD k i 0
 same-below n i l k less e = sym (getD-take n l i 0 less) ∙ ap (λ (x : List ℕ). getD x i 0) e ∙ getD-take n k i 0 less
@@ -116,7 +116,7 @@ module _ {index words marks marks₁ words₁ marks₂ words₂ words₃ words�
   row = numbersOf words₂ marks₂ channels
 
   row-long : length row ≡ channels
-  row-long = firsts-length (λ c. getD marks₂ (channelAt words₂ c) 0) channels
+  row-long = row-length (λ c. getD marks₂ (channelAt words₂ c) 0) channels
 
   parts : words₄ ≡ (kept ∷ row) ++ drop (1 + channels) words₂
   parts = pu ∙ ap (λ (x : List ℕ). set x 0 kept) rn ∙ header-set words₂ row kept channels row-long (omega (arith, wide₂, room, few))
@@ -149,7 +149,7 @@ module _ {index words marks marks₁ words₁ marks₂ words₂ words₃ words�
 
   module _ (cells : ℕ) (h : List Cell) (u : Unslid index words channels used cells h) (none : marks ≡ replicate used 0) where
     abbrev s : State
-    s = record { heap = h; roots = firsts (channelAt words) channels }
+    s = record { heap = h; roots = rowOf (channelAt words) channels }
 
     marking : Marking index words used marks h
     marking = record { text = u .text; file = u .file; indexed = u .indexed; holds = u .holds; writable = u .writable; each = ap length none ∙ length-replicate used 0 }
@@ -172,8 +172,8 @@ module _ {index words marks marks₁ words₁ marks₂ words₂ words₃ words�
     roots-are : row ≡ slide s .roots
     unfolding slide
     roots-are =
-        firsts-same (λ c. getD marks₂ (channelAt words₂ c) 0) (λ c. getD marks₂ (channelAt words c) 0) channels (λ c less. ap (λ l. getD marks₂ l 0) (same-below headerWords (1 + c) words₂ words (omega (arith, few)) header₂))
-        ∙ firsts-mapped (λ l. getD marks₂ l 0) (channelAt words) channels
+        row-same (λ c. getD marks₂ (channelAt words₂ c) 0) (λ c. getD marks₂ (channelAt words c) 0) channels (λ c less. ap (λ l. getD marks₂ l 0) (same-below headerWords (1 + c) words₂ words (omega (arith, few)) header₂))
+        ∙ row-mapped (λ l. getD marks₂ l 0) (channelAt words) channels
         ∙ map-same (s .roots) (all-both (λ l less r. slid .numbers l (omega (arith, less, u .holds .count)) r) (u .linked .roots) (reached-closed s (u .linked .lower) .roots))
 
     channels-are : take channelsMost (drop 1 words₄) ≡ padded channelsMost (slide s .roots)

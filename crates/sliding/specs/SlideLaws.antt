@@ -12,8 +12,8 @@ use Rattle.theory.specs.Padding.{padded-length, filled-up}
 use Rattle.theory.specs.Places.{below-or-not}
 use Rattle.index.specs.Sections.{typesOf}
 use Rattle.index.specs.Padded.{padded-none, padded-next}
-use Rattle.state_words.specs.Words.{tagAt, valueAt, fieldAt, firsts, fieldCount}
-use Rattle.state_words.specs.RowLaws.{firsts-length}
+use Rattle.state_words.specs.Words.{tagAt, valueAt, fieldAt, rowOf, fieldCount}
+use Rattle.state_words.specs.RowLaws.{row-length}
 use Rattle.sliding.specs.Sliding.{Filled, movedWords, Moved, moves-down}
 
 -- ---- lists that agree from a place on
@@ -29,7 +29,7 @@ same-from m i l k le e =
 
 -- ---- a row of zeros filled with the numbers of fields
 pub filled-start : (f : ℕ → ℕ) (row : List ℕ) → Filled f 0 row row
-unfolding firsts
+unfolding rowOf
 filled-start f row = record { long = refl; is = λ e. e ∙ sym (padded-none fieldsMost) }
 
 padded-set-out : (n : ℕ) (ls : List ℕ) (v : ℕ) → n ≤ length ls → set (padded n ls) (length ls) v ≡ padded n (ls ++ (v ∷ []))
@@ -42,10 +42,10 @@ next-padded : (n : ℕ) (ls : List ℕ) (v : ℕ) → set (padded n ls) (length 
 next-padded n ls v = below-or-not (length ls) n (padded-next n ls v) (padded-set-out n ls v)
 
 pub filled-on : (f : ℕ → ℕ) {j x : ℕ} {row₀ row row′ : List ℕ} → Filled f j row₀ row → x ≡ f j → row′ ≡ set row j x → Filled f (j + 1) row₀ row′
-unfolding firsts
+unfolding rowOf
 filled-on f {j} {x} {row₀} {row} {row′} v q e = record {
   long = ap length e ∙ length-set row j x ∙ v .long;
-  is = λ z. e ∙ rw (v .is z, q) (rw add-one (ap (λ i. set (padded fieldsMost (firsts f j)) i (f j)) (sym (firsts-length f j)) ∙ next-padded fieldsMost (firsts f j) (f j)));
+  is = λ z. e ∙ rw (v .is z, q) (rw add-one (ap (λ i. set (padded fieldsMost (rowOf f j)) i (f j)) (sym (row-length f j)) ∙ next-padded fieldsMost (rowOf f j) (f j)));
 }
 
 pub filled-end : (f : ℕ → ℕ) {j n : ℕ} {row₀ row : List ℕ} → j ≤ n → n ≤ j → Filled f j row₀ row → Filled f n row₀ row
@@ -56,11 +56,11 @@ padded-again : (row : List ℕ) → length row ≡ fieldsMost → padded fieldsM
 unfolding allZero
 padded-again row long = filled-up fieldsMost fieldsMost row long (ap allZero (drop-of-length-le row {i = fieldsMost} (omega arith)))
 
-pub move-written : (words marks : List ℕ) (cell to n : ℕ) {words′ fields : List ℕ} {tag value : ℕ} → fields ≡ padded fieldsMost (firsts (λ j. getD marks (fieldAt words cell j) 0) n) → tag ≡ tagAt words cell → value ≡ valueAt words cell →
+pub move-written : (words marks : List ℕ) (cell to n : ℕ) {words′ fields : List ℕ} {tag value : ℕ} → fields ≡ padded fieldsMost (rowOf (λ j. getD marks (fieldAt words cell j) 0) n) → tag ≡ tagAt words cell → value ≡ valueAt words cell →
     words′ ≡ sets words (stateLength to) (tag ∷ value ∷ padded fieldsMost (take fieldsMost fields)) → words′ ≡ sets words (stateLength to) (movedWords words marks cell n)
 move-written words marks cell to n {words′} {fields} {tag} {value} f p q e =
-    let row : List ℕ = padded fieldsMost (firsts (λ j. getD marks (fieldAt words cell j) 0) n) in
-    let whole : padded fieldsMost (take fieldsMost row) ≡ row = padded-again row (padded-length fieldsMost (firsts (λ j. getD marks (fieldAt words cell j) 0) n)) in
+    let row : List ℕ = padded fieldsMost (rowOf (λ j. getD marks (fieldAt words cell j) 0) n) in
+    let whole : padded fieldsMost (take fieldsMost row) ≡ row = padded-again row (padded-length fieldsMost (rowOf (λ j. getD marks (fieldAt words cell j) 0) n)) in
     e ∙ rw (p, q, f, whole)
 
 pub pass-moved : {index words marks words′ marks′ : List ℕ} {cell next tag n : ℕ} → ((getD marks cell 0 ≡ 0) → ⊥) → tag ≡ tagAt words cell → n ≡ fieldCount (typesOf index) tag →

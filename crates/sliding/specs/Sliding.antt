@@ -18,18 +18,18 @@ use Rattle.theory.specs.Reaches.{Reached, NamesLower, Linked}
 use Rattle.theory.specs.Slides.{newNumber, moved}
 use Rattle.index.specs.Sections.{typesOf}
 use Rattle.index.specs.Indexed.{Indexed}
-use Rattle.state_words.specs.Words.{channelAt, tagAt, valueAt, fieldAt, firsts, fieldCount}
+use Rattle.state_words.specs.Words.{channelAt, tagAt, valueAt, fieldAt, rowOf, fieldCount}
 use Rattle.state_words.specs.Holds.{Holds}
 use Rattle.marking.specs.Marks.{Marks, Marking}
 
 -- a row of zeros filled with the first numbers that a function gives
 pub record Filled (f : ℕ → ℕ) (j : ℕ) (row₀ row : List ℕ) : Type 0 where
   pub long : length row ≡ length row₀
-  pub is : row₀ ≡ replicate fieldsMost 0 → row ≡ padded fieldsMost (firsts f j)
+  pub is : row₀ ≡ replicate fieldsMost 0 → row ≡ padded fieldsMost (rowOf f j)
 
 -- the words of a cell of n fields as it moves: marks are the new numbers
 abbrev pub movedWords : List ℕ → List ℕ → ℕ → ℕ → List ℕ
-movedWords words marks cell n = tagAt words cell ∷ valueAt words cell ∷ padded fieldsMost (firsts (λ j. getD marks (fieldAt words cell j) 0) n)
+movedWords words marks cell n = tagAt words cell ∷ valueAt words cell ∷ padded fieldsMost (rowOf (λ j. getD marks (fieldAt words cell j) 0) n)
 
 -- a cell passed
 pub data Moved (index words marks : List ℕ) (cell next r : ℕ) (words′ marks′ : List ℕ) : Type 0 where
@@ -60,7 +60,7 @@ pub record Unslid (index words : List ℕ) (channels used cells : ℕ) (h : List
   pub indexed : Indexed text index file
   pub holds : Holds words used h
   pub writable : All (Writable file) h
-  pub linked : Linked (record { heap = h; roots = firsts (channelAt words) channels })
+  pub linked : Linked (record { heap = h; roots = rowOf (channelAt words) channels })
   pub room : used ≤ cells
   pub lent : stateLength cells ≤ length words
   pub unused : allZero (drop channels (take channelsMost (drop 1 words))) ≡ true
@@ -69,8 +69,8 @@ pub record Unslid (index words : List ℕ) (channels used cells : ℕ) (h : List
 -- the words are those of the state slid; nothing is left of the marks
 pub record KeepsReached (index : List ℕ) (channels used : ℕ) (words marks words′ marks′ : List ℕ) : Type 0 where
   pub none : marks′ ≡ replicate (length marks) 0
-  pub says : (cells : ℕ) (h : List Cell) → Unslid index words channels used cells h → marks ≡ replicate used 0 → words′ ≡ written cells (slide (record { heap = h; roots = firsts (channelAt words) channels })) words
+  pub says : (cells : ℕ) (h : List Cell) → Unslid index words channels used cells h → marks ≡ replicate used 0 → words′ ≡ written cells (slide (record { heap = h; roots = rowOf (channelAt words) channels })) words
 
 pub record Collects (index : List ℕ) (channels used : ℕ) (words scratch words′ scratch′ : List ℕ) : Type 0 where
   pub none : scratch ≡ replicate (length scratch) 0 → scratch′ ≡ scratch
-  pub says : (cells : ℕ) (h : List Cell) → Unslid index words channels used cells h → scratch ≡ replicate (length scratch) 0 → words′ ≡ written cells (slide (record { heap = h; roots = firsts (channelAt words) channels })) words
+  pub says : (cells : ℕ) (h : List Cell) → Unslid index words channels used cells h → scratch ≡ replicate (length scratch) 0 → words′ ≡ written cells (slide (record { heap = h; roots = rowOf (channelAt words) channels })) words

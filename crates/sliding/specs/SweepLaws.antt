@@ -21,7 +21,7 @@ use Rattle.theory.specs.Ranks.{membersBelow, member-next, no-member-next, rank-
 use Rattle.theory.specs.Reaches.{Reached, NamesLower}
 use Rattle.theory.specs.Slides.{newNumbers, newNumber, moved, new-number, reached-fields}
 use Rattle.index.specs.Sections.{typesOf}
-use Rattle.state_words.specs.Words.{tagAt, valueAt, fieldAt, firsts, fieldCount}
+use Rattle.state_words.specs.Words.{tagAt, valueAt, fieldAt, rowOf, fieldCount}
 use Rattle.state_words.specs.Holds.{Written}
 use Rattle.state_words.specs.HoldLaws.{tag-held, value-held, written-long, written-below, written-above, holds-pushed}
 use Rattle.state_words.specs.ReadLaws.{fields-held}
@@ -36,10 +36,10 @@ unfolding renumberCell wordsOf cellTag cellValue fieldsIn
 renumbered-words ns (leaf x) = refl
 renumbered-words ns (con t c k ls) = refl
 
-pub firsts-mapped : (g f : ℕ → ℕ) (n : ℕ) → firsts (λ j. g (f j)) n ≡ map g (firsts f n)
-unfolding firsts
-firsts-mapped g f zero = refl
-firsts-mapped g f (suc n) = rw (firsts-mapped g f n) (sym (map-append g (firsts f n) (f n ∷ [])))
+pub row-mapped : (g f : ℕ → ℕ) (n : ℕ) → rowOf (λ j. g (f j)) n ≡ map g (rowOf f n)
+unfolding rowOf
+row-mapped g f zero = refl
+row-mapped g f (suc n) = rw (row-mapped g f n) (sym (map-append g (rowOf f n) (f n ∷ [])))
 
 -- ---- passing the cells of a state, of which those before i are passed
 module _ {index words₀ marks₀ words marks : List ℕ} {used i next : ℕ} (v : Sweeps index words₀ marks₀ used i next words marks) (less : i < used)
@@ -72,11 +72,11 @@ module _ {index words₀ marks₀ words marks : List ℕ} {used i next : ℕ} (v
       let value : valueAt words i ≡ valueAt words₀ i = same 1 in
       let field : (j : ℕ) → fieldAt words i j ≡ fieldAt words₀ i j = λ j. same-from (stateLength i) (stateLength i + 2 + j) words words₀ (omega arith) (v .high) in
       let n = fieldCount (typesOf index) (tagAt words₀ i) in
-      let fields : firsts (fieldAt words₀ i) n ≡ fieldsIn here = fields-held (g .indexed) (g .holds) (g .writable) i less in
-      let old : firsts (λ j. getD marks (fieldAt words i j) 0) n ≡ firsts (λ j. getD marks (fieldAt words₀ i j) 0) n = ap (λ (f : ℕ → ℕ). firsts (λ j. getD marks (f j) 0) n) (λ k j. field j k) in
+      let fields : rowOf (fieldAt words₀ i) n ≡ fieldsIn here = fields-held (g .indexed) (g .holds) (g .writable) i less in
+      let old : rowOf (λ j. getD marks (fieldAt words i j) 0) n ≡ rowOf (λ j. getD marks (fieldAt words₀ i j) 0) n = ap (λ (f : ℕ → ℕ). rowOf (λ j. getD marks (f j) 0) n) (λ k j. field j k) in
       let numbers : map (λ l. getD marks l 0) (fieldsIn here) ≡ map (newNumber s) (fieldsIn here) =
       map-same (fieldsIn here) (all-map (λ l q. so-far .numbers l (q .0) (q .1)) (reached-fields s lower i (look-at (s .heap) i (leaf (kbool false)) inside) r)) in
-      let row : firsts (λ j. getD marks (fieldAt words i j) 0) n ≡ map (newNumber s) (fieldsIn here) = old ∙ firsts-mapped (λ l. getD marks l 0) (fieldAt words₀ i) n ∙ ap (map (λ l. getD marks l 0)) fields ∙ numbers in
+      let row : rowOf (λ j. getD marks (fieldAt words i j) 0) n ≡ map (newNumber s) (fieldsIn here) = old ∙ row-mapped (λ l. getD marks l 0) (fieldAt words₀ i) n ∙ ap (map (λ l. getD marks l 0)) fields ∙ numbers in
       rw (tag, value, row, tag-held (g .holds) i less, value-held (g .holds) i less) (sym (renumbered-words (newNumbers s) here))
 
   moved-down : {words′ : List ℕ} → ((getD marks i 0 ≡ 0) → ⊥) → Written words next (movedWords words marks i (fieldCount (typesOf index) (tagAt words i))) words′ → Slid s (i + 1) (next + 1) words′ (set marks i next)
@@ -122,7 +122,7 @@ sweep-on {index} {words₀} {marks₀} {words} {marks} {words′} {marks′} {us
 })
 sweep-on {index} {words₀} {marks₀} {words} {marks} {words′} {marks′} {used} {i} {next} room less v (moves-down z q e f) =
     let row : List ℕ = movedWords words marks i (fieldCount (typesOf index) (tagAt words i)) in
-    let wide : length row ≡ cellWords = omega (arith, padded-length fieldsMost (firsts (λ j. getD marks (fieldAt words i j) 0) (fieldCount (typesOf index) (tagAt words i)))) in
+    let wide : length row ≡ cellWords = omega (arith, padded-length fieldsMost (rowOf (λ j. getD marks (fieldAt words i j) 0) (fieldCount (typesOf index) (tagAt words i)))) in
     let w : Written words next row words′ = record { wide = wide; room = omega (arith, v .low, v .wide); is = e } in
     rw (q, f) (record {
       low = omega (arith, v .low);

@@ -7,7 +7,7 @@ ghost use lib.ListN.{length, getD, set};
 ghost use lib.Seq.{sets};
 ghost use Rattle.language.specs.Limits.{fieldsMost, channelsMost};
 ghost use Rattle.language.specs.Layout.{padded, stateLength};
-ghost use Rattle.state_words.specs.Words.{channelAt, tagAt, valueAt, fieldAt, firsts};
+ghost use Rattle.state_words.specs.Words.{channelAt, tagAt, valueAt, fieldAt, rowOf};
 ghost use Rattle.sliding.specs.Sliding.{Filled, Moved, Sweeps, KeepsReached, Collects};
 use index::INDEX_WORDS;
 use index::clear;
@@ -55,7 +55,7 @@ fn new_fields(state: &[u32], marks: &[u32], cell: u32, n: u32, fields: &mut [u32
 // Writes a cell, its first n fields renumbered, in the place of another.
 fn move_cell(state: &mut [u32], marks: &[u32], cell: u32, to: u32, n: u32)
     requires { ⌜ stateLength (to + 1) ≤ length (now state) ⌝ }
-    ensures { λ _. ⌜ now (state .exit) ≡ sets (now (state .entry)) (stateLength to) (tagAt (now (state .entry)) cell ∷ valueAt (now (state .entry)) cell ∷ padded fieldsMost (firsts (λ j. getD (now (marks .entry)) (fieldAt (now (state .entry)) cell j) 0) n)) ⌝ }
+    ensures { λ _. ⌜ now (state .exit) ≡ sets (now (state .entry)) (stateLength to) (tagAt (now (state .entry)) cell ∷ valueAt (now (state .entry)) cell ∷ padded fieldsMost (rowOf (λ j. getD (now (marks .entry)) (fieldAt (now (state .entry)) cell j) 0) n)) ⌝ }
 {
     let mut fields: [u32; FIELDS_MOST] = [0; FIELDS_MOST];
     new_fields(state, marks, cell, n, &mut fields);
@@ -102,7 +102,7 @@ fn sweep(index: &[u32; INDEX_WORDS], state: &mut [u32], marks: &mut [u32], used:
 
 // Gives the first n channels the new numbers of their cells.
 fn renumber_channels(state: &mut [u32], marks: &[u32], n: u32)
-    ensures { λ _. ⌜ now (state .exit) ≡ sets (now (state .entry)) 1 (firsts (λ c. getD (now (marks .entry)) (channelAt (now (state .entry)) c) 0) n) ⌝ }
+    ensures { λ _. ⌜ now (state .exit) ≡ sets (now (state .entry)) 1 (rowOf (λ c. getD (now (marks .entry)) (channelAt (now (state .entry)) c) 0) n) ⌝ }
 {
     let mut c: u32 = 0;
     while c < n {

@@ -27,8 +27,8 @@ use Rattle.text.specs.Lines.{isSome}
 use Rattle.index.specs.declared.Counts.{Counts}
 use Rattle.index.specs.Sections.{countsIn, channelsOf}
 use Rattle.index.specs.Indexed.{Indexed, declaredAt}
-use Rattle.state_words.specs.Words.{usedIn, channelAt, firsts}
-use Rattle.state_words.specs.RowLaws.{firsts-length, firsts-at, firsts-taken, zeros-taken}
+use Rattle.state_words.specs.Words.{usedIn, channelAt, rowOf}
+use Rattle.state_words.specs.RowLaws.{row-length, row-at, row-taken, zeros-taken}
 use Rattle.state_words.specs.Holds.{Holds}
 use Rattle.marking.specs.Marks.{Marks, MarksReached}
 use Rattle.marking.specs.MarkLaws.{not-marked, marked, unmarked, has-mark}
@@ -78,21 +78,21 @@ module _ {text index : List ℕ} {P : File} (x : Indexed text index P) (c : ℕ)
 -- ---- the channels one after the other
 pub record ChannelsFrom (index words : List ℕ) (channels used c : ℕ) : Type 0 where
   pub says : (text : List ℕ) (P : File) → Indexed text index P → channels ≡ length (declaredTypes P) → (h : List Cell) → Holds words used h → All (Writable P) h →
-      rootsRight h (firsts (channelAt words) channels) (declaredTypes P) ≡ rootsRight h (drop c (firsts (channelAt words) channels)) (drop c (declaredTypes P))
+      rootsRight h (rowOf (channelAt words) channels) (declaredTypes P) ≡ rootsRight h (drop c (rowOf (channelAt words) channels)) (drop c (declaredTypes P))
 
 pub channels-start : (index words : List ℕ) (channels used : ℕ) → ChannelsFrom index words channels used 0
 channels-start index words channels used = record { says = λ text P x count h v all. refl }
 
 module _ {index words : List ℕ} {channels used c l word : ℕ} {b : Bool} (k : ChannelsFrom index words channels used c) (less : c < channels) (p : l ≡ channelAt words c) (q : word ≡ declaredAt (channelsOf index) c) (j : LocationJudged words used l word b) where
   next-channel : (text : List ℕ) (P : File) → Indexed text index P → channels ≡ length (declaredTypes P) → (h : List Cell) → Holds words used h → All (Writable P) h →
-      rootsRight h (firsts (channelAt words) channels) (declaredTypes P) ≡ both b (rootsRight h (drop (c + 1) (firsts (channelAt words) channels)) (drop (c + 1) (declaredTypes P)))
+      rootsRight h (rowOf (channelAt words) channels) (declaredTypes P) ≡ both b (rootsRight h (drop (c + 1) (rowOf (channelAt words) channels)) (drop (c + 1) (declaredTypes P)))
   unfolding rootsRight
   next-channel text P x count h v all =
-      let roots = firsts (channelAt words) channels in
-      let inside : c < length roots = omega (arith, firsts-length (channelAt words) channels) in
+      let roots = rowOf (channelAt words) channels in
+      let inside : c < length roots = omega (arith, row-length (channelAt words) channels) in
       let type = getD (declaredTypes P) c tbool in
       let fits : b ≡ locationFits h (channelAt words c) type = j .says P h v all type (all-getD (types-declared (x .within)) c tbool (omega arith)) (q ∙ channel-declared x c (omega arith)) ∙ ap (λ i. locationFits h i type) p in
-      k .says text P x count h v all ∙ rw (add-one, drop-cons roots c 0 inside, drop-cons (declaredTypes P) c tbool (omega arith), firsts-at (channelAt words) channels c less, fits)
+      k .says text P x count h v all ∙ rw (add-one, drop-cons roots c 0 inside, drop-cons (declaredTypes P) c tbool (omega arith), row-at (channelAt words) channels c less, fits)
 
   pub channels-on : b ≡ true → ChannelsFrom index words channels used (c + 1)
   unfolding both
@@ -106,8 +106,8 @@ pub channels-end : {index words : List ℕ} {channels used c : ℕ} → c ≤ ch
 unfolding rootsRight
 channels-end {index} {words} {channels} {used} {c} low high k = record {
   says = λ text P x count h v all.
-      let roots = firsts (channelAt words) channels in
-      let all-roots : drop c roots ≡ [] = (let size : c ≡ length roots = omega (arith, firsts-length (channelAt words) channels) in ap (λ i. drop i roots) size ∙ drop-length roots) in
+      let roots = rowOf (channelAt words) channels in
+      let all-roots : drop c roots ≡ [] = (let size : c ≡ length roots = omega (arith, row-length (channelAt words) channels) in ap (λ i. drop i roots) size ∙ drop-length roots) in
       let all-types : drop c (declaredTypes P) ≡ [] = (let size : c ≡ length (declaredTypes P) = omega arith in ap (λ i. drop i (declaredTypes P)) size ∙ drop-length (declaredTypes P)) in
       sym (k .says text P x count h v all ∙ rw (all-roots, all-types));
 }
@@ -184,8 +184,8 @@ module _ {index words marks : List ℕ} {types channels used : ℕ} {b : Bool} (
       none = λ z. g .none ∙ sym z;
       says = λ text P x count all room z. some-of (heapTo P words used) (sym (j .says text P x count room) ∙ e) _ (λ h is.
           let w = heap-below x words used room is in
-          let there : r ≡ allReached (reached (stateOf h (firsts (channelAt words) channels))) (length h) =
-          g .says h (record { text = text; file = P; indexed = x; holds = w .holds; writable = w .writable; each = zeros-same z }) z ∙ ap (allReached (reached (stateOf h (firsts (channelAt words) channels)))) (w .holds .count) in
+          let there : r ≡ allReached (reached (stateOf h (rowOf (channelAt words) channels))) (length h) =
+          g .says h (record { text = text; file = P; indexed = x; holds = w .holds; writable = w .writable; each = zeros-same z }) z ∙ ap (allReached (reached (stateOf h (rowOf (channelAt words) channels)))) (w .holds .count) in
           there ∙ rw (is, ← (k .says text P x all h (w .holds) (w .writable)), q));
     }
 
@@ -256,7 +256,7 @@ module _ (index words : List ℕ) (cells : ℕ) (scratch : List ℕ) where
           says = λ text P x z.
               let count = counted-channels x e in
               let room : stateLength used ≤ length words = omega (arith, l .room q) in
-              let roots : firsts (channelAt words) (n .inputs + n .nodes) ≡ take (length (declaredTypes P)) (drop 1 words) = firsts-taken words 1 (n .inputs + n .nodes) (omega (arith, count, channels-few (x .within))) ∙ ap (λ k. take k (drop 1 words)) count in
+              let roots : rowOf (channelAt words) (n .inputs + n .nodes) ≡ take (length (declaredTypes P)) (drop 1 words) = row-taken words 1 (n .inputs + n .nodes) (omega (arith, count, channels-few (x .within))) ∙ ap (λ k. take k (drop 1 words)) count in
               let types : n .types ≡ length (P .types) = rw e (sym (x .counted .typeCount)) in
               g .says text P x types count room (start z)
               ∙ ap (λ y. heapRight P y (heapTo P words used)) roots ∙ ap (λ k. heapRight P (take (length (declaredTypes P)) (drop 1 words)) (heapTo P words k)) u

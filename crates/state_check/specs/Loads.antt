@@ -16,7 +16,7 @@ use Rattle.language.specs.Layout.{stateLength, allZero, rootsRight, allReached,
 use Rattle.theory.specs.CellWords.{Writable}
 use Rattle.text.specs.Lines.{isSome}
 use Rattle.index.specs.Indexed.{Indexed}
-use Rattle.state_words.specs.Words.{channelAt, firsts}
+use Rattle.state_words.specs.Words.{channelAt, rowOf}
 use Rattle.state_words.specs.Holds.{Holds}
 use Rattle.marking.specs.Marks.{Marks, Marking}
 use Rattle.cell_check.specs.Judged.{heapTo}
@@ -35,14 +35,14 @@ laidOut words channels used cells = both (leb used cells) (both (allZero (drop c
 
 -- ---- promises
 pub record ChannelsJudged (index words : List ℕ) (channels used : ℕ) (r : Bool) : Type 0 where
-  pub says : (text : List ℕ) (P : File) → Indexed text index P → channels ≡ length (declaredTypes P) → (h : List Cell) → Holds words used h → All (Writable P) h → r ≡ rootsRight h (firsts (channelAt words) channels) (declaredTypes P)
+  pub says : (text : List ℕ) (P : File) → Indexed text index P → channels ≡ length (declaredTypes P) → (h : List Cell) → Holds words used h → All (Writable P) h → r ≡ rootsRight h (rowOf (channelAt words) channels) (declaredTypes P)
 
 pub record MarksJudged (marks : List ℕ) (used : ℕ) (r : Bool) : Type 0 where
   pub says : (R : List ℕ) → Marks marks R → length marks ≡ used → r ≡ allReached R used
 
 pub record ReachedJudged (index words : List ℕ) (channels used : ℕ) (marks : List ℕ) (r : Bool) (marks′ : List ℕ) : Type 0 where
   pub none : marks′ ≡ replicate (length marks) 0
-  pub says : (h : List Cell) → Marking index words used marks h → marks ≡ replicate used 0 → r ≡ allReached (reached (stateOf h (firsts (channelAt words) channels))) used
+  pub says : (h : List Cell) → Marking index words used marks h → marks ≡ replicate used 0 → r ≡ allReached (reached (stateOf h (rowOf (channelAt words) channels))) used
 
 pub record LaidJudged (words : List ℕ) (channels used cells : ℕ) (r : Bool) : Type 0 where
   pub room : r ≡ true → used ≤ cells
@@ -51,7 +51,7 @@ pub record LaidJudged (words : List ℕ) (channels used cells : ℕ) (r : Bool) 
 pub record RightJudged (index words : List ℕ) (types channels used : ℕ) (marks : List ℕ) (r : Bool) (marks′ : List ℕ) : Type 0 where
   pub none : marks ≡ replicate (length marks) 0 → marks′ ≡ marks
   pub says : (text : List ℕ) (P : File) → Indexed text index P → types ≡ length (P .types) → channels ≡ length (declaredTypes P) → stateLength used ≤ length words → marks ≡ replicate used 0 →
-      r ≡ heapRight P (firsts (channelAt words) channels) (heapTo P words used)
+      r ≡ heapRight P (rowOf (channelAt words) channels) (heapTo P words used)
 
 -- true exactly where the buffers are long enough and the definition gives a state
 pub record StateJudged (index words : List ℕ) (cells : ℕ) (scratch : List ℕ) (r : Bool) (scratch′ : List ℕ) : Type 0 where

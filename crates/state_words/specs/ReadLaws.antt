@@ -21,8 +21,8 @@ use Rattle.theory.specs.CellWords.{Writable, bool-writable, int-writable, con-w
 use Rattle.index.specs.Sections.{typesOf}
 use Rattle.index.specs.Tables.{constructorWords, typeWords}
 use Rattle.index.specs.Indexed.{Indexed}
-use Rattle.state_words.specs.Words.{tagAt, valueAt, fieldAt, firsts, fieldCount}
-use Rattle.state_words.specs.RowLaws.{firsts-are}
+use Rattle.state_words.specs.Words.{tagAt, valueAt, fieldAt, rowOf, fieldCount}
+use Rattle.state_words.specs.RowLaws.{row-are}
 use Rattle.state_words.specs.Holds.{Holds, Reads, ReadsConstructor, ReadsCount, ReadsField}
 use Rattle.state_words.specs.HoldLaws.{tag-held, value-held, field-held}
 
@@ -116,9 +116,9 @@ module _ {text index words : List ℕ} {P : File} {used : ℕ} {h : List Cell} (
   pub count-held : fieldCount (typesOf index) (tagAt words l) ≡ length (fieldsIn (cellAt h l))
   count-held = ap (fieldCount (typesOf index)) (tag-held v l less) ∙ count-told x writable-at
 
-  pub fields-held : firsts (fieldAt words l) (fieldCount (typesOf index) (tagAt words l)) ≡ fieldsIn (cellAt h l)
-  fields-held = ap (firsts (fieldAt words l)) count-held
-      ∙ firsts-are (fieldAt words l) (length (fieldsIn (cellAt h l))) (fieldsIn (cellAt h l)) (omega arith) (λ j few. field-held v l less j (omega (arith, few-fields writable-at))) ∙ take-length (fieldsIn (cellAt h l))
+  pub fields-held : rowOf (fieldAt words l) (fieldCount (typesOf index) (tagAt words l)) ≡ fieldsIn (cellAt h l)
+  fields-held = ap (rowOf (fieldAt words l)) count-held
+      ∙ row-are (fieldAt words l) (length (fieldsIn (cellAt h l))) (fieldsIn (cellAt h l)) (omega arith) (λ j few. field-held v l less j (omega (arith, few-fields writable-at))) ∙ take-length (fieldsIn (cellAt h l))
 
 -- ---- as the functions come by them; beyond the heap first
 beyond-heap : {words : List ℕ} {used : ℕ} {h : List Cell} → Holds words used h → (l : ℕ) → used ≤ l → cellAt h l ≡ leaf (kbool false)

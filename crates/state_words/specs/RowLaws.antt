@@ -12,7 +12,7 @@ use lib.Dec.{eqb}
 use Rattle.language.specs.Result.{both}
 use Rattle.language.specs.Layout.{allZero}
 use Rattle.theory.specs.Places.{below-or-last}
-use Rattle.state_words.specs.Words.{firsts}
+use Rattle.state_words.specs.Words.{rowOf}
 
 -- ---- words stored from a place on
 pub sets-append : (xs ys l : List ℕ) (i : ℕ) → sets l i (xs ++ ys) ≡ sets (sets l i xs) (i + length xs) ys
@@ -99,26 +99,26 @@ pub zero-end : {row : List ℕ} {i : ℕ} {r : Bool} → ZeroTo row i r → leng
 zero-end {row} {i} v le = v .is ∙ ap allZero (take-all i row le)
 
 -- ---- a row of words by their places
-pub firsts-are : (f : ℕ → ℕ) (n : ℕ) (ls : List ℕ) → n ≤ length ls → ((j : ℕ) → j < n → f j ≡ getD ls j 0) → firsts f n ≡ take n ls
-unfolding firsts
-firsts-are f zero ls le same = refl
-firsts-are f (suc n) ls le same = rw (firsts-are f n ls (omega arith) (λ j less. same j (omega arith)), same n (omega arith)) (sym (take-suc ls n 0 le))
+pub row-are : (f : ℕ → ℕ) (n : ℕ) (ls : List ℕ) → n ≤ length ls → ((j : ℕ) → j < n → f j ≡ getD ls j 0) → rowOf f n ≡ take n ls
+unfolding rowOf
+row-are f zero ls le same = refl
+row-are f (suc n) ls le same = rw (row-are f n ls (omega arith) (λ j less. same j (omega arith)), same n (omega arith)) (sym (take-suc ls n 0 le))
 
-pub firsts-length : (f : ℕ → ℕ) (n : ℕ) → length (firsts f n) ≡ n
-unfolding firsts
-firsts-length f zero = refl
-firsts-length f (suc n) = omega (arith, length-append (firsts f n) (f n ∷ []), firsts-length f n)
+pub row-length : (f : ℕ → ℕ) (n : ℕ) → length (rowOf f n) ≡ n
+unfolding rowOf
+row-length f zero = refl
+row-length f (suc n) = omega (arith, length-append (rowOf f n) (f n ∷ []), row-length f n)
 
 -- so many words from a place on
-pub firsts-taken : (words : List ℕ) (from n : ℕ) → from + n ≤ length words → firsts (λ j. getD words (from + j) 0) n ≡ take n (drop from words)
-firsts-taken words from n room = firsts-are (λ j. getD words (from + j) 0) n (drop from words) (omega (arith, length-drop from words)) (λ j less. sym (getD-drop from words j 0))
+pub row-taken : (words : List ℕ) (from n : ℕ) → from + n ≤ length words → rowOf (λ j. getD words (from + j) 0) n ≡ take n (drop from words)
+row-taken words from n room = row-are (λ j. getD words (from + j) 0) n (drop from words) (omega (arith, length-drop from words)) (λ j less. sym (getD-drop from words j 0))
 
-pub firsts-at : (f : ℕ → ℕ) (n j : ℕ) → j < n → getD (firsts f n) j 0 ≡ f j
-unfolding firsts
-firsts-at f zero j less = absurd (omega arith)
-firsts-at f (suc n) j less = below-or-last j n less
-    (λ below. List·getD-append (firsts f n) (f n ∷ []) 0 j (omega (arith, firsts-length f n)) ∙ firsts-at f n j below)
-    (λ last. rw last (getD-at (firsts f n) (f n) [] 0 n (firsts-length f n)))
+pub row-at : (f : ℕ → ℕ) (n j : ℕ) → j < n → getD (rowOf f n) j 0 ≡ f j
+unfolding rowOf
+row-at f zero j less = absurd (omega arith)
+row-at f (suc n) j less = below-or-last j n less
+    (λ below. List·getD-append (rowOf f n) (f n ∷ []) 0 j (omega (arith, row-length f n)) ∙ row-at f n j below)
+    (λ last. rw last (getD-at (rowOf f n) (f n) [] 0 n (row-length f n)))
 
-pub firsts-start : (f : ℕ → ℕ) (n m : ℕ) → n ≤ m → take n (firsts f m) ≡ firsts f n
-firsts-start f n m le = sym (firsts-are f n (firsts f m) (omega (arith, firsts-length f m)) (λ j less. sym (firsts-at f m j (omega arith))))
+pub row-start : (f : ℕ → ℕ) (n m : ℕ) → n ≤ m → take n (rowOf f m) ≡ rowOf f n
+row-start f n m le = sym (row-are f n (rowOf f m) (omega (arith, row-length f m)) (λ j less. sym (row-at f m j (omega arith))))

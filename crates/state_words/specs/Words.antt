@@ -26,9 +26,9 @@ abbrev pub fieldAt : List ℕ → ℕ → ℕ → ℕ
 fieldAt words l j = getD words (stateLength l + 2 + j) 0
 
 -- the first n numbers that a function gives: a row of words by their places
-unfoldable pub firsts : (ℕ → ℕ) → ℕ → List ℕ
-firsts f zero = []
-firsts f (suc n) = firsts f n ++ (f n ∷ [])
+unfoldable pub rowOf : (ℕ → ℕ) → ℕ → List ℕ
+rowOf f zero = []
+rowOf f (suc n) = rowOf f n ++ (f n ∷ [])
 
 -- the cells from one number up to another made zero
 abbrev pub cleared : List ℕ → ℕ → ℕ → List ℕ

@@ -1,14 +1,14 @@
 -- A channel at each turn.
 use Prim.Native.Nat.{_-_, _≤_}
 use native.Mathlib.Omega.{arith}
-use Rattle.state_words.specs.Words.{channelAt, firsts}
+use Rattle.state_words.specs.Words.{channelAt, rowOf}
 use Rattle.marking.specs.Marks.{Touched}
 use Rattle.marking.specs.MarkLaws.{touched-start, touched-on, touched-end}
 use Rattle.marking.proofs.mark_channels.Statement.{statement}
 use Rattle.marking.proofs.mark_channels.Tie as tie
 
 abbrev Inv-loop : tie.InvT-loop
-Inv-loop state marks₀ n c₀ marks c = (c ≤ n) × Touched (firsts (channelAt state) c) marks₀ marks
+Inv-loop state marks₀ n c₀ marks c = (c ≤ n) × Touched (rowOf (channelAt state) c) marks₀ marks
 
 abbrev μ-loop : tie.MeasureT-loop
 μ-loop state marks₀ n c₀ marks c = n - c

@@ -1,14 +1,14 @@
 -- A field at each turn.
 use Prim.Native.Nat.{_-_, _≤_}
 use native.Mathlib.Omega.{arith}
-use Rattle.state_words.specs.Words.{fieldAt, firsts}
+use Rattle.state_words.specs.Words.{fieldAt, rowOf}
 use Rattle.marking.specs.Marks.{Touched}
 use Rattle.marking.specs.MarkLaws.{touched-start, touched-on, touched-end}
 use Rattle.marking.proofs.mark_fields.Statement.{statement}
 use Rattle.marking.proofs.mark_fields.Tie as tie
 
 abbrev Inv-loop : tie.InvT-loop
-Inv-loop state marks₀ cell n j₀ marks j = (j ≤ n) × Touched (firsts (fieldAt state cell) j) marks₀ marks
+Inv-loop state marks₀ cell n j₀ marks j = (j ≤ n) × Touched (rowOf (fieldAt state cell) j) marks₀ marks
 
 abbrev μ-loop : tie.MeasureT-loop
 μ-loop state marks₀ cell n j₀ marks j = n - j
