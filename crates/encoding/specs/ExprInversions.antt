@@ -1,12 +1,13 @@
 -- Expressions by their first byte: the byte there is the code of the form that is spelled, and each form by its code.
-use Prim.Native.Nat.{ℕ, _+_, _≤_}
+use Prim.Native.Nat.{ℕ, _≤_}
 use mathlib.Core.List.{List, [], _∷_, _++_}
 use mathlib.Core.Path.{_≡_, refl, sym, ap, _∙_, subst, subst₂}
 use native.Mathlib.Omega.{arith}
-use lib.ListN.{length, length-append}
+use lib.ListN.{length}
 use Rattle.language.specs.Syntax.{Size, ResultType, Expr, ebool, eint, evar, enow, elast, elet, eif, eop, ecall, econ, ecase, eadj, efit, Exprs}
 use Rattle.language.specs.Format.{intBytes, sizeBytes, resultBytes, opCode, exprBytes, exprsBytes}
-use Rattle.encoding.specs.Spells.{byteAt, Spells, IsLeaf, spells-byte, spells-first, spells-next, SpellsTwo, SpellsThree, two-behind, three-behind}
+use Rattle.text.specs.Places.{past, byteAt, past-append}
+use Rattle.encoding.specs.Spells.{Spells, IsLeaf, spells-byte, spells-first, spells-next, SpellsTwo, SpellsThree, ends-behind, two-behind, three-behind}
 use Rattle.encoding.specs.Forms.{IsBool, IsInt, OfTwo, OfThree, OfList, IsOp, IsCase, IsAdj}
 use Rattle.encoding.specs.Forms.{FormCoded, bool-coded, int-coded, var-coded, now-coded, last-coded, let-coded, if-coded, op-coded, call-coded, con-coded, case-coded, adj-coded, fit-coded}
 use Rattle.encoding.specs.IntSpells.{int-four}
@@ -15,18 +16,18 @@ use Rattle.encoding.specs.IntSpells.{int-four}
 module _ {line : List ℕ} {at : ℕ} where
   int-spells : {n : ℕ} → Spells exprBytes line at (eint n) → IsInt line at (eint n)
   unfolding exprBytes intBytes
-  int-spells {n} s = let there : Spells intBytes line (at + 1) n = spells-next s (0x11 ∷ []) refl in record { value = n; is = refl; spelled = there; four = int-four there; long = refl }
+  int-spells {n} s = let there : Spells intBytes line (past line at 1) n = spells-next s (0x11 ∷ []) refl in record { value = n; is = refl; spelled = there; four = int-four there; long = refl }
 
   of-two : {a b : Expr} (make : Expr → Expr → Expr) (head : List ℕ) → exprBytes (make a b) ≡ head ++ (exprBytes a ++ exprBytes b) →
       Spells exprBytes line at (make a b) → OfTwo make (length head) line at (make a b)
   of-two {a} {b} make head e s =
-      let two : SpellsTwo exprBytes exprBytes line (at + length head) a b = two-behind head e s in
-      record { first = a; second = b; is = refl; spelled = two .spelled; next = two .next; long = omega (arith, ap length e, length-append head (exprBytes a ++ exprBytes b), two .long) }
+      let two : SpellsTwo exprBytes exprBytes line (past line at (length head)) a b = two-behind head e s in
+      record { first = a; second = b; is = refl; spelled = two .spelled; next = two .next; ends = ends-behind line at head (exprBytes a ++ exprBytes b) e ∙ two .ends }
 
   of-three : {a b d : Expr} (make : Expr → Expr → Expr → Expr) (head : List ℕ) → exprBytes (make a b d) ≡ head ++ (exprBytes a ++ (exprBytes b ++ exprBytes d)) →
       Spells exprBytes line at (make a b d) → OfThree make (length head) line at (make a b d)
   of-three {a} {b} {d} make head e s =
-      let three : SpellsThree exprBytes exprBytes exprBytes line (at + length head) a b d = three-behind head e s in
+      let three : SpellsThree exprBytes exprBytes exprBytes line (past line at (length head)) a b d = three-behind head e s in
       record {
         first = a;
         second = b;
@@ -35,29 +36,29 @@ module _ {line : List ℕ} {at : ℕ} where
         spelled = three .spelled;
         next = three .next;
         last = three .last;
-        long = omega (arith, ap length e, length-append head (exprBytes a ++ (exprBytes b ++ exprBytes d)), three .long);
+        ends = ends-behind line at head (exprBytes a ++ (exprBytes b ++ exprBytes d)) e ∙ three .ends;
       }
 
   of-list : {es : Exprs} (make : Exprs → Expr) (head : List ℕ) → exprBytes (make es) ≡ head ++ exprsBytes es → Spells exprBytes line at (make es) → OfList make (length head) line at (make es)
-  of-list {es} make head e s = record { list = es; is = refl; spelled = spells-next s head e; long = ap length e ∙ length-append head (exprsBytes es) }
+  of-list {es} make head e s = record { list = es; is = refl; spelled = spells-next s head e; ends = ends-behind line at head (exprsBytes es) e }
 
-  call-spells : {f : ℕ} {es : Exprs} → Spells exprBytes line at (ecall f es) → OfList (ecall (byteAt line (at + 1))) 2 line at (ecall f es)
+  call-spells : {f : ℕ} {es : Exprs} → Spells exprBytes line at (ecall f es) → OfList (ecall (byteAt line (past line at 1))) 2 line at (ecall f es)
   unfolding exprBytes
   call-spells {f} {es} s = subst (λ n. OfList (ecall n) 2 line at (ecall f es)) (sym (spells-byte s 1 (omega arith))) (of-list (ecall f) (0x18 ∷ f ∷ []) refl s)
 
-  con-spells : {t c : ℕ} {es : Exprs} → Spells exprBytes line at (econ t c es) → OfList (econ (byteAt line (at + 1)) (byteAt line (at + 2))) 3 line at (econ t c es)
+  con-spells : {t c : ℕ} {es : Exprs} → Spells exprBytes line at (econ t c es) → OfList (econ (byteAt line (past line at 1)) (byteAt line (past line at 2))) 3 line at (econ t c es)
   unfolding exprBytes
   con-spells {t} {c} {es} s =
       subst₂ (λ n m. OfList (econ n m) 3 line at (econ t c es)) (sym (spells-byte s 1 (omega arith))) (sym (spells-byte s 2 (omega arith))) (of-list (econ t c) (0x19 ∷ t ∷ c ∷ []) refl s)
 
-  fit-spells : {k : ℕ} {a b d : Expr} → Spells exprBytes line at (efit k a b d) → OfThree (efit (byteAt line (at + 1))) 2 line at (efit k a b d)
+  fit-spells : {k : ℕ} {a b d : Expr} → Spells exprBytes line at (efit k a b d) → OfThree (efit (byteAt line (past line at 1))) 2 line at (efit k a b d)
   unfolding exprBytes
   fit-spells {k} {a} {b} {d} s = subst (λ n. OfThree (efit n) 2 line at (efit k a b d)) (sym (spells-byte s 1 (omega arith))) (of-three (efit k) (0x1C ∷ k ∷ []) refl s)
 
   case-spells : {t : ℕ} {e : Expr} {r : ResultType} {bs : Exprs} → Spells exprBytes line at (ecase t e r bs) → IsCase line at (ecase t e r bs)
   unfolding exprBytes
   case-spells {t} {e} {r} {bs} s =
-      let three : SpellsThree exprBytes resultBytes exprsBytes line (at + 2) e r bs = three-behind (0x1A ∷ t ∷ []) refl s in
+      let three : SpellsThree exprBytes resultBytes exprsBytes line (past line at 2) e r bs = three-behind (0x1A ∷ t ∷ []) refl s in
       record {
         first = e;
         result = r;
@@ -66,14 +67,14 @@ module _ {line : List ℕ} {at : ℕ} where
         spelled = three .spelled;
         next = three .next;
         last = three .last;
-        long = omega (arith, three .long);
+        ends = past-append line at (0x1A ∷ t ∷ []) (exprBytes e ++ (resultBytes r ++ exprsBytes bs)) ∙ three .ends;
       }
 
   adj-spells : {k : Size} {e : Expr} → Spells exprBytes line at (eadj k e) → IsAdj line at (eadj k e)
   unfolding exprBytes
   adj-spells {k} {e} s =
-      let two : SpellsTwo sizeBytes exprBytes line (at + 1) k e = two-behind (0x1B ∷ []) refl s in
-      record { size = k; first = e; is = refl; spelled = two .spelled; next = two .next; long = omega (arith, two .long) }
+      let two : SpellsTwo sizeBytes exprBytes line (past line at 1) k e = two-behind (0x1B ∷ []) refl s in
+      record { size = k; first = e; is = refl; spelled = two .spelled; next = two .next; ends = past-append line at (0x1B ∷ []) (sizeBytes k ++ exprBytes e) ∙ two .ends }
 
   pub form-of-byte : {e : Expr} → Spells exprBytes line at e → FormCoded line at e (byteAt line at)
   unfolding exprBytes
@@ -99,13 +100,13 @@ module _ {line : List ℕ} {at : ℕ} {e : Expr} (s : Spells exprBytes line at e
   pub int-spelled : byteAt line at ≡ 0x11 → IsInt line at e
   int-spelled q = elim (rw q at (form-of-byte s)) [ int-coded i ↦ i ]
 
-  pub var-spelled : byteAt line at ≡ 0x12 → IsLeaf exprBytes 2 e (evar (byteAt line (at + 1)))
+  pub var-spelled : byteAt line at ≡ 0x12 → IsLeaf exprBytes 2 e (evar (byteAt line (past line at 1)))
   var-spelled q = elim (rw q at (form-of-byte s)) [ var-coded i ↦ i ]
 
-  pub now-spelled : byteAt line at ≡ 0x13 → IsLeaf exprBytes 2 e (enow (byteAt line (at + 1)))
+  pub now-spelled : byteAt line at ≡ 0x13 → IsLeaf exprBytes 2 e (enow (byteAt line (past line at 1)))
   now-spelled q = elim (rw q at (form-of-byte s)) [ now-coded i ↦ i ]
 
-  pub last-spelled : byteAt line at ≡ 0x14 → IsLeaf exprBytes 2 e (elast (byteAt line (at + 1)))
+  pub last-spelled : byteAt line at ≡ 0x14 → IsLeaf exprBytes 2 e (elast (byteAt line (past line at 1)))
   last-spelled q = elim (rw q at (form-of-byte s)) [ last-coded i ↦ i ]
 
   pub let-spelled : byteAt line at ≡ 0x15 → OfTwo elet 1 line at e
@@ -117,10 +118,10 @@ module _ {line : List ℕ} {at : ℕ} {e : Expr} (s : Spells exprBytes line at e
   pub op-spelled : byteAt line at ≡ 0x17 → IsOp line at e
   op-spelled q = elim (rw q at (form-of-byte s)) [ op-coded i ↦ i ]
 
-  pub call-spelled : byteAt line at ≡ 0x18 → OfList (ecall (byteAt line (at + 1))) 2 line at e
+  pub call-spelled : byteAt line at ≡ 0x18 → OfList (ecall (byteAt line (past line at 1))) 2 line at e
   call-spelled q = elim (rw q at (form-of-byte s)) [ call-coded i ↦ i ]
 
-  pub con-spelled : byteAt line at ≡ 0x19 → OfList (econ (byteAt line (at + 1)) (byteAt line (at + 2))) 3 line at e
+  pub con-spelled : byteAt line at ≡ 0x19 → OfList (econ (byteAt line (past line at 1)) (byteAt line (past line at 2))) 3 line at e
   con-spelled q = elim (rw q at (form-of-byte s)) [ con-coded i ↦ i ]
 
   pub case-spelled : byteAt line at ≡ 0x1A → IsCase line at e
@@ -129,7 +130,7 @@ module _ {line : List ℕ} {at : ℕ} {e : Expr} (s : Spells exprBytes line at e
   pub adj-spelled : byteAt line at ≡ 0x1B → IsAdj line at e
   adj-spelled q = elim (rw q at (form-of-byte s)) [ adj-coded i ↦ i ]
 
-  pub fit-spelled : byteAt line at ≡ 0x1C → OfThree (efit (byteAt line (at + 1))) 2 line at e
+  pub fit-spelled : byteAt line at ≡ 0x1C → OfThree (efit (byteAt line (past line at 1))) 2 line at e
   fit-spelled q = elim (rw q at (form-of-byte s)) [ fit-coded i ↦ i ]
 
   -- no other byte starts an expression

@@ -10,6 +10,7 @@ use Rattle.language.specs.Format.{exprBytes, exprsBytes}
 use Rattle.language.specs.Scope.{Scope}
 use Rattle.language.specs.Within.{WithinExprs, ws-nil, ws-cons, WithinBranches, wb-nil, wb-cons}
 use Rattle.theory.specs.Lists.{none-is-not-some}
+use Rattle.text.specs.Places.{past}
 use Rattle.encoding.specs.Spells.{Spells, IsLeaf, SpellsTwo, SpellsThree, two-here, three-here}
 
 unfoldable pub exprCount : Exprs → ℕ
@@ -39,8 +40,8 @@ pub record IsMore (line : List ℕ) (at : ℕ) (es : Exprs) : Type 0 where
   pub is : es ≡ econs first others
   pub fewer : exprCount es ≡ suc (exprCount others)
   pub spelled : Spells exprBytes line at first
-  pub next : Spells exprsBytes line (at + length (exprBytes first)) others
-  pub long : length (exprsBytes (econs first others)) ≡ length (exprBytes first) + length (exprsBytes others)
+  pub next : Spells exprsBytes line (past line at (length (exprBytes first))) others
+  pub ends : past line at (length (exprsBytes (econs first others))) ≡ past line (past line at (length (exprBytes first))) (length (exprsBytes others))
 
 pub first-of-exprs : {line : List ℕ} {at : ℕ} {e : Expr} {es : Exprs} → Spells exprsBytes line at (econs e es) → SpellsTwo exprBytes exprsBytes line at e es
 unfolding exprsBytes
@@ -51,7 +52,7 @@ unfolding exprCount exprsBytes
 more-spelled {es = enil} s more = absurd (omega arith)
 more-spelled {es = econs e es} s more =
     let two = first-of-exprs s in
-    record { first = e; others = es; is = refl; fewer = refl; spelled = two .spelled; next = two .next; long = two .long }
+    record { first = e; others = es; is = refl; fewer = refl; spelled = two .spelled; next = two .next; ends = two .ends }
 
 -- ---- the one at a number, the first so many before it and the others behind it
 unfoldable pub firstExprs : ℕ → Exprs → Exprs
@@ -66,9 +67,9 @@ otherExprs (suc i) (econs e es) = otherExprs i es
 
 pub record Among (line : List ℕ) (at : ℕ) (es : Exprs) (i : ℕ) (e : Expr) : Type 0 where
   pub before : Spells exprsBytes line at (firstExprs i es)
-  pub spelled : Spells exprBytes line (at + length (exprsBytes (firstExprs i es))) e
-  pub next : Spells exprsBytes line (at + length (exprsBytes (firstExprs i es)) + length (exprBytes e)) (otherExprs (suc i) es)
-  pub long : length (exprsBytes es) ≡ length (exprsBytes (firstExprs i es)) + length (exprBytes e) + length (exprsBytes (otherExprs (suc i) es))
+  pub spelled : Spells exprBytes line (past line at (length (exprsBytes (firstExprs i es)))) e
+  pub next : Spells exprsBytes line (past line (past line at (length (exprsBytes (firstExprs i es)))) (length (exprBytes e))) (otherExprs (suc i) es)
+  pub ends : past line at (length (exprsBytes es)) ≡ past line (past line (past line at (length (exprsBytes (firstExprs i es)))) (length (exprBytes e))) (length (exprsBytes (otherExprs (suc i) es)))
   pub countBefore : exprCount (firstExprs i es) ≡ i
   pub countBehind : suc (i + exprCount (otherExprs (suc i) es)) ≡ exprCount es
 
@@ -97,7 +98,7 @@ among-spelled {line} {at} {es} i {e} s p =
       before = three .spelled;
       spelled = three .next;
       next = three .last;
-      long = ap length (bytes-parted es i p) ∙ three .long;
+      ends = ap (λ (l : List ℕ). past line at (length l)) (bytes-parted es i p) ∙ three .ends;
       countBefore = count-before es i p;
       countBehind = count-behind es i p;
     }

@@ -1,5 +1,5 @@
 -- What is spelled at a place is read there, so within given limits a place spells one thing.
-use Prim.Native.Nat.{ℕ, _+_}
+use Prim.Native.Nat.{ℕ}
 use mathlib.Core.List.{List}
 use mathlib.Core.Path.{_≡_, refl, sym, ap, ap₂, _∙_}
 use lib.ListN.{length}
@@ -9,7 +9,7 @@ use Rattle.language.specs.Format.{fieldBytes, plainBytes, declaredBytes, sizeBy
 use Rattle.language.specs.Scope.{Scope}
 use Rattle.language.specs.Within.{WithinField, WithinPlain, WithinDeclared, WithinSize, WithinResult, WithinExpr, WithinExprs, ws-nil, ws-cons, WithinBranches, wb-nil, wb-cons}
 use Rattle.language.specs.Parser.{got, Parser}
-use Rattle.text.specs.Bytes.{bytesFrom}
+use Rattle.text.specs.Bytes.{bytesFrom, past}
 use Rattle.theory.specs.Exact.{Exact}
 use Rattle.theory.specs.ExactTypes.{field-exact, plain-exact, declared-exact, size-exact, result-exact}
 use Rattle.theory.specs.ExactExpr.{expr-exact}
@@ -17,7 +17,7 @@ use Rattle.encoding.specs.Spells.{Spells, rest-behind}
 use Rattle.encoding.specs.ExprLists.{first-of-exprs}
 
 module _ {A : Type 0} {p : Parser A} {bytes : A → List ℕ} {W : A → Type 0} (x : Exact p bytes W) {line : List ℕ} {at : ℕ} where
-  pub spelled-is-read : {a : A} → Spells bytes line at a → W a → p (bytesFrom line at) ≡ got a (bytesFrom line (at + length (bytes a)))
+  pub spelled-is-read : {a : A} → Spells bytes line at a → W a → p (bytesFrom line at) ≡ got a (bytesFrom line (past line at (length (bytes a))))
   spelled-is-read {a} s w = ap p (s .is) ∙ x .back a (s .rest) w ∙ ap (got a) (sym (rest-behind s))
 
   pub spelled-once : {a b : A} → Spells bytes line at a → Spells bytes line at b → W a → W b → a ≡ b
@@ -44,8 +44,8 @@ module _ {line : List ℕ} {at : ℕ} where
 
 -- ---- lists of expressions, one after the other
 -- where the first is the same, the others are spelled at the same place
-same-first : {line : List ℕ} (at : ℕ) {e f : Expr} {es fs : Exprs} → e ≡ f → Spells exprsBytes line (at + length (exprBytes e)) es →
-    (Spells exprsBytes line (at + length (exprBytes f)) es → es ≡ fs) → econs e es ≡ econs f fs
+same-first : {line : List ℕ} (at : ℕ) {e f : Expr} {es fs : Exprs} → e ≡ f → Spells exprsBytes line (past line at (length (exprBytes e))) es →
+    (Spells exprsBytes line (past line at (length (exprBytes f))) es → es ≡ fs) → econs e es ≡ econs f fs
 same-first at p s then = ap₂ econs p (then (rw p at s))
 
 module _ {n : ℕ} {S : Scope} where

@@ -3,7 +3,6 @@ use Prim.Native.Nat.{ℕ, _+_, _-_, _*_, _%_, _≤_, _<_}
 use mathlib.Core.List.{List, [], _∷_}
 use mathlib.Core.Path.{_≡_, refl, sym, ap, _∙_, subst}
 use native.Mathlib.Omega.{arith}
-use native.Mathlib.Nat.{le-refl}
 use native.Mathlib.Numerals.{add-one}
 use lib.ListN.{length, getD, drop, drop-of-length-le}
 use lib.Seq.{drop-cons}
@@ -18,8 +17,8 @@ use Rattle.text.specs.declared.Number.{Number}
 use Rattle.text.specs.declared.Number.the-variants.{Is, Refused}
 use Rattle.text.specs.declared.Step.{Step}
 use Rattle.text.specs.declared.Step.the-variants.{Next, Stop}
-use Rattle.text.specs.Bytes.{bytesFrom, forget, stepOf, moved, ReadsNumber, Passes, Below}
-use Rattle.text.specs.StepLaws.{ends-within, pass-moved, pass-here, number-moved, read-then-pass, read-stops-pass, pass-then-pass, pass-stops-pass, forget-then}
+use Rattle.text.specs.Bytes.{bytesFrom, forget, stepOf, ReadsNumber, Passes, Below}
+use Rattle.text.specs.StepLaws.{ends-within, moved-none, pass-moved, pass-here, number-moved, read-then-pass, read-stops-pass, pass-then-pass, pass-stops-pass, forget-then}
 use Rattle.expression_reader.specs.declared.Names.{Names}
 use Rattle.index.specs.Tables.{typeWords, constructorWords}
 use Rattle.index.specs.Sections.{typesOf}
@@ -44,7 +43,7 @@ module _ (line index : List ℕ) (c : Cursor) (s : Names) (levels : ℕ) where
 
     pub branches-none : n ≤ k → Follows line index c s (Next c) (λ S. branches (exprAt levels) S (drop k (getD (S .types) t [])))
     unfolding branches forget
-    branches-none le = record { says = λ S h here. rw (drop-of-length-le (getD (S .types) t []) {i = k} (omega (arith, count-is S h))) (pass-here (moved {c = c} (le-refl (c .at)) here) refl); on = λ here. moved {c = c} (le-refl (c .at)) here }
+    branches-none le = record { says = λ S h here. rw (drop-of-length-le (getD (S .types) t []) {i = k} (omega (arith, count-is S h))) (pass-here (moved-none here) refl); on = λ here. moved-none here }
 
     module _ (more : k < n) {i j : ℕ} (p : (i ≡ getD (typesOf index) (typeWords * t + 1 + constructorWords * k) 0 % byteRange) × (i < byteRange)) (o : (j ≡ getD (typesOf index) (typeWords * t + 2 + constructorWords * k) 0 % byteRange) × (j < byteRange)) {z : Names} (wide : z ≡ widerNames i j s) {x : Step} (u : Follows line index c z x (exprAt levels)) where
       branch-scope : (S : Scope) → Tells index s S → Tells index z (wider (length (getD (getD (S .types) t []) k [])) (owns (getD (getD (S .types) t []) k [])) S)

@@ -10,7 +10,7 @@ use Rattle.language.specs.Result.{both, choose}
 use Rattle.language.specs.Scope.{Scope}
 use Rattle.language.specs.Parser.{Parser}
 use Rattle.language.specs.ReadExpr.{Form, boolForm, forms}
-use Rattle.text.specs.Bytes.{bytesOf, bytesFrom, forget, stepOf, Moved, Passes, ReadsNumber}
+use Rattle.text.specs.Bytes.{bytesFrom, IsPlace, bytesLeft, forget, stepOf, Moved, Passes, ReadsNumber}
 use Rattle.text.specs.declared.Cursor.{Cursor}
 use Rattle.text.specs.declared.Found.{Found}
 use Rattle.text.specs.declared.Number.{Number}
@@ -36,19 +36,19 @@ pub record Tells (index : List ℕ) (s : Names) (S : Scope) : Type 0 where
   pub few : (f : ℕ) → f < s .functions → getD (S .arities) f 0 ≤ parametersMost
 
 pub record Follows {A : Type 0} (line index : List ℕ) (c : Cursor) (s : Names) (r : Step) (p : Scope → Parser A) : Type 0 where
-  pub says : (S : Scope) → Tells index s S → c .at ≤ length (bytesOf line) → Passes line (c .at) r (forget (p S (bytesFrom line (c .at))))
+  pub says : (S : Scope) → Tells index s S → IsPlace line (c .at) → Passes line (c .at) r (forget (p S (bytesFrom line (c .at))))
   -- whatever the index tells, the cursor does not go back, and stays within the line
-  pub on : c .at ≤ length (bytesOf line) → Moved (c .at) (bytesOf line) r
+  pub on : IsPlace line (c .at) → Moved line (c .at) r
 
 -- the same for a number, which is how many parts follow
 pub record Opens (line index : List ℕ) (c : Cursor) (s : Names) (r : Number) (p : Scope → Parser ℕ) : Type 0 where
-  pub says : (S : Scope) → Tells index s S → c .at ≤ length (bytesOf line) → ReadsNumber line (c .at) r (p S (bytesFrom line (c .at)))
-  pub on : c .at ≤ length (bytesOf line) → Moved (c .at) (bytesOf line) (stepOf r)
+  pub says : (S : Scope) → Tells index s S → IsPlace line (c .at) → ReadsNumber line (c .at) r (p S (bytesFrom line (c .at)))
+  pub on : IsPlace line (c .at) → Moved line (c .at) (stepOf r)
 
 -- the head of an expression: where there is one, the cursor has gone on and a level was left
 pub record Heads (line index : List ℕ) (c : Cursor) (s : Names) (r : Number) (levels : ℕ) : Type 0 where
-  pub says : (S : Scope) → Tells index s S → c .at ≤ length (bytesOf line) → ReadsNumber line (c .at) r (headAt levels S (bytesFrom line (c .at)))
-  pub further : {f : Found} → r ≡ Is f → (c .at < f .next .at) × (f .next .at ≤ length (bytesOf line))
+  pub says : (S : Scope) → Tells index s S → IsPlace line (c .at) → ReadsNumber line (c .at) r (headAt levels S (bytesFrom line (c .at)))
+  pub further : {f : Found} → r ≡ Is f → Moved line (c .at) (Next (f .next)) × (bytesLeft line (f .next .at) < bytesLeft line (c .at))
   pub level : {f : Found} → r ≡ Is f → 0 < levels
 
 -- what was passed, with so many parts behind it

@@ -5,7 +5,6 @@ use mathlib.Core.Bool.{Bool, true, false}
 use mathlib.Core.Option.{some}
 use mathlib.Core.Path.{_≡_, refl, sym, ap, _∙_}
 use native.Mathlib.Omega.{arith}
-use native.Mathlib.Nat.{le-refl}
 use lib.ListN.{length, getD, getElem? as look}
 use lib.Dec.{ltb}
 use borrow.Author.Tests.{ltb-true}
@@ -20,11 +19,11 @@ use Rattle.text.specs.declared.Number.{Number}
 use Rattle.text.specs.declared.Number.the-variants.{Is, Refused}
 use Rattle.text.specs.declared.Step.{Step}
 use Rattle.text.specs.declared.Step.the-variants.{Next, Stop}
-use Rattle.text.specs.Bytes.{bytesFrom, given, forget, stepOf, Moved, moved, stopped, ReadsNumber, Passes, Below}
+use Rattle.text.specs.Bytes.{bytesFrom, IsPlace, given, forget, stepOf, Moved, stopped, ReadsNumber, Passes, Below}
 use Rattle.text.specs.Codes.{codePlace}
 use Rattle.text.specs.CodeLaws.{code-then, code-stops, code-below}
 use Rattle.text.specs.ReadLaws.{read-then}
-use Rattle.text.specs.StepLaws.{number-got, number-moved, number-other, ends-within, moved-on, pass-got, pass-bad, pass-moved, pass-none, pass-here, read-then-read, read-stops-read, pass-then-pass, pass-stops-pass, forget-then, read-ends-pass}
+use Rattle.text.specs.StepLaws.{number-got, number-moved, number-other, ends-within, moved-none, moved-on, pass-got, pass-bad, pass-moved, pass-none, pass-here, read-then-read, read-stops-read, pass-then-pass, pass-stops-pass, forget-then, read-ends-pass}
 use Rattle.expression_reader.specs.declared.Names.{Names}
 use Rattle.index.specs.Tables.{typeWords, constructorWords, functionWords}
 use Rattle.index.specs.Sections.{typesOf, functionsOf}
@@ -33,7 +32,7 @@ use Rattle.expression_reader.specs.Follows.{Tells, Follows, Opens, opene
 use Rattle.expression_reader.specs.ScopeLaws.{tells-wider, small}
 
 -- ---- the cursor's way, whatever the index tells
-pub on-then : {at : ℕ} {bs : List ℕ} {x r : Step} {d : Cursor} → Moved at bs x → x ≡ Next d → (d .at ≤ length bs → Moved (d .at) bs r) → Moved at bs r
+pub on-then : {line : List ℕ} {at : ℕ} {x r : Step} {d : Cursor} → Moved line at x → x ≡ Next d → (IsPlace line (d .at) → Moved line (d .at) r) → Moved line at r
 on-then u e w = let m = rw e at u in moved-on m (w (ends-within m))
 
 -- an index that was read is below its bound
@@ -51,7 +50,7 @@ unfolding indexRead
 index-less {line} {at} v e = tested-less (byte (bytesFrom line at)) (number-got v e)
 
 -- ---- what was passed, and so many parts behind it
-opened-moved : {at : ℕ} {bs : List ℕ} (x : Step) (n : ℕ) → Moved at bs x → Moved at bs (stepOf (openedBy x n))
+opened-moved : {line : List ℕ} {at : ℕ} (x : Step) (n : ℕ) → Moved line at x → Moved line at (stepOf (openedBy x n))
 opened-moved (Next c) n m = m
 opened-moved (Stop k) n m = stopped
 
@@ -128,7 +127,7 @@ module _ (line index : List ℕ) (c : Cursor) (s : Names) where
     -- ---- `16`, `17`, `1B`
     pub opens-if : {r : Number} (form : ℕ) → form ≡ 6 → r ≡ openedBy (Next c) 3 → Opens line index c s r (λ S. parts (exprAt levels) S (formAt form))
     unfolding parts given
-    opens-if form e o = rw (e, o) (record { says = λ S t here. record { is = refl; on = moved {c = c} (le-refl (c .at)) here }; on = λ here. moved {c = c} (le-refl (c .at)) here })
+    opens-if form e o = rw (e, o) (record { says = λ S t here. record { is = refl; on = moved-none here }; on = λ here. moved-none here })
 
     pub opens-operator : {x : Number} {y : Step} {r : Number} (form : ℕ) → form ≡ 7 → ReadsNumber line (c .at) x (codePlace 0 8 (bytesFrom line (c .at))) × Below byteRange x → y ≡ stepOf x → r ≡ openedBy y 2 → Opens line index c s r (λ S. parts (exprAt levels) S (formAt form))
     unfolding parts

@@ -4,8 +4,8 @@ use mathlib.Core.List.{List, [], _∷_}
 use mathlib.Core.Bool.{Bool, true, false}
 use mathlib.Core.Path.{_≡_, refl, sym, ap, subst}
 use native.Mathlib.Omega.{arith}
-use native.Mathlib.Nat.{lt-of-lt-of-le}
-use lib.ListN.{length, drop, length-drop}
+use native.Mathlib.Nat.{lt-of-le-of-lt}
+use lib.ListN.{length}
 use lib.Dec.{ltb, leb}
 use borrow.Author.Tests.{lt-ltb}
 use Rattle.language.specs.Limits.{byteRange}
@@ -17,12 +17,13 @@ use Rattle.text.specs.declared.Cursor.{Cursor}
 use Rattle.text.specs.declared.Found.{Found}
 use Rattle.text.specs.declared.Number.{Number}
 use Rattle.text.specs.declared.Number.the-variants.{Is, Refused}
-use Rattle.text.specs.Bytes.{bytesOf, bytesFrom, stepOf, ReadsNumber, Below}
+use Rattle.text.specs.Bytes.{bytesFrom, IsPlace, bytesLeft, stepOf, ReadsNumber, Below}
 use Rattle.text.specs.Codes.{codePlace, placeIn}
 use Rattle.text.specs.CodeLaws.{no-room, code-in-then, code-in-stops, code-in-below}
-use Rattle.text.specs.StepLaws.{goes, ends-within, number-got, number-moved, number-none, reads-behind}
+use Rattle.text.specs.StepLaws.{moved-on, moved-left, ends-within, number-got, number-moved, number-none, reads-behind}
 use Rattle.theory.specs.Places.{look-at}
 use Rattle.expression_reader.specs.declared.Names.{Names}
+use Rattle.expression_reader.specs.Weights.{levelWeight, behindRank, headRank}
 use Rattle.expression_reader.specs.Parts.{parts, headAt}
 use Rattle.expression_reader.specs.Follows.{Tells, Opens, Heads, Roomy, formAt}
 use Rattle.expression_reader.specs.ScopeLaws.{tells-roomy}
@@ -48,9 +49,6 @@ place-shorter : (room : Bool) (first size : ℕ) (bs : List ℕ) {i : ℕ} {cs :
 unfolding placeIn
 place-shorter room first size bs e = code-shorter first size bs (room-same room (codePlace first size bs) e)
 
-shorter-further : (bs : List ℕ) (at next : ℕ) → length (drop at bs) ≡ suc (length (drop next bs)) → at < next
-shorter-further bs at next e = omega (arith, e, length-drop at bs, length-drop next bs)
-
 -- ---- the code, with so many levels left
 module _ (line : List ℕ) (c : Cursor) (levels : ℕ) {x : Number} (v : ReadsNumber line (c .at) x (placeIn (ltb 0 levels) 16 13 (bytesFrom line (c .at))) × Below byteRange x) where
   pub code-level : {f : Found} → x ≡ Is f → 0 < levels
@@ -63,8 +61,8 @@ module _ (line : List ℕ) (c : Cursor) (levels : ℕ) {x : Number} (v : ReadsNu
   pub code-form : {f : Found} → x ≡ Is f → f .value < 13
   code-form e = code-in-below (ltb 0 levels) 16 forms (v .0) e
 
-  code-further : {f : Found} → x ≡ Is f → c .at < f .next .at
-  code-further {f} e = shorter-further (bytesOf line) (c .at) (f .next .at) (place-shorter (ltb 0 levels) 16 13 (bytesFrom line (c .at)) (number-got (v .0) e))
+  code-fewer : {f : Found} → x ≡ Is f → bytesLeft line (f .next .at) < bytesLeft line (c .at)
+  code-fewer {f} e = omega (arith, place-shorter (ltb 0 levels) 16 13 (bytesFrom line (c .at)) (number-got (v .0) e))
 
 module _ (line index : List ℕ) (c : Cursor) (s : Names) (levels : ℕ) {x : Number} (v : ReadsNumber line (c .at) x (placeIn (ltb 0 levels) 16 13 (bytesFrom line (c .at))) × Below byteRange x) (room : 0 < levels → Roomy s) where
   -- no code: refused as the definition refuses
@@ -93,13 +91,13 @@ module _ (line index : List ℕ) (c : Cursor) (s : Names) (levels : ℕ) {x : Nu
             subst (λ l. headAt (suc m) S (bytesFrom line (c .at)) ≡ parts (exprAt l) S (formAt (f .value)) (bytesFrom line (f .next .at))) (sym same)
             (rw (tells-roomy t (w (omega arith))) (code-in-then true 16 forms (λ form. parts (exprAt m) S form) k (formAt (f .value)) e refl (look-at forms (f .value) boolForm (code-in-below true 16 forms k e))))
 
-    next-within : f .next .at ≤ length (bytesOf line)
+    next-within : IsPlace line (f .next .at)
     next-within = ends-within (number-moved (v .0) e)
 
     pub head-done : Heads line index c s r levels
     head-done = record {
       says = λ S t here. reads-behind (number-moved (v .0) e) (head-is S t) (u .says S t next-within);
-      further = λ h. let m = rw (ap stepOf h) at (u .on next-within) in (lt-of-lt-of-le (code-further line c levels v e) (goes m), ends-within m);
+      further = λ h. let m = rw (ap stepOf h) at (u .on next-within) in (moved-on (number-moved (v .0) e) m, lt-of-le-of-lt (moved-left m) (code-fewer line c levels v e));
       level = λ h. code-level line c levels v e;
     }
 
@@ -114,5 +112,5 @@ pub last-form : (form : ℕ) → form < 13 → ((((((((((((Unit {0} × (form ≡
 last-form form less others = one-left form (above form (above form (above form (above form (above form (above form (above form (above form (above form (above form (above form (above form (omega arith) (others .0 .0 .0 .0 .0 .0 .0 .0 .0 .0 .0 .1)) (others .0 .0 .0 .0 .0 .0 .0 .0 .0 .0 .1)) (others .0 .0 .0 .0 .0 .0 .0 .0 .0 .1)) (others .0 .0 .0 .0 .0 .0 .0 .0 .1)) (others .0 .0 .0 .0 .0 .0 .0 .1)) (others .0 .0 .0 .0 .0 .0 .1)) (others .0 .0 .0 .0 .0 .1)) (others .0 .0 .0 .0 .1)) (others .0 .0 .0 .1)) (others .0 .0 .1)) (others .0 .1)) (others .1)) less
 
 -- fewer levels, whatever the place in the cycle
-pub fewer-levels : {t levels : ℕ} → levels * 1024 + 1 ≡ t → 0 < levels → (levels - 1) * 1024 + 800 < t
+pub fewer-levels : {t levels : ℕ} → levels * levelWeight + headRank ≡ t → 0 < levels → (levels - 1) * levelWeight + behindRank < t
 fewer-levels e pos = omega arith

@@ -1,3 +1,4 @@
+pub mod Weights
 pub mod Parts
 pub mod PartsLaws
 pub mod Follows

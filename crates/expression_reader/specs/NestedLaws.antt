@@ -3,7 +3,6 @@ use Prim.Native.Nat.{ℕ, suc, _+_, _-_, _*_, _≤_, _<_}
 use mathlib.Core.List.{List}
 use mathlib.Core.Path.{_≡_, refl, sym, ap, subst, _∙_}
 use native.Mathlib.Omega.{arith}
-use native.Mathlib.Nat.{le-refl}
 use lib.ListN.{length, getD, set, length-set}
 use lib.Seq.{getD-set-same}
 use borrow.Author.Needs.{read-below}
@@ -17,8 +16,8 @@ use Rattle.text.specs.declared.Number.{Number}
 use Rattle.text.specs.declared.Number.the-variants.{Is, Refused}
 use Rattle.text.specs.declared.Step.{Step}
 use Rattle.text.specs.declared.Step.the-variants.{Next}
-use Rattle.text.specs.Bytes.{bytesOf, bytesFrom, forget, stepOf, moved, stopped, Passes}
-use Rattle.text.specs.StepLaws.{pass-here, read-then-pass, read-stops-pass, moved-from}
+use Rattle.text.specs.Bytes.{bytesFrom, bytesLeft, forget, stepOf, stopped, Passes}
+use Rattle.text.specs.StepLaws.{ends-within, moved-none, moved-on, pass-here, read-then-pass, read-stops-pass}
 use Rattle.expression_reader.specs.declared.Names.{Names}
 use Rattle.expression_reader.specs.Parts.{remaining}
 use Rattle.expression_reader.specs.PartsLaws.{exprs-one, narrow-exprs, remaining-all, remaining-none, remaining-resumed, remaining-head, remaining-leaf, remaining-inside}
@@ -52,8 +51,8 @@ module _ (line index : List ℕ) (c : Cursor) (s : Names) (levels : ℕ) where
     pub nested-end : left ≡ 0 → depth ≡ 0 → Follows line index c s (Next next) (exprAt levels)
     unfolding forget
     nested-end none out = p .rest (Next next) (rw (none, out) (record {
-      says = λ S t here. pass-here (moved {c = next} (le-refl (next .at)) here) (ap forget (remaining-none most S W (bytesFrom line (next .at))));
-      on = λ here. moved {c = next} (le-refl (next .at)) here;
+      says = λ S t here. pass-here (moved-none here) (ap forget (remaining-none most S W (bytesFrom line (next .at))));
+      on = λ here. moved-none here;
     }))
 
     -- what waited goes on
@@ -83,8 +82,8 @@ module _ (line index : List ℕ) (c : Cursor) (s : Names) (levels : ℕ) where
         -- what is left behind the head
         behind-head : (r : Step) (q : Scope → Parser (Unit {0})) → ((S : Scope) (cs : List ℕ) → andThen (exprs (exprAt (most - depth - 1) S) (f .value) cs) (λ es ds. remaining most S (left - 1) W depth ds) ≡ q S cs) → Follows line index (f .next) s r q → Follows line index next s r (λ S. remaining most S left W depth)
         behind-head r q same u = record {
-          says = λ S t here. subst (λ y. Passes line (next .at) r y) (sym (remaining-head most S W left depth (bytesFrom line (next .at)) (omega (arith, some)))) (read-then-pass _ (h .says S t here) e (subst (λ y. Passes line (f .next .at) r (forget y)) (sym (same S (bytesFrom line (f .next .at)))) (u .says S t (h .further e .1))));
-          on = λ here. moved-from (omega (arith, h .further e .0)) (u .on (h .further e .1));
+          says = λ S t here. subst (λ y. Passes line (next .at) r y) (sym (remaining-head most S W left depth (bytesFrom line (next .at)) (omega (arith, some)))) (read-then-pass _ (h .says S t here) e (subst (λ y. Passes line (f .next .at) r (forget y)) (sym (same S (bytesFrom line (f .next .at)))) (u .says S t (ends-within (h .further e .0)))));
+          on = λ here. moved-on (h .further e .0) (u .on (ends-within (h .further e .0)));
         }
 
         pub nested-passed : {d : Cursor} → f .value ≡ 0 → d ≡ f .next → NestedTo line index c s levels most d W depth (left - 1)
@@ -110,11 +109,5 @@ module _ (line index : List ℕ) (c : Cursor) (s : Names) (levels : ℕ) where
                 ∙ ap (λ k. remaining most S (f .value) (set W depth (left - 1)) k cs) one
 
 -- ---- the loop ends: the bytes left count for two, since one more may wait
-abbrev pub bytesLeft : List ℕ → ℕ → ℕ
-bytesLeft line at = length (bytesOf line) - at
-
 pub fewer-left : {line index : List ℕ} {next d : Cursor} {s : Names} {x : Number} {levels : ℕ} {f : Found} (depth deeper : ℕ) → deeper ≤ depth + 1 → Heads line index next s x levels → x ≡ Is f → d ≡ f .next → bytesLeft line (d .at) * 2 + deeper < bytesLeft line (next .at) * 2 + depth
-fewer-left {line} {next = next} {f = f} depth deeper few h e q = rw q (less (length (bytesOf line)) (next .at) (f .next .at) (h .further e .0) (h .further e .1))
-  where
-    less : (size at behind : ℕ) → at < behind → behind ≤ size → (size - behind) * 2 + deeper < (size - at) * 2 + depth
-    less size at behind p r = omega (arith, few)
+fewer-left {line} {next = next} {f = f} depth deeper few h e q = rw q (omega (arith, few, h .further e .1))

@@ -22,35 +22,35 @@ module _ {line : List ℕ} {at : ℕ} {r : Head} {e : Expr} (h : Heads line at r
   no-missing q = unread-none (shown h q .1) s
 
   module _ {n : ℕ} {S : Scope} (w : WithinExpr n S e) where
-    pub bool-head : {b : ℕ} → r .form ≡ BoolForm b → BoolHead at (r .next .at) n S e b
+    pub bool-head : {b : ℕ} → r .form ≡ BoolForm b → BoolHead line at (r .next .at) n S e b
     bool-head q =
         let c = shown h q in
         let i = bool-spelled s (c .0 .code) in
-        subst₂ (λ m b. BoolHead at m n S e b) (sym (c .0 .ends)) (sym (c .1 .is)) (bool-made i (subst (WithinExpr n S) (i .is) w))
+        subst₂ (λ m b. BoolHead line at m n S e b) (sym (c .0 .ends)) (sym (c .1 .is)) (bool-made i (subst (WithinExpr n S) (i .is) w))
 
-    pub int-head : {v : ℕ} → r .form ≡ Int v → IntHead at (r .next .at) n S e v
+    pub int-head : {v : ℕ} → r .form ≡ Int v → IntHead line at (r .next .at) n S e v
     int-head q =
         let c = shown h q in
         let i = int-spelled s (c .0 .code) in
-        subst₂ (λ m v. IntHead at m n S e v) (sym (c .0 .ends)) (sym (c .1 ∙ int-value i w)) (int-made i (subst (WithinExpr n S) (i .is) w))
+        subst₂ (λ m v. IntHead line at m n S e v) (sym (c .0 .ends)) (sym (c .1 ∙ int-value i w)) (int-made i (subst (WithinExpr n S) (i .is) w))
 
-    pub var-head : {v : ℕ} → r .form ≡ Variable v → VarHead at (r .next .at) n S e v
+    pub var-head : {v : ℕ} → r .form ≡ Variable v → VarHead line at (r .next .at) n S e v
     var-head q =
         let c = shown h q in
         let i = var-spelled s (c .0 .code) in
-        subst₂ (λ m v. VarHead at m n S e v) (sym (c .0 .ends)) (sym (c .1 .is)) (var-made i (subst (WithinExpr n S) (i .is) w))
+        subst₂ (λ m v. VarHead line at m n S e v) (sym (c .0 .ends)) (sym (c .1 .is)) (var-made i (subst (WithinExpr n S) (i .is) w))
 
-    pub now-head : {k : ℕ} → r .form ≡ Now k → NowHead at (r .next .at) n S e k
+    pub now-head : {k : ℕ} → r .form ≡ Now k → NowHead line at (r .next .at) n S e k
     now-head q =
         let c = shown h q in
         let i = now-spelled s (c .0 .code) in
-        subst₂ (λ m k. NowHead at m n S e k) (sym (c .0 .ends)) (sym (c .1 .is)) (now-made i (subst (WithinExpr n S) (i .is) w))
+        subst₂ (λ m k. NowHead line at m n S e k) (sym (c .0 .ends)) (sym (c .1 .is)) (now-made i (subst (WithinExpr n S) (i .is) w))
 
-    pub last-head : {k : ℕ} → r .form ≡ Last k → LastHead at (r .next .at) n S e k
+    pub last-head : {k : ℕ} → r .form ≡ Last k → LastHead line at (r .next .at) n S e k
     last-head q =
         let c = shown h q in
         let i = last-spelled s (c .0 .code) in
-        subst₂ (λ m k. LastHead at m n S e k) (sym (c .0 .ends)) (sym (c .1 .is)) (last-made i (subst (WithinExpr n S) (i .is) w))
+        subst₂ (λ m k. LastHead line at m n S e k) (sym (c .0 .ends)) (sym (c .1 .is)) (last-made i (subst (WithinExpr n S) (i .is) w))
 
     pub let-head : r .form ≡ Let → LetHead line at (r .next .at) n S e
     let-head q =

@@ -1,56 +1,56 @@
 -- What is known of an expression whose head was read, a record for each form: its shape, where its parts are spelled, and that they
 -- are within the limits with one level less. From what is spelled and the limits of the form.
-use Prim.Native.Nat.{ℕ, suc, _+_, _<_}
+use Prim.Native.Nat.{ℕ, suc, _<_}
 use mathlib.Core.List.{List, []}
 use mathlib.Core.Bool.{Bool, true}
 use mathlib.Core.Path.{_≡_, refl, sym, ap, _∙_}
-use native.Mathlib.Omega.{arith}
 use lib.ListN.{length, getD}
 use Rattle.language.specs.Limits.{nestingMost, intRange}
 use Rattle.language.specs.Syntax.{Size, ResultType, Op, Expr, ebool, eint, evar, enow, elast, elet, eif, eop, ecall, econ, ecase, eadj, efit, Exprs}
 use Rattle.language.specs.Format.{bit, sizeBytes, resultBytes, opCode, exprBytes, exprsBytes}
 use Rattle.language.specs.Scope.{Scope, wider, roomIn}
 use Rattle.language.specs.Within.{Bound, WithinSize, WithinResult, WithinExpr, WithinExprs, WithinBranches, w-bool, w-int, w-var, w-now, w-last, w-let, w-if, w-op, w-call, w-con, w-case, w-adj, w-fit}
-use Rattle.encoding.specs.Spells.{byteAt, Spells, IsLeaf}
+use Rattle.text.specs.Places.{past, byteAt}
+use Rattle.encoding.specs.Spells.{Spells, IsLeaf}
 use Rattle.encoding.specs.Forms.{IsBool, IsInt, OfTwo, OfThree, OfList, IsOp, IsCase, IsAdj}
 
 -- next is where the first part starts, n the levels left, S the scope; left the levels left inside
-pub record BoolHead (at next n : ℕ) (S : Scope) (e : Expr) (b : ℕ) : Type 0 where
+pub record BoolHead (line : List ℕ) (at next n : ℕ) (S : Scope) (e : Expr) (b : ℕ) : Type 0 where
   pub value : Bool
   pub is : e ≡ ebool value
   pub byte : bit value ≡ b
-  pub ends : next ≡ at + length (exprBytes e)
+  pub ends : next ≡ past line at (length (exprBytes e))
   pub left : ℕ
   pub deep : n ≡ suc left
   pub room : roomIn S ≡ true
 
-pub record IntHead (at next n : ℕ) (S : Scope) (e : Expr) (i : ℕ) : Type 0 where
+pub record IntHead (line : List ℕ) (at next n : ℕ) (S : Scope) (e : Expr) (i : ℕ) : Type 0 where
   pub is : e ≡ eint i
-  pub ends : next ≡ at + length (exprBytes e)
+  pub ends : next ≡ past line at (length (exprBytes e))
   pub left : ℕ
   pub deep : n ≡ suc left
   pub room : roomIn S ≡ true
   pub less : i < intRange
 
-pub record VarHead (at next n : ℕ) (S : Scope) (e : Expr) (v : ℕ) : Type 0 where
+pub record VarHead (line : List ℕ) (at next n : ℕ) (S : Scope) (e : Expr) (v : ℕ) : Type 0 where
   pub is : e ≡ evar v
-  pub ends : next ≡ at + length (exprBytes e)
+  pub ends : next ≡ past line at (length (exprBytes e))
   pub left : ℕ
   pub deep : n ≡ suc left
   pub room : roomIn S ≡ true
   pub less : v < S .variables
 
-pub record NowHead (at next n : ℕ) (S : Scope) (e : Expr) (c : ℕ) : Type 0 where
+pub record NowHead (line : List ℕ) (at next n : ℕ) (S : Scope) (e : Expr) (c : ℕ) : Type 0 where
   pub is : e ≡ enow c
-  pub ends : next ≡ at + length (exprBytes e)
+  pub ends : next ≡ past line at (length (exprBytes e))
   pub left : ℕ
   pub deep : n ≡ suc left
   pub room : roomIn S ≡ true
   pub less : c < S .now
 
-pub record LastHead (at next n : ℕ) (S : Scope) (e : Expr) (c : ℕ) : Type 0 where
+pub record LastHead (line : List ℕ) (at next n : ℕ) (S : Scope) (e : Expr) (c : ℕ) : Type 0 where
   pub is : e ≡ elast c
-  pub ends : next ≡ at + length (exprBytes e)
+  pub ends : next ≡ past line at (length (exprBytes e))
   pub left : ℕ
   pub deep : n ≡ suc left
   pub room : roomIn S ≡ true
@@ -61,8 +61,8 @@ pub record LetHead (line : List ℕ) (at next n : ℕ) (S : Scope) (e : Expr) : 
   pub second : Expr
   pub is : e ≡ elet first second
   pub spelled : Spells exprBytes line next first
-  pub spelled₂ : Spells exprBytes line (next + length (exprBytes first)) second
-  pub long : at + length (exprBytes (elet first second)) ≡ next + length (exprBytes first) + length (exprBytes second)
+  pub spelled₂ : Spells exprBytes line (past line next (length (exprBytes first))) second
+  pub long : past line at (length (exprBytes (elet first second))) ≡ past line (past line next (length (exprBytes first))) (length (exprBytes second))
   pub left : ℕ
   pub deep : n ≡ suc left
   pub room : roomIn S ≡ true
@@ -75,9 +75,9 @@ pub record IfHead (line : List ℕ) (at next n : ℕ) (S : Scope) (e : Expr) : T
   pub third : Expr
   pub is : e ≡ eif first second third
   pub spelled : Spells exprBytes line next first
-  pub spelled₂ : Spells exprBytes line (next + length (exprBytes first)) second
-  pub spelled₃ : Spells exprBytes line (next + length (exprBytes first) + length (exprBytes second)) third
-  pub long : at + length (exprBytes (eif first second third)) ≡ next + length (exprBytes first) + length (exprBytes second) + length (exprBytes third)
+  pub spelled₂ : Spells exprBytes line (past line next (length (exprBytes first))) second
+  pub spelled₃ : Spells exprBytes line (past line (past line next (length (exprBytes first))) (length (exprBytes second))) third
+  pub long : past line at (length (exprBytes (eif first second third))) ≡ past line (past line (past line next (length (exprBytes first))) (length (exprBytes second))) (length (exprBytes third))
   pub left : ℕ
   pub deep : n ≡ suc left
   pub room : roomIn S ≡ true
@@ -92,8 +92,8 @@ pub record OpHead (line : List ℕ) (at next n : ℕ) (S : Scope) (e : Expr) (o 
   pub second : Expr
   pub is : e ≡ eop op first second
   pub spelled : Spells exprBytes line next first
-  pub spelled₂ : Spells exprBytes line (next + length (exprBytes first)) second
-  pub long : at + length (exprBytes (eop op first second)) ≡ next + length (exprBytes first) + length (exprBytes second)
+  pub spelled₂ : Spells exprBytes line (past line next (length (exprBytes first))) second
+  pub long : past line at (length (exprBytes (eop op first second))) ≡ past line (past line next (length (exprBytes first))) (length (exprBytes second))
   pub left : ℕ
   pub deep : n ≡ suc left
   pub room : roomIn S ≡ true
@@ -104,7 +104,7 @@ pub record CallHead (line : List ℕ) (at next n : ℕ) (S : Scope) (e : Expr) (
   pub list : Exprs
   pub is : e ≡ ecall f list
   pub spelled : Spells exprsBytes line next list
-  pub long : at + length (exprBytes (ecall f list)) ≡ next + length (exprsBytes list)
+  pub long : past line at (length (exprBytes (ecall f list))) ≡ past line next (length (exprsBytes list))
   pub left : ℕ
   pub deep : n ≡ suc left
   pub room : roomIn S ≡ true
@@ -115,7 +115,7 @@ pub record ConHead (line : List ℕ) (at next n : ℕ) (S : Scope) (e : Expr) (t
   pub list : Exprs
   pub is : e ≡ econ t c list
   pub spelled : Spells exprsBytes line next list
-  pub long : at + length (exprBytes (econ t c list)) ≡ next + length (exprsBytes list)
+  pub long : past line at (length (exprBytes (econ t c list))) ≡ past line next (length (exprsBytes list))
   pub left : ℕ
   pub deep : n ≡ suc left
   pub room : roomIn S ≡ true
@@ -129,9 +129,9 @@ pub record CaseHead (line : List ℕ) (at next n : ℕ) (S : Scope) (e : Expr) (
   pub branches : Exprs
   pub is : e ≡ ecase t first result branches
   pub spelled : Spells exprBytes line next first
-  pub spelled₂ : Spells resultBytes line (next + length (exprBytes first)) result
-  pub spelled₃ : Spells exprsBytes line (next + length (exprBytes first) + length (resultBytes result)) branches
-  pub long : at + length (exprBytes (ecase t first result branches)) ≡ next + length (exprBytes first) + length (resultBytes result) + length (exprsBytes branches)
+  pub spelled₂ : Spells resultBytes line (past line next (length (exprBytes first))) result
+  pub spelled₃ : Spells exprsBytes line (past line (past line next (length (exprBytes first))) (length (resultBytes result))) branches
+  pub long : past line at (length (exprBytes (ecase t first result branches))) ≡ past line (past line (past line next (length (exprBytes first))) (length (resultBytes result))) (length (exprsBytes branches))
   pub left : ℕ
   pub deep : n ≡ suc left
   pub room : roomIn S ≡ true
@@ -145,8 +145,8 @@ pub record AdjHead (line : List ℕ) (at next n : ℕ) (S : Scope) (e : Expr) : 
   pub first : Expr
   pub is : e ≡ eadj size first
   pub spelled : Spells sizeBytes line next size
-  pub spelled₂ : Spells exprBytes line (next + length (sizeBytes size)) first
-  pub long : at + length (exprBytes (eadj size first)) ≡ next + length (sizeBytes size) + length (exprBytes first)
+  pub spelled₂ : Spells exprBytes line (past line next (length (sizeBytes size))) first
+  pub long : past line at (length (exprBytes (eadj size first))) ≡ past line (past line next (length (sizeBytes size))) (length (exprBytes first))
   pub left : ℕ
   pub deep : n ≡ suc left
   pub room : roomIn S ≡ true
@@ -159,9 +159,9 @@ pub record FitHead (line : List ℕ) (at next n : ℕ) (S : Scope) (e : Expr) (k
   pub third : Expr
   pub is : e ≡ efit k first second third
   pub spelled : Spells exprBytes line next first
-  pub spelled₂ : Spells exprBytes line (next + length (exprBytes first)) second
-  pub spelled₃ : Spells exprBytes line (next + length (exprBytes first) + length (exprBytes second)) third
-  pub long : at + length (exprBytes (efit k first second third)) ≡ next + length (exprBytes first) + length (exprBytes second) + length (exprBytes third)
+  pub spelled₂ : Spells exprBytes line (past line next (length (exprBytes first))) second
+  pub spelled₃ : Spells exprBytes line (past line (past line next (length (exprBytes first))) (length (exprBytes second))) third
+  pub long : past line at (length (exprBytes (efit k first second third))) ≡ past line (past line (past line next (length (exprBytes first))) (length (exprBytes second))) (length (exprBytes third))
   pub left : ℕ
   pub deep : n ≡ suc left
   pub room : roomIn S ≡ true
@@ -171,32 +171,32 @@ pub record FitHead (line : List ℕ) (at next n : ℕ) (S : Scope) (e : Expr) (k
   pub within₃ : WithinExpr left S third
 
 -- ---- from what is spelled, and the limits of that form
-ends-at : {k : ℕ} {e leaf : Expr} (at : ℕ) → e ≡ leaf → length (exprBytes leaf) ≡ k → at + k ≡ at + length (exprBytes e)
-ends-at at is long = ap (λ k. at + k) (sym long) ∙ ap (λ (a : Expr). at + length (exprBytes a)) (sym is)
+ends-at : {k : ℕ} {e leaf : Expr} (line : List ℕ) (at : ℕ) → e ≡ leaf → length (exprBytes leaf) ≡ k → past line at k ≡ past line at (length (exprBytes e))
+ends-at line at is long = ap (past line at) (sym long) ∙ ap (λ (a : Expr). past line at (length (exprBytes a))) (sym is)
 
-pub bool-made : {line : List ℕ} {at n : ℕ} {S : Scope} {e : Expr} (i : IsBool line at e) → WithinExpr n S (ebool (i .value)) → BoolHead at (at + 2) n S e (byteAt line (at + 1))
-bool-made i (w-bool {n = m} room) = record { value = i .value; is = i .is; byte = sym (i .byte); ends = ends-at _ (i .is) (i .long); left = m; deep = refl; room = room }
+pub bool-made : {line : List ℕ} {at n : ℕ} {S : Scope} {e : Expr} (i : IsBool line at e) → WithinExpr n S (ebool (i .value)) → BoolHead line at (past line at 2) n S e (byteAt line (past line at 1))
+bool-made i (w-bool {n = m} room) = record { value = i .value; is = i .is; byte = sym (i .byte); ends = ends-at _ _ (i .is) (i .long); left = m; deep = refl; room = room }
 
-pub int-made : {line : List ℕ} {at n : ℕ} {S : Scope} {e : Expr} (i : IsInt line at e) → WithinExpr n S (eint (i .value)) → IntHead at (at + 5) n S e (i .value)
-int-made i (w-int {n = m} room less) = record { is = i .is; ends = ends-at _ (i .is) (i .long); left = m; deep = refl; room = room; less = less }
+pub int-made : {line : List ℕ} {at n : ℕ} {S : Scope} {e : Expr} (i : IsInt line at e) → WithinExpr n S (eint (i .value)) → IntHead line at (past line at 5) n S e (i .value)
+int-made i (w-int {n = m} room less) = record { is = i .is; ends = ends-at _ _ (i .is) (i .long); left = m; deep = refl; room = room; less = less }
 
-pub var-made : {at n v : ℕ} {S : Scope} {e : Expr} → IsLeaf exprBytes 2 e (evar v) → WithinExpr n S (evar v) → VarHead at (at + 2) n S e v
-var-made i (w-var {n = m} room less) = record { is = i .is; ends = ends-at _ (i .is) (i .long); left = m; deep = refl; room = room; less = less }
+pub var-made : {line : List ℕ} {at n v : ℕ} {S : Scope} {e : Expr} → IsLeaf exprBytes 2 e (evar v) → WithinExpr n S (evar v) → VarHead line at (past line at 2) n S e v
+var-made i (w-var {n = m} room less) = record { is = i .is; ends = ends-at _ _ (i .is) (i .long); left = m; deep = refl; room = room; less = less }
 
-pub now-made : {at n c : ℕ} {S : Scope} {e : Expr} → IsLeaf exprBytes 2 e (enow c) → WithinExpr n S (enow c) → NowHead at (at + 2) n S e c
-now-made i (w-now {n = m} room less) = record { is = i .is; ends = ends-at _ (i .is) (i .long); left = m; deep = refl; room = room; less = less }
+pub now-made : {line : List ℕ} {at n c : ℕ} {S : Scope} {e : Expr} → IsLeaf exprBytes 2 e (enow c) → WithinExpr n S (enow c) → NowHead line at (past line at 2) n S e c
+now-made i (w-now {n = m} room less) = record { is = i .is; ends = ends-at _ _ (i .is) (i .long); left = m; deep = refl; room = room; less = less }
 
-pub last-made : {at n c : ℕ} {S : Scope} {e : Expr} → IsLeaf exprBytes 2 e (elast c) → WithinExpr n S (elast c) → LastHead at (at + 2) n S e c
-last-made i (w-last {n = m} room less) = record { is = i .is; ends = ends-at _ (i .is) (i .long); left = m; deep = refl; room = room; less = less }
+pub last-made : {line : List ℕ} {at n c : ℕ} {S : Scope} {e : Expr} → IsLeaf exprBytes 2 e (elast c) → WithinExpr n S (elast c) → LastHead line at (past line at 2) n S e c
+last-made i (w-last {n = m} room less) = record { is = i .is; ends = ends-at _ _ (i .is) (i .long); left = m; deep = refl; room = room; less = less }
 
-pub let-made : {line : List ℕ} {at n : ℕ} {S : Scope} {e : Expr} (i : OfTwo elet 1 line at e) → WithinExpr n S (elet (i .first) (i .second)) → LetHead line at (at + 1) n S e
+pub let-made : {line : List ℕ} {at n : ℕ} {S : Scope} {e : Expr} (i : OfTwo elet 1 line at e) → WithinExpr n S (elet (i .first) (i .second)) → LetHead line at (past line at 1) n S e
 let-made i (w-let {n = m} room a b) = record {
   first = i .first;
   second = i .second;
   is = i .is;
   spelled = i .spelled;
   spelled₂ = i .next;
-  long = omega (arith, i .long);
+  long = i .ends;
   left = m;
   deep = refl;
   room = room;
@@ -204,7 +204,7 @@ let-made i (w-let {n = m} room a b) = record {
   within₂ = b;
 }
 
-pub if-made : {line : List ℕ} {at n : ℕ} {S : Scope} {e : Expr} (i : OfThree eif 1 line at e) → WithinExpr n S (eif (i .first) (i .second) (i .third)) → IfHead line at (at + 1) n S e
+pub if-made : {line : List ℕ} {at n : ℕ} {S : Scope} {e : Expr} (i : OfThree eif 1 line at e) → WithinExpr n S (eif (i .first) (i .second) (i .third)) → IfHead line at (past line at 1) n S e
 if-made i (w-if {n = m} room a b d) = record {
   first = i .first;
   second = i .second;
@@ -213,7 +213,7 @@ if-made i (w-if {n = m} room a b d) = record {
   spelled = i .spelled;
   spelled₂ = i .next;
   spelled₃ = i .last;
-  long = omega (arith, i .long);
+  long = i .ends;
   left = m;
   deep = refl;
   room = room;
@@ -222,7 +222,7 @@ if-made i (w-if {n = m} room a b d) = record {
   within₃ = d;
 }
 
-pub op-made : {line : List ℕ} {at n : ℕ} {S : Scope} {e : Expr} (i : IsOp line at e) → WithinExpr n S (eop (i .op) (i .of .first) (i .of .second)) → OpHead line at (at + 2) n S e (byteAt line (at + 1))
+pub op-made : {line : List ℕ} {at n : ℕ} {S : Scope} {e : Expr} (i : IsOp line at e) → WithinExpr n S (eop (i .op) (i .of .first) (i .of .second)) → OpHead line at (past line at 2) n S e (byteAt line (past line at 1))
 op-made i (w-op {n = m} room a b) = record {
   op = i .op;
   code = sym (i .byte);
@@ -231,7 +231,7 @@ op-made i (w-op {n = m} room a b) = record {
   is = i .of .is;
   spelled = i .of .spelled;
   spelled₂ = i .of .next;
-  long = omega (arith, i .of .long);
+  long = i .of .ends;
   left = m;
   deep = refl;
   room = room;
@@ -239,12 +239,12 @@ op-made i (w-op {n = m} room a b) = record {
   within₂ = b;
 }
 
-pub call-made : {line : List ℕ} {at n f : ℕ} {S : Scope} {e : Expr} (i : OfList (ecall f) 2 line at e) → WithinExpr n S (ecall f (i .list)) → CallHead line at (at + 2) n S e f
+pub call-made : {line : List ℕ} {at n f : ℕ} {S : Scope} {e : Expr} (i : OfList (ecall f) 2 line at e) → WithinExpr n S (ecall f (i .list)) → CallHead line at (past line at 2) n S e f
 call-made i (w-call {n = m} room less es) = record {
   list = i .list;
   is = i .is;
   spelled = i .spelled;
-  long = omega (arith, i .long);
+  long = i .ends;
   left = m;
   deep = refl;
   room = room;
@@ -252,12 +252,12 @@ call-made i (w-call {n = m} room less es) = record {
   within = es;
 }
 
-pub con-made : {line : List ℕ} {at n t c : ℕ} {S : Scope} {e : Expr} (i : OfList (econ t c) 3 line at e) → WithinExpr n S (econ t c (i .list)) → ConHead line at (at + 3) n S e t c
+pub con-made : {line : List ℕ} {at n t c : ℕ} {S : Scope} {e : Expr} (i : OfList (econ t c) 3 line at e) → WithinExpr n S (econ t c (i .list)) → ConHead line at (past line at 3) n S e t c
 con-made i (w-con {n = m} room less less₂ es) = record {
   list = i .list;
   is = i .is;
   spelled = i .spelled;
-  long = omega (arith, i .long);
+  long = i .ends;
   left = m;
   deep = refl;
   room = room;
@@ -266,8 +266,8 @@ con-made i (w-con {n = m} room less less₂ es) = record {
   within = es;
 }
 
-pub case-made : {line : List ℕ} {at n : ℕ} {S : Scope} {e : Expr} (i : IsCase line at e) → WithinExpr n S (ecase (byteAt line (at + 1)) (i .first) (i .result) (i .branches)) →
-    CaseHead line at (at + 2) n S e (byteAt line (at + 1))
+pub case-made : {line : List ℕ} {at n : ℕ} {S : Scope} {e : Expr} (i : IsCase line at e) → WithinExpr n S (ecase (byteAt line (past line at 1)) (i .first) (i .result) (i .branches)) →
+    CaseHead line at (past line at 2) n S e (byteAt line (past line at 1))
 case-made i (w-case {n = m} room less a r bs) = record {
   first = i .first;
   result = i .result;
@@ -276,7 +276,7 @@ case-made i (w-case {n = m} room less a r bs) = record {
   spelled = i .spelled;
   spelled₂ = i .next;
   spelled₃ = i .last;
-  long = omega (arith, i .long);
+  long = i .ends;
   left = m;
   deep = refl;
   room = room;
@@ -286,14 +286,14 @@ case-made i (w-case {n = m} room less a r bs) = record {
   within₃ = bs;
 }
 
-pub adj-made : {line : List ℕ} {at n : ℕ} {S : Scope} {e : Expr} (i : IsAdj line at e) → WithinExpr n S (eadj (i .size) (i .first)) → AdjHead line at (at + 1) n S e
+pub adj-made : {line : List ℕ} {at n : ℕ} {S : Scope} {e : Expr} (i : IsAdj line at e) → WithinExpr n S (eadj (i .size) (i .first)) → AdjHead line at (past line at 1) n S e
 adj-made i (w-adj {n = m} room k a) = record {
   size = i .size;
   first = i .first;
   is = i .is;
   spelled = i .spelled;
   spelled₂ = i .next;
-  long = omega (arith, i .long);
+  long = i .ends;
   left = m;
   deep = refl;
   room = room;
@@ -301,7 +301,7 @@ adj-made i (w-adj {n = m} room k a) = record {
   within₂ = a;
 }
 
-pub fit-made : {line : List ℕ} {at n k : ℕ} {S : Scope} {e : Expr} (i : OfThree (efit k) 2 line at e) → WithinExpr n S (efit k (i .first) (i .second) (i .third)) → FitHead line at (at + 2) n S e k
+pub fit-made : {line : List ℕ} {at n k : ℕ} {S : Scope} {e : Expr} (i : OfThree (efit k) 2 line at e) → WithinExpr n S (efit k (i .first) (i .second) (i .third)) → FitHead line at (past line at 2) n S e k
 fit-made i (w-fit {n = m} room bound a b d) = record {
   first = i .first;
   second = i .second;
@@ -310,7 +310,7 @@ fit-made i (w-fit {n = m} room bound a b d) = record {
   spelled = i .spelled;
   spelled₂ = i .next;
   spelled₃ = i .last;
-  long = omega (arith, i .long);
+  long = i .ends;
   left = m;
   deep = refl;
   room = room;

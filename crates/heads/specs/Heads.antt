@@ -1,12 +1,10 @@
 -- What reading the head of an expression promises, on any bytes: a form that is read has its code at the place and its operands
 -- behind the code, and the parts start behind those; where none is read, the line ends too early or the code is of no form.
-use Prim.Native.Nat.{ℕ, _+_, _≤_, _<_}
+use Prim.Native.Nat.{ℕ, _≤_, _<_}
 use mathlib.Core.List.{List}
 use mathlib.Core.Path.{_≡_, subst}
-use lib.ListN.{length}
 use Rattle.language.specs.Limits.{byteRange}
-use Rattle.text.specs.Bytes.{bytesOf}
-use Rattle.encoding.specs.Spells.{byteAt}
+use Rattle.text.specs.Places.{past, bytesLeft, byteAt}
 use Rattle.encoding.specs.Forms.{fourAt}
 use Rattle.heads.specs.declared.Form.{Form}
 use Rattle.heads.specs.declared.Form.the-variants.{Bool as BoolForm, Int, Variable, Now, Last, Let, If, Operator, Call, Construct, Case, Adjust, Fit, Missing}
@@ -15,8 +13,8 @@ use Rattle.heads.specs.declared.Head.{Head}
 -- the code stands at the place, and the line has the bytes of the head, up to next
 pub record Coded (line : List ℕ) (at first long next : ℕ) : Type 0 where
   pub code : byteAt line at ≡ first
-  pub ends : next ≡ at + long
-  pub within : at + long ≤ length (bytesOf line)
+  pub ends : next ≡ past line at long
+  pub within : long ≤ bytesLeft line at
 
 -- b is the byte at a place
 pub record OperandAt (line : List ℕ) (at b : ℕ) : Type 0 where
@@ -44,27 +42,27 @@ pub record NoOperand (code : ℕ) : Type 0 where
 
 -- why no form is read: the line ends before the code or before the head does, or the code is of no form
 pub data Unread (line : List ℕ) (at : ℕ) : Type 0 where
-  no-code : length (bytesOf line) ≤ at → Unread line at
+  no-code : bytesLeft line at ≡ 0 → Unread line at
   no-form : OtherCode (byteAt line at) → NoOperand (byteAt line at) → Unread line at
-  no-operand : OtherCode (byteAt line at) → length (bytesOf line) < at + 2 → Unread line at
-  no-constructor : byteAt line at ≡ 0x19 → length (bytesOf line) < at + 3 → Unread line at
-  no-int : byteAt line at ≡ 0x11 → length (bytesOf line) < at + 5 → Unread line at
+  no-operand : OtherCode (byteAt line at) → bytesLeft line at < 2 → Unread line at
+  no-constructor : byteAt line at ≡ 0x19 → bytesLeft line at < 3 → Unread line at
+  no-int : byteAt line at ≡ 0x11 → bytesLeft line at < 5 → Unread line at
 
 -- a form at a place, whose parts start at next
 abbrev pub Shows : List ℕ → ℕ → ℕ → Form → Type 0
-Shows line at next (BoolForm b) = Coded line at 0x10 2 next × OperandAt line (at + 1) b
-Shows line at next (Int n) = Coded line at 0x11 5 next × (n ≡ fourAt line (at + 1))
-Shows line at next (Variable v) = Coded line at 0x12 2 next × OperandAt line (at + 1) v
-Shows line at next (Now c) = Coded line at 0x13 2 next × OperandAt line (at + 1) c
-Shows line at next (Last c) = Coded line at 0x14 2 next × OperandAt line (at + 1) c
+Shows line at next (BoolForm b) = Coded line at 0x10 2 next × OperandAt line (past line at 1) b
+Shows line at next (Int n) = Coded line at 0x11 5 next × (n ≡ fourAt line (past line at 1))
+Shows line at next (Variable v) = Coded line at 0x12 2 next × OperandAt line (past line at 1) v
+Shows line at next (Now c) = Coded line at 0x13 2 next × OperandAt line (past line at 1) c
+Shows line at next (Last c) = Coded line at 0x14 2 next × OperandAt line (past line at 1) c
 Shows line at next Let = Coded line at 0x15 1 next
 Shows line at next If = Coded line at 0x16 1 next
-Shows line at next (Operator o) = Coded line at 0x17 2 next × OperandAt line (at + 1) o
-Shows line at next (Call f) = Coded line at 0x18 2 next × OperandAt line (at + 1) f
-Shows line at next (Construct t c) = Coded line at 0x19 3 next × (OperandAt line (at + 1) t × OperandAt line (at + 2) c)
-Shows line at next (Case t) = Coded line at 0x1A 2 next × OperandAt line (at + 1) t
+Shows line at next (Operator o) = Coded line at 0x17 2 next × OperandAt line (past line at 1) o
+Shows line at next (Call f) = Coded line at 0x18 2 next × OperandAt line (past line at 1) f
+Shows line at next (Construct t c) = Coded line at 0x19 3 next × (OperandAt line (past line at 1) t × OperandAt line (past line at 2) c)
+Shows line at next (Case t) = Coded line at 0x1A 2 next × OperandAt line (past line at 1) t
 Shows line at next Adjust = Coded line at 0x1B 1 next
-Shows line at next (Fit k) = Coded line at 0x1C 2 next × OperandAt line (at + 1) k
+Shows line at next (Fit k) = Coded line at 0x1C 2 next × OperandAt line (past line at 1) k
 Shows line at next Missing = (next ≡ at) × Unread line at
 
 pub record Heads (line : List ℕ) (at : ℕ) (r : Head) : Type 0 where

@@ -1,10 +1,10 @@
 -- The parts of each form: in which scopes they stand, and that they are spelled one after the other.
-use Prim.Native.Nat.{ℕ, suc, _+_, _<_, _≤_}
+use Prim.Native.Nat.{ℕ, suc, _<_, _≤_}
 use mathlib.Core.List.{List, [], _++_, append-assoc}
 use mathlib.Core.Bool.{true}
 use mathlib.Core.Path.{_≡_, refl, sym, ap, _∙_}
 use native.Mathlib.Omega.{arith}
-use lib.ListN.{length, getD, length-append}
+use lib.ListN.{length, getD}
 use lib.Dec.{leb}
 use borrow.Author.Tests.{leb-true}
 use Rattle.language.specs.Limits.{typesMost, variablesMost, sizeVariablesMost, nestingMost}
@@ -13,7 +13,7 @@ use Rattle.language.specs.Format.{exprBytes, exprsBytes}
 use Rattle.language.specs.Scope.{Scope, wider, roomIn}
 use Rattle.language.specs.Within.{WithinSize, w-lit, w-svar, w-plus, w-minus, WithinResult, w-rbool, w-rint, w-rnamed, WithinExpr, w-let, w-if, w-op, w-call, w-con, w-case, w-adj, w-fit}
 use Rattle.language.specs.Within.{WithinExprs, ws-nil, ws-cons, WithinBranches, wb-nil, wb-cons}
-use Rattle.text.specs.Bytes.{bytesOf, bytesFrom}
+use Rattle.text.specs.Places.{bytesFrom, past, IsPlace, past-none, past-append}
 use Rattle.theory.specs.Lists.{both-right}
 use Rattle.encoding.specs.Spells.{Spells, spells-within, rest-behind}
 use Rattle.heads.specs.Skips.{Shapes, Skippable, no-more, one-more}
@@ -85,11 +85,11 @@ module _ {types functions : List ℕ} {levels : ℕ} {S : Scope} (h : Shapes typ
   case-branches (w-case room l e r bs) = branches-skippable h bs
 
 -- ---- a list is spelled where its first is and then the others are
-pub list-none : {line : List ℕ} {at : ℕ} → at ≤ length (bytesOf line) → Spells exprsBytes line at enil
+pub list-none : {line : List ℕ} {at : ℕ} → IsPlace line at → Spells exprsBytes line at enil
 unfolding exprsBytes
 list-none {line} {at} le = record { rest = bytesFrom line at; is = refl; within = le }
 
-pub list-more : {line : List ℕ} {at : ℕ} {e : Expr} {es : Exprs} → Spells exprBytes line at e → Spells exprsBytes line (at + length (exprBytes e)) es → Spells exprsBytes line at (econs e es)
+pub list-more : {line : List ℕ} {at : ℕ} {e : Expr} {es : Exprs} → Spells exprBytes line at e → Spells exprsBytes line (past line at (length (exprBytes e))) es → Spells exprsBytes line at (econs e es)
 unfolding exprsBytes
 list-more {line} {at} {e} {es} s t = record {
   rest = t .rest;
@@ -100,10 +100,14 @@ list-more {line} {at} {e} {es} s t = record {
 pub list-one : {line : List ℕ} {at : ℕ} {e : Expr} → Spells exprBytes line at e → Spells exprsBytes line at (econs e enil)
 list-one s = list-more s (list-none (spells-within s))
 
-pub none-long : length (exprsBytes enil) ≡ 0
+-- where it ends
+pub none-ends : (line : List ℕ) (at : ℕ) → past line at (length (exprsBytes enil)) ≡ at
 unfolding exprsBytes
-none-long = refl
+none-ends line at = past-none line at
 
-pub more-long : (e : Expr) (es : Exprs) → length (exprsBytes (econs e es)) ≡ length (exprBytes e) + length (exprsBytes es)
+pub more-ends : (line : List ℕ) (at : ℕ) (e : Expr) (es : Exprs) → past line at (length (exprsBytes (econs e es))) ≡ past line (past line at (length (exprBytes e))) (length (exprsBytes es))
 unfolding exprsBytes
-more-long e es = length-append (exprBytes e) (exprsBytes es)
+more-ends line at e es = past-append line at (exprBytes e) (exprsBytes es)
+
+pub one-ends : (line : List ℕ) (at : ℕ) (e : Expr) → past line at (length (exprsBytes (econs e enil))) ≡ past line at (length (exprBytes e))
+one-ends line at e = more-ends line at e enil ∙ none-ends line (past line at (length (exprBytes e)))

@@ -1,7 +1,7 @@
 -- The expressions that end an expression, form by form: where the first of them starts, and how many they are.
-use Prim.Native.Nat.{ℕ, suc, _+_}
+use Prim.Native.Nat.{ℕ, suc}
 use mathlib.Core.List.{List, []}
-use mathlib.Core.Path.{_≡_, refl, sym, ap, subst}
+use mathlib.Core.Path.{_≡_, refl, sym, ap, _∙_, subst}
 use native.Mathlib.Omega.{arith}
 use lib.ListN.{length, getD}
 use Rattle.language.specs.Limits.{typesMost, sizeVariablesMost, nestingMost}
@@ -10,6 +10,7 @@ use Rattle.language.specs.Format.{exprBytes, exprsBytes, sizeBytes, resultBytes
 use Rattle.language.specs.Scope.{Scope}
 use Rattle.language.specs.Within.{WithinSize, WithinResult, WithinExpr}
 use Rattle.text.specs.declared.Cursor.{Cursor}
+use Rattle.text.specs.Places.{past}
 use Rattle.encoding.specs.Spells.{Spells, spells-within}
 use Rattle.heads.specs.declared.Form.{Form}
 use Rattle.heads.specs.declared.Form.the-variants.{Bool as BoolForm, Int, Variable, Now, Last, Let, If, Operator, Call, Construct, Case, Adjust, Fit, Missing}
@@ -17,35 +18,38 @@ use Rattle.heads.specs.declared.Head.{Head}
 use Rattle.heads.specs.Heads.{Heads}
 use Rattle.heads.specs.HeadForms.{no-missing, bool-head, int-head, var-head, now-head, last-head, let-head, if-head, op-head, call-head, con-head, case-head, adj-head, fit-head}
 use Rattle.heads.specs.Skips.{Shapes, Skippable, no-more, Skips, Over, partsOf}
-use Rattle.heads.specs.PartLaws.{let-parts, if-parts, op-parts, fit-parts, call-parts, con-parts, adj-parts, case-type, case-subject, case-result, case-branches, list-none, list-more, list-one, none-long, more-long}
+use Rattle.heads.specs.PartLaws.{let-parts, if-parts, op-parts, fit-parts, call-parts, con-parts, adj-parts, case-type, case-subject, case-result, case-branches, list-none, list-more, list-one, none-ends, more-ends, one-ends}
 
 -- the expression at a place ends with its parts: count expressions from next on
 pub record Parted (line types functions : List ℕ) (at levels : ℕ) (e : Expr) (next count : ℕ) : Type 0 where
   pub parts : Exprs
   pub skippable : Skippable types functions levels count parts
   pub spelled : Spells exprsBytes line next parts
-  pub long : at + length (exprBytes e) ≡ next + length (exprsBytes parts)
+  pub long : past line at (length (exprBytes e)) ≡ past line next (length (exprsBytes parts))
+
+two-end : (line : List ℕ) (at : ℕ) (a b : Expr) → past line at (length (exprsBytes (econs a (econs b enil)))) ≡ past line (past line at (length (exprBytes a))) (length (exprBytes b))
+two-end line at a b = more-ends line at a (econs b enil) ∙ one-ends line (past line at (length (exprBytes a))) b
 
 -- ---- from the parts themselves
 module _ {line types functions : List ℕ} {at levels next : ℕ} {e : Expr} where
-  none-parted : next ≡ at + length (exprBytes e) → Spells exprBytes line at e → Parted line types functions at levels e next 0
-  none-parted q s = record { parts = enil; skippable = no-more; spelled = list-none (omega (arith, spells-within s, q)); long = omega (arith, none-long, q) }
+  none-parted : next ≡ past line at (length (exprBytes e)) → Spells exprBytes line at e → Parted line types functions at levels e next 0
+  none-parted q s = record { parts = enil; skippable = no-more; spelled = list-none (rw q (spells-within s)); long = sym q ∙ sym (none-ends line next) }
 
   module _ {whole : Expr} (is : e ≡ whole) where
-    list-parted : {es : Exprs} {n : ℕ} → Spells exprsBytes line next es → at + length (exprBytes whole) ≡ next + length (exprsBytes es) → Skippable types functions levels n es → Parted line types functions at levels e next n
-    list-parted {es} s long w = record { parts = es; skippable = w; spelled = s; long = omega (arith, ap (λ (a : Expr). length (exprBytes a)) is, long) }
+    list-parted : {es : Exprs} {n : ℕ} → Spells exprsBytes line next es → past line at (length (exprBytes whole)) ≡ past line next (length (exprsBytes es)) → Skippable types functions levels n es → Parted line types functions at levels e next n
+    list-parted {es} s long w = record { parts = es; skippable = w; spelled = s; long = ap (λ (a : Expr). past line at (length (exprBytes a))) is ∙ long }
 
-    one-parted : {a : Expr} → Spells exprBytes line next a → at + length (exprBytes whole) ≡ next + length (exprBytes a) → Skippable types functions levels 1 (econs a enil) → Parted line types functions at levels e next 1
-    one-parted {a} s long w = list-parted (list-one s) (omega (arith, long, more-long a enil, none-long)) w
+    one-parted : {a : Expr} → Spells exprBytes line next a → past line at (length (exprBytes whole)) ≡ past line next (length (exprBytes a)) → Skippable types functions levels 1 (econs a enil) → Parted line types functions at levels e next 1
+    one-parted {a} s long w = list-parted (list-one s) (long ∙ sym (one-ends line next a)) w
 
-    two-parted : {a b : Expr} → Spells exprBytes line next a → Spells exprBytes line (next + length (exprBytes a)) b → at + length (exprBytes whole) ≡ next + length (exprBytes a) + length (exprBytes b) →
+    two-parted : {a b : Expr} → Spells exprBytes line next a → Spells exprBytes line (past line next (length (exprBytes a))) b → past line at (length (exprBytes whole)) ≡ past line (past line next (length (exprBytes a))) (length (exprBytes b)) →
         Skippable types functions levels 2 (econs a (econs b enil)) → Parted line types functions at levels e next 2
-    two-parted {a} {b} s t long w = list-parted (list-more s (list-one t)) (omega (arith, long, more-long a (econs b enil), more-long b enil, none-long)) w
+    two-parted {a} {b} s t long w = list-parted (list-more s (list-one t)) (long ∙ sym (two-end line next a b)) w
 
-    three-parted : {a b d : Expr} → Spells exprBytes line next a → Spells exprBytes line (next + length (exprBytes a)) b → Spells exprBytes line (next + length (exprBytes a) + length (exprBytes b)) d →
-        at + length (exprBytes whole) ≡ next + length (exprBytes a) + length (exprBytes b) + length (exprBytes d) → Skippable types functions levels 3 (econs a (econs b (econs d enil))) → Parted line types functions at levels e next 3
+    three-parted : {a b d : Expr} → Spells exprBytes line next a → Spells exprBytes line (past line next (length (exprBytes a))) b → Spells exprBytes line (past line (past line next (length (exprBytes a))) (length (exprBytes b))) d →
+        past line at (length (exprBytes whole)) ≡ past line (past line (past line next (length (exprBytes a))) (length (exprBytes b))) (length (exprBytes d)) → Skippable types functions levels 3 (econs a (econs b (econs d enil))) → Parted line types functions at levels e next 3
     three-parted {a} {b} {d} s t u long w =
-        list-parted (list-more s (list-more t (list-one u))) (omega (arith, long, more-long a (econs b (econs d enil)), more-long b (econs d enil), more-long d enil, none-long)) w
+        list-parted (list-more s (list-more t (list-one u))) (long ∙ sym (more-ends line next a (econs b (econs d enil)) ∙ two-end line (past line next (length (exprBytes a))) b d)) w
 
 -- ---- from the form that was read
 module _ {line types functions : List ℕ} {at levels : ℕ} {S : Scope} {e : Expr} {r : Head} (d : Heads line at r) (h : Shapes types functions S) (w : WithinExpr (suc levels) S e) (s : Spells exprBytes line at e) where
@@ -89,8 +93,8 @@ module _ {line types functions : List ℕ} {at levels : ℕ} {S : Scope} {e : Ex
   adj-parted {first} q o =
       let i = adj-head d s w q in
       let p = adj-parts h (inside (i .is)) in
-      let place : first .at ≡ r .next .at + length (sizeBytes (i .size)) = o .says (i .size) (p .0) (i .spelled) in
-      one-parted (i .is) (subst (λ m. Spells exprBytes line m (i .first)) (sym place) (i .spelled₂)) (omega (arith, place, i .long)) (p .1)
+      let place : first .at ≡ past line (r .next .at) (length (sizeBytes (i .size))) = o .says (i .size) (p .0) (i .spelled) in
+      one-parted (i .is) (subst (λ m. Spells exprBytes line m (i .first)) (sym place) (i .spelled₂)) (i .long ∙ ap (λ (a : ℕ). past line a (length (exprBytes (i .first)))) (sym place)) (p .1)
 
   -- behind the subject and the return type
   pub case-parted : {t : ℕ} {result first : Cursor} → r .form ≡ Case t → Skips line types functions (r .next) levels result → Over resultBytes (WithinResult typesMost sizeVariablesMost) line (result .at) first →
@@ -100,7 +104,7 @@ module _ {line types functions : List ℕ} {at levels : ℕ} {S : Scope} {e : Ex
       let within = inside (i .is) in
       let told = h .each t (case-type h within) in
       let same : partsOf types functions (Case t) ≡ length (getD (S .types) t []) = omega (arith, told .constructors, told .few) in
-      let subject : result .at ≡ r .next .at + length (exprBytes (i .first)) = u .says S (i .first) h (case-subject h within) (i .spelled) in
-      let place : first .at ≡ result .at + length (resultBytes (i .result)) = o .says (i .result) (case-result h within) (subst (λ m. Spells resultBytes line m (i .result)) (sym subject) (i .spelled₂)) in
-      let start : first .at ≡ r .next .at + length (exprBytes (i .first)) + length (resultBytes (i .result)) = omega (arith, subject, place) in
-      list-parted (i .is) (subst (λ m. Spells exprsBytes line m (i .branches)) (sym start) (i .spelled₃)) (omega (arith, start, i .long)) (subst (λ m. Skippable types functions levels m (i .branches)) (sym same) (case-branches h within))
+      let subject : result .at ≡ past line (r .next .at) (length (exprBytes (i .first))) = u .says S (i .first) h (case-subject h within) (i .spelled) in
+      let place : first .at ≡ past line (result .at) (length (resultBytes (i .result))) = o .says (i .result) (case-result h within) (subst (λ m. Spells resultBytes line m (i .result)) (sym subject) (i .spelled₂)) in
+      let start : first .at ≡ past line (past line (r .next .at) (length (exprBytes (i .first)))) (length (resultBytes (i .result))) = place ∙ ap (λ (a : ℕ). past line a (length (resultBytes (i .result)))) subject in
+      list-parted (i .is) (subst (λ m. Spells exprsBytes line m (i .branches)) (sym start) (i .spelled₃)) (i .long ∙ ap (λ (a : ℕ). past line a (length (exprsBytes (i .branches)))) (sym start)) (subst (λ m. Skippable types functions levels m (i .branches)) (sym same) (case-branches h within))

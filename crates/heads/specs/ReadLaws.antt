@@ -3,63 +3,53 @@ use Prim.Native.Nat.{ℕ, _+_, _*_, _^_, _≤_, _<_}
 use mathlib.Core.List.{List, [], _∷_}
 use mathlib.Core.Path.{_≡_, refl, sym, ap, _∙_}
 use native.Mathlib.Omega.{arith}
-use native.Mathlib.Nat.{add-zero}
-use lib.ListN.{length, getD, length-drop}
-use lib.Seq.{getD-drop}
+use lib.ListN.{length, getD, drop}
 use Rattle.language.specs.Parser.{Read, got, bad, andThen, byte}
 use Rattle.language.specs.ReadExpr.{int}
 use Rattle.text.specs.declared.Found.{Found}
 use Rattle.text.specs.declared.Number.{Number}
 use Rattle.text.specs.declared.Number.the-variants.{Is, Refused}
-use Rattle.text.specs.Bytes.{bytesOf, bytesFrom, ReadsNumber}
-use Rattle.text.specs.StepLaws.{number-got, number-bad, number-moved, number-below, ends-within}
+use Rattle.text.specs.Bytes.{bytesFrom, past, bytesLeft, ReadsNumber}
+use Rattle.text.specs.Places.{bytes-past, byte-past}
+use Rattle.text.specs.StepLaws.{number-got, number-bad, number-moved, number-below, moved-past}
 use Rattle.text.specs.IntLaws.{ByteAt}
 use Rattle.encoding.specs.Forms.{fourAt}
-use Rattle.encoding.specs.CursorSpells.{byte-is}
+use Rattle.encoding.specs.CursorSpells.{byte-is, byte-left, byte-behind}
 use Rattle.heads.specs.Heads.{OperandAt}
 
 -- ---- a byte
 pub record ByteFound (line : List ℕ) (at : ℕ) (f : Found) : Type 0 where
-  pub less : at < length (bytesOf line)
+  pub some : 0 < bytesLeft line at
   pub value : OperandAt line at (f .value)
-  pub ends : f .next .at ≡ at + 1
-
-byte-left : {n : ℕ} {cs : List ℕ} (bs : List ℕ) → byte bs ≡ got n cs → 0 < length bs
-unfolding byte
-byte-left [] e = absurd (let z : _≡_ {A = ℕ} 0 1 = cc in omega arith)
-byte-left (b ∷ bs) e = omega arith
+  pub ends : f .next .at ≡ past line at 1
 
 valueOf : Number → ℕ
 valueOf (Is f) = f .value
 valueOf (Refused n) = 0
 
-placeOf : Number → ℕ
-placeOf (Is f) = f .next .at
-placeOf (Refused n) = 0
-
 module _ {line : List ℕ} {at : ℕ} {x : Number} (v : ByteAt line at x) where
   pub byte-found : {f : Found} → x ≡ Is f → ByteFound line at f
-  unfolding valueOf placeOf
+  unfolding valueOf
   byte-found e =
-      let less : at < length (bytesOf line) = omega (arith, byte-left (bytesFrom line at) (number-got (v .0) e), length-drop at (bytesOf line)) in
-      let same = sym e ∙ byte-is x less (v .0) in
-      record { less = less; value = record { is = ap valueOf same; small = number-below (v .1) e }; ends = ap placeOf same }
+      let some = byte-left (v .0) e in
+      let same = sym e ∙ byte-is x some (v .0) in
+      record { some = some; value = record { is = ap valueOf same; small = number-below (v .1) e }; ends = byte-behind (v .0) e }
 
-  pub byte-none : {m : ℕ} → x ≡ Refused m → at < length (bytesOf line) → ⊥
-  byte-none e less = let same = sym e ∙ byte-is x less (v .0) in let z : _≡_ {A = ℕ} 0 1 = cc in omega arith
+  pub byte-none : {m : ℕ} → x ≡ Refused m → 0 < bytesLeft line at → ⊥
+  byte-none e some = let same = sym e ∙ byte-is x some (v .0) in let z : _≡_ {A = ℕ} 0 1 = cc in omega arith
 
 -- ---- an Int
 pub record IntFound (line : List ℕ) (at : ℕ) (f : Found) : Type 0 where
-  pub within : at + 4 ≤ length (bytesOf line)
+  pub within : 4 ≤ bytesLeft line at
   pub value : f .value ≡ fourAt line at
-  pub ends : f .next .at ≡ at + 4
+  pub ends : f .next .at ≡ past line at 4
 
 -- the number of the first four bytes of a list
 abbrev firstFour : List ℕ → ℕ
 firstFour bs = getD bs 0 0 * 2 ^ 24 + getD bs 1 0 * 2 ^ 16 + getD bs 2 0 * 2 ^ 8 + getD bs 3 0
 
 data FourRead (bs : List ℕ) : Read ℕ → Type 0 where
-  four-read : {n : ℕ} {cs : List ℕ} → n ≡ firstFour bs → length bs ≡ 4 + length cs → FourRead bs (got n cs)
+  four-read : {n : ℕ} {cs : List ℕ} → n ≡ firstFour bs → 4 ≤ length bs → cs ≡ drop 4 bs → FourRead bs (got n cs)
   four-cut : {m : ℕ} → length bs < 4 → FourRead bs (bad m)
 
 int-reads : (bs : List ℕ) → FourRead bs (int bs)
@@ -68,24 +58,24 @@ int-reads [] = four-cut (omega arith)
 int-reads (a ∷ []) = four-cut (omega arith)
 int-reads (a ∷ b ∷ []) = four-cut (omega arith)
 int-reads (a ∷ b ∷ c ∷ []) = four-cut (omega arith)
-int-reads (a ∷ b ∷ c ∷ d ∷ bs) = four-read {cs = bs} refl (omega arith)
+int-reads (a ∷ b ∷ c ∷ d ∷ bs) = four-read {cs = bs} refl (omega arith) refl
 
 four-from : (line : List ℕ) (at : ℕ) → firstFour (bytesFrom line at) ≡ fourAt line at
-four-from line at = rw (getD-drop at (bytesOf line) 0 0, getD-drop at (bytesOf line) 1 0, getD-drop at (bytesOf line) 2 0, getD-drop at (bytesOf line) 3 0, add-zero at)
+four-from line at = rw (byte-past line at 1, byte-past line at 2, byte-past line at 3)
 
 module _ {line : List ℕ} {at : ℕ} {x : Number} (v : ReadsNumber line at x (int (bytesFrom line at))) where
   pub int-found : {f : Found} → x ≡ Is f → IntFound line at f
   int-found {f} e = go (rw (number-got v e) at (int-reads (bytesFrom line at)))
     where
       go : FourRead (bytesFrom line at) (got (f .value) (bytesFrom line (f .next .at))) → IntFound line at f
-      go (four-read value long) = record {
-        within = omega (arith, long, length-drop at (bytesOf line));
+      go (four-read value enough rest) = record {
+        within = enough;
         value = value ∙ four-from line at;
-        ends = omega (arith, long, length-drop at (bytesOf line), length-drop (f .next .at) (bytesOf line), ends-within (number-moved v e));
+        ends = moved-past 4 (number-moved v e) enough (rest ∙ sym (bytes-past line at 4));
       }
 
-  pub int-none : {m : ℕ} → x ≡ Refused m → at + 4 ≤ length (bytesOf line) → ⊥
+  pub int-none : {m : ℕ} → x ≡ Refused m → 4 ≤ bytesLeft line at → ⊥
   int-none {m} e le = go (rw (number-bad v e) at (int-reads (bytesFrom line at)))
     where
       go : FourRead (bytesFrom line at) (bad m) → ⊥
-      go (four-cut less) = omega (arith, less, le, length-drop at (bytesOf line))
+      go (four-cut less) = omega (arith, less, le)

@@ -1,7 +1,7 @@
 -- Skipping an expression and a list, return by return: what the calls so far promise, the function promises.
-use Prim.Native.Nat.{ℕ, zero, suc, _+_, _-_}
+use Prim.Native.Nat.{ℕ, zero, suc, _-_}
 use mathlib.Core.List.{List}
-use mathlib.Core.Path.{_≡_, refl, sym, _∙_, subst}
+use mathlib.Core.Path.{_≡_, refl, sym, ap, _∙_, subst}
 use native.Mathlib.Omega.{arith}
 use lib.ListN.{length}
 use Rattle.language.specs.Limits.{typesMost, sizeVariablesMost, nestingMost}
@@ -15,7 +15,7 @@ use Rattle.theory.specs.Places.{one-less}
 use Rattle.text.specs.declared.Cursor.{Cursor}
 use Rattle.text.specs.declared.Step.{Step}
 use Rattle.text.specs.declared.Step.the-variants.{Next, Stop}
-use Rattle.text.specs.Bytes.{bytesFrom, forget, Passes}
+use Rattle.text.specs.Bytes.{bytesFrom, past, forget, Passes}
 use Rattle.encoding.specs.Spells.{Spells}
 use Rattle.encoding.specs.ExprLists.{first-of-exprs}
 use Rattle.encoding.specs.CursorSpells.{passed-over}
@@ -23,7 +23,7 @@ use Rattle.heads.specs.declared.Form.the-variants.{Case, Adjust}
 use Rattle.heads.specs.declared.Head.{Head}
 use Rattle.heads.specs.Heads.{Heads}
 use Rattle.heads.specs.Skips.{Skippable, no-more, one-more, Skips, SkipsAll, Over, partsOf}
-use Rattle.heads.specs.PartLaws.{none-long, more-long}
+use Rattle.heads.specs.PartLaws.{none-ends, more-ends}
 use Rattle.heads.specs.SkipHeads.{next-at, next-there}
 use Rattle.heads.specs.Parted.{Parted, parted, adj-parted, case-parted}
 
@@ -48,7 +48,7 @@ module _ (line types functions : List ℕ) (c : Cursor) (levels : ℕ) where
     less-deep : {S : Scope} {e : Expr} → WithinExpr levels S e → WithinExpr (suc (levels - 1)) S e
     less-deep {S} {e} w = subst (λ m. WithinExpr m S e) (one-less levels some) w
 
-    parts-skipped : {e : Expr} → Parted line types functions (c .at) (levels - 1) e (first .at) n → r .at ≡ c .at + length (exprBytes e)
+    parts-skipped : {e : Expr} → Parted line types functions (c .at) (levels - 1) e (first .at) n → r .at ≡ past line (c .at) (length (exprBytes e))
     parts-skipped p = a .says (p .parts) (p .skippable) (p .spelled) ∙ sym (p .long)
 
     pub skip-parts : first ≡ head .next → ((t : ℕ) → head .form ≡ Case t → ⊥) → (head .form ≡ Adjust → ⊥) → Skips line types functions c levels r
@@ -66,14 +66,14 @@ module _ (line types functions : List ℕ) (c : Cursor) (levels : ℕ) where
   pub several-none : {n : ℕ} → n ≡ 0 → SkipsAll line types functions c levels n c
   several-none q = record { says = λ es w s. none es (subst (λ m. Skippable types functions levels m es) q w) }
     where
-      none : (es : Exprs) → Skippable types functions levels 0 es → c .at ≡ c .at + length (exprsBytes es)
-      none enil no-more = omega (arith, none-long)
+      none : (es : Exprs) → Skippable types functions levels 0 es → c .at ≡ past line (c .at) (length (exprsBytes es))
+      none enil no-more = sym (none-ends line (c .at))
 
   pub several-done : {n : ℕ} {d r : Cursor} → (n ≡ 0 → ⊥) → Skips line types functions c levels d → SkipsAll line types functions d levels (n - 1) r → SkipsAll line types functions c levels n r
   several-done {n} {d} {r} some u a = record { says = λ es w s. more es (subst (λ m. Skippable types functions levels m es) (one-less n some) w) s }
     where
-      more : (es : Exprs) → Skippable types functions levels (suc (n - 1)) es → Spells exprsBytes line (c .at) es → r .at ≡ c .at + length (exprsBytes es)
+      more : (es : Exprs) → Skippable types functions levels (suc (n - 1)) es → Spells exprsBytes line (c .at) es → r .at ≡ past line (c .at) (length (exprsBytes es))
       more (econs e es) (one-more {S} h w ws) s =
           let two = first-of-exprs s in
-          let place : d .at ≡ c .at + length (exprBytes e) = u .says S e h w (two .spelled) in
-          omega (arith, place, more-long e es, a .says es ws (subst (λ m. Spells exprsBytes line m es) (sym place) (two .next)))
+          let place : d .at ≡ past line (c .at) (length (exprBytes e)) = u .says S e h w (two .spelled) in
+          a .says es ws (subst (λ m. Spells exprsBytes line m es) (sym place) (two .next)) ∙ ap (λ (a : ℕ). past line a (length (exprsBytes es))) place ∙ sym (more-ends line (c .at) e es)

@@ -10,6 +10,7 @@ use Rattle.language.specs.Format.{exprBytes, exprsBytes}
 use Rattle.language.specs.Scope.{Scope}
 use Rattle.language.specs.Within.{WithinExpr}
 use Rattle.text.specs.declared.Cursor.{Cursor}
+use Rattle.text.specs.Places.{past}
 use Rattle.index.specs.Tables.{typeWords, constructorWords, functionWords}
 use Rattle.index.specs.Enters.{TellsType}
 use Rattle.encoding.specs.Spells.{Spells}
@@ -29,14 +30,14 @@ pub data Skippable (types functions : List ℕ) (levels : ℕ) : ℕ → Exprs �
   one-more : {m : ℕ} {S : Scope} {e : Expr} {es : Exprs} → Shapes types functions S → WithinExpr levels S e → Skippable types functions levels m es → Skippable types functions levels (suc m) (econs e es)
 
 pub record Skips (line types functions : List ℕ) (c : Cursor) (levels : ℕ) (r : Cursor) : Type 0 where
-  pub says : (S : Scope) (e : Expr) → Shapes types functions S → WithinExpr levels S e → Spells exprBytes line (c .at) e → r .at ≡ c .at + length (exprBytes e)
+  pub says : (S : Scope) (e : Expr) → Shapes types functions S → WithinExpr levels S e → Spells exprBytes line (c .at) e → r .at ≡ past line (c .at) (length (exprBytes e))
 
 pub record SkipsAll (line types functions : List ℕ) (c : Cursor) (levels n : ℕ) (r : Cursor) : Type 0 where
-  pub says : (es : Exprs) → Skippable types functions levels n es → Spells exprsBytes line (c .at) es → r .at ≡ c .at + length (exprsBytes es)
+  pub says : (es : Exprs) → Skippable types functions levels n es → Spells exprsBytes line (c .at) es → r .at ≡ past line (c .at) (length (exprsBytes es))
 
 -- the cursor stands behind what is spelled at a place and within the limits
 pub record Over {A : Type 0} (bytes : A → List ℕ) (Limited : A → Type 0) (line : List ℕ) (at : ℕ) (r : Cursor) : Type 0 where
-  pub says : (a : A) → Limited a → Spells bytes line at a → r .at ≡ at + length (bytes a)
+  pub says : (a : A) → Limited a → Spells bytes line at a → r .at ≡ past line at (length (bytes a))
 
 -- how many expressions, one after the other, end an expression of a form
 abbrev pub partsOf : List ℕ → List ℕ → Form → ℕ

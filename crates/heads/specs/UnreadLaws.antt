@@ -4,11 +4,11 @@ use mathlib.Core.List.{List}
 use mathlib.Core.Path.{_≡_, refl, ap, _∙_}
 use native.Mathlib.Omega.{arith}
 use lib.ListN.{length, List·getD-eq-default}
-use Rattle.language.specs.Syntax.{Expr}
+use Rattle.language.specs.Syntax.{Expr, econ}
 use Rattle.language.specs.Format.{exprBytes}
-use Rattle.text.specs.Bytes.{bytesOf}
-use Rattle.encoding.specs.Spells.{Spells, spells-within}
-use Rattle.encoding.specs.Forms.{FormCoded, bool-coded, int-coded, var-coded, now-coded, last-coded, let-coded, if-coded, op-coded, call-coded, con-coded, case-coded, adj-coded, fit-coded}
+use Rattle.text.specs.Places.{bytesFrom, bytesLeft}
+use Rattle.encoding.specs.Spells.{Spells, spells-left}
+use Rattle.encoding.specs.Forms.{OfList, FormCoded, bool-coded, int-coded, var-coded, now-coded, last-coded, let-coded, if-coded, op-coded, call-coded, con-coded, case-coded, adj-coded, fit-coded}
 use Rattle.encoding.specs.ExprInversions.{form-of-byte, int-spelled, con-spelled, code-within}
 use Rattle.heads.specs.Heads.{OtherCode, NoOperand, Unread, no-code, no-form, no-operand, no-constructor, no-int}
 
@@ -17,6 +17,7 @@ long-is is long = ap (λ (a : Expr). length (exprBytes a)) is ∙ long
 
 -- every other code has a byte behind it
 two-bytes : {line : List ℕ} {at : ℕ} {e : Expr} {code : ℕ} → FormCoded line at e code → OtherCode code → 2 ≤ length (exprBytes e)
+unfolding exprBytes
 two-bytes (bool-coded i) o = omega (arith, long-is (i .is) (i .long))
 two-bytes (int-coded i) o = omega (arith, long-is (i .is) (i .long))
 two-bytes (var-coded i) o = omega (arith, long-is (i .is) (i .long))
@@ -24,12 +25,12 @@ two-bytes (now-coded i) o = omega (arith, long-is (i .is) (i .long))
 two-bytes (last-coded i) o = omega (arith, long-is (i .is) (i .long))
 two-bytes (let-coded i) o = absurd (o .noLet refl)
 two-bytes (if-coded i) o = absurd (o .noIf refl)
-two-bytes (op-coded i) o = omega (arith, long-is (i .of .is) (i .of .long))
-two-bytes (call-coded i) o = omega (arith, long-is (i .is) (i .long))
-two-bytes (con-coded i) o = omega (arith, long-is (i .is) (i .long))
-two-bytes (case-coded i) o = omega (arith, long-is (i .is) (i .long))
+two-bytes (op-coded i) o = rw (i .of .is) (omega arith)
+two-bytes (call-coded i) o = rw (i .is) (omega arith)
+two-bytes (con-coded i) o = rw (i .is) (omega arith)
+two-bytes (case-coded i) o = rw (i .is) (omega arith)
 two-bytes (adj-coded i) o = absurd (o .noAdjust refl)
-two-bytes (fit-coded i) o = omega (arith, long-is (i .is) (i .long))
+two-bytes (fit-coded i) o = rw (i .is) (omega arith)
 
 of-no-form : {line : List ℕ} {at : ℕ} {e : Expr} {code : ℕ} → FormCoded line at e code → OtherCode code → NoOperand code → ⊥
 of-no-form (bool-coded i) o n = n .noBool refl
@@ -46,9 +47,13 @@ of-no-form (case-coded i) o n = n .noCase refl
 of-no-form (adj-coded i) o n = o .noAdjust refl
 of-no-form (fit-coded i) o n = n .noFit refl
 
+three-bytes : {line : List ℕ} {at t k : ℕ} {e : Expr} → OfList (econ t k) 3 line at e → 3 ≤ length (exprBytes e)
+unfolding exprBytes
+three-bytes i = rw (i .is) (omega arith)
+
 pub unread-none : {line : List ℕ} {at : ℕ} {e : Expr} → Unread line at → Spells exprBytes line at e → ⊥
-unread-none {line} (no-code ended) s = omega (arith, code-within s .0, List·getD-eq-default (bytesOf line) 0 ended)
+unread-none {line} {at} (no-code ended) s = let none : bytesLeft line at ≤ 0 = omega (arith, ended) in omega (arith, code-within s .0, List·getD-eq-default (bytesFrom line at) 0 none)
 unread-none (no-form o n) s = of-no-form (form-of-byte s) o n
-unread-none (no-operand o less) s = omega (arith, less, two-bytes (form-of-byte s) o, spells-within s)
-unread-none (no-constructor q less) s = let i = con-spelled s q in omega (arith, less, i .spelled .within)
-unread-none (no-int q less) s = let i = int-spelled s q in omega (arith, less, long-is (i .is) (i .long), spells-within s)
+unread-none (no-operand o less) s = omega (arith, less, two-bytes (form-of-byte s) o, spells-left s)
+unread-none (no-constructor q less) s = omega (arith, less, three-bytes (con-spelled s q), spells-left s)
+unread-none (no-int q less) s = let i = int-spelled s q in omega (arith, less, long-is (i .is) (i .long), spells-left s)

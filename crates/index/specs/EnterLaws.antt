@@ -2,7 +2,7 @@
 use Prim.Native.Nat.{ℕ, suc, _+_, _*_, _-_, _≤_, _<_}
 use mathlib.Core.List.{List, [], _∷_, _++_, append-nil, append-assoc}
 use mathlib.Core.Path.{_≡_, refl, sym, ap, _∙_}
-use native.Mathlib.Nat.{le-refl, mul-le-mul-left}
+use native.Mathlib.Nat.{mul-le-mul-left}
 use native.Mathlib.Omega.{arith}
 use lib.ListN.{length, take, drop, set, length-append}
 use lib.Seq.{append-snoc}
@@ -16,9 +16,9 @@ use Rattle.text.specs.declared.Number.{Number}
 use Rattle.text.specs.declared.Number.the-variants.{Is, Refused}
 use Rattle.text.specs.declared.Step.{Step}
 use Rattle.text.specs.declared.Step.the-variants.{Next, Stop}
-use Rattle.text.specs.Bytes.{bytesOf, bytesFrom, forget, mapRead, stepOf, moved, ReadsNumber, Passes, Below}
+use Rattle.text.specs.Bytes.{bytesFrom, IsPlace, forget, mapRead, stepOf, ReadsNumber, Passes, Below}
 use Rattle.text.specs.ReadLaws.{read-then, read-stops}
-use Rattle.text.specs.StepLaws.{ends-within, number-got, number-bad, number-moved, pass-got, pass-bad, pass-moved, pass-none, pass-here, pass-then-pass, pass-stops-pass, read-then-pass, read-stops-pass, forget-then}
+use Rattle.text.specs.StepLaws.{ends-within, moved-none, number-got, number-bad, number-moved, pass-got, pass-bad, pass-moved, pass-none, pass-here, pass-then-pass, pass-stops-pass, read-then-pass, read-stops-pass, forget-then}
 use Rattle.theory.specs.Padding.{padded-length}
 use Rattle.index.specs.Padded.{padded-next, padded-within}
 use Rattle.index.specs.Entries.{spell-length}
@@ -68,10 +68,10 @@ module _ {A : Type 0} (word : A → ℕ) {line : List ℕ} {at to : ℕ} {x : Nu
 
 -- ---- so many entries of w words
 module _ {A : Type 0} (p : Parser A) (entry : A → List ℕ) (w : ℕ) (wide : (a : A) → length (entry a) ≡ w) where
-  many-none : {line table : List ℕ} {to : ℕ} {c : Cursor} → c .at ≤ length (bytesOf line) → Enters (spellAll entry) line (c .at) to table (Next c) table (many p 0 (bytesFrom line (c .at)))
+  many-none : {line table : List ℕ} {to : ℕ} {c : Cursor} → IsPlace line (c .at) → Enters (spellAll entry) line (c .at) to table (Next c) table (many p 0 (bytesFrom line (c .at)))
   unfolding many forget spellAll
   many-none {line} {table} {to} {c} h = record {
-    passes = pass-here (moved {c = c} (le-refl _) h) refl;
+    passes = pass-here (moved-none h) refl;
     enters = λ n before {a} e tb len room. tb ∙ ap (padded n) (sym (append-nil before)) ∙ ap (λ l. padded n (before ++ spellAll entry l)) (got-value e);
   }
 
@@ -98,10 +98,10 @@ module _ {A : Type 0} (p : Parser A) (entry : A → List ℕ) (w : ℕ) (wide : 
 
 -- ---- the loop: whatever reads the m entries left, from where it is now, reads all n
 pub record Leads {A : Type 0} (p : Parser A) (entry : A → List ℕ) (line : List ℕ) (n at to : ℕ) (table : List ℕ) (m at′ to′ : ℕ) (table′ : List ℕ) : Type 0 where
-  pub within : at′ ≤ length (bytesOf line)
+  pub within : IsPlace line at′
   pub on : {r : Step} {last : List ℕ} → Enters (spellAll entry) line at′ to′ table′ r last (many p m (bytesFrom line at′)) → Enters (spellAll entry) line at to table r last (many p n (bytesFrom line at))
 
-pub leads-start : {A : Type 0} {p : Parser A} {entry : A → List ℕ} {line table : List ℕ} {n at to m to′ : ℕ} → m ≡ n → to′ ≡ to → at ≤ length (bytesOf line) → Leads p entry line n at to table m at to′ table
+pub leads-start : {A : Type 0} {p : Parser A} {entry : A → List ℕ} {line table : List ℕ} {n at to m to′ : ℕ} → m ≡ n → to′ ≡ to → IsPlace line at → Leads p entry line n at to table m at to′ table
 leads-start all same h = record { within = h; on = λ u. rw (← all, ← same) u }
 
 module _ {A : Type 0} {p : Parser A} {entry : A → List ℕ} (w : ℕ) (wide : (a : A) → length (entry a) ≡ w) {line table : List ℕ} {n at to m at′ to′ : ℕ} {table′ : List ℕ} (v : Leads p entry line n at to table m at′ to′ table′) where

@@ -12,10 +12,11 @@ use Rattle.language.specs.Format.{spellAll, resultBytes, conditionBytes, exprBy
 use Rattle.language.specs.Reader.{readFile}
 use Rattle.language.specs.Within.{Within}
 use Rattle.text.specs.Bytes.{fieldWord, declaredWord}
+use Rattle.text.specs.Places.{past, byteAt}
 use Rattle.index.specs.Tables.{frameWords, constructorWords, typeWords, functionWords, channelWords}
 use Rattle.index.specs.Enters.{TellsType, TellsParameters}
 use Rattle.index.specs.FunctionTable.{headWords}
-use Rattle.encoding.specs.Spells.{byteAt, Spells, themselves}
+use Rattle.encoding.specs.Spells.{Spells, themselves}
 use Rattle.encoding.specs.FrameParts.{TypeSpelled}
 use Rattle.encoding.specs.FrameSpells.{lineAt}
 use Rattle.index.specs.declared.Counts.{Counts}
@@ -83,9 +84,9 @@ pub record FunctionIndexed (line functions : List ℕ) (f : ℕ) (F : Function) 
   pub tells : TellsParameters functions f (F .parameters)
   pub result : Spells resultBytes line (resultAt functions f) (F .result)
   pub conditionCount : byteAt line (conditionsAt functions f) ≡ length (F .conditions)
-  pub conditions : Spells (spellAll conditionBytes) line (conditionsAt functions f + 1) (F .conditions)
+  pub conditions : Spells (spellAll conditionBytes) line (past line (conditionsAt functions f) 1) (F .conditions)
   pub measureCount : byteAt line (measureAt functions f) ≡ length (F .measure)
-  pub measure : Spells themselves line (measureAt functions f + 1) (F .measure)
+  pub measure : Spells themselves line (past line (measureAt functions f) 1) (F .measure)
   pub body : Spells exprBytes line (bodyAt functions f) (F .body)
 
 pub record ChannelIndexed (line channels : List ℕ) (c : ℕ) (τ : Ty) (e : Expr) : Type 0 where

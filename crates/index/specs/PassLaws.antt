@@ -2,7 +2,6 @@
 use Prim.Native.Nat.{ℕ, zero, suc, _-_, _≤_, _<_}
 use mathlib.Core.List.{List, _∷_}
 use mathlib.Core.Path.{_≡_, refl, ap}
-use native.Mathlib.Nat.{le-refl}
 use native.Mathlib.Omega.{arith}
 use lib.ListN.{length}
 use Rattle.language.specs.Limits.{byteRange, nestingMost}
@@ -16,22 +15,22 @@ use Rattle.text.specs.declared.Number.{Number}
 use Rattle.text.specs.declared.Number.the-variants.{Is, Refused}
 use Rattle.text.specs.declared.Step.{Step}
 use Rattle.text.specs.declared.Step.the-variants.{Next, Stop}
-use Rattle.text.specs.Bytes.{bytesOf, bytesFrom, forget, stepOf, moved, ReadsNumber, Passes, Below}
+use Rattle.text.specs.Bytes.{bytesFrom, IsPlace, forget, stepOf, ReadsNumber, Passes, Below}
 use Rattle.text.specs.Codes.{codePlace}
-use Rattle.text.specs.StepLaws.{ends-within, number-moved, pass-none, pass-moved, pass-here, passes-behind, pass-then-pass, pass-stops-pass, read-stops-pass, forget-then, read-passes}
+use Rattle.text.specs.StepLaws.{ends-within, moved-none, number-moved, pass-none, pass-moved, pass-here, passes-behind, pass-then-pass, pass-stops-pass, read-stops-pass, forget-then, read-passes}
 use Rattle.text.specs.CodeLaws.{code-then, code-stops, code-below}
 
 -- ---- the loop: whatever passes over the m left, from where it is now, passes over all n
 pub record PassesOn {A : Type 0} (p : Parser A) (line : List ℕ) (n at m at′ : ℕ) : Type 0 where
-  pub within : at′ ≤ length (bytesOf line)
+  pub within : IsPlace line at′
   pub on : {r : Step} → Passes line at′ r (forget (many p m (bytesFrom line at′))) → Passes line at r (forget (many p n (bytesFrom line at)))
 
-pub passes-start : {A : Type 0} {p : Parser A} {line : List ℕ} {n at m : ℕ} → m ≡ n → at ≤ length (bytesOf line) → PassesOn p line n at m at
+pub passes-start : {A : Type 0} {p : Parser A} {line : List ℕ} {n at m : ℕ} → m ≡ n → IsPlace line at → PassesOn p line n at m at
 passes-start all h = record { within = h; on = λ u. rw (← all) u }
 
-passes-none : {A : Type 0} (p : Parser A) {line : List ℕ} (c : Cursor) → c .at ≤ length (bytesOf line) → Passes line (c .at) (Next c) (forget (many p 0 (bytesFrom line (c .at))))
+passes-none : {A : Type 0} (p : Parser A) {line : List ℕ} (c : Cursor) → IsPlace line (c .at) → Passes line (c .at) (Next c) (forget (many p 0 (bytesFrom line (c .at))))
 unfolding many forget
-passes-none p c h = pass-here (moved {c = c} (le-refl _) h) refl
+passes-none p c h = pass-here (moved-none h) refl
 
 module _ {A : Type 0} {p : Parser A} {line : List ℕ} {n at m at′ : ℕ} (v : PassesOn p line n at m at′) where
   pub passes-end : {c : Cursor} → c .at ≡ at′ → m ≡ 0 → Passes line at (Next c) (forget (many p n (bytesFrom line at)))

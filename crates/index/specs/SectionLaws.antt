@@ -72,7 +72,7 @@ section-lent C from n part index long same x =
     (rw (section-pasted from n part index long size) x, outside-pasted from n part index long size)
 
 -- ---- an index of zeros
-drop-zeros : (a m : ℕ) → drop {A = ℕ} a (replicate m 0) ≡ replicate (m - a) 0
+pub drop-zeros : (a m : ℕ) → drop {A = ℕ} a (replicate m 0) ≡ replicate (m - a) 0
 drop-zeros zero m = let none : m ≡ m - 0 = omega arith in ap (λ k. replicate k 0) none
 drop-zeros (suc a) zero = let none : 0 - suc a ≡ 0 = omega arith in rw none refl
 drop-zeros (suc a) (suc m) = let less : suc m - suc a ≡ m - a = omega arith in rw less (drop-zeros a m)

@@ -7,7 +7,7 @@ ghost use Rattle.language.specs.Parser.{many, counted, index as indexRead};
 ghost use Rattle.language.specs.ReadExpr.{plain};
 ghost use Rattle.language.specs.Reader.{condition as conditionRead};
 ghost use Rattle.language.specs.Format.{spellAll};
-ghost use Rattle.text.specs.Bytes.{bytesOf, bytesFrom, Passes, forget};
+ghost use Rattle.text.specs.Bytes.{bytesFrom, IsPlace, Passes, forget};
 ghost use Rattle.index.specs.Tables.{functionWords};
 ghost use Rattle.index.specs.FunctionTable.{headWords};
 ghost use Rattle.index.specs.Sections.{indexWords, functionsFrom, functionTableWords, functionsOf};
@@ -64,7 +64,7 @@ fn parameters_into(
     n: u32,
 ) -> Step
     requires { ⌜ to < 2 ^ 62 ⌝ }
-    requires { ⌜ c .at ≤ length (bytesOf (now line)) ⌝ }
+    requires { ⌜ IsPlace (now line) (c .at) ⌝ }
     ensures { λ r. ⌜ Enters (spellAll plainWords) (now (line .entry)) (c .at) to (now (functions .entry)) r (now (functions .exit)) (many (plain types) n (bytesFrom (now (line .entry)) (c .at))) ⌝ }
 {
     let mut next = c;

@@ -6,7 +6,7 @@ ghost use Rattle.language.specs.Limits.{byteRange};
 ghost use Rattle.language.specs.Parser.{many};
 ghost use Rattle.language.specs.ReadExpr.{field as fieldRead};
 ghost use Rattle.language.specs.Format.{spellAll};
-ghost use Rattle.text.specs.Bytes.{bytesOf, bytesFrom};
+ghost use Rattle.text.specs.Bytes.{bytesFrom, IsPlace};
 ghost use Rattle.index.specs.Tables.{constructorWords, typeWords, constructorEntry, typeEntry};
 ghost use Rattle.index.specs.Sections.{indexWords, typesFrom, typeTableWords, typesOf};
 ghost use Rattle.index.specs.SectionLaws.{Outside};
@@ -58,7 +58,7 @@ fn field_into(line: &[u8], types: &mut [u32], c: Cursor, t: u32, to: usize) -> S
 // Reads so many fields, and writes their words from a place on.
 fn fields_into(line: &[u8], types: &mut [u32], c: Cursor, t: u32, to: usize, n: u32) -> Step
     requires { ⌜ to < 2 ^ 62 ⌝ }
-    requires { ⌜ c .at ≤ length (bytesOf (now line)) ⌝ }
+    requires { ⌜ IsPlace (now line) (c .at) ⌝ }
     ensures { λ r. ⌜ Enters (spellAll fieldWords) (now (line .entry)) (c .at) to (now (types .entry)) r (now (types .exit)) (many (fieldRead t) n (bytesFrom (now (line .entry)) (c .at))) ⌝ }
 {
     let mut next = c;
@@ -110,7 +110,7 @@ fn constructor_into(line: &[u8], types: &mut [u32], c: Cursor, t: u32, to: usize
 // Reads so many constructors, and writes their entries from a place on.
 fn constructors_into(line: &[u8], types: &mut [u32], c: Cursor, t: u32, to: usize, n: u32) -> Step
     requires { ⌜ to < 2 ^ 60 ⌝ }
-    requires { ⌜ c .at ≤ length (bytesOf (now line)) ⌝ }
+    requires { ⌜ IsPlace (now line) (c .at) ⌝ }
     ensures { λ r. ⌜ Enters (spellAll constructorEntry) (now (line .entry)) (c .at) to (now (types .entry)) r (now (types .exit)) (many (constructorBehind t) n (bytesFrom (now (line .entry)) (c .at))) ⌝ }
 {
     let mut next = c;

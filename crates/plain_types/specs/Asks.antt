@@ -3,7 +3,7 @@
 use Prim.Native.Nat.{ℕ, _+_, _-_, _*_, _≤_, _<_, _^_}
 use mathlib.Core.List.{List, [], map}
 use mathlib.Core.Option.{Option}
-use mathlib.Core.Path.{_≡_}
+use mathlib.Core.Path.{_≡_, sym, ap, _∙_}
 use lib.ListN.{length, getD, take, drop}
 use Rattle.language.specs.Limits.{variablesMost, sizeVariablesMost, nestingMost}
 use Rattle.language.specs.Result.{when}
@@ -15,6 +15,7 @@ use Rattle.language.specs.Layout.{tagStep}
 use Rattle.language.specs.PlainTypes.{isPlain, arePlain, plainOf, plainsOf, plainBranches}
 use Rattle.text.specs.declared.Cursor.{Cursor}
 use Rattle.text.specs.Bytes.{plainWord}
+use Rattle.text.specs.Places.{past}
 use Rattle.encoding.specs.Spells.{Spells}
 use Rattle.encoding.specs.FrameSpells.{lineAt}
 use Rattle.encoding.specs.Known.{Known}
@@ -65,7 +66,14 @@ pub record Stage (text index scope : List ℕ) (line variables : ℕ) (P : File)
 pub record Part (line : List ℕ) (levels : ℕ) (S : Scope) (at : ℕ) (e : Expr) (end : ℕ) : Type 0 where
   pub within : WithinExpr levels S e
   pub spelled : Spells exprBytes line at e
-  pub ends : at + length (exprBytes e) ≡ end
+  pub ends : past line at (length (exprBytes e)) ≡ end
+
+-- where what it is made of ends, it ends
+pub part-ends : {line : List ℕ} {levels : ℕ} {S : Scope} {at end m : ℕ} {e a : Expr} → Part line levels S at e end → e ≡ a → past line at (length (exprBytes a)) ≡ m → m ≡ end
+part-ends {line} {at = at} p is long = sym (ap (λ (b : Expr). past line at (length (exprBytes b))) is ∙ long) ∙ p .ends
+
+pub list-ends : {end m : ℕ} {es fs : Exprs} (line : List ℕ) (at : ℕ) → es ≡ fs → past line at (length (exprsBytes fs)) ≡ m → past line at (length (exprsBytes es)) ≡ end → m ≡ end
+list-ends line at is long ends = sym (ap (λ (l : Exprs). past line at (length (exprsBytes l))) is ∙ long) ∙ ends
 
 -- ---- what is asked: o is to be answered, end is where what has it ends
 abbrev pub Asked : Type 1
@@ -122,7 +130,7 @@ module _ (text : List ℕ) (p : Place) where
     pub less : f < length (S .arities)
     pub within : WithinExprs (p .levels) S (getD (S .arities) f 0) list
     pub spelled : Spells exprsBytes (lineAt text (p .line)) (p .at .at) list
-    pub ends : p .at .at + length (exprsBytes list) ≡ end
+    pub ends : past (lineAt text (p .line)) (p .at .at) (length (exprsBytes list)) ≡ end
     pub is : o ≡ plainOf P C (ecall f list) Γ
 
   pub record AskCon (t c : ℕ) (P : File) (C : List Plain) (S : Scope) (Γ : List Plain) (o : Option Plain) (end : ℕ) : Type 0 where
@@ -131,7 +139,7 @@ module _ (text : List ℕ) (p : Place) where
     pub less₂ : c < length (getD (S .types) t [])
     pub within : WithinExprs (p .levels) S (length (getD (getD (S .types) t []) c [])) list
     pub spelled : Spells exprsBytes (lineAt text (p .line)) (p .at .at) list
-    pub ends : p .at .at + length (exprsBytes list) ≡ end
+    pub ends : past (lineAt text (p .line)) (p .at .at) (length (exprsBytes list)) ≡ end
     pub is : o ≡ plainOf P C (econ t c list) Γ
 
   -- the types of those left are wanted from the series' first on
@@ -144,7 +152,7 @@ module _ (text : List ℕ) (p : Place) where
     pub answered : meaning (s .answer) ≡ answer
     pub within : WithinExprs (p .levels) S (length wants) list
     pub spelled : Spells exprsBytes (lineAt text (p .line)) (p .at .at) list
-    pub ends : p .at .at + length (exprsBytes list) ≡ end
+    pub ends : past (lineAt text (p .line)) (p .at .at) (length (exprsBytes list)) ≡ end
     pub is : o ≡ when (arePlain wants (plainsOf P C list Γ)) answer
 
   pub record AskCase (t : ℕ) (P : File) (C : List Plain) (S : Scope) (Γ : List Plain) (o : Option Plain) (end : ℕ) : Type 0 where
@@ -158,8 +166,8 @@ module _ (text : List ℕ) (p : Place) where
     pub within : WithinResult (length (S .types)) (S .sizes) result
     pub spelled : Spells resultBytes (lineAt text (p .line)) middle result
     pub within₂ : WithinBranches (p .levels) S (getD (S .types) t []) branches
-    pub spelled₂ : Spells exprsBytes (lineAt text (p .line)) (middle + length (resultBytes result)) branches
-    pub ends : middle + length (resultBytes result) + length (exprsBytes branches) ≡ end
+    pub spelled₂ : Spells exprsBytes (lineAt text (p .line)) (past (lineAt text (p .line)) middle (length (resultBytes result))) branches
+    pub ends : past (lineAt text (p .line)) (past (lineAt text (p .line)) middle (length (resultBytes result))) (length (exprsBytes branches)) ≡ end
     pub is : o ≡ plainOf P C (ecase t first result branches) Γ
 
   -- the constructors of those left are the type's from the series' first on
@@ -173,7 +181,7 @@ module _ (text : List ℕ) (p : Place) where
     pub answered : meaning (s .answer) ≡ answer
     pub within : WithinBranches (p .levels) S constructors list
     pub spelled : Spells exprsBytes (lineAt text (p .line)) (p .at .at) list
-    pub ends : p .at .at + length (exprsBytes list) ≡ end
+    pub ends : past (lineAt text (p .line)) (p .at .at) (length (exprsBytes list)) ≡ end
     pub is : o ≡ when (plainBranches P C list constructors (s .of) answer Γ) answer
 
   pub record AskAdj (P : File) (C : List Plain) (S : Scope) (Γ : List Plain) (o : Option Plain) (end : ℕ) : Type 0 where
@@ -182,7 +190,7 @@ module _ (text : List ℕ) (p : Place) where
     pub few : S .sizes ≤ sizeVariablesMost
     pub within : WithinSize (S .sizes) nestingMost size
     pub spelled : Spells sizeBytes (lineAt text (p .line)) (p .at .at) size
-    pub part : Part (lineAt text (p .line)) (p .levels) S (p .at .at + length (sizeBytes size)) first end
+    pub part : Part (lineAt text (p .line)) (p .levels) S (past (lineAt text (p .line)) (p .at .at) (length (sizeBytes size))) first end
     pub is : o ≡ plainOf P C (eadj size first) Γ
 
   pub record AskFit (P : File) (C : List Plain) (S : Scope) (Γ : List Plain) (o : Option Plain) (end : ℕ) : Type 0 where

@@ -16,11 +16,12 @@ use Rattle.language.specs.Within.{All, WithinPlain, WithinExpr, WithinBranches,
 use Rattle.language.specs.Layout.{tagStep}
 use Rattle.language.specs.PlainTypes.{plainField, plainFields, plainResult, isPlain, plainOf, plainBranches}
 use Rattle.index.specs.Tables.{typeWords, constructorWords}
+use Rattle.text.specs.Places.{past}
 use Rattle.encoding.specs.Spells.{Spells}
 use Rattle.encoding.specs.ExprLists.{first-of-exprs}
 use Rattle.encoding.specs.FrameSpells.{lineAt}
 use Rattle.heads.specs.SkipHeads.{count-same}
-use Rattle.heads.specs.PartLaws.{none-long, more-long}
+use Rattle.heads.specs.PartLaws.{none-ends, more-ends}
 use Rattle.index.specs.Sections.{framesOf, typesOf}
 use Rattle.index.specs.Indexed.{framePart}
 use Rattle.plain_types.specs.declared.words.PlainType.{PlainType}
@@ -32,7 +33,7 @@ use Rattle.plain_types.specs.declared.places.Place.{Place}
 use Rattle.plain_types.specs.declared.places.BranchSeries.{BranchSeries}
 use Rattle.plain_types.specs.Words.{namedType, wantedType, entered, ReadsResult}
 use Rattle.plain_types.specs.Agrees.{meaning, Agrees, typed-is, typed-there, agrees-as, wrong, answered, when-true, when-false, both-first, both-not}
-use Rattle.plain_types.specs.Asks.{movedTo, widerBy, Kept, Stage, Part, AskCase, AskBranches, TypesWant, TypesCase, TypesBranches}
+use Rattle.plain_types.specs.Asks.{movedTo, widerBy, Kept, Stage, Part, list-ends, AskCase, AskBranches, TypesWant, TypesCase, TypesBranches}
 use Rattle.plain_types.specs.WordLaws.{named-is}
 use Rattle.plain_types.specs.EnterLaws.{kept-same, kept-then, kept-below, entered-kept, stage-kept, stage-entered}
 use Rattle.plain_types.specs.PlainLaws.{branches-none, branches-more, plain-case}
@@ -75,7 +76,7 @@ module _ (text index scope : List ℕ) (p : Place) (s : BranchSeries) where
     says = λ {P} {C} {S} {Γ} st ask.
         let n = no-branch (ask .constructors) (ask .list) (ask .within) (sym (ask .counted) ∙ z) in
         let all = ap₂ (λ (bs : Exprs) (cs : List Constructor). plainBranches P C bs cs (s .of) (ask .answer) Γ) (n .list) (n .those) ∙ branches-none P C Γ (s .of) (ask .answer) in
-        answered q (ask .answered) (omega (arith, ask .ends, ap (λ (es : Exprs). length (exprsBytes es)) (n .list), none-long)) (ask .is ∙ when-true (ask .answer) all);
+        answered q (ask .answered) (list-ends (lineAt text (p .line)) (p .at .at) (n .list) (none-ends (lineAt text (p .line)) (p .at .at)) (ask .ends)) (ask .is ∙ when-true (ask .answer) all);
     kept = kept-same;
   }
 
@@ -114,7 +115,7 @@ module _ (text index scope : List ℕ) (p : Place) (s : BranchSeries) where
               fields-wanted (st .indexed) (s .of) (s .first) (ask .less) less₂ j (omega (arith, there, field-number, ap length first-is))
               ∙ ap (λ (fs : Constructor). getD (plainFields (s .of) fs) j pbool) first-is
 
-      branch-part : Part (lineAt text (p .line)) (p .levels) (wider n (owns (b .fields)) S) (p .at .at) (b .branch) (p .at .at + length (exprBytes (b .branch)))
+      branch-part : Part (lineAt text (p .line)) (p .levels) (wider n (owns (b .fields)) S) (p .at .at) (b .branch) (past (lineAt text (p .line)) (p .at .at) (length (exprBytes (b .branch))))
       branch-part = record { within = branch-within; spelled = first-of-exprs (subst (Spells exprsBytes (lineAt text (p .line)) (p .at .at)) (b .list) (ask .spelled)) .spelled; ends = refl }
 
       all-branches : plainBranches P C (ask .list) (ask .constructors) (s .of) (ask .answer) Γ ≡
@@ -148,7 +149,7 @@ module _ (text index scope : List ℕ) (p : Place) (s : BranchSeries) where
             answered = ask .answered;
             within = m .others;
             spelled = subst (λ i. Spells exprsBytes (lineAt text (p .line)) i (m .branches)) (sym (h .place)) (first-of-exprs spelled .next);
-            ends = omega (arith, h .place, ask .ends, ap (λ (es : Exprs). length (exprsBytes es)) (m .list), more-long (m .branch) (m .branches));
+            ends = ap (λ (a : ℕ). past (lineAt text (p .line)) a (length (exprsBytes (m .branches)))) (h .place) ∙ list-ends (lineAt text (p .line)) (p .at .at) (m .list) (more-ends (lineAt text (p .line)) (p .at .at) (m .branch) (m .branches)) (ask .ends);
             is = refl;
           }));
       kept = kept-then branch-kept (u .kept);
@@ -172,12 +173,13 @@ module _ (text index scope : List ℕ) (p : Place) {t : ℕ} {subject : PlainTyp
 
   module _ {k : Typed} (d : x ≡ Is k) {line : List ℕ} (part : line ≡ framePart text (framesOf index) (p .line)) {y : Typing} (w : ReadsResult line (k .next) y) where
     result-read : {P : File} {C : List Plain} {S : Scope} {Γ : List Plain} {o : Option Plain} {end : ℕ} → Stage text index scope (p .line) (p .variables) P C S Γ → (ask : AskCase text p t P C S Γ o end) →
-        Agrees y (k .next .at + length (resultBytes (ask .result))) (some (plainResult (ask .result)))
+        Agrees y (past (lineAt text (p .line)) (k .next .at) (length (resultBytes (ask .result)))) (some (plainResult (ask .result)))
     result-read st ask =
         let h = met v st (ask .part) (pnamed t) (subject-type st ask) d in
         let is : line ≡ lineAt text (p .line) = part ∙ st .indexed .eachFrame (p .line) (st .less) .line in
-        w .says (omega (arith, st .indexed .within .fewTypes, ap length (st .known .types))) (ask .few) (ask .within)
-        (subst (λ m. Spells resultBytes line m (ask .result)) (sym (h .place)) (subst (λ l. Spells resultBytes l (ask .middle) (ask .result)) (sym is) (ask .spelled)))
+        subst (λ l. Agrees y (past l (k .next .at) (length (resultBytes (ask .result)))) (some (plainResult (ask .result)))) is
+        (w .says (omega (arith, st .indexed .within .fewTypes, ap length (st .known .types))) (ask .few) (ask .within)
+        (subst (λ m. Spells resultBytes line m (ask .result)) (sym (h .place)) (subst (λ l. Spells resultBytes l (ask .middle) (ask .result)) (sym is) (ask .spelled))))
 
     pub case-none : y ≡ Wrong → TypesCase text index scope p t Wrong scope₁
     case-none e = record { says = λ st ask. absurd (typed-there (result-read st ask) e); kept = v .kept }
@@ -189,6 +191,7 @@ module _ (text index scope : List ℕ) (p : Place) {t : ℕ} {subject : PlainTyp
           let h = met v st (ask .part) (pnamed t) (subject-type st ask) d in
           let found = typed-is (result-read st ask) e in
           let told = st .indexed .eachType t (case-less st ask) .tells in
+          let place : j .next .at ≡ past (lineAt text (p .line)) (ask .middle) (length (resultBytes (ask .result))) = found .1 ∙ ap (λ (a : ℕ). past (lineAt text (p .line)) a (length (resultBytes (ask .result)))) (h .place) in
           agrees-as (ask .is ∙ plain-case P C Γ t (ask .first) (ask .result) (ask .branches) ∙ ap (λ a. when a (plainResult (ask .result))) (both-first (h .is)))
           (u .says (stage-kept st (v .kept)) (record {
             list = ask .branches;
@@ -199,8 +202,8 @@ module _ (text index scope : List ℕ) (p : Place) {t : ℕ} {subject : PlainTyp
             counted = count-same c (told .constructors) (omega (arith, told .few));
             answered = found .0;
             within = subst (λ (ts : List TypeDef). WithinBranches (p .levels) S (getD ts t []) (ask .branches)) (st .known .types) (ask .within₂);
-            spelled = subst (λ m. Spells exprsBytes (lineAt text (p .line)) m (ask .branches)) (let q : ask .middle + length (resultBytes (ask .result)) ≡ j .next .at = omega (arith, found .1, h .place) in q) (ask .spelled₂);
-            ends = omega (arith, found .1, h .place, ask .ends);
+            spelled = subst (λ m. Spells exprsBytes (lineAt text (p .line)) m (ask .branches)) (sym place) (ask .spelled₂);
+            ends = ap (λ (a : ℕ). past (lineAt text (p .line)) a (length (exprsBytes (ask .branches)))) place ∙ ask .ends;
             is = refl;
           }));
       kept = kept-then (v .kept) (u .kept);

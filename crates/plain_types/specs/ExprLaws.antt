@@ -1,5 +1,5 @@
 -- An expression by its form: what the function of the form promises of the parts, expr promises of the expression.
-use Prim.Native.Nat.{ℕ, suc, _+_, _-_, _<_}
+use Prim.Native.Nat.{ℕ, suc, _-_, _<_}
 use mathlib.Core.List.{List, [], map}
 use mathlib.Core.Path.{_≡_, refl, sym, ap, _∙_, subst}
 use native.Mathlib.Omega.{arith}
@@ -14,6 +14,7 @@ use Rattle.theory.specs.Alls.{all-getD}
 use Rattle.theory.specs.Lists.{look-getD, look-map}
 use Rattle.theory.specs.Places.{look-at}
 use Rattle.text.specs.Bytes.{plainWord}
+use Rattle.text.specs.Places.{past}
 use Rattle.encoding.specs.Spells.{Spells}
 use Rattle.encoding.specs.FrameSpells.{lineAt}
 use Rattle.heads.specs.declared.Form.the-variants.{Bool as BoolForm, Int, Variable, Now, Last, Let, If, Operator, Call, Construct, Case, Adjust, Fit, Missing}
@@ -29,7 +30,7 @@ use Rattle.plain_types.specs.declared.words.Typing.the-variants.{Is}
 use Rattle.plain_types.specs.declared.places.Place.{Place}
 use Rattle.plain_types.specs.Words.{typeAt}
 use Rattle.plain_types.specs.Agrees.{meaning, answered}
-use Rattle.plain_types.specs.Asks.{insideOf, Stage, Part, TypesExpr, TypesLet, TypesIf, TypesOp, TypesCall, TypesCon, TypesCase, TypesAdj, TypesFit}
+use Rattle.plain_types.specs.Asks.{insideOf, Stage, Part, part-ends, TypesExpr, TypesLet, TypesIf, TypesOp, TypesCall, TypesCon, TypesCase, TypesAdj, TypesFit}
 use Rattle.plain_types.specs.WordLaws.{plain-at}
 use Rattle.plain_types.specs.EnterLaws.{no-level, less-deep, room-sizes, kept-same}
 use Rattle.plain_types.specs.PlainLaws.{plain-bool, plain-int, plain-var, plain-now, plain-last}
@@ -49,7 +50,7 @@ module _ (text index scope : List ℕ) (p : Place) where
       heads-in = subst (λ l. Heads l (p .at .at) h) (part ∙ st .indexed .eachFrame (p .line) (st .less) .line) heads
 
     -- a part has a level less
-    part-of : {left at end : ℕ} {S : Scope} {e : Expr} → p .levels ≡ suc left → WithinExpr left S e → Spells exprBytes (lineAt text (p .line)) at e → at + length (exprBytes e) ≡ end → Part (lineAt text (p .line)) (p .levels - 1) S at e end
+    part-of : {left at end : ℕ} {S : Scope} {e : Expr} → p .levels ≡ suc left → WithinExpr left S e → Spells exprBytes (lineAt text (p .line)) at e → past (lineAt text (p .line)) at (length (exprBytes e)) ≡ end → Part (lineAt text (p .line)) (p .levels - 1) S at e end
     part-of {S} {e} deep w s q = record { within = subst (λ m. WithinExpr m S e) (less-deep deep) w; spelled = s; ends = q }
 
     pub expr-missing : {r : Typing} → h .form ≡ Missing → TypesExpr text index scope p r scope
@@ -111,9 +112,9 @@ module _ (text index scope : List ℕ) (p : Place) where
             v .says st (record {
               first = i .first;
               second = i .second;
-              middle = h .next .at + length (exprBytes (i .first));
+              middle = past (lineAt text (p .line)) (h .next .at) (length (exprBytes (i .first)));
               part = part-of (i .deep) (i .within) (i .spelled) refl;
-              part₂ = part-of (i .deep) (i .within₂) (i .spelled₂) (omega (arith, i .long, ap (λ a. length (exprBytes a)) (i .is), ask .part .ends));
+              part₂ = part-of (i .deep) (i .within₂) (i .spelled₂) (part-ends (ask .part) (i .is) (i .long));
               is = ask .is ∙ ap (λ a. plainOf P C a Γ) (i .is);
             });
         kept = v .kept;
@@ -127,11 +128,11 @@ module _ (text index scope : List ℕ) (p : Place) where
               first = i .first;
               second = i .second;
               third = i .third;
-              middle = h .next .at + length (exprBytes (i .first));
-              middle₂ = h .next .at + length (exprBytes (i .first)) + length (exprBytes (i .second));
+              middle = past (lineAt text (p .line)) (h .next .at) (length (exprBytes (i .first)));
+              middle₂ = past (lineAt text (p .line)) (past (lineAt text (p .line)) (h .next .at) (length (exprBytes (i .first)))) (length (exprBytes (i .second)));
               part = part-of (i .deep) (i .within) (i .spelled) refl;
               part₂ = part-of (i .deep) (i .within₂) (i .spelled₂) refl;
-              part₃ = part-of (i .deep) (i .within₃) (i .spelled₃) (omega (arith, i .long, ap (λ a. length (exprBytes a)) (i .is), ask .part .ends));
+              part₃ = part-of (i .deep) (i .within₃) (i .spelled₃) (part-ends (ask .part) (i .is) (i .long));
               is = ask .is ∙ ap (λ a. plainOf P C a Γ) (i .is);
             });
         kept = v .kept;
@@ -146,9 +147,9 @@ module _ (text index scope : List ℕ) (p : Place) where
               coded = i .code;
               first = i .first;
               second = i .second;
-              middle = h .next .at + length (exprBytes (i .first));
+              middle = past (lineAt text (p .line)) (h .next .at) (length (exprBytes (i .first)));
               part = part-of (i .deep) (i .within) (i .spelled) refl;
-              part₂ = part-of (i .deep) (i .within₂) (i .spelled₂) (omega (arith, i .long, ap (λ a. length (exprBytes a)) (i .is), ask .part .ends));
+              part₂ = part-of (i .deep) (i .within₂) (i .spelled₂) (part-ends (ask .part) (i .is) (i .long));
               is = ask .is ∙ ap (λ a. plainOf P C a Γ) (i .is);
             });
         kept = v .kept;
@@ -163,7 +164,7 @@ module _ (text index scope : List ℕ) (p : Place) where
               less = i .less;
               within = subst (λ m. WithinExprs m S (getD (S .arities) f 0) (i .list)) (less-deep (i .deep)) (i .within);
               spelled = i .spelled;
-              ends = omega (arith, i .long, ap (λ a. length (exprBytes a)) (i .is), ask .part .ends);
+              ends = part-ends (ask .part) (i .is) (i .long);
               is = ask .is ∙ ap (λ a. plainOf P C a Γ) (i .is);
             });
         kept = v .kept;
@@ -179,7 +180,7 @@ module _ (text index scope : List ℕ) (p : Place) where
               less₂ = i .less₂;
               within = subst (λ m. WithinExprs m S (length (getD (getD (S .types) t []) c [])) (i .list)) (less-deep (i .deep)) (i .within);
               spelled = i .spelled;
-              ends = omega (arith, i .long, ap (λ a. length (exprBytes a)) (i .is), ask .part .ends);
+              ends = part-ends (ask .part) (i .is) (i .long);
               is = ask .is ∙ ap (λ a. plainOf P C a Γ) (i .is);
             });
         kept = v .kept;
@@ -193,7 +194,7 @@ module _ (text index scope : List ℕ) (p : Place) where
               first = i .first;
               result = i .result;
               branches = i .branches;
-              middle = h .next .at + length (exprBytes (i .first));
+              middle = past (lineAt text (p .line)) (h .next .at) (length (exprBytes (i .first)));
               part = part-of (i .deep) (i .within) (i .spelled) refl;
               less = i .less;
               few = room-sizes S (i .room);
@@ -201,7 +202,7 @@ module _ (text index scope : List ℕ) (p : Place) where
               spelled = i .spelled₂;
               within₂ = subst (λ m. WithinBranches m S (getD (S .types) t []) (i .branches)) (less-deep (i .deep)) (i .within₃);
               spelled₂ = i .spelled₃;
-              ends = omega (arith, i .long, ap (λ a. length (exprBytes a)) (i .is), ask .part .ends);
+              ends = part-ends (ask .part) (i .is) (i .long);
               is = ask .is ∙ ap (λ a. plainOf P C a Γ) (i .is);
             });
         kept = v .kept;
@@ -217,7 +218,7 @@ module _ (text index scope : List ℕ) (p : Place) where
               few = room-sizes S (i .room);
               within = i .within;
               spelled = i .spelled;
-              part = part-of (i .deep) (i .within₂) (i .spelled₂) (omega (arith, i .long, ap (λ a. length (exprBytes a)) (i .is), ask .part .ends));
+              part = part-of (i .deep) (i .within₂) (i .spelled₂) (part-ends (ask .part) (i .is) (i .long));
               is = ask .is ∙ ap (λ a. plainOf P C a Γ) (i .is);
             });
         kept = v .kept;
@@ -232,11 +233,11 @@ module _ (text index scope : List ℕ) (p : Place) where
               first = i .first;
               second = i .second;
               third = i .third;
-              middle = h .next .at + length (exprBytes (i .first));
-              middle₂ = h .next .at + length (exprBytes (i .first)) + length (exprBytes (i .second));
+              middle = past (lineAt text (p .line)) (h .next .at) (length (exprBytes (i .first)));
+              middle₂ = past (lineAt text (p .line)) (past (lineAt text (p .line)) (h .next .at) (length (exprBytes (i .first)))) (length (exprBytes (i .second)));
               part = part-of (i .deep) (i .within) (i .spelled) refl;
               part₂ = part-of (i .deep) (i .within₂) (i .spelled₂) refl;
-              part₃ = part-of (i .deep) (i .within₃) (i .spelled₃) (omega (arith, i .long, ap (λ a. length (exprBytes a)) (i .is), ask .part .ends));
+              part₃ = part-of (i .deep) (i .within₃) (i .spelled₃) (part-ends (ask .part) (i .is) (i .long));
               is = ask .is ∙ ap (λ a. plainOf P C a Γ) (i .is);
             });
         kept = v .kept;

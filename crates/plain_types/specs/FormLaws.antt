@@ -21,6 +21,7 @@ use Rattle.text.specs.declared.Cursor.{Cursor}
 use Rattle.text.specs.declared.Step.{Step}
 use Rattle.text.specs.declared.Step.the-variants.{Next, Stop}
 use Rattle.text.specs.Bytes.{bytesFrom, forget, plainWord, Passes}
+use Rattle.text.specs.Places.{past}
 use Rattle.encoding.specs.Spells.{Spells}
 use Rattle.encoding.specs.FrameSpells.{lineAt}
 use Rattle.heads.specs.SkipHeads.{next-at, next-there}
@@ -217,10 +218,10 @@ module _ (text index scope : List ℕ) (p : Place) where
   -- ---- `1B`
   module _ {line : List ℕ} (part : line ≡ framePart text (framesOf index) (p .line)) {z : Step} (a : Passes line (p .at .at) z (forget (sizeAt nestingMost sizeVariablesMost (bytesFrom line (p .at .at))))) where
     size-behind : {P : File} {C : List Plain} {S : Scope} {Γ : List Plain} {o : Option Plain} {end : ℕ} → Stage text index scope (p .line) (p .variables) P C S Γ → (ask : AskAdj text p P C S Γ o end) →
-        z ≡ Next (record { at = p .at .at + length (sizeBytes (ask .size)) })
+        z ≡ Next (record { at = past (lineAt text (p .line)) (p .at .at) (length (sizeBytes (ask .size))) })
     size-behind st ask =
         let is : line ≡ lineAt text (p .line) = part ∙ st .indexed .eachFrame (p .line) (st .less) .line in
-        size-passed (ask .few) (ask .within) (subst (λ l. Spells sizeBytes l (p .at .at) (ask .size)) (sym is) (ask .spelled)) a
+        subst (λ l. z ≡ Next (record { at = past l (p .at .at) (length (sizeBytes (ask .size))) })) is (size-passed (ask .few) (ask .within) (subst (λ l. Spells sizeBytes l (p .at .at) (ask .size)) (sym is) (ask .spelled)) a)
 
     pub adj-stops : {m : ℕ} → z ≡ Stop m → TypesAdj text index scope p Wrong scope
     adj-stops q = record { says = λ st ask. absurd (next-there (size-behind st ask) q); kept = kept-same }

@@ -19,7 +19,7 @@ use Rattle.theory.specs.Lists.{look-getD, look-less, look-append, look-past, lo
 use Rattle.theory.specs.Places.{below-or-not}
 use Rattle.theory.specs.Alls.{all-map, all-at}
 use Rattle.text.specs.declared.Cursor.{Cursor}
-use Rattle.text.specs.Bytes.{plainWord, declaredWord}
+use Rattle.text.specs.Bytes.{past, plainWord, declaredWord}
 use Rattle.index.specs.Tables.{functionWords}
 use Rattle.index.specs.Enters.{TellsType}
 use Rattle.encoding.specs.Spells.{Spells}
@@ -216,7 +216,7 @@ module _ (text index : List ℕ) (i c : ℕ) where
 
   module _ {at : Cursor} {line : ℕ} (place : at .at ≡ initialAt (channelsOf index) c) (number : line ≡ lineBehindTypes index i) {part : List ℕ} (taken : part ≡ framePart text (framesOf index) line) {x : Typing} (u : TestsInitial part (typesOf index) at nestingMost x) where
     tested : {P : File} {e : Expr} → Indexed text index P → i ≡ length (P .functions) + c → c < length (P .inputs) + length (P .nodes) →
-        Spells exprBytes (lineAt text (channelLine P c)) (initialAt (channelsOf index) c) e → WithinExpr nestingMost (outerScope (P .types) (P .functions) 0 0) e → Agrees x (at .at + length (exprBytes e)) (when (isInitial e) pbool)
+        Spells exprBytes (lineAt text (channelLine P c)) (initialAt (channelsOf index) c) e → WithinExpr nestingMost (outerScope (P .types) (P .functions) 0 0) e → Agrees x (past part (at .at) (length (exprBytes e))) (when (isInitial e) pbool)
     tested {P} {e} h q less s w =
         let is : part ≡ lineAt text (channelLine P c) = taken ∙ h .eachFrame line (channel-less number h q less) .line ∙ ap (lineAt text) (channel-line number h q less) in
         u .says (subst (λ ds. (t : ℕ) → t < length ds → TellsType (typesOf index) t (getD ds t [])) (sym (outer-types P 0 0)) (λ t there. h .eachType t there .tells)) w

@@ -17,12 +17,12 @@ use Rattle.language.specs.PlainTypes.{isInitial, areInitial}
 use Rattle.text.specs.declared.Cursor.{Cursor}
 use Rattle.text.specs.declared.Step.{Step}
 use Rattle.text.specs.declared.Step.the-variants.{Next, Stop}
-use Rattle.text.specs.Bytes.{bytesFrom, forget, Passes}
+use Rattle.text.specs.Bytes.{bytesFrom, past, forget, Passes}
 use Rattle.index.specs.Tables.{typeWords, constructorWords}
 use Rattle.encoding.specs.Spells.{Spells}
 use Rattle.encoding.specs.ExprLists.{first-of-exprs}
 use Rattle.heads.specs.SkipHeads.{count-same, next-at, next-there}
-use Rattle.heads.specs.PartLaws.{none-long, more-long}
+use Rattle.heads.specs.PartLaws.{none-ends, more-ends}
 use Rattle.heads.specs.declared.Form.{Form}
 use Rattle.heads.specs.declared.Form.the-variants.{Bool as BoolForm, Int, Variable, Now, Last, Let, If, Operator, Call, Construct, Case, Adjust, Fit, Missing}
 use Rattle.heads.specs.declared.Head.{Head}
@@ -121,12 +121,12 @@ module _ (line types : List ℕ) (c : Cursor) (levels : ℕ) where
           let tells = told t (i .less) in
           let same : n ≡ length (getD (getD (S .types) t []) k []) = count-same count (tells .fields k (i .less₂)) (omega (arith, tells .fewFields k (i .less₂))) in
           agrees-as (ap (λ b. when b pbool) (ap isInitial (i .is) ∙ initial-con t k (i .list)))
-          (agrees-at (omega (arith, i .long, ap (λ a. length (exprBytes a)) (i .is)))
+          (agrees-at (sym (ap (λ (a : Expr). past line (c .at) (length (exprBytes a))) (i .is) ∙ i .long))
           (u .says told (subst (λ m. WithinExprs (levels - 1) S m (i .list)) (sym same) (subst (λ m. WithinExprs m S (length (getD (getD (S .types) t []) k [])) (i .list)) (less-deep (i .deep)) (i .within))) (i .spelled)));
     }
 
     module _ (q : h .form ≡ Adjust) {z : Step} (a : Passes line (h .next .at) z (forget (sizeAt nestingMost sizeVariablesMost (bytesFrom line (h .next .at))))) where
-      size-behind : {S : Scope} {e : Expr} (w : WithinExpr levels S e) (s : Spells exprBytes line (c .at) e) → z ≡ Next (record { at = h .next .at + length (sizeBytes (adj-head heads s w q .size)) })
+      size-behind : {S : Scope} {e : Expr} (w : WithinExpr levels S e) (s : Spells exprBytes line (c .at) e) → z ≡ Next (record { at = past line (h .next .at) (length (sizeBytes (adj-head heads s w q .size))) })
       size-behind {S} w s = let i = adj-head heads s w q in size-passed (room-sizes S (i .room)) (i .within) (i .spelled) a
 
       pub initial-stops : {m : ℕ} → z ≡ Stop m → TestsInitial line types c levels Wrong
@@ -138,7 +138,7 @@ module _ (line types : List ℕ) (c : Cursor) (levels : ℕ) where
             let i = adj-head heads s w q in
             let place = next-at (size-behind w s) e in
             agrees-as (ap (λ b. when b pbool) (ap isInitial (i .is) ∙ initial-adj (i .size) (i .first)))
-            (agrees-at (omega (arith, place, i .long, ap (λ a. length (exprBytes a)) (i .is)))
+            (agrees-at (ap (λ (m : ℕ). past line m (length (exprBytes (i .first)))) place ∙ sym (ap (λ (a : Expr). past line (c .at) (length (exprBytes a))) (i .is) ∙ i .long))
             (u .says told (subst (λ m. WithinExpr m S (i .first)) (less-deep (i .deep)) (i .within₂)) (subst (λ m. Spells exprBytes line m (i .first)) (sym place) (i .spelled₂))));
       }
 
@@ -163,7 +163,7 @@ module _ (line types : List ℕ) (c : Cursor) (levels : ℕ) {n : ℕ} where
   initials-none z e = record {
     says = λ told w s.
         let none = none-of w z in
-        answered e refl (omega (arith, ap (λ (a : Exprs). length (exprsBytes a)) none, none-long)) (when-true pbool (ap areInitial none ∙ initial-nil));
+        answered e refl (sym (ap (λ (a : Exprs). past line (c .at) (length (exprsBytes a))) none ∙ none-ends line (c .at))) (when-true pbool (ap areInitial none ∙ initial-nil));
   }
 
   module _ (some-left : n ≡ 0 → ⊥) {x : Typing} (u : TestsInitial line types c levels x) where
@@ -182,6 +182,6 @@ module _ (line types : List ℕ) (c : Cursor) (levels : ℕ) {n : ℕ} where
           let two = first-of-exprs (subst (Spells exprsBytes line (c .at)) (m .list) s) in
           let h = holds (isInitial (m .first)) pbool (u .says told (m .within) (two .spelled)) d in
           agrees-as (ap (λ b. when b pbool) (ap areInitial (m .list) ∙ initial-cons (m .first) (m .others) ∙ both-first (h .is)))
-          (agrees-at (omega (arith, h .place, ap (λ (a : Exprs). length (exprsBytes a)) (m .list), more-long (m .first) (m .others)))
+          (agrees-at (ap (λ (i : ℕ). past line i (length (exprsBytes (m .others)))) (h .place) ∙ sym (ap (λ (a : Exprs). past line (c .at) (length (exprsBytes a))) (m .list) ∙ more-ends line (c .at) (m .first) (m .others)))
           (v .says told (m .withins) (subst (λ i. Spells exprsBytes line i (m .others)) (sym (h .place)) (two .next))));
     }

@@ -19,12 +19,13 @@ use Rattle.theory.specs.Alls.{all-map, all-to-map, all-getD, all-at}
 use Rattle.theory.specs.Places.{look-at}
 use Rattle.text.specs.Bytes.{fieldWord}
 use Rattle.index.specs.Tables.{typeWords, constructorWords, functionWords}
+use Rattle.text.specs.Places.{past}
 use Rattle.encoding.specs.Spells.{Spells}
 use Rattle.encoding.specs.ExprLists.{first-of-exprs}
 use Rattle.encoding.specs.FrameSpells.{lineAt}
 use Rattle.encoding.specs.WithinParts.{function-within}
 use Rattle.heads.specs.SkipHeads.{count-same}
-use Rattle.heads.specs.PartLaws.{none-long, more-long}
+use Rattle.heads.specs.PartLaws.{none-ends, more-ends}
 use Rattle.index.specs.Sections.{typesOf, functionsOf}
 use Rattle.index.specs.Indexed.{Indexed}
 use Rattle.plain_types.specs.declared.words.PlainType.{PlainType}
@@ -36,7 +37,7 @@ use Rattle.plain_types.specs.declared.places.Place.{Place}
 use Rattle.plain_types.specs.declared.places.Series.{Series}
 use Rattle.plain_types.specs.Words.{namedType, typeAt, ownOrOther, wantedType, Returns}
 use Rattle.plain_types.specs.Agrees.{meaning, agrees-as, wrong, answered, chain-some, when-true, when-false, both-first, both-not}
-use Rattle.plain_types.specs.Asks.{movedTo, Part, AskSeveral, TypesWant, TypesCall, TypesCon, TypesSeveral}
+use Rattle.plain_types.specs.Asks.{movedTo, Part, list-ends, AskSeveral, TypesWant, TypesCall, TypesCon, TypesSeveral}
 use Rattle.plain_types.specs.WordLaws.{plain-at, named-is, plain-fewer, field-plain, field-small}
 use Rattle.plain_types.specs.EnterLaws.{word-at, kept-same, kept-then, stage-kept}
 use Rattle.plain_types.specs.PlainLaws.{are-none, are-more, plain-call, plain-con}
@@ -109,7 +110,7 @@ module _ (text index scope : List ℕ) (p : Place) (s : Series) where
     says = λ {P} {C} {S} {Γ} st ask.
         let n = none-of (ask .wants) (ask .list) (ask .within) (sym (ask .counted) ∙ z) in
         let all : arePlain (ask .wants) (plainsOf P C (ask .list) Γ) ≡ true = rw (n .wants, n .list) (are-none P C Γ) in
-        answered q (ask .answered) (omega (arith, ask .ends, ap (λ (es : Exprs). length (exprsBytes es)) (n .list), none-long)) (ask .is ∙ when-true (ask .answer) all);
+        answered q (ask .answered) (list-ends (lineAt text (p .line)) (p .at .at) (n .list) (none-ends (lineAt text (p .line)) (p .at .at)) (ask .ends)) (ask .is ∙ when-true (ask .answer) all);
     kept = kept-same;
   }
 
@@ -121,7 +122,7 @@ module _ (text index scope : List ℕ) (p : Place) (s : Series) where
       abbrev m : More (p .levels) S (ask .wants) (ask .list)
       m = first-of ask
 
-      first-part : Part (lineAt text (p .line)) (p .levels) S (p .at .at) (m .expr) (p .at .at + length (exprBytes (m .expr)))
+      first-part : Part (lineAt text (p .line)) (p .levels) S (p .at .at) (m .expr) (past (lineAt text (p .line)) (p .at .at) (length (exprBytes (m .expr))))
       first-part = record { within = m .within; spelled = first-of-exprs (subst (Spells exprsBytes (lineAt text (p .line)) (p .at .at)) (m .list) (ask .spelled)) .spelled; ends = refl }
 
       first-type : meaning one ≡ m .type
@@ -158,7 +159,7 @@ module _ (text index scope : List ℕ) (p : Place) (s : Series) where
             answered = ask .answered;
             within = f .others;
             spelled = subst (λ m. Spells exprsBytes (lineAt text (p .line)) m (f .exprs)) (sym (h .place)) (first-of-exprs spelled .next);
-            ends = omega (arith, h .place, ask .ends, ap (λ (es : Exprs). length (exprsBytes es)) (f .list), more-long (f .expr) (f .exprs));
+            ends = ap (λ (a : ℕ). past (lineAt text (p .line)) a (length (exprsBytes (f .exprs)))) (h .place) ∙ list-ends (lineAt text (p .line)) (p .at .at) (f .list) (more-ends (lineAt text (p .line)) (p .at .at) (f .expr) (f .exprs)) (ask .ends);
             is = refl;
           }));
       kept = kept-then (v .kept) (u .kept);

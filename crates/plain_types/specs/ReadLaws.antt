@@ -23,9 +23,10 @@ use Rattle.text.specs.declared.Number.{Number}
 use Rattle.text.specs.declared.Number.the-variants.{Is as IsNumber, Refused}
 use Rattle.text.specs.declared.Step.{Step}
 use Rattle.text.specs.declared.Step.the-variants.{Next, Stop}
-use Rattle.text.specs.Bytes.{bytesOf, bytesFrom, forget, ReadsNumber, Passes, Below}
+use Rattle.text.specs.Bytes.{bytesFrom, past, bytesLeft, byteAt, forget, ReadsNumber, Passes, Below}
 use Rattle.index.specs.Tables.{functionWords}
-use Rattle.encoding.specs.Spells.{byteAt, Spells, spells-within}
+use Rattle.text.specs.Places.{past-past, left-past, place-left}
+use Rattle.encoding.specs.Spells.{Spells, spells-left}
 use Rattle.encoding.specs.TypeInversions.{ResultCoded, rbool-coded, rint-coded, rnamed-coded, IsNamedResult, result-of-byte}
 use Rattle.encoding.specs.FrameSpells.{lineAt}
 use Rattle.encoding.specs.CursorSpells.{passed-over}
@@ -66,7 +67,7 @@ module _ (index : List ℕ) (want : Want) (j : ℕ) {t c word : ℕ} {r : PlainT
 -- ---- a size that is spelled is passed over
 module _ {line : List ℕ} {at vars : ℕ} {s : Size} {x : Step} (few : vars ≤ sizeVariablesMost) (w : WithinSize vars nestingMost s) (spelled : Spells sizeBytes line at s)
     (v : Passes line at x (forget (sizeAt nestingMost sizeVariablesMost (bytesFrom line at)))) where
-  pub size-passed : x ≡ Next (record { at = at + length (sizeBytes s) })
+  pub size-passed : x ≡ Next (record { at = past line at (length (sizeBytes s)) })
   size-passed = passed-over (size-exact sizeVariablesMost) spelled (size-wider few w) x v
 
 -- ---- a result type
@@ -96,30 +97,30 @@ plain-named q = rw q
 
 module _ (line : List ℕ) (c : Cursor) {x : Number} (v : ReadsNumber line (c .at) x (byte (bytesFrom line (c .at))) × Below byteRange x) where
   pub result-stops : {m : ℕ} → x ≡ Refused m → ReadsResult line c Wrong
-  result-stops q = record { says = λ {types} {vars} {ρ} small few w s. absurd (byte-there (omega (arith, spells-within s, some-result ρ)) v q) }
+  result-stops q = record { says = λ {types} {vars} {ρ} small few w s. absurd (byte-there (omega (arith, spells-left s, some-result ρ)) v q) }
 
   module _ {f : Found} (q : x ≡ IsNumber f) where
     coded : {ρ : ResultType} → Spells resultBytes line (c .at) ρ → ResultCoded line (c .at) ρ (f .value)
-    coded {ρ} s = subst (ResultCoded line (c .at) ρ) (sym (byte-found (omega (arith, spells-within s, some-result ρ)) v q .0)) (result-of-byte s)
+    coded {ρ} s = subst (ResultCoded line (c .at) ρ) (sym (byte-found (omega (arith, spells-left s, some-result ρ)) v q .0)) (result-of-byte s)
 
-    second : {ρ : ResultType} → Spells resultBytes line (c .at) ρ → f .next .at ≡ c .at + 1
-    second {ρ} s = byte-found (omega (arith, spells-within s, some-result ρ)) v q .1
+    second : {ρ : ResultType} → Spells resultBytes line (c .at) ρ → f .next .at ≡ past line (c .at) 1
+    second {ρ} s = byte-found (omega (arith, spells-left s, some-result ρ)) v q .1
 
     pub result-leaf : {of : PlainType} {r : Typing} → f .value < 2 → of ≡ typeAt (f .value) → r ≡ Is (record { of = of; next = f .next }) → ReadsResult line c r
-    result-leaf less e o = record { says = λ {types} {vars} {ρ} small few w s. let l = leaf-result (coded s) less in answered o (ap meaning e ∙ l .0) (omega (arith, second s, l .1)) refl }
+    result-leaf less e o = record { says = λ {types} {vars} {ρ} small few w s. let l = leaf-result (coded s) less in answered o (ap meaning e ∙ l .0) (second s ∙ ap (past line (c .at)) (sym (l .1))) refl }
 
     module _ (more : 2 ≤ f .value) {y : Number} (u : ReadsNumber line (f .next .at) y (byte (bytesFrom line (f .next .at))) × Below byteRange y) where
-      here : {ρ : ResultType} → Spells resultBytes line (c .at) ρ → f .next .at < length (bytesOf line)
-      here s = omega (arith, second s, named-result (coded s) more .spelled .within)
+      here : {ρ : ResultType} → Spells resultBytes line (c .at) ρ → 0 < bytesLeft line (f .next .at)
+      here s = omega (arith, ap (bytesLeft line) (second s), left-past line (c .at) 1, place-left line (c .at) 2 (named-result (coded s) more .spelled .within))
 
       pub result-cut : {m : ℕ} → y ≡ Refused m → ReadsResult line c Wrong
       result-cut p = record { says = λ small few w s. absurd (byte-there (here s) u p) }
 
       module _ {g : Found} (p : y ≡ IsNumber g) {z : Step} (a : Passes line (g .next .at) z (forget (sizeAt nestingMost sizeVariablesMost (bytesFrom line (g .next .at))))) where
-        third : {ρ : ResultType} → Spells resultBytes line (c .at) ρ → g .next .at ≡ c .at + 2
-        third s = omega (arith, second s, byte-found (here s) u p .1)
+        third : {ρ : ResultType} → Spells resultBytes line (c .at) ρ → g .next .at ≡ past line (c .at) 2
+        third s = byte-found (here s) u p .1 ∙ ap (λ (m : ℕ). past line m 1) (second s) ∙ past-past line (c .at) 1 1
 
-        behind : {types vars : ℕ} {ρ : ResultType} → vars ≤ sizeVariablesMost → WithinResult types vars ρ → (s : Spells resultBytes line (c .at) ρ) → z ≡ Next (record { at = g .next .at + length (sizeBytes (named-result (coded s) more .size)) })
+        behind : {types vars : ℕ} {ρ : ResultType} → vars ≤ sizeVariablesMost → WithinResult types vars ρ → (s : Spells resultBytes line (c .at) ρ) → z ≡ Next (record { at = past line (g .next .at) (length (sizeBytes (named-result (coded s) more .size))) })
         behind {types} {vars} {ρ} few w s =
             let i = named-result (coded s) more in
             size-passed few (named-within (subst (WithinResult types vars) (i .is) w) .1) (subst (λ m. Spells sizeBytes line m (i .size)) (sym (third s)) (i .spelled)) a
@@ -131,11 +132,11 @@ module _ (line : List ℕ) (c : Cursor) {x : Number} (v : ReadsNumber line (c .a
         result-named o e a₂ = record {
           says = λ {types} {vars} {ρ} small few w s.
               let i = named-result (coded s) more in
-              let t = byteAt line (c .at + 1) in
+              let t = byteAt line (past line (c .at) 1) in
               let value : g .value ≡ t = byte-found (here s) u p .0 ∙ ap (byteAt line) (second s) in
               let less : t < tagStep = omega (arith, small, named-within (subst (WithinResult types vars) (i .is) w) .0) in
               answered a₂ (ap meaning e ∙ ap (λ n. meaning (namedType n)) value ∙ named-is t less ∙ plain-named (i .is))
-              (omega (arith, next-at (behind few w s) o, third s, ap (λ (r : ResultType). length (resultBytes r)) (i .is), i .long)) refl;
+              (next-at (behind few w s) o ∙ ap (λ (m : ℕ). past line m (length (sizeBytes (i .size)))) (third s) ∙ sym (ap (λ (r : ResultType). past line (c .at) (length (resultBytes r))) (i .is) ∙ i .ends)) refl;
         }
 
 -- ---- the result type of a function, in its line
@@ -148,7 +149,7 @@ named-few (pnamed t ∷ ps) = omega (arith, named-few ps)
 
 module _ (text index : List ℕ) (f : ℕ) {line : List ℕ} {i : ℕ} {c : Cursor} {x : Typing} (number : i ≡ lineBehindTypes index f) (part : line ≡ framePart text (framesOf index) i) (place : c .at ≡ resultAt (functionsOf index) f) (v : ReadsResult line c x) where
   read-result : {P : File} {F : Function} → Indexed text index P → look (P .functions) f ≡ some F →
-      Agrees x (c .at + length (resultBytes (F .result))) (some (plainResult (F .result)))
+      Agrees x (past line (c .at) (length (resultBytes (F .result)))) (some (plainResult (F .result)))
   read-result {P} {F} h e =
       let less = look-less (P .functions) f e in
       let w = h .within in

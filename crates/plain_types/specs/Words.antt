@@ -16,6 +16,7 @@ use Rattle.text.specs.declared.Cursor.{Cursor}
 use Rattle.text.specs.Bytes.{plainWord}
 use Rattle.index.specs.Tables.{functionWords}
 use Rattle.index.specs.Sections.{typesOf, functionsOf, countsIn}
+use Rattle.text.specs.Places.{past}
 use Rattle.encoding.specs.Spells.{Spells}
 use Rattle.index.specs.Indexed.{fieldAt, Indexed}
 use Rattle.plain_types.specs.declared.words.PlainType.{PlainType}
@@ -66,7 +67,7 @@ entered index want scope to (suc n) = set (entered index want scope to n) (to + 
 
 -- ---- result types
 pub record ReadsResult (line : List ℕ) (c : Cursor) (r : Typing) : Type 0 where
-  pub says : {types vars : ℕ} {ρ : ResultType} → types ≤ tagStep → vars ≤ sizeVariablesMost → WithinResult types vars ρ → Spells resultBytes line (c .at) ρ → Agrees r (c .at + length (resultBytes ρ)) (some (plainResult ρ))
+  pub says : {types vars : ℕ} {ρ : ResultType} → types ≤ tagStep → vars ≤ sizeVariablesMost → WithinResult types vars ρ → Spells resultBytes line (c .at) ρ → Agrees r (past line (c .at) (length (resultBytes ρ))) (some (plainResult ρ))
 
 pub record Returns (text index : List ℕ) (f : ℕ) (r : PlainType) : Type 0 where
   pub says : {P : File} {F : Function} → Indexed text index P → look (P .functions) f ≡ some F → meaning r ≡ plainResult (F .result)

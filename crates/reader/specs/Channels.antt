@@ -7,7 +7,7 @@ use native.Mathlib.Omega.{arith}
 use lib.ListN.{length, getD, set, length-map, length-append, List·getD-map}
 use Rattle.language.specs.Limits.{functionsMost, channelsMost, parametersMost, nestingMost}
 use Rattle.language.specs.Syntax.{Expr, ebool, rbool, Function, File}
-use Rattle.language.specs.Format.{spellAll, declaredBytes, exprBytes}
+use Rattle.language.specs.Format.{spellAll}
 use Rattle.language.specs.Layout.{padded}
 use Rattle.language.specs.Scope.{Scope, aritiesOf, outerScope}
 use Rattle.language.specs.Parser.{Read, got, bad, Parser, andThen}
@@ -22,8 +22,8 @@ use Rattle.text.specs.declared.Number.{Number}
 use Rattle.text.specs.declared.Number.the-variants.{Is, Refused}
 use Rattle.text.specs.declared.Step.{Step}
 use Rattle.text.specs.declared.Step.the-variants.{Next, Stop}
-use Rattle.text.specs.Bytes.{bytesOf, bytesFrom, mapRead, forget, stepOf, ReadsNumber, Passes, declaredWord}
-use Rattle.text.specs.DigitLaws.{bytes-length}
+use Rattle.text.specs.Bytes.{bytesFrom, IsPlace, mapRead, forget, stepOf, ReadsNumber, Passes, declaredWord}
+use Rattle.text.specs.Places.{place-most}
 use Rattle.text.specs.StepLaws.{ends-within, number-got, number-bad, number-moved, pass-got, pass-bad, pass-moved, pass-none, passes-behind, pass-stops-pass, forget-then}
 use Rattle.index.specs.Tables.{functionWords, functionEntry, functionTable, channelWords, inputEntry, nodeEntry, channelTable}
 use Rattle.index.specs.Sections.{channelsFrom, channelTableWords, typesOf, channelsOf}
@@ -38,7 +38,10 @@ use Rattle.expression_reader.specs.declared.Names.{Names}
 use Rattle.expression_reader.specs.Follows.{Tells, Follows}
 use Rattle.index.specs.declared.Counts.{Counts}
 use Rattle.reader.specs.Held.{Held, Fits, PlaceWord, ReadsInput, ReadsNode}
+use Rattle.encoding.specs.FrameParts.{initialPlace}
+use Rattle.reader.specs.Frames.{kindEnd}
 use Rattle.reader.specs.Places.{place-behind}
+use Rattle.reader.specs.PlaceNumbers.{initial-number, update-number}
 
 abbrev pub outsideNames : Counts → ℕ → ℕ → Names
 outsideNames n now last = record { variables = 0; sizes = 0; now = now; last = last; types = n .types; functions = n .functions }
@@ -117,8 +120,8 @@ three-words : {a b d a′ b′ d′ : ℕ} → a ≡ a′ → b ≡ b′ → d �
 three-words p q r = λ i. p i ∷ q i ∷ r i ∷ []
 
 -- a place in a line of a text is its word
-pub place-is : {line : List ℕ} {n : Counts} {at word : ℕ} → Fits line n → PlaceWord at word → at ≤ length (bytesOf line) → word ≡ at
-place-is {line} fits w h = w .says (omega (arith, bytes-length line, fits .short))
+pub place-is : {line : List ℕ} {n : Counts} {at word : ℕ} → Fits line n → PlaceWord at word → IsPlace line at → word ≡ at
+place-is {line} fits w h = w .says (omega (arith, place-most line h, fits .short))
 
 -- the same names, by another word
 pub follows-as : {line index : List ℕ} {c : Cursor} {s t : Names} {r : Step} {p : Scope → Parser Expr} → s ≡ t → Follows line index c s r p → Follows line index c t r p
@@ -134,61 +137,64 @@ channel-added {channels} {to} a b d before w tb len room =
     let three = next-word d n (before ++ (a ∷ []) ++ (b ∷ [])) w two (omega (arith, length-append before (a ∷ []), length-append (before ++ (a ∷ [])) (b ∷ []))) (omega arith) in
     three ∙ ap (padded n) (ap (λ l. l ++ (d ∷ [])) (append-assoc before (a ∷ []) (b ∷ [])) ∙ append-assoc before (a ∷ b ∷ []) (d ∷ []))
 
-module _ (line index : List ℕ) (n : Counts) {x : Number} (v : ReadsNumber line 1 x (mapRead declaredWord (declared (n .types) (bytesFrom line 1)))) where
+module _ (line index : List ℕ) (n : Counts) {start : Cursor} (here : start .at ≡ kindEnd line) {x : Number} (w : ReadsNumber line (start .at) x (mapRead declaredWord (declared (n .types) (bytesFrom line (start .at))))) where
+  v : ReadsNumber line (kindEnd line) x (mapRead declaredWord (declared (n .types) (bytesFrom line (kindEnd line))))
+  v = rw here at w
+
   -- ---- an input
   -- where the frame is refused, the index is as it was
-  input-stops : {r : Step} {k : ℕ} → r ≡ Stop k → ((P : File) → Held index n P → Passes line 1 r (forget (input P (bytesFrom line 1)))) → ReadsInput line index n r index
+  input-stops : {r : Step} {k : ℕ} → r ≡ Stop k → ((P : File) → Held index n P → Passes line (kindEnd line) r (forget (input P (bytesFrom line (kindEnd line))))) → ReadsInput line index n r index
   input-stops e says = record {
-    says = λ P held none few long. says P held;
-    enters = λ P held none few long i rest h. bad-is-not-got (sym (pass-bad (says P held) e) ∙ h);
+    says = λ P held none few. says P held;
+    enters = λ P held none few i rest h. bad-is-not-got (sym (pass-bad (says P held) e) ∙ h);
     outside = record { before = refl; behind = refl };
   }
 
   pub input-no-type : {k : ℕ} {r : Step} → x ≡ Refused k → r ≡ stepOf x → ReadsInput line index n r index
   unfolding input forget
   input-no-type {k} e d = input-stops (d ∙ ap stepOf e) λ P held.
-      let none : declared (length (P .types)) (bytesFrom line 1) ≡ bad k = ap (λ t. declared t (bytesFrom line 1)) (held .counted .typeCount) ∙ map-bad declaredWord _ (number-bad v e) in
+      let none : declared (length (P .types)) (bytesFrom line (kindEnd line)) ≡ bad k = ap (λ t. declared t (bytesFrom line (kindEnd line))) (held .counted .typeCount) ∙ map-bad declaredWord _ (number-bad v e) in
       pass-none e d (ap forget (then-bad _ none))
 
   module _ {f : Found} (e : x ≡ Is f) where
-    within : f .next .at ≤ length (bytesOf line)
+    within : IsPlace line (f .next .at)
     within = ends-within (number-moved v e)
 
-    type-read : {P : File} → Held index n P → Mapped declaredWord (declared (length (P .types)) (bytesFrom line 1)) (f .value) (bytesFrom line (f .next .at))
-    type-read {P} held = map-got declaredWord _ (ap (λ t. mapRead declaredWord (declared t (bytesFrom line 1))) (held .counted .typeCount) ∙ number-got v e)
+    type-read : {P : File} → Held index n P → Mapped declaredWord (declared (length (P .types)) (bytesFrom line (kindEnd line))) (f .value) (bytesFrom line (f .next .at))
+    type-read {P} held = map-got declaredWord _ (ap (λ t. mapRead declaredWord (declared t (bytesFrom line (kindEnd line)))) (held .counted .typeCount) ∙ number-got v e)
 
-    type-place : {P : File} (held : Held index n P) → 1 ≤ length (bytesOf line) → f .next .at ≡ 1 + length (declaredBytes (type-read held .value))
-    type-place {P} held long = place-behind (declared-exact (length (P .types))) line 1 (f .next .at) long within (type-read held .is)
+    type-place : {P : File} (held : Held index n P) → f .next .at ≡ initialPlace line (type-read held .value)
+    type-place {P} held = place-behind (declared-exact (length (P .types))) (number-moved v e) (type-read held .is)
 
     pub input-read : {index′ : List ℕ} {r : Step} {a : ℕ} → Fits line n → PlaceWord (f .next .at) a → Follows line index (f .next) (outsideNames n 0 0) r (exprAt nestingMost) → (channelsOf index′ ≡ set (set (set (channelsOf index) (channelWords * n .inputs) (f .value)) (channelWords * n .inputs + 1) a) (channelWords * n .inputs + 2) 0) × Outside channelsFrom channelTableWords index index′ →
         ReadsInput line index n r index′
     unfolding input inputEntry channelTable
     input-read {r} {a} fits p u w = record {
-      says = λ P held none few long. let g = type-read held in passes-behind (number-moved v e) (ap forget (then-got _ (g .is)) ∙ forget-then _ _) (u .says (outerScope (P .types) (P .functions) 0 0) (tells-outside held 0 0) within);
-      enters = λ P held none few long i rest h.
+      says = λ P held none few. let g = type-read held in passes-behind (number-moved v e) (ap forget (then-got _ (g .is)) ∙ forget-then _ _) (u .says (outerScope (P .types) (P .functions) 0 0) (tells-outside held 0 0) within);
+      enters = λ P held none few i rest h.
           let g = type-read held in
           let m = last-got (λ (t : Expr). record { declared = g .value; initial = t }) _ (sym (then-got _ (g .is)) ∙ h) in
           let empty : length (P .nodes) ≡ 0 = ap length none in
           let so-far : channelsOf index ≡ padded (channelsMost * channelWords) (spellAll inputEntry (P .inputs) ++ spellAll nodeEntry []) = held .channelsAre ∙ ap (channelTable (P .inputs)) none in
           let added = channel-added (f .value) a 0 (spellAll inputEntry (P .inputs) ++ spellAll nodeEntry []) (w .0) so-far (channels-so-far (P .inputs) [] ∙ omega (arith, held .counted .inputCount)) (omega arith) in
-          let entry : f .value ∷ a ∷ 0 ∷ [] ≡ inputEntry i = three-words (sym (g .word)) (place-is fits p (ends-within (number-moved v e)) ∙ type-place held long) refl ∙ ap inputEntry (sym (m .made)) in
+          let entry : f .value ∷ a ∷ 0 ∷ [] ≡ inputEntry i = three-words (sym (g .word)) (place-is fits p (ends-within (number-moved v e)) ∙ type-place held ∙ initial-number line (g .value)) refl ∙ ap inputEntry (sym (m .made)) in
           added ∙ ap (λ l. padded (channelsMost * channelWords) ((spellAll inputEntry (P .inputs) ++ spellAll nodeEntry []) ++ l)) entry ∙ sym (input-more (P .inputs) i);
       outside = w .1;
     }
 
   -- ---- a node
   module _ (all : ℕ) where
-    node-stops : {r : Step} {k : ℕ} → r ≡ Stop k → ((P : File) → Held index n P → Passes line 1 r (forget (node all P (bytesFrom line 1)))) → ReadsNode line index n all r index
+    node-stops : {r : Step} {k : ℕ} → r ≡ Stop k → ((P : File) → Held index n P → Passes line (kindEnd line) r (forget (node all P (bytesFrom line (kindEnd line))))) → ReadsNode line index n all r index
     node-stops e says = record {
-      says = λ P held few long. says P held;
-      enters = λ P held few long m rest h. bad-is-not-got (sym (pass-bad (says P held) e) ∙ h);
+      says = λ P held few. says P held;
+      enters = λ P held few m rest h. bad-is-not-got (sym (pass-bad (says P held) e) ∙ h);
       outside = record { before = refl; behind = refl };
     }
 
     pub node-no-type : {k : ℕ} {r : Step} → x ≡ Refused k → r ≡ stepOf x → ReadsNode line index n all r index
     unfolding node forget
     node-no-type {k} e d = node-stops (d ∙ ap stepOf e) λ P held.
-        let none : declared (length (P .types)) (bytesFrom line 1) ≡ bad k = ap (λ t. declared t (bytesFrom line 1)) (held .counted .typeCount) ∙ map-bad declaredWord _ (number-bad v e) in
+        let none : declared (length (P .types)) (bytesFrom line (kindEnd line)) ≡ bad k = ap (λ t. declared t (bytesFrom line (kindEnd line))) (held .counted .typeCount) ∙ map-bad declaredWord _ (number-bad v e) in
         pass-none e d (ap forget (then-bad _ none))
 
     module _ {f : Found} (e : x ≡ Is f) {y : Step} (u : Follows line index (f .next) (outsideNames n 0 0) y (exprAt nestingMost)) where
@@ -203,18 +209,18 @@ module _ (line index : List ℕ) (n : Counts) {x : Number} (v : ReadsNumber line
           (channelsOf index′ ≡ set (set (set (channelsOf index) (channelWords * (n .inputs + n .nodes)) (f .value)) (channelWords * (n .inputs + n .nodes) + 1) a) (channelWords * (n .inputs + n .nodes) + 2) b) × Outside channelsFrom channelTableWords index index′ → ReadsNode line index n all r index′
       unfolding node nodeEntry channelTable
       node-read {d} {r} {a} {b} there fits p q z w = record {
-        says = λ P held few long.
+        says = λ P held few.
             let g = type-read e held in
             let i = pass-got (initial-passes held) there in
             passes-behind (number-moved v e) (ap forget (then-got _ (g .is))) (passes-behind (pass-moved (initial-passes held) there) (ap forget (then-got _ (i .is)) ∙ forget-then _ _) (update-passes held));
-        enters = λ P held few long m rest h.
+        enters = λ P held few m rest h.
             let g = type-read e held in
             let i = pass-got (initial-passes held) there in
             let made = last-got (λ (t : Expr). record { declared = g .value; initial = i .value; update = t }) _ (sym (then-got _ (i .is)) ∙ sym (then-got _ (g .is)) ∙ h) in
             let so-far : List ℕ = spellAll inputEntry (P .inputs) ++ spellAll nodeEntry (P .nodes) in
             let added = channel-added (f .value) a b so-far (w .0) (held .channelsAre) (channels-so-far (P .inputs) (P .nodes) ∙ omega (arith, held .counted .inputCount, held .counted .nodeCount)) (omega (arith, held .counted .inputCount, held .fewInputs)) in
-            let behind = place-behind (expr-exact nestingMost (outerScope (P .types) (P .functions) 0 0)) line (f .next .at) (d .at) (ends-within (number-moved v e)) (ends-within (pass-moved (initial-passes held) there)) (i .is) in
-            let entry : f .value ∷ a ∷ b ∷ [] ≡ nodeEntry m = three-words (sym (g .word)) (place-is fits p (ends-within (number-moved v e)) ∙ type-place e held long) (place-is fits q (ends-within (pass-moved (initial-passes held) there)) ∙ behind ∙ ap (λ p. p + length (exprBytes (i .value))) (type-place e held long)) ∙ ap nodeEntry (sym (made .made)) in
+            let behind = place-behind (expr-exact nestingMost (outerScope (P .types) (P .functions) 0 0)) (pass-moved (initial-passes held) there) (i .is) in
+            let entry : f .value ∷ a ∷ b ∷ [] ≡ nodeEntry m = three-words (sym (g .word)) (place-is fits p (ends-within (number-moved v e)) ∙ type-place e held ∙ initial-number line (g .value)) (place-is fits q (ends-within (pass-moved (initial-passes held) there)) ∙ behind ∙ update-number line (g .value) (i .value) (type-place e held)) ∙ ap nodeEntry (sym (made .made)) in
             added ∙ ap (λ l. padded (channelsMost * channelWords) (so-far ++ l)) entry ∙ sym (node-more (P .inputs) (P .nodes) m);
         outside = w .1;
       }

@@ -1,37 +1,37 @@
 -- The end of a frame: its bytes end there, or it is refused with 4.
-use Prim.Native.Nat.{ℕ, _-_, _/_, _≤_, _<_}
+use Prim.Native.Nat.{ℕ, _≤_, _<_}
 use mathlib.Core.List.{List, [], _∷_}
 use mathlib.Core.Bool.{Bool, true, false}
-use mathlib.Core.Path.{_≡_, refl, ap, _∙_}
+use mathlib.Core.Path.{_≡_, refl, sym, ap, _∙_}
 use native.Mathlib.Omega.{arith}
-use lib.ListN.{length, length-drop, drop-of-length-le}
+use lib.ListN.{length}
 use lib.Dec.{ltb}
-use borrow.Author.Tests.{lt-ltb, ltb-true, le-ltb, ltb-false}
+use borrow.Author.Tests.{ltb-true, ltb-false}
 use Rattle.language.specs.Result.{ok, no, choose}
 use Rattle.language.specs.Parser.{Read, got}
 use Rattle.language.specs.Reader.{whole}
 use Rattle.text.specs.declared.Cursor.{Cursor}
 use Rattle.text.specs.declared.Step.{Step}
 use Rattle.text.specs.declared.Step.the-variants.{Next, Stop}
-use Rattle.text.specs.Bytes.{bytesOf, bytesFrom, forget, Passes}
+use Rattle.text.specs.Bytes.{bytesFrom, bytesLeft, forget, Passes}
 use Rattle.text.specs.StepLaws.{pass-got, pass-bad}
-use Rattle.text.specs.DigitLaws.{bytes-length}
 use Rattle.index.specs.declared.Counts.{Counts}
 use Rattle.reader.specs.declared.Frame.{Frame}
 use Rattle.reader.specs.declared.Frame.the-variants.{Taken, Refused}
-use Rattle.reader.specs.Frames.{endedAs}
+use Rattle.reader.specs.Frames.{kindEnd, endedAs}
 
 -- ---- the end of a frame
 pub ended-stops : (line : List ℕ) (n : Counts) {r : Step} {k : ℕ} → r ≡ Stop k → Refused k ≡ endedAs line r n
 ended-stops line n e = rw e
 
-pub ended-goes-on : (line : List ℕ) (n : Counts) {r : Step} {c : Cursor} → r ≡ Next c → c .at < length line / 2 → Refused 4 ≡ endedAs line r n
-unfolding choose
-ended-goes-on line n {c = c} e h = rw (e, lt-ltb (c .at) (length (bytesOf line)) (omega (arith, bytes-length line)))
+module _ (line : List ℕ) (n : Counts) {r : Step} {c : Cursor} {more : Bool} (e : r ≡ Next c) (is : more ≡ ltb 0 (bytesLeft line (c .at))) where
+  pub ended-goes-on : more ≡ true → Refused 4 ≡ endedAs line r n
+  unfolding choose
+  ended-goes-on q = rw (e, sym is ∙ q)
 
-pub ended-there : (line : List ℕ) (n : Counts) {r : Step} {c : Cursor} → r ≡ Next c → length line / 2 ≤ c .at → Taken n ≡ endedAs line r n
-unfolding choose
-ended-there line n {c = c} e h = rw (e, le-ltb (c .at) (length (bytesOf line)) (omega (arith, bytes-length line)))
+  pub ended-there : more ≡ false → Taken n ≡ endedAs line r n
+  unfolding choose
+  ended-there q = rw (e, sym is ∙ q)
 
 pub data Ended {A : Type 0} (frame : ℕ) (y : Read A) (n : Counts) (x : Frame) : Type 0 where
   stops : {k : ℕ} → x ≡ Refused k → whole frame y ≡ no k frame → Ended frame y n x
@@ -42,17 +42,21 @@ unfolding whole
 goes-on frame a [] h = absurd (omega arith)
 goes-on frame a (b ∷ l) h = refl
 
+nothing-left : (l : List ℕ) → length l ≤ 0 → l ≡ []
+nothing-left [] h = refl
+nothing-left (b ∷ l) h = absurd (omega arith)
+
 stays : {A : Type 0} (frame : ℕ) (a : A) (l : List ℕ) → l ≡ [] → whole frame (got a l) ≡ ok a
 unfolding whole
 stays frame a l e = rw e
 
-pub ended-is : {A : Type 0} {line : List ℕ} {n : Counts} {x : Frame} (frame : ℕ) (y : Read A) (r : Step) → Passes line 1 r (forget y) → x ≡ endedAs line r n → Ended frame y n x
+pub ended-is : {A : Type 0} {line : List ℕ} {n : Counts} {x : Frame} (frame : ℕ) (y : Read A) (r : Step) → Passes line (kindEnd line) r (forget y) → x ≡ endedAs line r n → Ended frame y n x
 unfolding whole choose
 ended-is frame y (Stop k) p e = stops e (ap (whole frame) (pass-bad p refl))
-ended-is {A} {line} {n} {x} frame y (Next c) p e = by (ltb (c .at) (length (bytesOf line))) refl
+ended-is {A} {line} {n} {x} frame y (Next c) p e = by (ltb 0 (bytesLeft line (c .at))) refl
   where
-    by : (b : Bool) → ltb (c .at) (length (bytesOf line)) ≡ b → Ended frame y n x
+    by : (b : Bool) → ltb 0 (bytesLeft line (c .at)) ≡ b → Ended frame y n x
     by true t = let g = pass-got p refl in
-        stops (e ∙ ap (λ b. choose b (Refused 4) (Taken n)) t) (ap (whole frame) (g .is) ∙ goes-on frame (g .value) (bytesFrom line (c .at)) (omega (arith, length-drop (c .at) (bytesOf line), ltb-true (c .at) (length (bytesOf line)) t)))
+        stops (e ∙ ap (λ b. choose b (Refused 4) (Taken n)) t) (ap (whole frame) (g .is) ∙ goes-on frame (g .value) (bytesFrom line (c .at)) (ltb-true 0 (bytesLeft line (c .at)) t))
     by false t = let g = pass-got p refl in
-        ends (e ∙ ap (λ b. choose b (Refused 4) (Taken n)) t) (g .is) (ap (whole frame) (g .is) ∙ stays frame (g .value) (bytesFrom line (c .at)) (drop-of-length-le (bytesOf line) (ltb-false (c .at) (length (bytesOf line)) t)))
+        ends (e ∙ ap (λ b. choose b (Refused 4) (Taken n)) t) (g .is) (ap (whole frame) (g .is) ∙ stays frame (g .value) (bytesFrom line (c .at)) (nothing-left (bytesFrom line (c .at)) (ltb-false 0 (bytesLeft line (c .at)) t)))

@@ -3,11 +3,11 @@ use Prim.Native.Nat.{ℕ, zero, suc, _+_, _-_, _*_, _%_, _≤_, _<_}
 use mathlib.Core.List.{List, [], _∷_, _++_}
 use mathlib.Core.Path.{_≡_, refl, sym, ap, subst, _∙_}
 use native.Mathlib.Omega.{arith}
-use lib.ListN.{length, getD, set, length-map, length-append, length-drop, List·getD-append}
+use lib.ListN.{length, getD, set, length-map, length-append, List·getD-append}
 use lib.Seq.{getD-at}
 use Rattle.language.specs.Limits.{byteRange, functionsMost, parametersMost, conditionsMost, measuresMost, nestingMost}
 use Rattle.language.specs.Syntax.{Plain, ResultType, Condition, Expr, Function, File}
-use Rattle.language.specs.Format.{spellAll, plainBytes, resultBytes, conditionBytes, exprBytes, functionBytes}
+use Rattle.language.specs.Format.{spellAll, plainBytes, resultBytes, conditionBytes}
 use Rattle.language.specs.Layout.{padded}
 use Rattle.language.specs.Scope.{namedCount, aritiesOf, bodyScope}
 use Rattle.language.specs.Parser.{Read, got, Parser, andThen, index as indexRead, counted}
@@ -16,14 +16,15 @@ use Rattle.language.specs.Reader.{condition, function}
 use Rattle.theory.specs.Alls.{all-getD}
 use Rattle.theory.specs.ExactParts.{one, index-exact, counted-exact}
 use Rattle.theory.specs.ExactTypes.{plain-exact, result-exact}
-use Rattle.theory.specs.ExactExpr.{expr-exact}
-use Rattle.theory.specs.ExactFrames.{function-exact}
+use Rattle.theory.specs.ExactFrames.{conditions-exact}
 use Rattle.text.specs.declared.Cursor.{Cursor}
 use Rattle.text.specs.declared.Step.{Step}
 use Rattle.text.specs.declared.Step.the-variants.{Next, Stop}
-use Rattle.text.specs.Bytes.{bytesOf, bytesFrom, forget, Passes}
+use Rattle.text.specs.Bytes.{bytesFrom, past, IsPlace, forget, Passes}
+use Rattle.text.specs.Places.{past-past, past-append}
 use Rattle.text.specs.StepLaws.{ends-within, Gives, pass-got, pass-bad, pass-moved, passes-behind, pass-stops-pass, forget-then}
-use Rattle.index.specs.Tables.{functionWords, functionEntry, functionTable, resultPlace, conditionsPlace, measurePlace, bodyPlace}
+use Rattle.index.specs.Tables.{functionWords, functionEntry, functionTable}
+use Rattle.encoding.specs.FrameParts.{resultPlace, conditionsPlace, measurePlace, bodyPlace}
 use Rattle.index.specs.Sections.{typesFrom, functionsFrom, typeTableWords, functionTableWords, functionsOf}
 use Rattle.index.specs.SectionLaws.{Outside, outside-then, kept-before}
 use Rattle.index.specs.Enters.{Enters, parametersEntry, Named, TellsType, TellsParameters}
@@ -33,7 +34,9 @@ use Rattle.expression_reader.specs.declared.Names.{Names}
 use Rattle.expression_reader.specs.Follows.{Tells, Follows}
 use Rattle.index.specs.declared.Counts.{Counts}
 use Rattle.reader.specs.Held.{Held, Fits, PlaceWord, ReadsFunction}
-use Rattle.reader.specs.Places.{read-spelled, place-behind}
+use Rattle.reader.specs.Frames.{kindEnd}
+use Rattle.reader.specs.Places.{place-behind}
+use Rattle.reader.specs.PlaceNumbers.{result-number, conditions-number, measure-number, body-number}
 use Rattle.reader.specs.Channels.{noFunction, arity-at, few-arities, tells-types, then-got, last-got, place-is}
 
 abbrev pub insideNames : Counts → ℕ → ℕ → Names
@@ -115,69 +118,61 @@ module _ {index index₁ : List ℕ} {n : Counts} {P : File} (held : Held index 
       most f (before h) = omega (arith, arity-is f (before h), few-arities held f (omega (arith, held .counted .functionCount)))
       most f (here e) = omega (arith, arity-is f (here e), told .few)
 
--- ---- the places: from the front, and from the end of all that is spelled
+-- ---- the places, each from the one before it
 ones-long : (l : List ℕ) → length (spellAll one l) ≡ length l
 unfolding spellAll
 ones-long [] = refl
 ones-long (i ∷ l) = ap suc (ones-long l)
 
-function-long : (F : Function) → length (functionBytes F) ≡ 3 + length (spellAll plainBytes (F .parameters)) + length (resultBytes (F .result)) + length (spellAll conditionBytes (F .conditions)) + length (F .measure) + length (exprBytes (F .body))
-unfolding functionBytes
-function-long F =
-    let e = exprBytes (F .body) in
-    let m : List ℕ = length (F .measure) ∷ F .measure ++ e in
-    let c : List ℕ = length (F .conditions) ∷ spellAll conditionBytes (F .conditions) ++ m in
-    omega (arith, length-append (F .measure) e, length-append (spellAll conditionBytes (F .conditions)) m, length-append (resultBytes (F .result)) c, length-append (spellAll plainBytes (F .parameters)) (resultBytes (F .result) ++ c))
+record PlacesAre (line : List ℕ) (F : Function) (c d m b : ℕ) : Type 0 where
+  result : c ≡ resultPlace line F
+  conditions : d ≡ conditionsPlace line F
+  measure : m ≡ measurePlace line F
+  body : b ≡ bodyPlace line F
 
-record PlacesAre (F : Function) (c d m b : ℕ) : Type 0 where
-  result : c ≡ resultPlace F
-  conditions : d ≡ conditionsPlace F
-  measure : m ≡ measurePlace F
-  body : b ≡ bodyPlace F
-
-places-are : (F : Function) (line rest : List ℕ) {c d m b : ℕ} → 1 ≤ length (bytesOf line) → b ≤ length (bytesOf line) → c ≡ 1 + length (length (F .parameters) ∷ spellAll plainBytes (F .parameters)) → d ≡ c + length (resultBytes (F .result)) →
-    b ≡ m + length (length (F .measure) ∷ spellAll one (F .measure)) → bytesFrom line 1 ≡ functionBytes F ++ rest → bytesFrom line b ≡ exprBytes (F .body) ++ rest → PlacesAre F c d m b
-unfolding resultPlace conditionsPlace measurePlace bodyPlace
-places-are F line rest {c} {d} {m} {b} long within at₁ at₂ at₄ all end =
-    let whole : length (bytesFrom line 1) ≡ length (functionBytes F) + length rest = ap length all ∙ length-append (functionBytes F) rest in
-    let tail : length (bytesFrom line b) ≡ length (exprBytes (F .body)) + length rest = ap length end ∙ length-append (exprBytes (F .body)) rest in
-    let front : length (bytesFrom line 1) ≡ length (bytesOf line) - 1 = length-drop 1 (bytesOf line) in
-    let back : length (bytesFrom line b) ≡ length (bytesOf line) - b = length-drop b (bytesOf line) in
-    let parts = function-long F in
-    let ones = ones-long (F .measure) in
-    record { result = omega arith; conditions = omega arith; measure = omega arith; body = omega arith }
+places-are : (line : List ℕ) (F : Function) {c d m b : ℕ} → c ≡ past line (kindEnd line) (length (length (F .parameters) ∷ spellAll plainBytes (F .parameters))) → d ≡ past line c (length (resultBytes (F .result))) →
+    m ≡ past line d (length (length (F .conditions) ∷ spellAll conditionBytes (F .conditions))) → b ≡ past line m (length (length (F .measure) ∷ spellAll one (F .measure))) → PlacesAre line F c d m b
+places-are line F {c} {d} {m} {b} at₁ at₂ at₃ at₄ =
+    let result : c ≡ resultPlace line F = at₁ ∙ past-append line (kindEnd line) (length (F .parameters) ∷ []) (spellAll plainBytes (F .parameters)) ∙ ap (λ (a : ℕ). past line a (length (spellAll plainBytes (F .parameters)))) (past-past line 0 1 1) in
+    let conditions : d ≡ conditionsPlace line F = at₂ ∙ ap (λ (a : ℕ). past line a (length (resultBytes (F .result)))) result in
+    let measure : m ≡ measurePlace line F = at₃ ∙ ap (λ (a : ℕ). past line a (length (length (F .conditions) ∷ spellAll conditionBytes (F .conditions)))) conditions ∙ past-append line (conditionsPlace line F) (length (F .conditions) ∷ []) (spellAll conditionBytes (F .conditions)) in
+    let body : b ≡ bodyPlace line F = at₄ ∙ ap (λ (a : ℕ). past line a (length (length (F .measure) ∷ spellAll one (F .measure)))) measure ∙ past-append line (measurePlace line F) (length (F .measure) ∷ []) (spellAll one (F .measure)) ∙ ap (past line (past line (measurePlace line F) 1)) (ones-long (F .measure)) in
+    record { result = result; conditions = conditions; measure = measure; body = body }
 
 -- ---- the frame, part by part
-module _ (line index : List ℕ) (n : Counts) {w : Step} {index₁ : List ℕ} (v : Enters parametersEntry line 1 (functionWords * n .functions) (functionsOf index) w (functionsOf index₁) (counted 0 parametersMost (plain (n .types)) (bytesFrom line 1)) × Outside functionsFrom functionTableWords index index₁) where
+module _ (line index : List ℕ) (n : Counts) {start : Cursor} (begun : start .at ≡ kindEnd line) {w : Step} {index₁ : List ℕ} (entered : Enters parametersEntry line (start .at) (functionWords * n .functions) (functionsOf index) w (functionsOf index₁) (counted 0 parametersMost (plain (n .types)) (bytesFrom line (start .at))) × Outside functionsFrom functionTableWords index index₁) where
+  v : Enters parametersEntry line (kindEnd line) (functionWords * n .functions) (functionsOf index) w (functionsOf index₁) (counted 0 parametersMost (plain (n .types)) (bytesFrom line (kindEnd line))) × Outside functionsFrom functionTableWords index index₁
+  v = rw begun at entered
+
   -- where the frame is refused, nothing is said of the function's entry
-  function-stops : {r : Step} {k : ℕ} → r ≡ Stop k → ((P : File) → Held index n P → n .functions < functionsMost → Passes line 1 r (forget (function P (bytesFrom line 1)))) → ReadsFunction line index n r index₁
+  function-stops : {r : Step} {k : ℕ} → r ≡ Stop k → ((P : File) → Held index n P → n .functions < functionsMost → Passes line (kindEnd line) r (forget (function P (bytesFrom line (kindEnd line))))) → ReadsFunction line index n r index₁
   function-stops e says = record {
-    says = λ P held few long. says P held few;
-    enters = λ P held few long F rest h. bad-is-not-got (sym (pass-bad (says P held few) e) ∙ h);
+    says = λ P held few. says P held few;
+    enters = λ P held few F rest h. bad-is-not-got (sym (pass-bad (says P held few) e) ∙ h);
     outside = v .1;
   }
 
-  parameters-pass : {P : File} → Held index n P → Passes line 1 w (forget (counted 0 parametersMost (plain (length (P .types))) (bytesFrom line 1)))
-  parameters-pass {P} held = passes-as (ap (λ t. forget (counted 0 parametersMost (plain t) (bytesFrom line 1))) (held .counted .typeCount)) (v .0 .passes)
+  parameters-pass : {P : File} → Held index n P → Passes line (kindEnd line) w (forget (counted 0 parametersMost (plain (length (P .types))) (bytesFrom line (kindEnd line))))
+  parameters-pass {P} held = passes-as (ap (λ t. forget (counted 0 parametersMost (plain t) (bytesFrom line (kindEnd line)))) (held .counted .typeCount)) (v .0 .passes)
 
   pub function-no-parameters : {k : ℕ} → w ≡ Stop k → ReadsFunction line index n w index₁
-  function-no-parameters e = function-stops e λ P held few. passes-as (ap forget (function-is P (bytesFrom line 1))) (pass-stops-pass _ _ (parameters-pass held) e)
+  function-no-parameters e = function-stops e λ P held few. passes-as (ap forget (function-is P (bytesFrom line (kindEnd line)))) (pass-stops-pass _ _ (parameters-pass held) e)
 
   module _ {c : Cursor} (e : w ≡ Next c) {vars : ℕ} (named : Named (functionsOf index₁) (n .functions) vars) where
     module _ {P : File} (held : Held index n P) (few : n .functions < functionsMost) where
-      head : ParametersRead (n .types) (P .functions) (n .functions) (bytesFrom line 1) (bytesFrom line (c .at)) (functionsOf index₁)
+      head : ParametersRead (n .types) (P .functions) (n .functions) (bytesFrom line (kindEnd line)) (bytesFrom line (c .at)) (functionsOf index₁)
       head = parameters-read (n .types) (P .functions) (v .0) (held .counted .functionCount) few (held .functionsAre) e
 
       sizes-are : namedCount (head .list) ≡ vars
       sizes-are = sym (named .says (head .list) (head .tells))
 
-      parameters-are : counted 0 parametersMost (plain (length (P .types))) (bytesFrom line 1) ≡ got (head .list) (bytesFrom line (c .at))
-      parameters-are = ap (λ t. counted 0 parametersMost (plain t) (bytesFrom line 1)) (held .counted .typeCount) ∙ head .read
+      parameters-are : counted 0 parametersMost (plain (length (P .types))) (bytesFrom line (kindEnd line)) ≡ got (head .list) (bytesFrom line (c .at))
+      parameters-are = ap (λ t. counted 0 parametersMost (plain t) (bytesFrom line (kindEnd line))) (held .counted .typeCount) ∙ head .read
 
-      to-result : function P (bytesFrom line 1) ≡ behindParameters P (head .list) (bytesFrom line (c .at))
-      to-result = function-is P (bytesFrom line 1) ∙ then-got _ parameters-are
+      to-result : function P (bytesFrom line (kindEnd line)) ≡ behindParameters P (head .list) (bytesFrom line (c .at))
+      to-result = function-is P (bytesFrom line (kindEnd line)) ∙ then-got _ parameters-are
 
-      from-parameters : {r : Step} → Passes line (c .at) r (forget (behindParameters P (head .list) (bytesFrom line (c .at)))) → Passes line 1 r (forget (function P (bytesFrom line 1)))
+      from-parameters : {r : Step} → Passes line (c .at) r (forget (behindParameters P (head .list) (bytesFrom line (c .at)))) → Passes line (kindEnd line) r (forget (function P (bytesFrom line (kindEnd line))))
       from-parameters u = passes-behind (pass-moved (v .0 .passes) e) (ap forget to-result) u
 
     module _ {x : Step} (p : Passes line (c .at) x (forget (result (n .types) vars (bytesFrom line (c .at))))) where
@@ -192,7 +187,7 @@ module _ (line index : List ℕ) (n : Counts) {w : Step} {index₁ : List ℕ} (
           the-result : Gives (result (length (P .types)) (namedCount (head held few .list)) (bytesFrom line (c .at))) (bytesFrom line (d .at))
           the-result = pass-got (result-passes held few) e₂
 
-          from-result : {r : Step} → Passes line (d .at) r (forget (behindResult P (head held few .list) (the-result .value) (bytesFrom line (d .at)))) → Passes line 1 r (forget (function P (bytesFrom line 1)))
+          from-result : {r : Step} → Passes line (d .at) r (forget (behindResult P (head held few .list) (the-result .value) (bytesFrom line (d .at)))) → Passes line (kindEnd line) r (forget (function P (bytesFrom line (kindEnd line))))
           from-result u = from-parameters held few (passes-behind (pass-moved p e₂) (ap forget (then-got _ (the-result .is))) u)
 
         module _ {y : Step} (q : Passes line (d .at) y (forget (counted 0 conditionsMost (condition vars) (bytesFrom line (d .at))))) where
@@ -207,7 +202,7 @@ module _ (line index : List ℕ) (n : Counts) {w : Step} {index₁ : List ℕ} (
               the-conditions : Gives (counted 0 conditionsMost (condition (namedCount (head held few .list))) (bytesFrom line (d .at))) (bytesFrom line (m .at))
               the-conditions = pass-got (conditions-pass held few) e₃
 
-              from-conditions : {r : Step} → Passes line (m .at) r (forget (behindConditions P (head held few .list) (the-result held few .value) (the-conditions .value) (bytesFrom line (m .at)))) → Passes line 1 r (forget (function P (bytesFrom line 1)))
+              from-conditions : {r : Step} → Passes line (m .at) r (forget (behindConditions P (head held few .list) (the-result held few .value) (the-conditions .value) (bytesFrom line (m .at)))) → Passes line (kindEnd line) r (forget (function P (bytesFrom line (kindEnd line))))
               from-conditions u = from-result held few (passes-behind (pass-moved q e₃) (ap forget (then-got _ (the-conditions .is))) u)
 
             module _ {z : Step} (s : Passes line (m .at) z (forget (counted 0 measuresMost (indexRead vars) (bytesFrom line (m .at))))) where
@@ -222,10 +217,10 @@ module _ (line index : List ℕ) (n : Counts) {w : Step} {index₁ : List ℕ} (
                   the-measure : Gives (counted 0 measuresMost (indexRead (namedCount (head held few .list))) (bytesFrom line (m .at))) (bytesFrom line (b .at))
                   the-measure = pass-got (measure-passes held few) e₄
 
-                  from-measure : {r : Step} → Passes line (b .at) r (forget (behindMeasure P (head held few .list) (the-result held few .value) (the-conditions held few .value) (the-measure .value) (bytesFrom line (b .at)))) → Passes line 1 r (forget (function P (bytesFrom line 1)))
+                  from-measure : {r : Step} → Passes line (b .at) r (forget (behindMeasure P (head held few .list) (the-result held few .value) (the-conditions held few .value) (the-measure .value) (bytesFrom line (b .at)))) → Passes line (kindEnd line) r (forget (function P (bytesFrom line (kindEnd line))))
                   from-measure u = from-conditions held few (passes-behind (pass-moved s e₄) (ap forget (then-got _ (the-measure .is))) u)
 
-                  to-body : function P (bytesFrom line 1) ≡ behindMeasure P (head held few .list) (the-result held few .value) (the-conditions held few .value) (the-measure .value) (bytesFrom line (b .at))
+                  to-body : function P (bytesFrom line (kindEnd line)) ≡ behindMeasure P (head held few .list) (the-result held few .value) (the-conditions held few .value) (the-measure .value) (bytesFrom line (b .at))
                   to-body = to-result held few ∙ then-got _ (the-result held few .is) ∙ then-got _ (the-conditions held few .is) ∙ then-got _ (the-measure .is)
 
                   scope-told : {variables : ℕ} → variables ≡ getD (functionsOf index₁) (functionWords * n .functions) 0 % byteRange → Tells index₁ (insideNames n variables vars) (bodyScope (P .types) (P .functions) (head held few .list))
@@ -236,44 +231,44 @@ module _ (line index : List ℕ) (n : Counts) {w : Step} {index₁ : List ℕ} (
                     (functionsOf index′ ≡ set (set (set (set (functionsOf index₁) (functionWords * n .functions + headWords) i₁) (functionWords * n .functions + headWords + 1) i₂) (functionWords * n .functions + headWords + 2) i₃) (functionWords * n .functions + headWords + 3) i₄)
                     × Outside functionsFrom functionTableWords index₁ index′ → ReadsFunction line index n r index′
                 function-read {index′} {i₁ = i₁} {i₂} {i₃} {i₄} {r} fits a u p₁ p₂ p₃ p₄ wrote = record {
-                  says = λ P held few long. from-measure held few (passes-as (forget-then _ _) (u .says (bodyScope (P .types) (P .functions) (head held few .list)) (scope-told held few a) within₄));
-                  enters = λ P held few long F rest h.
+                  says = λ P held few. from-measure held few (passes-as (forget-then _ _) (u .says (bodyScope (P .types) (P .functions) (head held few .list)) (scope-told held few a) within₄));
+                  enters = λ P held few F rest h.
                       let made = last-got (λ (t : Expr). record { parameters = head held few .list; result = the-result held few .value; conditions = the-conditions held few .value; measure = the-measure held few .value; body = t }) _ (sym (to-body held few) ∙ h) in (
-                        entered held few long (made .value) (h ∙ ap (λ G. got G rest) (made .made)) (made .is) ∙ ap (λ G. functionTable (P .functions ++ (G ∷ []))) (sym (made .made)),
+                        written held few (made .value) ∙ ap (λ G. functionTable (P .functions ++ (G ∷ []))) (sym (made .made)),
                         omega (arith, ap (λ G. length (G .parameters)) (made .made), head held few .tells .few),
                       );
                   outside = outside-then (v .1) (wrote .1);
                 }
                   where
-                    within₁ : c .at ≤ length (bytesOf line)
+                    within₁ : IsPlace line (c .at)
                     within₁ = ends-within (pass-moved (v .0 .passes) e)
 
-                    within₂ : d .at ≤ length (bytesOf line)
+                    within₂ : IsPlace line (d .at)
                     within₂ = ends-within (pass-moved p e₂)
 
-                    within₃ : m .at ≤ length (bytesOf line)
+                    within₃ : IsPlace line (m .at)
                     within₃ = ends-within (pass-moved q e₃)
 
-                    within₄ : b .at ≤ length (bytesOf line)
+                    within₄ : IsPlace line (b .at)
                     within₄ = ends-within (pass-moved s e₄)
 
                     the-function : {P : File} → Held index n P → n .functions < functionsMost → Expr → Function
                     the-function held few t = record { parameters = head held few .list; result = the-result held few .value; conditions = the-conditions held few .value; measure = the-measure held few .value; body = t }
 
-                    entered : {P : File} (held : Held index n P) (few : n .functions < functionsMost) → 1 ≤ length (bytesOf line) → (t : Expr) {rest : List ℕ} → function P (bytesFrom line 1) ≡ got (the-function held few t) rest →
-                        exprAt nestingMost (bodyScope (P .types) (P .functions) (head held few .list)) (bytesFrom line (b .at)) ≡ got t rest → functionsOf index′ ≡ functionTable (P .functions ++ (the-function held few t ∷ []))
-                    entered {P} held few long t {rest} all end =
+                    written : {P : File} (held : Held index n P) (few : n .functions < functionsMost) → (t : Expr) → functionsOf index′ ≡ functionTable (P .functions ++ (the-function held few t ∷ []))
+                    written {P} held few t =
                         let F = the-function held few t in
-                        let at₁ = place-behind (counted-exact (plain-exact (n .types)) 0 parametersMost) line 1 (c .at) long within₁ (head held few .read) in
-                        let at₂ = place-behind (result-exact (length (P .types)) (namedCount (head held few .list))) line (c .at) (d .at) within₁ within₂ (the-result held few .is) in
-                        let at₄ = place-behind (counted-exact (index-exact (namedCount (head held few .list))) 0 measuresMost) line (m .at) (b .at) within₃ within₄ (the-measure held few .is) in
-                        let places = places-are F line rest long within₄ at₁ at₂ at₄ (read-spelled (function-exact P) line 1 all .spelled) (read-spelled (expr-exact nestingMost (bodyScope (P .types) (P .functions) (head held few .list))) line (b .at) end .spelled) in
+                        let at₁ = place-behind (counted-exact (plain-exact (n .types)) 0 parametersMost) (pass-moved (v .0 .passes) e) (head held few .read) in
+                        let at₂ = place-behind (result-exact (length (P .types)) (namedCount (head held few .list))) (pass-moved p e₂) (the-result held few .is) in
+                        let at₃ = place-behind (conditions-exact (namedCount (head held few .list))) (pass-moved q e₃) (the-conditions held few .is) in
+                        let at₄ = place-behind (counted-exact (index-exact (namedCount (head held few .list))) 0 measuresMost) (pass-moved s e₄) (the-measure held few .is) in
+                        let places = places-are line F at₁ at₂ at₃ at₄ in
                         let at = functionWords * n .functions + headWords in
                         let table₁ = set (functionsOf index₁) at i₁ in
                         let table₂ = set table₁ (at + 1) i₂ in
                         let table₃ = set table₂ (at + 2) i₃ in
                         places-added (P .functions) F (held .counted .functionCount) few (head held few .table)
-                        (ap (set (functionsOf index₁) at) (place-is fits p₁ within₁ ∙ places .result))
-                        (ap (set table₁ (at + 1)) (place-is fits p₂ within₂ ∙ places .conditions))
-                        (ap (set table₂ (at + 2)) (place-is fits p₃ within₃ ∙ places .measure))
-                        (wrote .0 ∙ ap (set table₃ (at + 3)) (place-is fits p₄ within₄ ∙ places .body))
+                        (ap (set (functionsOf index₁) at) (place-is fits p₁ within₁ ∙ places .result ∙ result-number line F))
+                        (ap (set table₁ (at + 1)) (place-is fits p₂ within₂ ∙ places .conditions ∙ conditions-number line F))
+                        (ap (set table₂ (at + 2)) (place-is fits p₃ within₃ ∙ places .measure ∙ measure-number line F))
+                        (wrote .0 ∙ ap (set table₃ (at + 3)) (place-is fits p₄ within₄ ∙ places .body ∙ body-number line F))

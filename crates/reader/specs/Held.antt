@@ -17,6 +17,7 @@ use Rattle.index.specs.SectionLaws.{Outside}
 use Rattle.index.specs.Indexed.{Counted}
 use Rattle.index.specs.TypeTable.{FewParts}
 use Rattle.index.specs.declared.Counts.{Counts}
+use Rattle.reader.specs.Frames.{kindEnd}
 use Rattle.reader.specs.declared.Frame.{Frame}
 use Rattle.reader.specs.declared.Frame.the-variants.{Taken, Refused}
 
@@ -51,21 +52,21 @@ pub record PlaceWord (at word : ℕ) : Type 0 where
 
 -- what stands behind the kind of a function's frame, of an input's, of a node's: the parser's answer, and its entry in the index
 pub record ReadsFunction (line index : List ℕ) (n : Counts) (r : Step) (index′ : List ℕ) : Type 0 where
-  pub says : (P : File) → Held index n P → n .functions < functionsMost → 1 ≤ length (bytesOf line) → Passes line 1 r (forget (function P (bytesFrom line 1)))
-  pub enters : (P : File) → Held index n P → n .functions < functionsMost → 1 ≤ length (bytesOf line) → (F : Function) (rest : List ℕ) →
-      function P (bytesFrom line 1) ≡ got F rest → (functionsOf index′ ≡ functionTable (P .functions ++ (F ∷ []))) × (length (F .parameters) ≤ parametersMost)
+  pub says : (P : File) → Held index n P → n .functions < functionsMost → Passes line (kindEnd line) r (forget (function P (bytesFrom line (kindEnd line))))
+  pub enters : (P : File) → Held index n P → n .functions < functionsMost → (F : Function) (rest : List ℕ) →
+      function P (bytesFrom line (kindEnd line)) ≡ got F rest → (functionsOf index′ ≡ functionTable (P .functions ++ (F ∷ []))) × (length (F .parameters) ≤ parametersMost)
   pub outside : Outside functionsFrom functionTableWords index index′
 
 pub record ReadsInput (line index : List ℕ) (n : Counts) (r : Step) (index′ : List ℕ) : Type 0 where
-  pub says : (P : File) → Held index n P → P .nodes ≡ [] → n .inputs < inputsMost → 1 ≤ length (bytesOf line) → Passes line 1 r (forget (input P (bytesFrom line 1)))
-  pub enters : (P : File) → Held index n P → P .nodes ≡ [] → n .inputs < inputsMost → 1 ≤ length (bytesOf line) → (i : Input) (rest : List ℕ) →
-      input P (bytesFrom line 1) ≡ got i rest → channelsOf index′ ≡ channelTable (P .inputs ++ (i ∷ [])) []
+  pub says : (P : File) → Held index n P → P .nodes ≡ [] → n .inputs < inputsMost → Passes line (kindEnd line) r (forget (input P (bytesFrom line (kindEnd line))))
+  pub enters : (P : File) → Held index n P → P .nodes ≡ [] → n .inputs < inputsMost → (i : Input) (rest : List ℕ) →
+      input P (bytesFrom line (kindEnd line)) ≡ got i rest → channelsOf index′ ≡ channelTable (P .inputs ++ (i ∷ [])) []
   pub outside : Outside channelsFrom channelTableWords index index′
 
 pub record ReadsNode (line index : List ℕ) (n : Counts) (all : ℕ) (r : Step) (index′ : List ℕ) : Type 0 where
-  pub says : (P : File) → Held index n P → n .nodes < nodesMost → 1 ≤ length (bytesOf line) → Passes line 1 r (forget (node all P (bytesFrom line 1)))
-  pub enters : (P : File) → Held index n P → n .nodes < nodesMost → 1 ≤ length (bytesOf line) → (m : Node) (rest : List ℕ) →
-      node all P (bytesFrom line 1) ≡ got m rest → channelsOf index′ ≡ channelTable (P .inputs) (P .nodes ++ (m ∷ []))
+  pub says : (P : File) → Held index n P → n .nodes < nodesMost → Passes line (kindEnd line) r (forget (node all P (bytesFrom line (kindEnd line))))
+  pub enters : (P : File) → Held index n P → n .nodes < nodesMost → (m : Node) (rest : List ℕ) →
+      node all P (bytesFrom line (kindEnd line)) ≡ got m rest → channelsOf index′ ≡ channelTable (P .inputs) (P .nodes ++ (m ∷ []))
   pub outside : Outside channelsFrom channelTableWords index index′
 
 -- a frame: the file with it, in the index, or the number of the refusal (its sections of the index are then free)
@@ -74,10 +75,10 @@ pub data FrameRead (r : Frame) (index : List ℕ) : Result File → Type 0 where
   refused : {m frame : ℕ} → r ≡ Refused m → FrameRead r index (no m frame)
 
 pub record ReadsFrame (line index : List ℕ) (n : Counts) (all : ℕ) (r : Frame) (index′ : List ℕ) : Type 0 where
-  pub says : (P : File) → Held index n P → (frame : ℕ) → 1 ≤ length (bytesOf line) → FrameRead r index′ (readFrame all frame P (bytesOf line))
+  pub says : (P : File) → Held index n P → (frame : ℕ) → FrameRead r index′ (readFrame all frame P (bytesOf line))
   pub frames : framesOf index′ ≡ framesOf index
 
 -- a type's frame behind its kind
 pub record TypeTaken (line index : List ℕ) (n : Counts) (r : Frame) (index′ : List ℕ) : Type 0 where
-  pub says : (P : File) → Held index n P → (frame : ℕ) → n .types < typesMost → FrameRead r index′ (readKind 0 frame P (bytesFrom line 1) typeKind)
+  pub says : (P : File) → Held index n P → (frame : ℕ) → n .types < typesMost → FrameRead r index′ (readKind 0 frame P (bytesFrom line (kindEnd line)) typeKind)
   pub outside : Outside typesFrom typeTableWords index index′

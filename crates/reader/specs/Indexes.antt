@@ -9,20 +9,20 @@ use lib.ListN.{length, getD, getElem? as look}
 use Rattle.language.specs.Limits.{byteRange}
 use Rattle.language.specs.Result.{Result, ok}
 use Rattle.language.specs.Syntax.{Function, Input, Node, File, constructorsOf}
-use Rattle.language.specs.Format.{declaredBytes, exprBytes}
 use Rattle.language.specs.Reader.{readFile}
 use Rattle.language.specs.Within.{Within}
 use Rattle.theory.specs.Places.{look-at}
 use Rattle.theory.specs.ReaderExact.{reader-forth}
-use Rattle.index.specs.Tables.{typeTable, functionWords, functionTable, channelWords, inputEntry, nodeEntry, channelTable, resultPlace, conditionsPlace, measurePlace, bodyPlace}
+use Rattle.index.specs.Tables.{typeTable, functionWords, functionTable, channelWords, inputEntry, nodeEntry, channelTable}
 use Rattle.index.specs.Sections.{countsOf, countsIn}
 use Rattle.index.specs.Whole.{countsEntry, FileSections, whole-sections}
 use Rattle.index.specs.TypeTable.{FewParts, each-within-few, tells-type}
 use Rattle.index.specs.FunctionTable.{headWords}
-use Rattle.encoding.specs.FrameParts.{FunctionSpelled, InputSpelled, NodeSpelled}
+use Rattle.encoding.specs.FrameParts.{resultPlace, conditionsPlace, measurePlace, bodyPlace, initialPlace, updatePlace, FunctionSpelled, InputSpelled, NodeSpelled}
 use Rattle.encoding.specs.FrameSpells.{lineAt, type-spelled, function-spelled, input-spelled, node-spelled}
 use Rattle.reader.specs.declared.Reading.{Reading}
 use Rattle.reader.specs.declared.Reading.the-variants.{Done}
+use Rattle.reader.specs.PlaceNumbers.{result-number, conditions-number, measure-number, body-number, initial-number, update-number}
 use Rattle.reader.specs.Texts.{TextRead, done, fault}
 use Rattle.index.specs.Indexed.{resultAt, conditionsAt, measureAt, bodyAt, initialAt, updateAt, functionLine, channelLine, TypeIndexed, FunctionIndexed, ChannelIndexed, NodeIndexed, Counted, Indexed}
 use Rattle.encoding.specs.WithinParts.{function-within}
@@ -45,15 +45,15 @@ module _ (text : List ℕ) {P : File} (read : readFile text ≡ ok P) where
       }
 
   function-indexed : {functions : List ℕ} → functions ≡ functionTable (P .functions) → (f : ℕ) {F : Function} → look (P .functions) f ≡ some F → FunctionIndexed (lineAt text (functionLine P f)) functions f F
-  unfolding resultPlace conditionsPlace measurePlace bodyPlace
   function-indexed {functions} table f {F} there =
       let w = in-limits in
       let s : FunctionSpelled (lineAt text (functionLine P f)) F = function-spelled text read f (functionLine P f) (omega arith) there in
       let word = place-told (P .functions) table (w .fewFunctions) f there in
-      let result : resultAt functions f ≡ resultPlace F = ap (λ i. getD functions i 0) (sym (add-zero (functionWords * f + headWords))) ∙ word 0 (omega arith) in
-      let conditions : conditionsAt functions f ≡ conditionsPlace F = word 1 (omega arith) in
-      let measure : measureAt functions f ≡ measurePlace F = word 2 (omega arith) in
-      let body : bodyAt functions f ≡ bodyPlace F = word 3 (omega arith) in
+      let line = lineAt text (functionLine P f) in
+      let result : resultAt functions f ≡ resultPlace line F = ap (λ i. getD functions i 0) (sym (add-zero (functionWords * f + headWords))) ∙ word 0 (omega arith) ∙ sym (result-number line F) in
+      let conditions : conditionsAt functions f ≡ conditionsPlace line F = word 1 (omega arith) ∙ sym (conditions-number line F) in
+      let measure : measureAt functions f ≡ measurePlace line F = word 2 (omega arith) ∙ sym (measure-number line F) in
+      let body : bodyAt functions f ≡ bodyPlace line F = word 3 (omega arith) ∙ sym (body-number line F) in
       record {
         tells = parameters-told (P .functions) table (w .fewFunctions) f there (function-within w f there .fewParameters);
         result = rw result (s .result);
@@ -70,7 +70,7 @@ module _ (text : List ℕ) {P : File} (read : readFile text ≡ ok P) where
       let w = in-limits in
       let s : InputSpelled (lineAt text (channelLine P c)) i = input-spelled text read c (channelLine P c) (omega arith) there in
       let word = input-told (P .inputs) (P .nodes) table (omega (arith, w .fewInputs, w .fewNodes)) c there in
-      let initial : initialAt channels c ≡ 1 + length (declaredBytes (i .declared)) = word 1 (omega arith) in
+      let initial : initialAt channels c ≡ initialPlace (lineAt text (channelLine P c)) (i .declared) = word 1 (omega arith) ∙ sym (initial-number (lineAt text (channelLine P c)) (i .declared)) in
       record { declared = ap (λ k. getD channels k 0) (sym (add-zero (channelWords * c))) ∙ word 0 (omega arith); initial = rw initial (s .initial) }
 
   node-indexed : {channels : List ℕ} → channels ≡ channelTable (P .inputs) (P .nodes) → (m : ℕ) {n : Node} → look (P .nodes) m ≡ some n →
@@ -81,8 +81,9 @@ module _ (text : List ℕ) {P : File} (read : readFile text ≡ ok P) where
       let c : ℕ = length (P .inputs) + m in
       let s : NodeSpelled (lineAt text (channelLine P c)) n = node-spelled text read m (channelLine P c) (omega arith) there in
       let word = node-told (P .inputs) (P .nodes) table (omega (arith, w .fewInputs, w .fewNodes)) m there in
-      let initial : initialAt channels c ≡ 1 + length (declaredBytes (n .declared)) = word 1 (omega arith) in
-      let update : updateAt channels c ≡ 1 + length (declaredBytes (n .declared)) + length (exprBytes (n .initial)) = word 2 (omega arith) in
+      let line = lineAt text (channelLine P c) in
+      let initial : initialAt channels c ≡ initialPlace line (n .declared) = word 1 (omega arith) ∙ sym (initial-number line (n .declared)) in
+      let update : updateAt channels c ≡ updatePlace line n = word 2 (omega arith) ∙ sym (update-number line (n .declared) (n .initial) refl) in
       record {
         channel = record { declared = ap (λ k. getD channels k 0) (sym (add-zero (channelWords * c))) ∙ word 0 (omega arith); initial = rw initial (s .initial) };
         update = rw update (s .update);

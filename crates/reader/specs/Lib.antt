@@ -1,8 +1,9 @@
+pub mod Frames
 pub mod Held
 pub mod Places
+pub mod PlaceNumbers
 pub mod Channels
 pub mod Functions
-pub mod Frames
 pub mod OrderLaws
 pub mod EndedLaws
 pub mod HeldLaws

@@ -14,7 +14,6 @@ use Rattle.language.specs.Result.{Result, ok, no}
 use Rattle.language.specs.Syntax.{File}
 use Rattle.language.specs.Layout.{padded}
 use Rattle.language.specs.Reader.{readFrame, readFrames, readFile, emptyFile}
-use Rattle.text.specs.Bytes.{bytesOf}
 use Rattle.text.specs.Lines.{firstLine, framesFrom}
 use Rattle.text.specs.LinesWalk.{FramesLeft, NextFrame, frames-left-start, frame-there, frames-over}
 use Rattle.index.specs.Tables.{frameWords, placesFrom, frameTable}
@@ -84,9 +83,6 @@ module _ {t index : List ℕ} {all at read : ℕ} {known : Counts} (s : LinesTo 
   line-there : {l : List ℕ} → at < length t → l ≡ firstLine (drop at t) → NextFrame t at l (s .left)
   line-there h e = frame-there (s .left) h e (s .walk)
 
-  line-filled : {l : List ℕ} → NextFrame t at l (s .left) → (length l ≡ 2 * length (bytesOf l)) × (1 ≤ length (bytesOf l))
-  line-filled {l} x = rw (x .here .bytes) (line-long l (x .frame) (x .here .spelled))
-
   -- its length is in the index, if the section of frames goes so far
   pub line-listed : at < length t → Listed t index at read
   line-listed h =
@@ -128,7 +124,7 @@ module _ {t index : List ℕ} {all at read : ℕ} {known : Counts} (s : LinesTo 
   line-refused {l} {m = m} h e v q a =
       let x = line-there h e in
       let r = s .so in
-      let no-file = frame-fault (v .says (r .file) (r .held) (suc read) (line-filled x .1)) q in
+      let no-file = frame-fault (v .says (r .file) (r .held) (suc read)) q in
       lines-fault t (a ∙ ap (λ y. frameReading y (read + 1)) q) (r .is ∙ frame-refused all (suc read) (r .file) (x .split) (ap (readFrame all (suc read) (r .file)) (sym (x .here .bytes)) ∙ no-file .1) ∙ ap (no m) (sym (add-one read)))
 
   pub line-taken : {l index′ : List ℕ} {x : Frame} {n : Counts} → at < length t → l ≡ firstLine (drop at t) → ReadsFrame l index known all x index′ → x ≡ Taken n → LinesTo t all n (at + length l + 1) (read + 1) index′
@@ -140,7 +136,7 @@ module _ {t index : List ℕ} {all at read : ℕ} {known : Counts} (s : LinesTo 
       go : ReadTo t all (next .others) n (read + 1) index′
       go =
           let r = s .so in
-          let Q = frame-file (v .says (r .file) (r .held) (suc read) (line-filled next .1)) q in
+          let Q = frame-file (v .says (r .file) (r .held) (suc read)) q in
           let one-more : r .earlier ++ s .left ≡ (r .earlier ++ (next .frame ∷ [])) ++ next .others = ap (λ k. r .earlier ++ k) (next .split) ∙ sym (append-snoc (r .earlier) (next .frame) (next .others)) in
           record {
             file = Q .0;

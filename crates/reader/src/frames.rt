@@ -4,7 +4,7 @@ ghost use Prim.Native.Nat.{_≤_};
 ghost use Rattle.language.specs.Limits.{functionsMost};
 ghost use Rattle.reader.specs.Held.{Few, Fits, PlaceWord, ReadsFunction, ReadsInput, ReadsNode, ReadsFrame, TypeTaken};
 ghost use Rattle.reader.specs.Channels.{outsideNames};
-ghost use Rattle.reader.specs.Frames.{Ordered, endedAs, oneMore};
+ghost use Rattle.reader.specs.Frames.{kindEnd, Ordered, endedAs, oneMore};
 ghost use Rattle.reader.specs.Functions.{insideNames};
 use super::Frame;
 use expression_reader::Names;
@@ -33,7 +33,6 @@ use language::limits::TYPES_MOST;
 use language::refusals::BAD_FRAME;
 use language::refusals::BAD_LENGTH;
 use language::refusals::NO_BASE_CONSTRUCTOR;
-use text::BYTE_DIGITS;
 use text::Cursor;
 use text::Number;
 use text::Step;
@@ -79,11 +78,11 @@ fn inside(known: Counts, variables: u32, sizes: u32) -> Names
 }
 
 // An input: its declared type and its initial value, which names no channel.
-fn input_frame(line: &[u8], index: &mut [u32; INDEX_WORDS], known: Counts) -> Step
+fn input_frame(line: &[u8], index: &mut [u32; INDEX_WORDS], start: Cursor, known: Counts) -> Step
     requires { ⌜ Fits (now line) known ⌝ }
+    requires { ⌜ start .at ≡ kindEnd (now line) ⌝ }
     ensures { λ r. ⌜ ReadsInput (now (line .entry)) (now (index .entry)) known r (now (index .exit)) ⌝ }
 {
-    let start = Cursor { at: 1 };
     let x = start.declared(line, known.types);
     let Number::Is(f) = x else {
         return step_of(x);
@@ -98,11 +97,17 @@ fn input_frame(line: &[u8], index: &mut [u32; INDEX_WORDS], known: Counts) -> St
 }
 
 // A node among so many channels: its declared type, its initial value and its update.
-fn node_frame(line: &[u8], index: &mut [u32; INDEX_WORDS], known: Counts, all: u32) -> Step
+fn node_frame(
+    line: &[u8],
+    index: &mut [u32; INDEX_WORDS],
+    start: Cursor,
+    known: Counts,
+    all: u32,
+) -> Step
     requires { ⌜ Fits (now line) known ⌝ }
+    requires { ⌜ start .at ≡ kindEnd (now line) ⌝ }
     ensures { λ r. ⌜ ReadsNode (now (line .entry)) (now (index .entry)) known all r (now (index .exit)) ⌝ }
 {
-    let start = Cursor { at: 1 };
     let x = start.declared(line, known.types);
     let Number::Is(f) = x else {
         return step_of(x);
@@ -124,11 +129,11 @@ fn node_frame(line: &[u8], index: &mut [u32; INDEX_WORDS], known: Counts, all: u
 }
 
 // A function: its parameters, result, conditions, measure and body.
-fn function_frame(line: &[u8], index: &mut [u32; INDEX_WORDS], known: Counts) -> Step
+fn function_frame(line: &[u8], index: &mut [u32; INDEX_WORDS], start: Cursor, known: Counts) -> Step
     requires { ⌜ Fits (now line) known ⌝ }
+    requires { ⌜ start .at ≡ kindEnd (now line) ⌝ }
     ensures { λ r. ⌜ ReadsFunction (now (line .entry)) (now (index .entry)) known r (now (index .exit)) ⌝ }
 {
-    let start = Cursor { at: 1 };
     let f = known.functions;
     let w = parameters(line, index, start, known.types, f);
     let Step::Next(c) = w else {
@@ -187,7 +192,7 @@ fn ended(line: &[u8], r: Step, n: Counts) -> Frame
 {
     match r {
         Step::Next(c) => {
-            if c.at < line.len() / BYTE_DIGITS {
+            if c.more(line) {
                 return Frame::Refused(BAD_LENGTH);
             }
             Frame::Taken(n)
@@ -210,11 +215,11 @@ fn one_more(n: Counts, kind: u32) -> Counts
 }
 
 // A type: 8 where every constructor has a field of the type itself.
-fn type_frame(line: &[u8], index: &mut [u32; INDEX_WORDS], known: Counts) -> Frame
+fn type_frame(line: &[u8], index: &mut [u32; INDEX_WORDS], start: Cursor, known: Counts) -> Frame
     requires { ⌜ Fits (now line) known ⌝ }
+    requires { ⌜ start .at ≡ kindEnd (now line) ⌝ }
     ensures { λ r. ⌜ TypeTaken (now (line .entry)) (now (index .entry)) known r (now (index .exit)) ⌝ }
 {
-    let start = Cursor { at: 1 };
     let t = known.types;
     let r = type_def(line, index, start, t);
     let x = ended(line, r, one_more(known, KIND_TYPE));
@@ -238,18 +243,19 @@ pub fn frame(line: &[u8], index: &mut [u32; INDEX_WORDS], known: Counts, all: u3
         return Frame::Refused(BAD_LENGTH);
     };
     let kind = f.value;
+    let behind = f.next;
     if !in_order(kind, known) {
         return Frame::Refused(BAD_FRAME);
     }
     if kind == KIND_TYPE {
-        return type_frame(line, index, known);
+        return type_frame(line, index, behind, known);
     }
     let n = one_more(known, kind);
     if kind == KIND_FUNCTION {
-        return ended(line, function_frame(line, index, known), n);
+        return ended(line, function_frame(line, index, behind, known), n);
     }
     if kind == KIND_INPUT {
-        return ended(line, input_frame(line, index, known), n);
+        return ended(line, input_frame(line, index, behind, known), n);
     }
-    ended(line, node_frame(line, index, known, all), n)
+    ended(line, node_frame(line, index, behind, known, all), n)
 }

@@ -15,6 +15,7 @@ use Rattle.language.specs.Typing.{Place as Stand}
 use Rattle.language.specs.Sizes.{typeSize}
 use Rattle.language.specs.Checker.{Instance, sized}
 use Rattle.text.specs.declared.Cursor.{Cursor}
+use Rattle.text.specs.Places.{past}
 use Rattle.encoding.specs.Spells.{Spells}
 use Rattle.encoding.specs.FrameSpells.{lineAt}
 use Rattle.index.specs.Indexed.{framePart}
@@ -53,10 +54,10 @@ size-most no-size d = absurd (let z : _≡_ {A = ℕ} 0 1 = cc in omega arith)
 module _ {t : Lent} {b : Buffers} {p : Place} {line : List ℕ} {s : SizeAt} (g : SizeGiven line (p .at) (b .sizes) s) (cut : line ≡ framePart (t .text) (framesOf (t .index)) (p .line)) where
   -- the size that is spelled at the place, of the sizes in scope
   pub size-here : {P : File} {S : Scope} {q : Stand} {Γ : List Ty} {Δ : List ℕ} {L : List Instance} {left : ℕ} → Here t b p P S q Γ Δ L left → {k : Size} → WithinSize (S .sizes) nestingMost k → Spells sizeBytes (lineAt (t .text) (p .line)) (p .at .at) k →
-      AgreesSize (typeSize Δ k) (p .at .at + length (sizeBytes k)) s
+      AgreesSize (typeSize Δ k) (past (lineAt (t .text) (p .line)) (p .at .at) (length (sizeBytes k))) s
   size-here {P} {S} h {k} w spelled =
       let there : line ≡ lineAt (t .text) (p .line) = part-is-line (h .indexed) (p .line) (h .site .line) cut in
-      subst (λ x. AgreesSize x (p .at .at + length (sizeBytes k)) s) (sym (size-in-scope (b .sizes) w) ∙ ap (λ l. typeSize l k) (sizes-scope h)) (g .says (S .sizes) k w (rw there spelled))
+      subst (λ x. AgreesSize x (past (lineAt (t .text) (p .line)) (p .at .at) (length (sizeBytes k))) s) (sym (size-in-scope (b .sizes) w) ∙ ap (λ l. typeSize l k) (sizes-scope h)) (rw (sym there) (g .says (S .sizes) k w (rw there spelled)))
 
   pub adj-outside : s ≡ SizeOutside → Sizes AdjPart t b p (Refused 10 (p .line + 1)) b
   unfolding sized

@@ -9,6 +9,7 @@ use borrow.Author.Tests.{le-leb, lt-leb}
 use Rattle.language.specs.Limits.{byteRange, sizeMost, sizeVariablesMost}
 use Rattle.language.specs.Result.{choose}
 use Rattle.language.specs.Syntax.{Constructor, owns, File, constructorsOf}
+use Rattle.language.specs.Format.{exprBytes}
 use Rattle.language.specs.Scope.{wider}
 use Rattle.language.specs.Within.{All, all-nil, all-cons}
 use Rattle.language.specs.Sizes.{sum}
@@ -23,6 +24,7 @@ use Rattle.heads.specs.Skips.{Skips}
 use Rattle.heads.specs.ScopeShapes.{known-shapes}
 use Rattle.index.specs.Indexed.{framePart}
 use Rattle.index.specs.FramePartLaws.{part-is-line}
+use Rattle.text.specs.Places.{past}
 use Rattle.encoding.specs.Known.{wider-known}
 use Rattle.estimate.specs.declared.Estimate.{Estimate}
 use Rattle.estimate.specs.Stands.{Makes}
@@ -70,9 +72,10 @@ module _ {s : Subject} {k own : ℕ} {t : Lent} {b : Buffers} {p : Place} (told 
   unfolding choose
   branch-skipped {next} {numbers} small cut skips moved made is = record {
     says = λ P S q Γ Δ L left h fs w there end e part.
-        let over = skips .says _ e (known-shapes (h .indexed) (wider-known _ _ (h .site .known))) (part .within) (rw (part-is-line (h .indexed) (p .line) (h .site .line) cut) (part .spelled)) in
+        let is-line = part-is-line (h .indexed) (p .line) (h .site .line) cut in
+        let over = skips .says _ e (known-shapes (h .indexed) (wider-known _ _ (h .site .known))) (part .within) (rw is-line (part .spelled)) in
         rw (le-leb (s .size) (owns fs) (omega (arith, small, owns-told k (h .indexed) (w .of) there told))) (agrees (is ∙ ap (leafOf (s .ty) numbers) moved)
-        (record { type = refl; small = w .ty; numbers = made .says; ends = over ∙ sym (part .ends); holds = h .holds }));
+        (record { type = refl; small = w .ty; numbers = made .says; ends = over ∙ ap (λ (l : List ℕ). past l (p .at .at) (length (exprBytes e))) is-line ∙ sym (part .ends); holds = h .holds }));
     grows = grown-is (is ∙ ap (leafOf (s .ty) numbers) moved) (omega arith);
     kept = kept-all;
   }

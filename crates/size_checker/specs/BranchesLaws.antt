@@ -4,7 +4,6 @@ use mathlib.Core.List.{List, [], _∷_}
 use mathlib.Core.Option.{some}
 use mathlib.Core.Path.{_≡_, refl, sym, ap, _∙_, subst}
 use native.Mathlib.Omega.{arith}
-use native.Mathlib.Nat.{add-zero}
 use native.Mathlib.Numerals.{add-one}
 use lib.ListN.{length, getD, drop, length-drop, drop-of-length-le, getElem? as look}
 use lib.Seq.{drop-cons}
@@ -17,6 +16,7 @@ use Rattle.language.specs.Estimate.{nothing, either}
 use Rattle.language.specs.Typing.{Place as Stand}
 use Rattle.language.specs.Checker.{Instance, Counted as CountedDef, sizedBranches}
 use Rattle.theory.specs.Places.{look-at}
+use Rattle.text.specs.Places.{past, past-none}
 use Rattle.index.specs.Tables.{typeWords}
 use Rattle.encoding.specs.Spells.{Spells}
 use Rattle.encoding.specs.FrameSpells.{lineAt}
@@ -54,10 +54,10 @@ record Apart (line : List ℕ) (p : Place) (S : Scope) (end : ℕ) (cs : List Co
   is : bs ≡ econs first others
   splits : drop k cs ≡ fields ∷ drop (suc k) cs
   there : look cs k ≡ some fields
-  part : BranchPart line p S fields (p .at .at + length (exprBytes first)) first
-  rest : Spells exprsBytes line (p .at .at + length (exprBytes first)) others
+  part : BranchPart line p S fields (past line (p .at .at) (length (exprBytes first))) first
+  rest : Spells exprsBytes line (past line (p .at .at) (length (exprBytes first))) others
   within : WithinBranches (p .levels) S (drop (suc k) cs) others
-  ends : end ≡ p .at .at + length (exprBytes first) + length (exprsBytes others)
+  ends : end ≡ past line (past line (p .at .at) (length (exprBytes first))) (length (exprsBytes others))
 
 first-within : {n : ℕ} {S : Scope} {fs : Constructor} {cs : List Constructor} {e : Expr} {es : Exprs} → WithinBranches n S (fs ∷ cs) (econs e es) → WithinExpr n (wider (length fs) (owns fs) S) e
 first-within (wb-cons w ws) = w
@@ -80,7 +80,7 @@ apart {line} {p} {S} {end} cs {bs} k less part =
       part = record { spelled = m .spelled; within = first-within w; ends = refl };
       rest = m .next;
       within = rest-within w;
-      ends = omega (arith, part .ends, ap (λ (l : Exprs). length (exprsBytes l)) (m .is), m .long);
+      ends = part .ends ∙ ap (λ (l : Exprs). past line (p .at .at) (length (exprsBytes l))) (m .is) ∙ m .ends;
     }
 
 -- ---- no constructor is left
@@ -96,7 +96,7 @@ branches-none {s} {k} {t} {b} {p} {numbers} told few made is = record {
         small = w .ty;
         numbers = made .says;
         holds = h .holds;
-        ends = sym (part .ends ∙ ap (λ (l : Exprs). p .at .at + length (exprsBytes l)) empty ∙ add-zero _);
+        ends = sym (part .ends ∙ ap (λ (l : Exprs). past (lineAt (t .text) (p .line)) (p .at .at) (length (exprsBytes l))) empty ∙ past-none (lineAt (t .text) (p .line)) (p .at .at));
       }));
   grows = grown-is is (omega arith);
   kept = kept-all;
@@ -128,11 +128,11 @@ module _ {s : Subject} {k n : ℕ} {t : Lent} {b b₁ : Buffers} {p : Place} {x 
     branches-grows = grows-same (grows-to (v .grows) d) (under .grows)
 
     rest-at : {P : File} {S : Scope} {q : Stand} {Γ : List Ty} {Δ : List ℕ} {L : List Instance} {left end : ℕ} {bs : Exprs} {z : CountedDef} → Here t b p P S q Γ Δ L left → Wanted P s →
-        (i : Apart (lineAt (t .text) (p .line)) p S end (constructorsOf P (s .of)) bs k) → CheckedAs P (p .at .at + length (exprBytes (i .first))) (b₁ .list) a (ofType (meaning (s .ty)) z) →
+        (i : Apart (lineAt (t .text) (p .line)) p S end (constructorsOf P (s .of)) bs k) → CheckedAs P (past (lineAt (t .text) (p .line)) (p .at .at) (length (exprBytes (i .first)))) (b₁ .list) a (ofType (meaning (s .ty)) z) →
         Agrees P (ofType (meaning (s .ty))) end (b₂ .list) y (sizedBranches P (entering P left) (i .others) (drop (suc k) (constructorsOf P (s .of))) q Γ Δ (s .of) (s .size) (meaning (s .ty)) (z .list))
     rest-at {P} {S} {q} {Γ} {Δ} {left} {end} {z} h w i c =
         under .says P S q Γ Δ (z .list) left (here-moved h (a .next) (v .kept) (c .holds) (grows-to (v .grows) d)) w end (i .others)
-        (record { spelled = rw (c .ends) (i .rest); within = i .within; ends = i .ends ∙ ap (λ n. n + length (exprsBytes (i .others))) (sym (c .ends)) })
+        (record { spelled = rw (c .ends) (i .rest); within = i .within; ends = i .ends ∙ ap (λ (n : ℕ). past (lineAt (t .text) (p .line)) n (length (exprsBytes (i .others)))) (sym (c .ends)) })
 
     pub branches-rest : {m frame : ℕ} → y ≡ Refused m frame → SizesBranches s k t b p y b₂
     branches-rest d′ = record {

@@ -14,6 +14,7 @@ use Rattle.language.specs.Estimate.{after}
 use Rattle.language.specs.Typing.{Place as Stand}
 use Rattle.language.specs.Checker.{Instance, Sized, named, sized, sizedBranches}
 use Rattle.text.specs.declared.Cursor.{Cursor}
+use Rattle.text.specs.Places.{past}
 use Rattle.encoding.specs.Spells.{Spells}
 use Rattle.encoding.specs.FrameSpells.{lineAt}
 use Rattle.index.specs.Indexed.{framePart}
@@ -72,11 +73,11 @@ module _ {t : Lent} {b b₁ : Buffers} {p : Place} {x : Sizing} (v : Sizes ExprP
     module _ {w m : ℕ} {line : List ℕ} {y : TypeAt} (is : a .ty ≡ Named w m) (cut : line ≡ framePart (t .text) (framesOf (t .index)) (p .line)) (g : TypeGiven line (a .next) (b₁ .sizes) y) where
       -- what was read, where the definition reads it
       result-read : {P : File} {S : Scope} {q : Stand} {Γ : List Ty} {Δ : List ℕ} {L : List Instance} {left types at : ℕ} {z : Sized} {r : ResultType} → Here t b p P S q Γ Δ L left → CheckedAs P at (b₁ .list) a z →
-          Spells resultBytes (lineAt (t .text) (p .line)) at r → WithinResult types (S .sizes) r → AgreesType (typeAt Δ r) (at + length (resultBytes r)) y
+          Spells resultBytes (lineAt (t .text) (p .line)) at r → WithinResult types (S .sizes) r → AgreesType (typeAt Δ r) (past (lineAt (t .text) (p .line)) at (length (resultBytes r))) y
       result-read {r} h c s w =
           let there = part-is-line (h .indexed) (p .line) (h .site .line) cut in
           let sizes = sizes-scope (here-behind h (behind-first v d) c) in
-          rw (sym (c .ends), sym (sym (type-in-scope (b₁ .sizes) w) ∙ ap (λ (l : List ℕ). typeAt l r) sizes)) (g .says _ _ r w (rw (there, c .ends) s))
+          rw (sym (c .ends), sym (sym (type-in-scope (b₁ .sizes) w) ∙ ap (λ (l : List ℕ). typeAt l r) sizes), sym there) (g .says _ _ r w (rw (there, c .ends) s))
 
       pub case-outside : {u : ℕ} → y ≡ TypeOutside → Sizes (CasePart u) t b p (Refused 10 (p .line + 1)) b₁
       unfolding sized
@@ -102,15 +103,15 @@ module _ {t : Lent} {b b₁ : Buffers} {p : Place} {x : Sizing} (v : Sizes ExprP
 
         -- the branches, where the definition checks them
         branches-at : {P : File} {S : Scope} {q : Stand} {Γ : List Ty} {Δ : List ℕ} {L : List Instance} {left levels at : ℕ} {bs : Exprs} {s : Sized} → Here t b p P S q Γ Δ L left → (r : ResultType) →
-            CheckedAs P at (b₁ .list) a s → (read : AgreesType (typeAt Δ r) (at + length (resultBytes r)) y) → Spells exprsBytes (lineAt (t .text) (p .line)) (at + length (resultBytes r)) bs →
+            CheckedAs P at (b₁ .list) a s → (read : AgreesType (typeAt Δ r) (past (lineAt (t .text) (p .line)) at (length (resultBytes r))) y) → Spells exprsBytes (lineAt (t .text) (p .line)) (past (lineAt (t .text) (p .line)) at (length (resultBytes r))) bs →
             u < length (S .types) → WithinBranches levels S (getD (S .types) u []) bs → p .levels ≡ levels →
-            Agrees P (ofType (meaning wanted)) (at + length (resultBytes r) + length (exprsBytes bs)) (b₂ .list) z (sizedBranches P (entering P left) bs (constructorsOf P u) q Γ Δ u m (meaning wanted) (s .list))
+            Agrees P (ofType (meaning wanted)) (past (lineAt (t .text) (p .line)) (past (lineAt (t .text) (p .line)) at (length (resultBytes r))) (length (exprsBytes bs))) (b₂ .list) z (sizedBranches P (entering P left) bs (constructorsOf P u) q Γ Δ u m (meaning wanted) (s .list))
         branches-at {P} {S} {q} {Γ} {Δ} {left} {levels} {at} {bs} {s} h r c read spelled less within levels-are =
             let there = type-given given read .1 in
             under .says P S q Γ Δ (s .list) left (here-moved h next (v .kept) (c .holds) (grows-to (v .grows) d))
             (record { of = omega (arith, less, ap length (h .site .known .types)); size = bounded-size (c .small) (sym (c .type) ∙ ap meaning is); ty = one-byte-bounded (type-within given (g .bound)) })
-            (at + length (resultBytes r) + length (exprsBytes bs)) bs
-            (record { spelled = rw there spelled; within = rw (levels-are, sym (h .site .known .types)) within; ends = ap (λ n. n + length (exprsBytes bs)) (sym there) })
+            (past (lineAt (t .text) (p .line)) (past (lineAt (t .text) (p .line)) at (length (resultBytes r))) (length (exprsBytes bs))) bs
+            (record { spelled = rw there spelled; within = rw (levels-are, sym (h .site .known .types)) within; ends = ap (λ (n : ℕ). past (lineAt (t .text) (p .line)) n (length (exprsBytes bs))) (sym there) })
 
         pub case-branches : {n n₂ : ℕ} → z ≡ Refused n n₂ → Sizes (CasePart u) t b p z b₂
         unfolding sized

@@ -17,6 +17,7 @@ use Rattle.language.specs.Typing.{outside, channelsAt, frameAt}
 use Rattle.language.specs.Checker.{Instance, sized, sizedChannel}
 use Rattle.theory.specs.Lists.{look-less, false-is-not-true}
 use Rattle.theory.specs.SameTests.{same-type}
+use Rattle.text.specs.Places.{past}
 use Rattle.index.specs.Tables.{channelWords}
 use Rattle.encoding.specs.Spells.{Spells}
 use Rattle.encoding.specs.FrameSpells.{lineAt}
@@ -118,9 +119,10 @@ module _ {t : Lent} {list scope sizes : List ℕ} {n : Counts} {c word at used :
       deep = omega arith;
     }
 
-    channel-agrees : Agrees P itself (getD (channelsOf (t .index)) (channelWords * c + word) 0 + length (exprBytes e)) (b .list) x (sized P (entering P instancesMost) e (outside (channelFrame P c) C) [] [] L)
-    channel-agrees = sizes-at place u .says P _ (outside (channelFrame P c) C) [] [] L instancesMost channel-here _ e
-        (part-at (outerPlace n c at used) (subst (λ m. Spells exprBytes (lineAt (t .text) m) (getD (channelsOf (t .index)) (channelWords * c + word) 0) e) line-is (s .spelled)) (s .within) here refl)
+    channel-agrees : Agrees P itself (past (lineAt (t .text) (channelLine P c)) (getD (channelsOf (t .index)) (channelWords * c + word) 0) (length (exprBytes e))) (b .list) x (sized P (entering P instancesMost) e (outside (channelFrame P c) C) [] [] L)
+    channel-agrees = subst (λ m. Agrees P itself (past (lineAt (t .text) m) (getD (channelsOf (t .index)) (channelWords * c + word) 0) (length (exprBytes e))) (b .list) x (sized P (entering P instancesMost) e (outside (channelFrame P c) C) [] [] L)) (sym line-is)
+        (sizes-at place u .says P _ (outside (channelFrame P c) C) [] [] L instancesMost channel-here _ e
+        (part-at (outerPlace n c at used) (subst (λ m. Spells exprBytes (lineAt (t .text) m) (getD (channelsOf (t .index)) (channelWords * c + word) 0) e) line-is (s .spelled)) (s .within) here refl))
 
     -- the type that was found, against the declared one
     test-is : {σ : Ty} {ty : SizedType} {r : Bool} (found : SizedType) → ChannelTyped (t .index) c ty → r ≡ sameType (meaning found) (meaning ty) → meaning found ≡ σ → sameType σ τ ≡ r

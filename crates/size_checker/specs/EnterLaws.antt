@@ -23,6 +23,7 @@ use Rattle.theory.specs.Alls.{all-map}
 use Rattle.theory.specs.Outcomes.{Sat}
 use Rattle.theory.specs.Instances.{entered}
 use Rattle.theory.specs.CheckerSteps.{bodyRun}
+use Rattle.text.specs.Places.{past}
 use Rattle.encoding.specs.Spells.{Spells}
 use Rattle.encoding.specs.FrameSpells.{lineAt}
 use Rattle.index.specs.Indexed.{bodyAt}
@@ -166,14 +167,14 @@ module _ (e : Entry) {t : Lent} {b : Buffers} (p : Place) where
         deep = omega (arith, deep, length-append L (entered (e .function) ks nothing ∷ []), room, h .count);
       }
 
-      part : ExprPart (lineAt (t .text) (p .types + e .function)) (bodyOf (t .index) p e) (known .scope) (bodyAt (functionsOf (t .index)) (e .function) + length (exprBytes (F .body))) (F .body)
+      part : ExprPart (lineAt (t .text) (p .types + e .function)) (bodyOf (t .index) p e) (known .scope) (past (lineAt (t .text) (p .types + e .function)) (bodyAt (functionsOf (t .index)) (e .function)) (length (exprBytes (F .body)))) (F .body)
       part = record {
         spelled = subst (λ n. Spells exprBytes (lineAt (t .text) (n + e .function)) (bodyAt (functionsOf (t .index)) (e .function)) (F .body)) (sym types) (i .eachFunction (e .function) (v .function) .body);
         within = known .within;
         ends = refl;
       }
 
-      body-agrees : Agrees P itself (bodyAt (functionsOf (t .index)) (e .function) + length (exprBytes (F .body))) (b₁ .list) x (bodyRun P (entering P (left - 1)) (e .function) F ks L)
+      body-agrees : Agrees P itself (past (lineAt (t .text) (p .types + e .function)) (bodyAt (functionsOf (t .index)) (e .function)) (length (exprBytes (F .body)))) (b₁ .list) x (bodyRun P (entering P (left - 1)) (e .function) F ks L)
       body-agrees = inner .says P (known .scope) (inside (e .function) (summedMeasure (F .measure) ks)) (parameterTypes (F .parameters) ks) ks (L ++ (entered (e .function) ks nothing ∷ [])) (left - 1) here _ (F .body) part
 
       body-keeps : Sat (λ (y : Sized). Extends (L ++ (entered (e .function) ks nothing ∷ [])) (y .list)) (bodyRun P (entering P (left - 1)) (e .function) F ks L)

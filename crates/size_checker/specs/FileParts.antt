@@ -14,6 +14,7 @@ use Rattle.language.specs.Format.{exprBytes}
 use Rattle.language.specs.Within.{WithinExpr}
 use Rattle.language.specs.Estimate.{Estimate as Exact, nothing, after}
 use Rattle.language.specs.Checker.{Instance, Counted as CountedDef, sizedChannel}
+use Rattle.text.specs.Places.{past}
 use Rattle.index.specs.Tables.{channelWords}
 use Rattle.encoding.specs.Spells.{Spells}
 use Rattle.encoding.specs.FrameSpells.{lineAt}
@@ -70,7 +71,7 @@ Named P C = (c : ℕ) (τ : Ty) → look C c ≡ some τ → look (declaredTypes
 
 pub record SizesChannel (t : Lent) (list : List ℕ) (n : Counts) (c word used : ℕ) (r : Sizing) (list′ : List ℕ) : Type 0 where
   pub says : (P : File) → IndexedFile t P → CountsAre n P → (C : List Ty) → Named P C → (e : Expr) (τ : Ty) → Standing t P word c e τ → (L : List Instance) → Holds P list used L →
-      Agrees P (ofType τ) (getD (channelsOf (t .index)) (channelWords * c + word) 0 + length (exprBytes e)) list′ r (sizedChannel P c C e τ L)
+      Agrees P (ofType τ) (past (lineAt (t .text) (channelLine P c)) (getD (channelsOf (t .index)) (channelWords * c + word) 0) (length (exprBytes e))) list′ r (sizedChannel P c C e τ L)
 
 -- ---- the expressions of channels c, c + 1, .. up to the last, the numbers so far being x
 unfoldable pub summed : File → List Ty → Exact → ℕ → List Expr → List Ty → List Instance → Result CountedDef

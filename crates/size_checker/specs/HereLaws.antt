@@ -20,6 +20,7 @@ use Rattle.theory.specs.Alls.{all-snoc}
 use Rattle.theory.specs.Lists.{both-left, both-right}
 use Rattle.text.specs.declared.Cursor.{Cursor}
 use Rattle.text.specs.Bytes.{declaredWord}
+use Rattle.text.specs.Places.{past}
 use Rattle.encoding.specs.Spells.{Spells}
 use Rattle.encoding.specs.Known.{wider-known}
 use Rattle.size_steps.specs.declared.Place.{Place}
@@ -55,12 +56,12 @@ pub suc-same : {m n : ℕ} → suc m ≡ suc n → m ≡ n
 suc-same e = omega (arith, e)
 
 -- ---- a part by where it is spelled
-pub part-at : {line : List ℕ} {S : Scope} {e : Expr} (p : Place) {at n : ℕ} → Spells exprBytes line at e → WithinExpr n S e → p .at .at ≡ at → p .levels ≡ n → ExprPart line p S (at + length (exprBytes e)) e
-part-at {e} p s w here levels = record { spelled = rw here s; within = rw levels w; ends = ap (λ i. i + length (exprBytes e)) (sym here) }
+pub part-at : {line : List ℕ} {S : Scope} {e : Expr} (p : Place) {at n : ℕ} → Spells exprBytes line at e → WithinExpr n S e → p .at .at ≡ at → p .levels ≡ n → ExprPart line p S (past line at (length (exprBytes e))) e
+part-at {line} {e = e} p s w here levels = record { spelled = rw here s; within = rw levels w; ends = ap (λ (i : ℕ). past line i (length (exprBytes e))) (sym here) }
 
 -- where the parts of a form end
-pub ends-at : {Head : List ℕ → ℕ → ℕ → ℕ → Scope → Expr → Type 0} {line : List ℕ} {p : Place} {S : Scope} {end next : ℕ} {e f : Expr} (part : FormPart Head line p S end e) → e ≡ f → part .from + length (exprBytes f) ≡ next → end ≡ next
-ends-at part is long = part .ends ∙ ap (λ z. part .from + length (exprBytes z)) is ∙ long
+pub ends-at : {Head : List ℕ → ℕ → ℕ → ℕ → Scope → Expr → Type 0} {line : List ℕ} {p : Place} {S : Scope} {end next : ℕ} {e f : Expr} (part : FormPart Head line p S end e) → e ≡ f → past line (part .from) (length (exprBytes f)) ≡ next → end ≡ next
+ends-at {line = line} part is long = part .ends ∙ ap (λ (z : Expr). past line (part .from) (length (exprBytes z))) is ∙ long
 
 -- ---- one level down
 pub here-down : {t : Lent} {b : Buffers} {p : Place} {P : File} {S : Scope} {q : Stand} {Γ : List Ty} {Δ : List ℕ} {L : List Instance} {left : ℕ} → Here t b p P S q Γ Δ L left → (at : Cursor) → Here t b (downTo p at) P S q Γ Δ L left

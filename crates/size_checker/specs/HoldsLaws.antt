@@ -1,5 +1,5 @@
 -- The list of instances in words: a record added on entry, and its numbers filled in; the rest of the words stays 0.
-use Prim.Native.Nat.{ℕ, zero, suc, _+_, _*_, _-_, _≤_, _<_}
+use Prim.Native.Nat.{ℕ, _+_, _*_, _-_, _≤_, _<_}
 use mathlib.Core.List.{List, [], _∷_, _++_, append-assoc}
 use mathlib.Core.Option.{none, some}
 use mathlib.Core.Path.{_≡_, sym, ap, _∙_, subst}
@@ -17,17 +17,13 @@ use Rattle.theory.specs.Lists.{look-append, look-new}
 use Rattle.theory.specs.Different.{Distinct, distinct-append}
 use Rattle.theory.specs.Instances.{entered, keyOf, keysOf}
 use Rattle.theory.specs.InstanceList.{not-found-is-new}
+use Rattle.index.specs.SectionLaws.{drop-zeros}
 use Rattle.estimate.specs.declared.Estimate.{Estimate}
 use Rattle.estimate.specs.Stands.{Stands}
 use Rattle.instances.specs.Listed.{instanceWordsCount, numbersFrom, keyWords, SizesAre, Writes, Adds, Finishes}
 use Rattle.instances.specs.ListLaws.{key-wide}
 use Rattle.size_steps.specs.Agreement.{Row, Holds}
 use Rattle.size_checker.specs.ListKept.{Extends, filled-in}
-
-drop-zeros : (m n : ℕ) → drop {A = ℕ} m (replicate n 0) ≡ replicate (n - m) 0
-drop-zeros zero n = ap (λ k. replicate k 0) (let same : n ≡ n - 0 = omega arith in same)
-drop-zeros (suc m) zero = ap (λ k. replicate k 0) (let same : 0 ≡ 0 - suc m = omega arith in same)
-drop-zeros (suc m) (suc n) = drop-zeros m n ∙ ap (λ k. replicate k 0) (let same : n - m ≡ suc n - suc m = omega arith in same)
 
 -- behind what is written all stays 0
 zeros-behind : {words words′ ws : List ℕ} (from used used′ : ℕ) → Writes words from ws words′ → from + length ws ≤ used′ → used ≤ used′ →

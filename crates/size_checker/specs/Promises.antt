@@ -19,6 +19,7 @@ use Rattle.language.specs.Estimate.{nothing, after, withSlots, inCall}
 use Rattle.language.specs.Typing.{Place as Stand, frameAt, falls}
 use Rattle.language.specs.Checker.{Instance, Sized as SizedDef, Sizeds, Counted as CountedDef, Enter, atSplits, sized, sizeds, sizedBranches, find, enterAt}
 use Rattle.text.specs.Bytes.{declaredWord}
+use Rattle.text.specs.Places.{past}
 use Rattle.encoding.specs.Spells.{Spells}
 use Rattle.encoding.specs.FrameSpells.{lineAt}
 use Rattle.index.specs.Indexed.{Indexed}
@@ -68,25 +69,25 @@ entering P left = enterAt P instancesMost left
 pub record ExprPart (line : List ℕ) (p : Place) (S : Scope) (end : ℕ) (e : Expr) : Type 0 where
   pub spelled : Spells exprBytes line (p .at .at) e
   pub within : WithinExpr (p .levels) S e
-  pub ends : end ≡ p .at .at + length (exprBytes e)
+  pub ends : end ≡ past line (p .at .at) (length (exprBytes e))
 
 -- the parts of a form whose head stands before the place
 pub record FormPart (Head : List ℕ → ℕ → ℕ → ℕ → Scope → Expr → Type 0) (line : List ℕ) (p : Place) (S : Scope) (end : ℕ) (e : Expr) : Type 0 where
   pub from : ℕ
   pub head : Head line from (p .at .at) (suc (p .levels)) S e
-  pub ends : end ≡ from + length (exprBytes e)
+  pub ends : end ≡ past line from (length (exprBytes e))
 
 -- so many expressions
 pub record ExprsPart (line : List ℕ) (p : Place) (S : Scope) (n end : ℕ) (es : Exprs) : Type 0 where
   pub spelled : Spells exprsBytes line (p .at .at) es
   pub within : WithinExprs (p .levels) S n es
-  pub ends : end ≡ p .at .at + length (exprsBytes es)
+  pub ends : end ≡ past line (p .at .at) (length (exprsBytes es))
 
 -- the branches of a case, for these constructors
 pub record BranchesPart (line : List ℕ) (p : Place) (S : Scope) (cs : List Constructor) (end : ℕ) (bs : Exprs) : Type 0 where
   pub spelled : Spells exprsBytes line (p .at .at) bs
   pub within : WithinBranches (p .levels) S cs bs
-  pub ends : end ≡ p .at .at + length (exprsBytes bs)
+  pub ends : end ≡ past line (p .at .at) (length (exprsBytes bs))
 
 -- ---- promises
 pub record Sizes (Part : List ℕ → Place → Scope → ℕ → Expr → Type 0) (t : Lent) (b : Buffers) (p : Place) (r : Sizing) (b′ : Buffers) : Type 0 where
@@ -132,7 +133,7 @@ module _ (P : File) (enter : Enter) where
 pub record BranchPart (line : List ℕ) (p : Place) (S : Scope) (fs : Constructor) (end : ℕ) (e : Expr) : Type 0 where
   pub spelled : Spells exprBytes line (p .at .at) e
   pub within : WithinExpr (p .levels) (wider (length fs) (owns fs) S) e
-  pub ends : end ≡ p .at .at + length (exprBytes e)
+  pub ends : end ≡ past line (p .at .at) (length (exprBytes e))
 
 pub record SizesBranch (s : Subject) (k : ℕ) (t : Lent) (b : Buffers) (p : Place) (r : Sizing) (b′ : Buffers) : Type 0 where
   pub says : (P : File) (S : Scope) (q : Stand) (Γ : List Ty) (Δ : List ℕ) (L : List Instance) (left : ℕ) → Here t b p P S q Γ Δ L left →

@@ -14,8 +14,10 @@ use Rattle.language.specs.Within.{all-nil, all-cons, WithinExpr, WithinExprs, w
 use Rattle.language.specs.Estimate.{nothing, after}
 use Rattle.language.specs.Checker.{sizeds}
 use Rattle.text.specs.Bytes.{declaredWord}
+use Rattle.text.specs.Places.{past, past-none}
 use Rattle.encoding.specs.Spells.{Spells}
 use Rattle.encoding.specs.ExprLists.{first-of-exprs}
+use Rattle.encoding.specs.FrameSpells.{lineAt}
 use Rattle.estimate.specs.declared.Estimate.{Estimate}
 use Rattle.estimate.specs.Stands.{Makes, Combines}
 use Rattle.sizes.specs.Promises.{meaning}
@@ -54,18 +56,18 @@ more-within {n} {k} {S} (ws-cons {m} {e} {es} w ws) z = record { first = e; othe
 pub record MorePart (line : List ℕ) (p : Place) (S : Scope) (k end : ℕ) (es : Exprs) : Type 0 where
   pub of : MoreWithin (p .levels) k S es
   pub spelled : Spells exprBytes line (p .at .at) (of .first)
-  pub next : Spells exprsBytes line (p .at .at + length (exprBytes (of .first))) (of .others)
-  pub ends : end ≡ p .at .at + length (exprBytes (of .first)) + length (exprsBytes (of .others))
+  pub next : Spells exprsBytes line (past line (p .at .at) (length (exprBytes (of .first)))) (of .others)
+  pub ends : end ≡ past line (past line (p .at .at) (length (exprBytes (of .first)))) (length (exprsBytes (of .others)))
 
 pub more-part : {line : List ℕ} {p : Place} {S : Scope} {m k end : ℕ} {es : Exprs} → ExprsPart line p S m end es → m ≡ suc k → MorePart line p S k end es
 unfolding exprsBytes
 more-part {line} {p} {end} part z =
     let w = more-within (part .within) z in
     let s = first-of-exprs (subst (Spells exprsBytes line (p .at .at)) (w .is) (part .spelled)) in
-    record { of = w; spelled = s .spelled; next = s .next; ends = omega (arith, part .ends, ap (λ l. length (exprsBytes l)) (w .is), s .long) }
+    record { of = w; spelled = s .spelled; next = s .next; ends = part .ends ∙ ap (λ (l : Exprs). past line (p .at .at) (length (exprsBytes l))) (w .is) ∙ s .ends }
 
-pub exprs-at : {line : List ℕ} {S : Scope} {m : ℕ} {es : Exprs} (p : Place) {at n : ℕ} → Spells exprsBytes line at es → WithinExprs n S m es → p .at .at ≡ at → p .levels ≡ n → ExprsPart line p S m (at + length (exprsBytes es)) es
-exprs-at {es} p s w here levels = record { spelled = rw here s; within = rw levels w; ends = ap (λ i. i + length (exprsBytes es)) (sym here) }
+pub exprs-at : {line : List ℕ} {S : Scope} {m : ℕ} {es : Exprs} (p : Place) {at n : ℕ} → Spells exprsBytes line at es → WithinExprs n S m es → p .at .at ≡ at → p .levels ≡ n → ExprsPart line p S m (past line at (length (exprsBytes es))) es
+exprs-at {line} {es = es} p s w here levels = record { spelled = rw here s; within = rw levels w; ends = ap (λ (i : ℕ). past line i (length (exprsBytes es))) (sym here) }
 
 -- how many are left
 one-left : {i n : ℕ} → i < n → n - i ≡ suc (n - (i + 1))
@@ -82,7 +84,7 @@ module _ {t : Lent} {b : Buffers} {p : Place} {i n : ℕ} (row : List ℕ) where
           types = rw (add-zero i) (sym (append-nil (take i row)));
           small = all-nil;
           numbers = made .says;
-          ends = sym (part .ends ∙ ap (λ l. p .at .at + length (exprsBytes l)) is ∙ add-zero (p .at .at));
+          ends = sym (part .ends ∙ ap (λ (l : Exprs). past (lineAt (t .text) (p .line)) (p .at .at) (length (exprsBytes l))) is ∙ past-none (lineAt (t .text) (p .line)) (p .at .at));
           holds = h .holds;
         }));
     grows = grown-all-as answer (omega arith);

@@ -10,6 +10,7 @@ use Rattle.language.specs.Format.{exprBytes}
 use Rattle.language.specs.Within.{WithinExpr}
 use Rattle.language.specs.Typing.{Place as Stand, frameAt}
 use Rattle.language.specs.Checker.{Instance, Sized, sized}
+use Rattle.text.specs.Places.{past}
 use Rattle.encoding.specs.Spells.{Spells}
 use Rattle.encoding.specs.FrameSpells.{lineAt}
 use Rattle.size_steps.specs.declared.Place.{Place}
@@ -27,7 +28,7 @@ sizes-at {t} {b} {b′} {x} is v = subst (λ z. Sizes ExprPart t b z x b′) is 
 
 -- ---- a part by where it is spelled
 pub part-agrees : {t : Lent} {b b′ : Buffers} {p : Place} {x : Sizing} → Sizes ExprPart t b p x b′ → {P : File} {S : Scope} {q : Stand} {Γ : List Ty} {Δ : List ℕ} {L : List Instance} {left : ℕ} → Here t b p P S q Γ Δ L left →
-    {e : Expr} {at n : ℕ} → Spells exprBytes (lineAt (t .text) (p .line)) at e → WithinExpr n S e → p .at .at ≡ at → p .levels ≡ n → Agrees P itself (at + length (exprBytes e)) (b′ .list) x (sized P (entering P left) e q Γ Δ L)
+    {e : Expr} {at n : ℕ} → Spells exprBytes (lineAt (t .text) (p .line)) at e → WithinExpr n S e → p .at .at ≡ at → p .levels ≡ n → Agrees P itself (past (lineAt (t .text) (p .line)) at (length (exprBytes e))) (b′ .list) x (sized P (entering P left) e q Γ Δ L)
 part-agrees {p} v {P} {S} {q} {Γ} {Δ} {L} {left} h {e} s w here levels = v .says P S q Γ Δ L left h _ e (part-at p s w here levels)
 
 -- ---- behind the parts that were checked, the last of which gave k

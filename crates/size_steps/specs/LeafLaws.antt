@@ -28,7 +28,7 @@ use Rattle.text.specs.declared.Cursor.{Cursor}
 use Rattle.text.specs.declared.Found.{Found}
 use Rattle.text.specs.declared.Number.{Number}
 use Rattle.text.specs.declared.Number.the-variants.{Is as NumberIs, Refused as NoNumber}
-use Rattle.text.specs.Bytes.{bytesFrom, mapRead, ReadsNumber, declaredWord}
+use Rattle.text.specs.Bytes.{bytesFrom, past, mapRead, ReadsNumber, declaredWord}
 use Rattle.encoding.specs.Spells.{Spells}
 use Rattle.encoding.specs.CursorSpells.{word-is}
 use Rattle.encoding.specs.FrameSpells.{lineAt}
@@ -140,11 +140,11 @@ module _ (text index sizes : List ℕ) {line : List ℕ} (p : Place) (f : ℕ) (
         subst (λ l. SumsMeasure l c sizes r) line-is h .says (F .measure) (rw here (g .measureCount)) (rw here (g .measure))
         ∙ sym (measure-in-scope sizes (w .measure)) ∙ ap (summedMeasure (F .measure)) sizes-are
 
-    type-is-at : {c : Cursor} {r : TypeAt} → c .at ≡ resultAt (functionsOf index) f → TypeGiven line c sizes r → AgreesType (typeAt ks (F .result)) (c .at + length (resultBytes (F .result))) r
+    type-is-at : {c : Cursor} {r : TypeAt} → c .at ≡ resultAt (functionsOf index) f → TypeGiven line c sizes r → AgreesType (typeAt ks (F .result)) (past (lineAt text (functionLine P f)) (c .at) (length (resultBytes (F .result)))) r
     type-is-at {c} {r} here h =
         let g = i .eachFunction f is in
         let w = function-within (i .within) f is in
-        subst (λ o. AgreesType o (c .at + length (resultBytes (F .result))) r) (sym (type-in-scope sizes (w .result)) ∙ ap (λ l. typeAt l (F .result)) sizes-are)
+        subst (λ o. AgreesType o (past (lineAt text (functionLine P f)) (c .at) (length (resultBytes (F .result)))) r) (sym (type-in-scope sizes (w .result)) ∙ ap (λ l. typeAt l (F .result)) sizes-are)
         (subst (λ l. TypeGiven l c sizes r) line-is h .says (length (P .types)) (namedCount (F .parameters)) (F .result) (w .result) (rw here (g .result)))
 
   module _ {c : Cursor} {holds : Bool} (here : c .at ≡ conditionsAt (functionsOf index) f) (h : Hold line c sizes holds) where

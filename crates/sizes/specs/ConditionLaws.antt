@@ -1,5 +1,5 @@
 -- Conditions and measures, return by return.
-use Prim.Native.Nat.{ℕ, _+_, _-_, _^_, _<_}
+use Prim.Native.Nat.{ℕ, _+_, _-_, _*_, _^_, _<_}
 use mathlib.Core.List.{List, [], _∷_}
 use mathlib.Core.Bool.{Bool, true, false, not}
 use mathlib.Core.Path.{_≡_, refl, sym, ap, ap₂, _∙_, subst}
@@ -15,8 +15,8 @@ use Rattle.language.specs.Within.{All, all-cons, WithinCondition}
 use Rattle.language.specs.Sizes.{added, taken, compare, conditionHolds, conditionsHold, summedMeasure}
 use Rattle.text.specs.declared.Cursor.{Cursor}
 use Rattle.text.specs.declared.Found.{Found}
-use Rattle.text.specs.Bytes.{bytesOf}
-use Rattle.encoding.specs.Spells.{Spells, spells-within, spells-first, spells-next, first-of-list, themselves}
+use Rattle.text.specs.Places.{past, bytesLeft, byteAt, place-left}
+use Rattle.encoding.specs.Spells.{Spells, spells-left, spells-first, spells-next, first-of-list, themselves}
 use Rattle.encoding.specs.TypeInversions.{condition-parts}
 use Rattle.sizes.specs.declared.Worked.{Worked}
 use Rattle.sizes.specs.declared.Judged.{Judged}
@@ -51,7 +51,7 @@ compare-most {code} {a} {b} p q = record { says = says }
     says rle e = refl
 
 -- ---- a condition
-pub sides-fit : {a b : ℕ} → a < 2 ^ (8 + nestingMost) → b < 2 ^ (8 + nestingMost) → a + b < 2 ^ 64
+pub sides-fit : {a b : ℕ} → a < byteRange * 2 ^ nestingMost → b < byteRange * 2 ^ nestingMost → a + b < 2 ^ 64
 sides-fit h k = omega (arith, h, k)
 
 module _ (line : List ℕ) (c : Cursor) (Δ : List ℕ) where
@@ -60,15 +60,15 @@ module _ (line : List ℕ) (c : Cursor) (Δ : List ℕ) where
   unfolding conditionHolds
   condition-judged {f} {x} {y} {holds} v u t k = record { says = says }
     where
-      says : (vars : ℕ) (κ : Condition) → WithinCondition vars κ → Spells conditionBytes line (c .at) κ → (holds ≡ conditionHolds Δ κ) × (y .next .at ≡ c .at + length (conditionBytes κ))
+      says : (vars : ℕ) (κ : Condition) → WithinCondition vars κ → Spells conditionBytes line (c .at) κ → (holds ≡ conditionHolds Δ κ) × (y .next .at ≡ past line (c .at) (length (conditionBytes κ)))
       says vars κ w z =
           let i = condition-parts z in
-          let here : c .at < length (bytesOf line) = omega (arith, i .spelled .within) in
+          let here : 0 < bytesLeft line (c .at) = place-left line (c .at) 1 (i .spelled .within) in
           let a = u .says vars (κ .left) (w .left) (subst (λ m. Spells sizeBytes line m (κ .left)) (sym (v .next here)) (i .spelled)) in
-          let place : x .next .at ≡ c .at + 1 + length (sizeBytes (κ .left)) = omega (arith, a .ends, v .next here) in
+          let place : x .next .at ≡ past line (past line (c .at) 1) (length (sizeBytes (κ .left))) = a .ends ∙ ap (λ (m : ℕ). past line m (length (sizeBytes (κ .left)))) (v .next here) in
           let b = t .says vars (κ .right) (w .right) (subst (λ m. Spells sizeBytes line m (κ .right)) (sym place) (i .next)) in
           let same : holds ≡ compare (κ .rel) (x .added + y .taken) (y .added + x .taken) = k .says (κ .rel) (v .value here ∙ i .relation) in
-          (same ∙ ap₂ (compare (κ .rel)) (ap₂ _+_ (a .isAdded) (b .isTaken)) (ap₂ _+_ (b .isAdded) (a .isTaken)), omega (arith, b .ends, place, i .long))
+          (same ∙ ap₂ (compare (κ .rel)) (ap₂ _+_ (a .isAdded) (b .isTaken)) (ap₂ _+_ (b .isAdded) (a .isTaken)), b .ends ∙ ap (λ (m : ℕ). past line m (length (sizeBytes (κ .right)))) place ∙ sym (i .ends))
 
   -- ---- conditions, one after the other
   pub none-left : {n : ℕ} → n ≡ 0 → HoldAll line c Δ n true
@@ -105,7 +105,7 @@ module _ (line : List ℕ) (c : Cursor) (Δ : List ℕ) where
     pub conditions-counted : {r : Bool} → HoldAll line (f .next) Δ (f .value) r → Hold line c Δ r
     conditions-counted u = record {
       says = λ vars κs count ws z.
-          let here : c .at < length (bytesOf line) = omega (arith, z .within) in
+          let here : 0 < bytesLeft line (c .at) = place-left line (c .at) 1 (z .within) in
           u .says vars κs (v .value here ∙ count) ws (subst (λ m. Spells (spellAll conditionBytes) line m κs) (sym (v .next here)) z);
     }
 
@@ -113,7 +113,7 @@ module _ (line : List ℕ) (c : Cursor) (Δ : List ℕ) where
     pub measures-counted : {r : ℕ} → SumsMeasures line (f .next) Δ (f .value) r → SumsMeasure line c Δ r
     measures-counted u = record {
       says = λ is count z.
-          let here : c .at < length (bytesOf line) = omega (arith, z .within) in
+          let here : 0 < bytesLeft line (c .at) = place-left line (c .at) 1 (z .within) in
           u .says is (v .value here ∙ count) (subst (λ m. Spells themselves line m is) (sym (v .next here)) z);
       less = omega (arith, u .less, v .less);
     }
@@ -133,9 +133,9 @@ module _ (line : List ℕ) (c : Cursor) (Δ : List ℕ) where
       says : (is : List ℕ) → n ≡ length is → Spells themselves line (c .at) is → k + r ≡ summedMeasure is Δ
       says [] e z = absurd (more e)
       says (i ∷ is) e z =
-          let here : c .at < length (bytesOf line) = omega (arith, spells-within z) in
+          let here : 0 < bytesLeft line (c .at) = omega (arith, spells-left z) in
           let first : f .value ≡ i = v .value here ∙ spells-first z (omega arith) in
-          let behind : Spells themselves line (c .at + 1) is = spells-next z (i ∷ []) refl in
+          let behind : Spells themselves line (past line (c .at) 1) is = spells-next z (i ∷ []) refl in
           let left : n - 1 ≡ length is = omega (arith, e) in
           ap₂ _+_ (u .is ∙ ap (λ j. getD Δ j 0) first) (t .says is left (subst (λ m. Spells themselves line m is) (sym (v .next here)) behind))
 

@@ -1,6 +1,6 @@
 -- What the functions of this crate promise of a size, a result type, conditions and a measure spelled at a place of a line; Δ is
 -- the list of the sizes of the variables.
-use Prim.Native.Nat.{ℕ, _+_, _*_, _^_, _≤_, _<_}
+use Prim.Native.Nat.{ℕ, _*_, _^_, _≤_, _<_}
 use mathlib.Core.List.{List}
 use mathlib.Core.Bool.{Bool}
 use mathlib.Core.Option.{Option, none, some}
@@ -13,8 +13,9 @@ use Rattle.language.specs.Within.{All, Bound, WithinSize, WithinResult, WithinC
 use Rattle.language.specs.Sizes.{added, taken, typeSize, typeAt, compare, conditionHolds, conditionsHold, summedMeasure}
 use Rattle.text.specs.declared.Cursor.{Cursor}
 use Rattle.text.specs.declared.Found.{Found}
-use Rattle.text.specs.Bytes.{bytesOf, declaredWord}
-use Rattle.encoding.specs.Spells.{byteAt, Spells, themselves}
+use Rattle.text.specs.Bytes.{declaredWord}
+use Rattle.text.specs.Places.{past, bytesLeft, byteAt}
+use Rattle.encoding.specs.Spells.{Spells, themselves}
 use Rattle.sizes.specs.declared.Worked.{Worked}
 use Rattle.sizes.specs.declared.SizeAt.{SizeAt}
 use Rattle.sizes.specs.declared.SizeAt.the-variants.{Is as SizeIs, Outside as SizeOutside}
@@ -26,8 +27,8 @@ use Rattle.sizes.specs.declared.Judged.{Judged}
 
 -- the byte at a place of the line
 pub record Reads (line : List ℕ) (c : Cursor) (r : Found) : Type 0 where
-  pub value : c .at < length (bytesOf line) → r .value ≡ byteAt line (c .at)
-  pub next : c .at < length (bytesOf line) → r .next .at ≡ c .at + 1
+  pub value : 0 < bytesLeft line (c .at) → r .value ≡ byteAt line (c .at)
+  pub next : 0 < bytesLeft line (c .at) → r .next .at ≡ past line (c .at) 1
   pub less : r .value < byteRange
 
 -- the size of a variable, 0 of one that is not in scope
@@ -36,19 +37,19 @@ pub record Told (Δ : List ℕ) (i r : ℕ) : Type 0 where
   pub less : r < byteRange
 
 -- ---- sizes
-pub record IsWorked (Δ : List ℕ) (s : Size) (at : ℕ) (r : Worked) : Type 0 where
+pub record IsWorked (line Δ : List ℕ) (s : Size) (at : ℕ) (r : Worked) : Type 0 where
   pub isAdded : r .added ≡ added Δ s
   pub isTaken : r .taken ≡ taken Δ s
-  pub ends : r .next .at ≡ at + length (sizeBytes s)
+  pub ends : r .next .at ≡ past line at (length (sizeBytes s))
 
 pub record WorksOut (line : List ℕ) (c : Cursor) (Δ : List ℕ) (levels : ℕ) (r : Worked) : Type 0 where
-  pub says : (vars : ℕ) (s : Size) → WithinSize vars levels s → Spells sizeBytes line (c .at) s → IsWorked Δ s (c .at) r
-  pub addedLess : r .added < 2 ^ (8 + levels)
-  pub takenLess : r .taken < 2 ^ (8 + levels)
+  pub says : (vars : ℕ) (s : Size) → WithinSize vars levels s → Spells sizeBytes line (c .at) s → IsWorked line Δ s (c .at) r
+  pub addedLess : r .added < byteRange * 2 ^ levels
+  pub takenLess : r .taken < byteRange * 2 ^ levels
 
 -- a number or a variable whose code stands before the cursor
 pub record LeafWorked (line : List ℕ) (c : Cursor) (Δ : List ℕ) (code : ℕ) (r : Worked) : Type 0 where
-  pub says : (at : ℕ) (s : Size) → c .at ≡ at + 1 → byteAt line at ≡ code → code < 3 → Spells sizeBytes line at s → IsWorked Δ s at r
+  pub says : (at : ℕ) (s : Size) → c .at ≡ past line at 1 → byteAt line at ≡ code → code < 3 → Spells sizeBytes line at s → IsWorked line Δ s at r
   pub addedLess : r .added < byteRange
   pub takenLess : r .taken < byteRange
 
@@ -63,7 +64,7 @@ pub data SizeBound : SizeAt → Type 0 where
   no-size : SizeBound SizeOutside
 
 pub record SizeGiven (line : List ℕ) (c : Cursor) (Δ : List ℕ) (r : SizeAt) : Type 0 where
-  pub says : (vars : ℕ) (s : Size) → WithinSize vars nestingMost s → Spells sizeBytes line (c .at) s → AgreesSize (typeSize Δ s) (c .at + length (sizeBytes s)) r
+  pub says : (vars : ℕ) (s : Size) → WithinSize vars nestingMost s → Spells sizeBytes line (c .at) s → AgreesSize (typeSize Δ s) (past line (c .at) (length (sizeBytes s))) r
   pub bound : SizeBound r
 
 -- ---- types with sizes
@@ -87,7 +88,7 @@ pub data TypeBound : TypeAt → Type 0 where
   no-type : TypeBound TypeOutside
 
 pub record TypeGiven (line : List ℕ) (c : Cursor) (Δ : List ℕ) (r : TypeAt) : Type 0 where
-  pub says : (types vars : ℕ) (ρ : ResultType) → WithinResult types vars ρ → Spells resultBytes line (c .at) ρ → AgreesType (typeAt Δ ρ) (c .at + length (resultBytes ρ)) r
+  pub says : (types vars : ℕ) (ρ : ResultType) → WithinResult types vars ρ → Spells resultBytes line (c .at) ρ → AgreesType (typeAt Δ ρ) (past line (c .at) (length (resultBytes ρ))) r
   pub bound : TypeBound r
 
 -- a type whose number and size are of one byte each
@@ -109,7 +110,7 @@ pub record Compares (code a b : ℕ) (r : Bool) : Type 0 where
   pub says : (rel : Relation) → code ≡ relationCode rel → r ≡ compare rel a b
 
 pub record Judges (line : List ℕ) (c : Cursor) (Δ : List ℕ) (r : Judged) : Type 0 where
-  pub says : (vars : ℕ) (κ : Condition) → WithinCondition vars κ → Spells conditionBytes line (c .at) κ → (r .holds ≡ conditionHolds Δ κ) × (r .next .at ≡ c .at + length (conditionBytes κ))
+  pub says : (vars : ℕ) (κ : Condition) → WithinCondition vars κ → Spells conditionBytes line (c .at) κ → (r .holds ≡ conditionHolds Δ κ) × (r .next .at ≡ past line (c .at) (length (conditionBytes κ)))
 
 -- n conditions from the cursor on
 pub record HoldAll (line : List ℕ) (c : Cursor) (Δ : List ℕ) (n : ℕ) (r : Bool) : Type 0 where
@@ -117,7 +118,7 @@ pub record HoldAll (line : List ℕ) (c : Cursor) (Δ : List ℕ) (n : ℕ) (r :
 
 -- their count stands at the cursor
 pub record Hold (line : List ℕ) (c : Cursor) (Δ : List ℕ) (r : Bool) : Type 0 where
-  pub says : (vars : ℕ) (κs : List Condition) → byteAt line (c .at) ≡ length κs → All (WithinCondition vars) κs → Spells (spellAll conditionBytes) line (c .at + 1) κs → r ≡ conditionsHold Δ κs
+  pub says : (vars : ℕ) (κs : List Condition) → byteAt line (c .at) ≡ length κs → All (WithinCondition vars) κs → Spells (spellAll conditionBytes) line (past line (c .at) 1) κs → r ≡ conditionsHold Δ κs
 
 -- ---- measures
 pub record SumsMeasures (line : List ℕ) (c : Cursor) (Δ : List ℕ) (n r : ℕ) : Type 0 where
@@ -126,5 +127,5 @@ pub record SumsMeasures (line : List ℕ) (c : Cursor) (Δ : List ℕ) (n r : �
 
 -- their count stands at the cursor
 pub record SumsMeasure (line : List ℕ) (c : Cursor) (Δ : List ℕ) (r : ℕ) : Type 0 where
-  pub says : (is : List ℕ) → byteAt line (c .at) ≡ length is → Spells themselves line (c .at + 1) is → r ≡ summedMeasure is Δ
+  pub says : (is : List ℕ) → byteAt line (c .at) ≡ length is → Spells themselves line (past line (c .at) 1) is → r ≡ summedMeasure is Δ
   pub less : r < 2 ^ 16

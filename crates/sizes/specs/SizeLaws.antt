@@ -1,9 +1,9 @@
 -- Bytes, variables and sizes, return by return: what is worked out is what the written size says.
-use Prim.Native.Nat.{ℕ, zero, suc, _+_, _-_, _^_, _<_, _≤_}
+use Prim.Native.Nat.{ℕ, zero, suc, _+_, _-_, _*_, _^_, _<_, _≤_}
 use mathlib.Core.List.{List}
 use mathlib.Core.Path.{_≡_, refl, sym, ap, ap₂, _∙_, subst}
 use native.Mathlib.Omega.{arith}
-use native.Mathlib.Nat.{two-pow-succ, pow-le-pow-right, lt-of-lt-of-le, le-trans}
+use native.Mathlib.Nat.{two-pow-succ, pow-le-pow-right, lt-of-lt-of-le}
 use lib.ListN.{length, getD, List·getD-eq-default}
 use Rattle.language.specs.Limits.{byteRange, nestingMost}
 use Rattle.language.specs.Syntax.{Size, lit, svar, plus, minus}
@@ -16,8 +16,9 @@ use Rattle.text.specs.declared.Cursor.{Cursor}
 use Rattle.text.specs.declared.Found.{Found}
 use Rattle.text.specs.declared.Number.{Number}
 use Rattle.text.specs.declared.Number.the-variants.{Is, Refused}
-use Rattle.text.specs.Bytes.{bytesOf, bytesFrom, ReadsNumber, Below, below}
-use Rattle.encoding.specs.Spells.{byteAt, Spells, spells-within, IsLeaf}
+use Rattle.text.specs.Bytes.{bytesFrom, past, bytesLeft, byteAt, ReadsNumber, Below, below}
+use Rattle.text.specs.Places.{past-past, left-past}
+use Rattle.encoding.specs.Spells.{Spells, spells-left, IsLeaf}
 use Rattle.encoding.specs.TypeInversions.{OfTwoSizes, SizeCoded, lit-coded, svar-coded, plus-coded, minus-coded, size-of-byte, lit-spelled, plus-spelled}
 use Rattle.encoding.specs.CursorSpells.{byte-is}
 use Rattle.sizes.specs.declared.Worked.{Worked}
@@ -36,7 +37,7 @@ module _ (line : List ℕ) (c : Cursor) {x : Number} (v : ReadsNumber line (c .a
   pub read-none : {m : ℕ} → x ≡ Refused m → Reads line c (record { value = 0; next = c })
   read-none {m} e = record { value = λ less. absurd (there less); next = λ less. absurd (there less); less = omega arith }
     where
-      there : c .at < length (bytesOf line) → ⊥
+      there : 0 < bytesLeft line (c .at) → ⊥
       there less = let same = sym e ∙ byte-is x less (v .0) in let z : _≡_ {A = ℕ} 0 1 = cc in omega arith
 
   pub read-done : {f : Found} → x ≡ Is f → Reads line c f
@@ -62,13 +63,13 @@ some-byte (svar i) = omega arith
 some-byte (plus a b) = omega arith
 some-byte (minus a b) = omega arith
 
-spelled-less : {line : List ℕ} {at : ℕ} {s : Size} → Spells sizeBytes line at s → at < length (bytesOf line)
-spelled-less {s} w = omega (arith, spells-within w, some-byte s)
+spelled-less : {line : List ℕ} {at : ℕ} {s : Size} → Spells sizeBytes line at s → 0 < bytesLeft line at
+spelled-less {s} w = omega (arith, spells-left w, some-byte s)
 
 leaf-long : {s t : Size} → IsLeaf sizeBytes 2 s t → length (sizeBytes s) ≡ 2
 leaf-long i = ap (λ (a : Size). length (sizeBytes a)) (i .is) ∙ i .long
 
-variable-coded : {line : List ℕ} {at : ℕ} {s : Size} {code : ℕ} → SizeCoded line at s code → code < 3 → (code ≡ 1 → ⊥) → IsLeaf sizeBytes 2 s (svar (byteAt line (at + 1)))
+variable-coded : {line : List ℕ} {at : ℕ} {s : Size} {code : ℕ} → SizeCoded line at s code → code < 3 → (code ≡ 1 → ⊥) → IsLeaf sizeBytes 2 s (svar (byteAt line (past line at 1)))
 variable-coded (lit-coded i) less other = absurd (other refl)
 variable-coded (svar-coded i) less other = i
 variable-coded (plus-coded i) less other = absurd (omega (arith, less))
@@ -82,16 +83,16 @@ difference-coded (minus-coded i) le other = i
 
 module _ (line : List ℕ) (c : Cursor) (Δ : List ℕ) {f : Found} (v : Reads line c f) where
   -- the byte behind the code
-  second-byte : {at : ℕ} {s t : Size} → c .at ≡ at + 1 → Spells sizeBytes line at s → IsLeaf sizeBytes 2 s t → (f .value ≡ byteAt line (at + 1)) × (f .next .at ≡ at + length (sizeBytes s))
-  second-byte here w i =
-      let less : c .at < length (bytesOf line) = omega (arith, here, spells-within w, leaf-long i) in
-      (v .value less ∙ ap (byteAt line) here, omega (arith, here, v .next less, leaf-long i))
+  second-byte : {at : ℕ} {s t : Size} → c .at ≡ past line at 1 → Spells sizeBytes line at s → IsLeaf sizeBytes 2 s t → (f .value ≡ byteAt line (past line at 1)) × (f .next .at ≡ past line at (length (sizeBytes s)))
+  second-byte {at} here w i =
+      let some : 0 < bytesLeft line (c .at) = omega (arith, ap (bytesLeft line) here, left-past line at 1, spells-left w, leaf-long i) in
+      (v .value some ∙ ap (byteAt line) here, v .next some ∙ ap (λ (a : ℕ). past line a 1) here ∙ past-past line at 1 1 ∙ ap (past line at) (sym (leaf-long i)))
 
   pub leaf-number : {code : ℕ} → code ≡ 1 → LeafWorked line c Δ code (record { added = f .value; taken = 0; next = f .next })
   unfolding added
   leaf-number {code} q = record { says = number; addedLess = omega (arith, v .less); takenLess = omega arith }
     where
-      number : (at : ℕ) (s : Size) → c .at ≡ at + 1 → byteAt line at ≡ code → code < 3 → Spells sizeBytes line at s → IsWorked Δ s at (record { added = f .value; taken = 0; next = f .next })
+      number : (at : ℕ) (s : Size) → c .at ≡ past line at 1 → byteAt line at ≡ code → code < 3 → Spells sizeBytes line at s → IsWorked line Δ s at (record { added = f .value; taken = 0; next = f .next })
       number at s here b less w =
           let i = lit-spelled w (b ∙ q) in
           let second = second-byte here w i in
@@ -101,28 +102,28 @@ module _ (line : List ℕ) (c : Cursor) (Δ : List ℕ) {f : Found} (v : Reads l
   unfolding added
   leaf-variable {code} {k} other u = record { says = variable; addedLess = omega (arith, u .less); takenLess = omega arith }
     where
-      variable : (at : ℕ) (s : Size) → c .at ≡ at + 1 → byteAt line at ≡ code → code < 3 → Spells sizeBytes line at s → IsWorked Δ s at (record { added = k; taken = 0; next = f .next })
+      variable : (at : ℕ) (s : Size) → c .at ≡ past line at 1 → byteAt line at ≡ code → code < 3 → Spells sizeBytes line at s → IsWorked line Δ s at (record { added = k; taken = 0; next = f .next })
       variable at s here b less w =
           let i = variable-coded (subst (SizeCoded line at s) b (size-of-byte w)) less other in
           let second = second-byte here w i in
           record { isAdded = u .is ∙ ap (λ j. getD Δ j 0) (second .0) ∙ sym (ap (added Δ) (i .is)); isTaken = sym (ap (taken Δ) (i .is)); ends = second .1 }
 
 -- ---- how large a size can be
-least : (levels : ℕ) → byteRange ≤ 2 ^ (8 + levels)
-least levels = pow-le-pow-right {n = 2} (omega arith) {i = 8} {j = 8 + levels} (omega arith)
+least : (levels : ℕ) → byteRange ≤ byteRange * 2 ^ levels
+least levels = let one : 2 ^ 0 ≤ 2 ^ levels = pow-le-pow-right {n = 2} (omega arith) {i = 0} {j = levels} (omega arith) in omega (arith, one)
 
-doubled : (levels : ℕ) → (levels ≡ 0 → ⊥) → 2 ^ (8 + levels) ≡ 2 ^ (8 + (levels - 1)) + 2 ^ (8 + (levels - 1))
-doubled levels more = let next : 8 + levels ≡ suc (8 + (levels - 1)) = omega (arith, more) in ap (λ n. 2 ^ n) next ∙ two-pow-succ (8 + (levels - 1))
+doubled : (levels : ℕ) → (levels ≡ 0 → ⊥) → byteRange * 2 ^ levels ≡ byteRange * 2 ^ (levels - 1) + byteRange * 2 ^ (levels - 1)
+doubled levels more = let next : 2 ^ levels ≡ 2 ^ (levels - 1) + 2 ^ (levels - 1) = ap (λ n. 2 ^ n) (one-less levels more) ∙ two-pow-succ (levels - 1) in omega (arith, next)
 
 sum-less : {m n p a b : ℕ} → m ≡ n + p → a < n → b < p → a + b < m
 sum-less e h k = omega (arith, e, h, k)
 
 -- the sum of two sizes with one level less
-pub sum-fits : {levels a b : ℕ} → (levels ≡ 0 → ⊥) → levels ≤ nestingMost → a < 2 ^ (8 + (levels - 1)) → b < 2 ^ (8 + (levels - 1)) → a + b < 2 ^ 64
+pub sum-fits : {levels a b : ℕ} → (levels ≡ 0 → ⊥) → levels ≤ nestingMost → a < byteRange * 2 ^ (levels - 1) → b < byteRange * 2 ^ (levels - 1) → a + b < 2 ^ 64
 sum-fits {levels} {a} {b} more le h k =
-    let less : a + b < 2 ^ (8 + levels) = sum-less (doubled levels more) h k in
-    let most : 2 ^ (8 + levels) ≤ 2 ^ 40 = pow-le-pow-right {n = 2} (omega arith) {i = 8 + levels} {j = 40} (omega (arith, le)) in
-    lt-of-lt-of-le less (le-trans most (omega arith))
+    let less : a + b < byteRange * 2 ^ levels = sum-less (doubled levels more) h k in
+    let most : 2 ^ levels ≤ 2 ^ nestingMost = pow-le-pow-right {n = 2} (omega arith) {i = levels} {j = nestingMost} le in
+    omega (arith, less, most)
 
 -- ---- levels
 no-level : {vars : ℕ} {s : Size} → WithinSize vars zero s → ⊥
@@ -136,7 +137,7 @@ module _ {vars n : ℕ} {a b : Size} where
   minus-parts (w-minus v w) = (v, w)
 
 module _ (line : List ℕ) (c : Cursor) (Δ : List ℕ) (levels : ℕ) where
-  small : {k : ℕ} → k < byteRange → k < 2 ^ (8 + levels)
+  small : {k : ℕ} → k < byteRange → k < byteRange * 2 ^ levels
   small h = lt-of-lt-of-le h (least levels)
 
   pub work-none : levels ≡ 0 → WorksOut line c Δ levels (record { added = 0; taken = 0; next = c })
@@ -151,25 +152,25 @@ module _ (line : List ℕ) (c : Cursor) (Δ : List ℕ) (levels : ℕ) where
     }
 
     module _ (more : levels ≡ 0 → ⊥) {x y : Worked} (u : WorksOut line (f .next) Δ (levels - 1) x) (t : WorksOut line (x .next) Δ (levels - 1) y) where
-      first-worked : {vars : ℕ} {s : Size} {join : Size → Size → Size} → Spells sizeBytes line (c .at) s → (i : OfTwoSizes join line (c .at) s) → WithinSize vars (levels - 1) (i .first) → IsWorked Δ (i .first) (c .at + 1) x
+      first-worked : {vars : ℕ} {s : Size} {join : Size → Size → Size} → Spells sizeBytes line (c .at) s → (i : OfTwoSizes join line (c .at) s) → WithinSize vars (levels - 1) (i .first) → IsWorked line Δ (i .first) (past line (c .at) 1) x
       first-worked {vars} z i w =
-          let place : f .next .at ≡ c .at + 1 = v .next (spelled-less z) in
-          subst (λ m. IsWorked Δ (i .first) m x) place (u .says vars (i .first) w (subst (λ m. Spells sizeBytes line m (i .first)) (sym place) (i .spelled)))
+          let place : f .next .at ≡ past line (c .at) 1 = v .next (spelled-less z) in
+          subst (λ m. IsWorked line Δ (i .first) m x) place (u .says vars (i .first) w (subst (λ m. Spells sizeBytes line m (i .first)) (sym place) (i .spelled)))
 
       second-worked : {vars : ℕ} {s : Size} {join : Size → Size → Size} → Spells sizeBytes line (c .at) s → (i : OfTwoSizes join line (c .at) s) → WithinSize vars (levels - 1) (i .first) → WithinSize vars (levels - 1) (i .second) →
-          IsWorked Δ (i .second) (c .at + 1 + length (sizeBytes (i .first))) y
+          IsWorked line Δ (i .second) (past line (past line (c .at) 1) (length (sizeBytes (i .first)))) y
       second-worked {vars} z i w o =
-          let place : x .next .at ≡ c .at + 1 + length (sizeBytes (i .first)) = first-worked z i w .ends in
-          subst (λ m. IsWorked Δ (i .second) m y) place (t .says vars (i .second) o (subst (λ m. Spells sizeBytes line m (i .second)) (sym place) (i .next)))
+          let place : x .next .at ≡ past line (past line (c .at) 1) (length (sizeBytes (i .first))) = first-worked z i w .ends in
+          subst (λ m. IsWorked line Δ (i .second) m y) place (t .says vars (i .second) o (subst (λ m. Spells sizeBytes line m (i .second)) (sym place) (i .next)))
 
-      both-end : {s : Size} {join : Size → Size → Size} {n : ℕ} (i : OfTwoSizes join line (c .at) s) → n ≡ c .at + 1 + length (sizeBytes (i .first)) + length (sizeBytes (i .second)) → n ≡ c .at + length (sizeBytes s)
-      both-end i e = omega (arith, e, ap (λ (a : Size). length (sizeBytes a)) (i .is), i .long)
+      both-end : {s : Size} {join : Size → Size → Size} {n : ℕ} (i : OfTwoSizes join line (c .at) s) → n ≡ past line (past line (past line (c .at) 1) (length (sizeBytes (i .first)))) (length (sizeBytes (i .second))) → n ≡ past line (c .at) (length (sizeBytes s))
+      both-end i e = e ∙ sym (ap (λ (a : Size). past line (c .at) (length (sizeBytes a))) (i .is) ∙ i .ends)
 
       pub work-sum : f .value ≡ 3 → WorksOut line c Δ levels (record { added = x .added + y .added; taken = x .taken + y .taken; next = y .next })
       unfolding added
       work-sum code = record { says = sums; addedLess = sum-less (doubled levels more) (u .addedLess) (t .addedLess); takenLess = sum-less (doubled levels more) (u .takenLess) (t .takenLess) }
         where
-          sums : (vars : ℕ) (s : Size) → WithinSize vars levels s → Spells sizeBytes line (c .at) s → IsWorked Δ s (c .at) (record { added = x .added + y .added; taken = x .taken + y .taken; next = y .next })
+          sums : (vars : ℕ) (s : Size) → WithinSize vars levels s → Spells sizeBytes line (c .at) s → IsWorked line Δ s (c .at) (record { added = x .added + y .added; taken = x .taken + y .taken; next = y .next })
           sums vars s w z =
               let i = plus-spelled z (sym (v .value (spelled-less z)) ∙ code) in
               let within = plus-parts (subst (WithinSize vars (suc (levels - 1))) (i .is) (subst (λ m. WithinSize vars m s) (one-less levels more) w)) in
@@ -181,7 +182,7 @@ module _ (line : List ℕ) (c : Cursor) (Δ : List ℕ) (levels : ℕ) where
       unfolding added
       work-difference most other = record { says = differs; addedLess = sum-less (doubled levels more) (u .addedLess) (t .takenLess); takenLess = sum-less (doubled levels more) (u .takenLess) (t .addedLess) }
         where
-          differs : (vars : ℕ) (s : Size) → WithinSize vars levels s → Spells sizeBytes line (c .at) s → IsWorked Δ s (c .at) (record { added = x .added + y .taken; taken = x .taken + y .added; next = y .next })
+          differs : (vars : ℕ) (s : Size) → WithinSize vars levels s → Spells sizeBytes line (c .at) s → IsWorked line Δ s (c .at) (record { added = x .added + y .taken; taken = x .taken + y .added; next = y .next })
           differs vars s w z =
               let i = difference-coded (subst (SizeCoded line (c .at) s) (sym (v .value (spelled-less z))) (size-of-byte z)) most other in
               let within = minus-parts (subst (WithinSize vars (suc (levels - 1))) (i .is) (subst (λ m. WithinSize vars m s) (one-less levels more) w)) in

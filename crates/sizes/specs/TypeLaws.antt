@@ -14,8 +14,8 @@ use Rattle.language.specs.Within.{Bound, WithinSize, WithinResult, w-rnamed}
 use Rattle.language.specs.Sizes.{added, taken, typeSize, typeAt}
 use Rattle.text.specs.declared.Cursor.{Cursor}
 use Rattle.text.specs.declared.Found.{Found}
-use Rattle.text.specs.Bytes.{bytesOf}
-use Rattle.encoding.specs.Spells.{byteAt, Spells, spells-within, IsLeaf}
+use Rattle.text.specs.Places.{past, bytesLeft, byteAt, past-past, left-past, place-left}
+use Rattle.encoding.specs.Spells.{Spells, spells-left, IsLeaf}
 use Rattle.encoding.specs.TypeInversions.{IsNamedResult, ResultCoded, rbool-coded, rint-coded, rnamed-coded, result-of-byte, rbool-spelled, rint-spelled}
 use Rattle.sizes.specs.declared.Worked.{Worked}
 use Rattle.sizes.specs.declared.SizeAt.{SizeAt}
@@ -86,11 +86,11 @@ some-byte rbool = omega arith
 some-byte rint = omega arith
 some-byte (rnamed t s) = omega arith
 
-spelled-less : {line : List ℕ} {at : ℕ} {ρ : ResultType} → Spells resultBytes line at ρ → at < length (bytesOf line)
-spelled-less {ρ} z = omega (arith, spells-within z, some-byte ρ)
+spelled-less : {line : List ℕ} {at : ℕ} {ρ : ResultType} → Spells resultBytes line at ρ → 0 < bytesLeft line at
+spelled-less {ρ} z = omega (arith, spells-left z, some-byte ρ)
 
-leaf-ends : {n : ℕ} (m : ℕ) {ρ σ : ResultType} → IsLeaf resultBytes 1 ρ σ → n ≡ m + 1 → n ≡ m + length (resultBytes ρ)
-leaf-ends m i e = omega (arith, e, ap (λ (a : ResultType). length (resultBytes a)) (i .is), i .long)
+leaf-ends : {n : ℕ} (line : List ℕ) (m : ℕ) {ρ σ : ResultType} → IsLeaf resultBytes 1 ρ σ → n ≡ past line m 1 → n ≡ past line m (length (resultBytes ρ))
+leaf-ends line m i e = e ∙ ap (past line m) (sym (ap (λ (a : ResultType). length (resultBytes a)) (i .is) ∙ i .long))
 
 module _ (line : List ℕ) (c : Cursor) (Δ : List ℕ) {f : Found} (v : Reads line c f) where
   pub type-bool : f .value ≡ 0 → TypeGiven line c Δ (TypeIs BoolIs (f .next))
@@ -99,7 +99,7 @@ module _ (line : List ℕ) (c : Cursor) (Δ : List ℕ) {f : Found} (v : Reads l
     says = λ types vars ρ w z.
         let here = spelled-less z in
         let i = rbool-spelled z (sym (v .value here) ∙ code) in
-        type-is (ap (typeAt Δ) (i .is)) (leaf-ends (c .at) i (v .next here));
+        type-is (ap (typeAt Δ) (i .is)) (leaf-ends line (c .at) i (v .next here));
     bound = type-bound bool-small;
   }
 
@@ -109,7 +109,7 @@ module _ (line : List ℕ) (c : Cursor) (Δ : List ℕ) {f : Found} (v : Reads l
     says = λ types vars ρ w z.
         let here = spelled-less z in
         let i = rint-spelled z (sym (v .value here) ∙ code) in
-        type-is (ap (typeAt Δ) (i .is)) (leaf-ends (c .at) i (v .next here));
+        type-is (ap (typeAt Δ) (i .is)) (leaf-ends line (c .at) i (v .next here));
     bound = type-bound int-small;
   }
 
@@ -117,13 +117,13 @@ module _ (line : List ℕ) (c : Cursor) (Δ : List ℕ) {f : Found} (v : Reads l
     is-named : {ρ : ResultType} → Spells resultBytes line (c .at) ρ → IsNamedResult line (c .at) ρ
     is-named {ρ} z = named-coded (subst (ResultCoded line (c .at) ρ) (sym (v .value (spelled-less z))) (result-of-byte z)) p q
 
-    number-read : {ρ : ResultType} (z : Spells resultBytes line (c .at) ρ) → (g .value ≡ byteAt line (c .at + 1)) × (g .next .at ≡ c .at + 2)
+    number-read : {ρ : ResultType} (z : Spells resultBytes line (c .at) ρ) → (g .value ≡ byteAt line (past line (c .at) 1)) × (g .next .at ≡ past line (c .at) 2)
     number-read {ρ} z =
-        let place : f .next .at ≡ c .at + 1 = v .next (spelled-less z) in
-        let less : f .next .at < length (bytesOf line) = omega (arith, place, is-named z .spelled .within) in
-        (o .value less ∙ ap (byteAt line) place, omega (arith, place, o .next less))
+        let place : f .next .at ≡ past line (c .at) 1 = v .next (spelled-less z) in
+        let some : 0 < bytesLeft line (f .next .at) = omega (arith, ap (bytesLeft line) place, left-past line (c .at) 1, place-left line (c .at) 2 (is-named z .spelled .within)) in
+        (o .value some ∙ ap (byteAt line) place, o .next some ∙ ap (λ (m : ℕ). past line m 1) place ∙ past-past line (c .at) 1 1)
 
-    size-agrees : {types vars : ℕ} {ρ : ResultType} → WithinResult types vars ρ → (z : Spells resultBytes line (c .at) ρ) → AgreesSize (typeSize Δ (is-named z .size)) (g .next .at + length (sizeBytes (is-named z .size))) x
+    size-agrees : {types vars : ℕ} {ρ : ResultType} → WithinResult types vars ρ → (z : Spells resultBytes line (c .at) ρ) → AgreesSize (typeSize Δ (is-named z .size)) (past line (g .next .at) (length (sizeBytes (is-named z .size)))) x
     size-agrees {types} {vars} w z =
         let i = is-named z in
         u .says vars (i .size) (size-of-named (subst (WithinResult types vars) (i .is) w)) (subst (λ m. Spells sizeBytes line m (i .size)) (sym (number-read z .1)) (i .spelled))
@@ -148,7 +148,7 @@ module _ (line : List ℕ) (c : Cursor) (Δ : List ℕ) {f : Found} (v : Reads l
           let i = is-named z in
           let agreed = size-given e (size-agrees w z) in
           type-is {next = next} (named-at z ∙ ap (λ (a : Option ℕ). chain a (λ k. some (tnamed (g .value) k))) (agreed .0))
-          (omega (arith, agreed .1, number-read z .1, ap (λ (a : ResultType). length (resultBytes a)) (i .is), i .long));
+          (agreed .1 ∙ ap (λ (m : ℕ). past line m (length (sizeBytes (i .size)))) (number-read z .1) ∙ sym (ap (λ (a : ResultType). past line (c .at) (length (resultBytes a))) (i .is) ∙ i .ends));
       bound = type-bound (named-small (o .less) (size-within e (u .bound)));
     }
 

@@ -1,8 +1,7 @@
--- The bytes that a line's digits spell, whatever they are, and what the reads of a cursor say of them.
-use Prim.Native.Nat.{ℕ, _+_, _*_, _/_, _%_, _≤_, _<_}
-use mathlib.Core.List.{List, [], _∷_}
+-- What the reads of a cursor say of the bytes of its line.
+use Prim.Native.Nat.{ℕ, _+_, _*_, _≤_, _<_}
+use mathlib.Core.List.{List}
 use mathlib.Core.Path.{_≡_}
-use lib.ListN.{length, drop}
 use Rattle.language.specs.Syntax.{Field, fbool, fint, own, other, Plain, pbool, pint, pnamed, Ty, tbool, tint, tnamed}
 use Rattle.language.specs.Layout.{tagStep}
 use Rattle.language.specs.Parser.{Read, got, bad}
@@ -12,16 +11,8 @@ use Rattle.text.specs.declared.Number.{Number}
 use Rattle.text.specs.declared.Number.the-variants.{Is, Refused}
 use Rattle.text.specs.declared.Step.{Step}
 use Rattle.text.specs.declared.Step.the-variants.{Next, Stop}
-
--- the value of an upper-case hexadecimal digit; of any other character some number below 16
-unfoldable pub digitValue : ℕ → ℕ
-digitValue c = (c % 16 + 9 * (c / 64)) % 16
-
--- pair by pair; a character left over spells nothing
-unfoldable pub bytesOf : List ℕ → List ℕ
-bytesOf [] = []
-bytesOf (a ∷ []) = []
-bytesOf (a ∷ b ∷ l) = (digitValue a * 16 + digitValue b) ∷ bytesOf l
+unfoldable pub use Rattle.text.specs.Digits.{digitValue, bytesOf}
+pub use Rattle.text.specs.Places.{bytesFrom, past, IsPlace, bytesLeft, byteAt}
 
 -- a parser's answer with another value, and with none
 unfoldable pub mapRead : {A B : Type 0} → (A → B) → Read A → Read B
@@ -34,17 +25,17 @@ forget (bad n) = bad n
 
 -- ---- what a read gives, as a parser's answer: the bytes left are those from the moved cursor on
 unfoldable pub given : List ℕ → Number → Read ℕ
-given bs (Is f) = got (f .value) (drop (f .next .at) bs)
-given bs (Refused n) = bad n
+given line (Is f) = got (f .value) (bytesFrom line (f .next .at))
+given line (Refused n) = bad n
 
 unfoldable pub passed : List ℕ → Step → Read (Unit {0})
-passed bs (Next c) = got tt (drop (c .at) bs)
-passed bs (Stop n) = bad n
+passed line (Next c) = got tt (bytesFrom line (c .at))
+passed line (Stop n) = bad n
 
--- the cursor does not go back, and stays within the bytes
-pub data Moved (at : ℕ) (bs : List ℕ) : Step → Type 0 where
-  moved : {c : Cursor} → at ≤ c .at → c .at ≤ length bs → Moved at bs (Next c)
-  stopped : {n : ℕ} → Moved at bs (Stop n)
+-- the cursor moved on by some of the bytes left, and is not beyond the line
+pub data Moved (line : List ℕ) (at : ℕ) : Step → Type 0 where
+  moved : {c : Cursor} (n : ℕ) → c .at ≡ past line at n → n ≤ bytesLeft line at → IsPlace line (c .at) → Moved line at (Next c)
+  stopped : {n : ℕ} → Moved line at (Stop n)
 
 abbrev pub stepOf : Number → Step
 stepOf (Is f) = Next (f .next)
@@ -52,16 +43,12 @@ stepOf (Refused n) = Stop n
 
 -- ---- the promises of reads at a place of a line: the answer is the parser's
 pub record ReadsNumber (line : List ℕ) (at : ℕ) (r : Number) (x : Read ℕ) : Type 0 where
-  pub is : given (bytesOf line) r ≡ x
-  pub on : Moved at (bytesOf line) (stepOf r)
+  pub is : given line r ≡ x
+  pub on : Moved line at (stepOf r)
 
 pub record Passes (line : List ℕ) (at : ℕ) (r : Step) (x : Read (Unit {0})) : Type 0 where
-  pub is : passed (bytesOf line) r ≡ x
-  pub on : Moved at (bytesOf line) r
-
--- the bytes from a place on
-abbrev pub bytesFrom : List ℕ → ℕ → List ℕ
-bytesFrom line at = drop at (bytesOf line)
+  pub is : passed line r ≡ x
+  pub on : Moved line at r
 
 -- a number below a bound
 pub data Below (n : ℕ) : Number → Type 0 where

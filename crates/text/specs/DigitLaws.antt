@@ -8,9 +8,11 @@ use native.Mathlib.Omega.{arith}
 use lib.ListN.{length, getD}
 use lib.Dec.{leb}
 use borrow.Author.Tests.{leb-true}
+use Rattle.language.specs.Limits.{byteRange}
 use Rattle.language.specs.Result.{both, when, choose}
+use Rattle.language.specs.Within.{All, all-nil, all-cons}
 use Rattle.language.specs.Reader.{digit}
-use Rattle.text.specs.Bytes.{digitValue, bytesOf}
+use Rattle.text.specs.Digits.{digitValue, bytesOf}
 
 pub digit-small : (c : ℕ) → digitValue c < 16
 unfolding digitValue
@@ -47,6 +49,13 @@ digit-value c d e = go (both (leb 0x30 c) (leb c 0x39)) (both (leb 0x41 c) (leb 
     go true b p q e = let same : c - 0x30 ≡ d = cc in let in-range = between 0x30 0x39 c p in digit-decimal c (in-range .0) (in-range .1) ∙ same
     go false true p q e = let same : c - 0x37 ≡ d = cc in let in-range = between 0x41 0x46 c q in digit-letter c (in-range .0) (in-range .1) ∙ same
     go false false p q e = absurd (let z : _≡_ {A = ℕ} 0 1 = cc in omega arith)
+
+-- what two digits spell is a byte
+pub bytes-small : (l : List ℕ) → All (λ (b : ℕ). b < byteRange) (bytesOf l)
+unfolding bytesOf
+bytes-small [] = all-nil
+bytes-small (a ∷ []) = all-nil
+bytes-small (a ∷ b ∷ l) = let small : digitValue a * 16 + digitValue b < byteRange = omega (arith, digit-small a, digit-small b) in all-cons small (bytes-small l)
 
 pub bytes-length : (l : List ℕ) → length (bytesOf l) ≡ length l / 2
 unfolding bytesOf

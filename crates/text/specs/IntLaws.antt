@@ -3,8 +3,7 @@ use Prim.Native.Nat.{ℕ, _+_, _-_, _*_, _/_, _^_, _≤_, _<_}
 use mathlib.Core.List.{List, [], _∷_}
 use mathlib.Core.Path.{_≡_, refl, sym, ap, _∙_}
 use native.Mathlib.Omega.{arith}
-use lib.ListN.{length, drop, length-drop}
-use lib.Seq.{drop-drop}
+use lib.ListN.{length, drop}
 use Rattle.language.specs.Limits.{byteRange}
 use Rattle.language.specs.Parser.{got, bad, Parser, andThen, _>>=_, return, byte}
 use Rattle.language.specs.ReadExpr.{int}
@@ -12,8 +11,8 @@ use Rattle.text.specs.declared.Found.{Found}
 use Rattle.text.specs.declared.Number.{Number}
 use Rattle.text.specs.declared.Number.the-variants.{Is, Refused}
 use Rattle.text.specs.declared.Step.the-variants.{Next, Stop}
-use Rattle.text.specs.Bytes.{bytesOf, bytesFrom, forget, passed, moved, stopped, ReadsNumber, Passes, Below}
-use Rattle.text.specs.DigitLaws.{bytes-length}
+use Rattle.text.specs.Bytes.{bytesFrom, past, forget, passed, moved, stopped, ReadsNumber, Passes, Below}
+use Rattle.text.specs.Places.{bytes-past, past-is-sum, place-is-number, left-is-number}
 use Rattle.text.specs.ReadLaws.{read-then}
 use Rattle.text.specs.StepLaws.{pass-here, number-other, read-then-read, read-stops-read}
 
@@ -82,12 +81,11 @@ int-there (a ∷ b ∷ c ∷ []) h = absurd (omega arith)
 int-there (a ∷ b ∷ c ∷ d ∷ bs) h = refl
 
 module _ (line : List ℕ) (at : ℕ) where
-  bytes-left : length (bytesFrom line at) ≡ length line / 2 - at
-  bytes-left = omega (arith, length-drop at (bytesOf line), bytes-length line)
-
   pub past-int-missing : length line / 2 < at + 4 → Passes line at (Stop 4) (forget (int (bytesFrom line at)))
   unfolding passed
-  past-int-missing h = record { is = sym (int-short (bytesFrom line at) (omega (arith, bytes-left))); on = stopped }
+  past-int-missing h = record { is = sym (int-short (bytesFrom line at) (omega (arith, left-is-number line at))); on = stopped }
 
   pub past-int-whole : at + 4 ≤ length line / 2 → Passes line at (Next (record { at = at + 4 })) (forget (int (bytesFrom line at)))
-  past-int-whole h = pass-here (moved {c = record { at = at + 4 }} (omega arith) (omega (arith, bytes-length line))) (int-there (bytesFrom line at) (omega (arith, bytes-left)) ∙ ap (got tt) (drop-drop 4 at (bytesOf line)))
+  past-int-whole h =
+      let place : bytesFrom line (past line at 4) ≡ bytesFrom line (at + 4) = ap (bytesFrom line) (past-is-sum line at 4) in
+      pass-here (moved {c = record { at = at + 4 }} 4 (sym (past-is-sum line at 4)) (omega (arith, left-is-number line at)) (place-is-number line (at + 4) h)) (int-there (bytesFrom line at) (omega (arith, left-is-number line at)) ∙ ap (got tt) (sym (bytes-past line at 4) ∙ place))

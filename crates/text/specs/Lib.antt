@@ -1,6 +1,8 @@
+pub mod Digits
+pub mod DigitLaws
+pub mod Places
 pub mod Bytes
 pub mod Codes
-pub mod DigitLaws
 pub mod ReadLaws
 pub mod StepLaws
 pub mod CodeLaws

@@ -22,21 +22,25 @@ use Rattle.text.specs.declared.lines.LineEnd.{LineEnd}
 use Rattle.text.specs.declared.lines.LineEnd.the-variants.{At, Bad}
 use Rattle.text.specs.declared.lines.Judged.the-variants.{Channels, Refused}
 use Rattle.text.specs.Bytes.{bytesOf, bytesFrom, given, ReadsNumber, Below}
+use Rattle.text.specs.Places.{bytes-start}
 use Rattle.text.specs.Lines.{firstLine, nextLine, isSome, lineEnd, channelsOf, framesFrom, judged, judgement}
 use Rattle.text.specs.LinesEnd.{behind}
 use Rattle.text.specs.LinesSpell.{line-bytes-read}
 use Rattle.text.specs.LinesWalk.{frames-none, frames-ended, frames-unended, behind-next}
 
 -- ---- a channel, by the first byte of its line
-first-byte : (bs line : List ℕ) {x : Number} {f : Found} → given (bytesOf line) x ≡ byte bs → x ≡ Is f → isChannel bs ≡ oneOf (eqb (f .value) 0x03) (eqb (f .value) 0x04)
+first-byte : (bs line : List ℕ) {x : Number} {f : Found} → given line x ≡ byte bs → x ≡ Is f → isChannel bs ≡ oneOf (eqb (f .value) 0x03) (eqb (f .value) 0x04)
 unfolding given byte isChannel
-first-byte [] line e q = absurd (let z = sym e ∙ ap (given (bytesOf line)) q in let y : _≡_ {A = ℕ} 0 1 = cc in omega arith)
-first-byte (b ∷ bs) line {f = f} e q = let y : b ≡ f .value = let u = sym e ∙ ap (given (bytesOf line)) q in cc in rw y
+first-byte [] line e q = absurd (let z = sym e ∙ ap (given line) q in let y : _≡_ {A = ℕ} 0 1 = cc in omega arith)
+first-byte (b ∷ bs) line {f = f} e q = let y : b ≡ f .value = let u = sym e ∙ ap (given line) q in cc in rw y
 
 module _ {line : List ℕ} {x : Number} (v : ReadsNumber line 0 x (byte (bytesFrom line 0)) × Below byteRange x) where
+  first-is : given line x ≡ byte (bytesOf line)
+  first-is = v .0 .is ∙ ap byte (bytes-start line)
+
   pub line-without-bytes : {n : ℕ} → x ≡ NumberRefused n → 0 ≡ channelsOf (bytesOf line)
   unfolding given byte isChannel choose
-  line-without-bytes {n} q = go (bytesOf line) (sym (v .0 .is) ∙ ap (given (bytesOf line)) q)
+  line-without-bytes {n} q = go (bytesOf line) (sym first-is ∙ ap (given line) q)
     where
       go : (bs : List ℕ) → byte bs ≡ bad n → 0 ≡ channelsOf bs
       go [] e = refl
@@ -44,15 +48,15 @@ module _ {line : List ℕ} {x : Number} (v : ReadsNumber line 0 x (byte (bytesFr
 
   pub input-line : {f : Found} → x ≡ Is f → f .value ≡ 3 → 1 ≡ channelsOf (bytesOf line)
   unfolding oneOf choose
-  input-line q k = rw (first-byte (bytesOf line) line (v .0 .is) q, eq-eqb _ 0x03 k)
+  input-line q k = rw (first-byte (bytesOf line) line first-is q, eq-eqb _ 0x03 k)
 
   pub node-line : {f : Found} → x ≡ Is f → (f .value ≡ 3 → ⊥) → f .value ≡ 4 → 1 ≡ channelsOf (bytesOf line)
   unfolding oneOf choose
-  node-line q n k = rw (first-byte (bytesOf line) line (v .0 .is) q, ne-eqb _ 0x03 n, eq-eqb _ 0x04 k)
+  node-line q n k = rw (first-byte (bytesOf line) line first-is q, ne-eqb _ 0x03 n, eq-eqb _ 0x04 k)
 
   pub other-line : {f : Found} → x ≡ Is f → (f .value ≡ 3 → ⊥) → (f .value ≡ 4 → ⊥) → 0 ≡ channelsOf (bytesOf line)
   unfolding oneOf choose
-  other-line q n k = rw (first-byte (bytesOf line) line (v .0 .is) q, ne-eqb _ 0x03 n, ne-eqb _ 0x04 k)
+  other-line q n k = rw (first-byte (bytesOf line) line first-is q, ne-eqb _ 0x03 n, ne-eqb _ 0x04 k)
 
 -- ---- the line at a place: LF ends it and it has bytes, or the text is refused there
 pub record Ended (t : List ℕ) (at end : ℕ) : Type 0 where

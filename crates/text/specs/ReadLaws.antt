@@ -1,12 +1,10 @@
 -- Reads in turn: what the cursor's answer says of the parser's, and of what comes behind it.
 use Prim.Native.Nat.{ℕ, _+_, _*_, _/_, _≤_, _<_}
-use mathlib.Core.List.{List}
+use mathlib.Core.List.{List, [], _∷_}
 use mathlib.Core.Bool.{Bool, true, false}
-use mathlib.Core.Path.{_≡_, sym, ap, _∙_}
+use mathlib.Core.Path.{_≡_, refl, sym, ap, _∙_}
 use native.Mathlib.Omega.{arith}
-use native.Mathlib.Numerals.{add-one}
-use lib.ListN.{length, getD, drop-of-length-le}
-use lib.Seq.{drop-cons}
+use lib.ListN.{length, getD, drop}
 use lib.Dec.{ltb, leb}
 use borrow.Author.Tests.{lt-ltb, le-ltb, le-leb, lt-leb}
 use Rattle.language.specs.Limits.{byteRange}
@@ -15,39 +13,53 @@ use Rattle.language.specs.Parser.{Read, got, bad, Parser, andThen, must, byte, 
 use Rattle.text.specs.declared.Found.{Found}
 use Rattle.text.specs.declared.Number.{Number}
 use Rattle.text.specs.declared.Number.the-variants.{Is, Refused}
-use Rattle.text.specs.Bytes.{digitValue, bytesOf, bytesFrom, given, moved, stopped, ReadsNumber, Below, below, no-number}
-use Rattle.text.specs.DigitLaws.{bytes-length, bytes-at}
+use Rattle.text.specs.Bytes.{digitValue, bytesFrom, past, bytesLeft, byteAt, given, moved, stopped, ReadsNumber, Below, below, no-number}
+use Rattle.text.specs.DigitLaws.{bytes-at}
+use Rattle.text.specs.Places.{bytes-past, past-is-sum, place-is-number, left-is-number, byte-is-number}
 
 -- ---- the next byte
-byte-none : (line : List ℕ) (at : ℕ) → length line / 2 ≤ at → byte (bytesFrom line at) ≡ bad 4
+byte-first : (bs : List ℕ) → 0 < length bs → byte bs ≡ got (getD bs 0 0) (drop 1 bs)
 unfolding byte
-byte-none line at h = rw (drop-of-length-le (bytesOf line) {i = at} (omega (arith, bytes-length line)))
+byte-first [] h = absurd (omega arith)
+byte-first (b ∷ bs) h = refl
 
-byte-some : (line : List ℕ) (at : ℕ) → at < length line / 2 → byte (bytesFrom line at) ≡ got (getD (bytesOf line) at 0) (bytesFrom line (at + 1))
+byte-of-none : (bs : List ℕ) → length bs ≡ 0 → byte bs ≡ bad 4
 unfolding byte
-byte-some line at h = rw (add-one, drop-cons (bytesOf line) at 0 (omega (arith, bytes-length line)))
+byte-of-none [] h = refl
+byte-of-none (b ∷ bs) h = absurd (omega arith)
+
+-- where a byte is left, it is read, and the place behind it is the next
+pub byte-some : (line : List ℕ) (at : ℕ) → 0 < bytesLeft line at → byte (bytesFrom line at) ≡ got (byteAt line at) (bytesFrom line (past line at 1))
+byte-some line at h = byte-first (bytesFrom line at) h ∙ ap (got (byteAt line at)) (sym (bytes-past line at 1))
 
 pub byte-end : (line : List ℕ) (at : ℕ) → length line / 2 ≤ at → ReadsNumber line at (Refused 4) (byte (bytesFrom line at)) × Below byteRange (Refused 4)
 unfolding given
-byte-end line at h = (record { is = sym (byte-none line at h); on = stopped }, no-number)
+byte-end line at h = (record { is = sym (byte-of-none (bytesFrom line at) (omega (arith, left-is-number line at))); on = stopped }, no-number)
 
 pub byte-done : (line : List ℕ) (at high low : ℕ) → at < length line / 2 → (high ≡ digitValue (getD line (2 * at) 0)) × (high < 16) → (low ≡ digitValue (getD line (2 * at + 1) 0)) × (low < 16) →
     ReadsNumber line at (Is (record { value = high * 16 + low; next = record { at = at + 1 } })) (byte (bytesFrom line at)) × Below byteRange (Is (record { value = high * 16 + low; next = record { at = at + 1 } }))
 unfolding given
-byte-done line at high low h p q = (record { is = sym (byte-some line at h ∙ rw (bytes-at line at h, p .0, q .0)); on = moved {c = record { at = at + 1 }} (omega arith) (omega (arith, bytes-length line)) }, below {f = record { value = high * 16 + low; next = record { at = at + 1 } }} (omega (arith, p .1, q .1)))
+byte-done line at high low h p q =
+    let read = byte-some line at (omega (arith, left-is-number line at)) in (
+      record {
+        is = sym (read ∙ rw (past-is-sum line at 1, byte-is-number line at, bytes-at line at h, p .0, q .0));
+        on = moved {c = record { at = at + 1 }} 1 (sym (past-is-sum line at 1)) (omega (arith, left-is-number line at)) (place-is-number line (at + 1) (omega arith));
+      },
+      below {f = record { value = high * 16 + low; next = record { at = at + 1 } }} (omega (arith, p .1, q .1)),
+    )
 
 -- ---- a number, and then
 pub read-then : {B : Type 0} {line : List ℕ} {at : ℕ} {x : Number} {y : Read ℕ} {f : Found} (k : ℕ → Parser B) → ReadsNumber line at x y → x ≡ Is f → andThen y k ≡ k (f .value) (bytesFrom line (f .next .at))
 unfolding given andThen
-read-then {line} k v e = let z = sym (v .is) ∙ ap (given (bytesOf line)) e in rw z
+read-then {line} k v e = let z = sym (v .is) ∙ ap (given line) e in rw z
 
 pub read-stops : {B : Type 0} {line : List ℕ} {at n : ℕ} {x : Number} {y : Read ℕ} (k : ℕ → Parser B) → ReadsNumber line at x y → x ≡ Refused n → andThen y k ≡ bad n
 unfolding given andThen
-read-stops {line} k v e = let z = sym (v .is) ∙ ap (given (bytesOf line)) e in rw z
+read-stops {line} k v e = let z = sym (v .is) ∙ ap (given line) e in rw z
 
 pub number-stops : {line : List ℕ} {at n : ℕ} {x : Number} {y : Read ℕ} (k : ℕ → Parser ℕ) → ReadsNumber line at x y × Below byteRange x → x ≡ Refused n → ReadsNumber line at x (andThen y k) × Below byteRange x
 unfolding given
-number-stops {line} k v e = (record { is = ap (given (bytesOf line)) e ∙ sym (read-stops k (v .0) e); on = v .0 .on }, v .1)
+number-stops {line} k v e = (record { is = ap (given line) e ∙ sym (read-stops k (v .0) e); on = v .0 .on }, v .1)
 
 -- a test of the number: refused with m, or passed on
 pub number-fails : {line : List ℕ} {at m : ℕ} {x : Number} {y : Read ℕ} {f : Found} (test : ℕ → Bool) → ReadsNumber line at x y × Below byteRange x → x ≡ Is f → test (f .value) ≡ false →

@@ -1,10 +1,9 @@
 -- What a cursor's answer says of a parser's, and one read behind another.
-use Prim.Native.Nat.{ℕ, _≤_, _<_}
+use Prim.Native.Nat.{ℕ, _+_, _≤_, _<_, zero-le}
 use mathlib.Core.List.{List}
 use mathlib.Core.Path.{_≡_, refl, sym, ap, _∙_}
-use native.Mathlib.Nat.{le-trans, lt-of-lt-of-le}
+use native.Mathlib.Nat.{lt-of-lt-of-le}
 use native.Mathlib.Omega.{arith}
-use lib.ListN.{length}
 use Rattle.language.specs.Parser.{Read, got, bad, Parser, andThen}
 use Rattle.text.specs.declared.Cursor.{Cursor}
 use Rattle.text.specs.declared.Found.{Found}
@@ -12,22 +11,29 @@ use Rattle.text.specs.declared.Number.{Number}
 use Rattle.text.specs.declared.Number.the-variants.{Is, Refused}
 use Rattle.text.specs.declared.Step.{Step}
 use Rattle.text.specs.declared.Step.the-variants.{Next, Stop}
-use Rattle.text.specs.Bytes.{bytesOf, bytesFrom, given, passed, forget, Moved, moved, stopped, stepOf, ReadsNumber, Passes, Below, below, no-number}
+use Rattle.text.specs.Bytes.{bytesFrom, past, IsPlace, bytesLeft, given, passed, forget, Moved, moved, stopped, stepOf, ReadsNumber, Passes, Below, below, no-number}
+use Rattle.text.specs.Places.{past-none, past-past, past-once, left-past}
 use Rattle.text.specs.ReadLaws.{read-then, read-stops}
 
 -- ---- the cursor's way
-pub goes : {at : ℕ} {bs : List ℕ} {c : Cursor} → Moved at bs (Next c) → at ≤ c .at
-goes (moved h k) = h
+pub ends-within : {line : List ℕ} {at : ℕ} {c : Cursor} → Moved line at (Next c) → IsPlace line (c .at)
+ends-within (moved n e h k) = k
 
-pub ends-within : {at : ℕ} {bs : List ℕ} {c : Cursor} → Moved at bs (Next c) → c .at ≤ length bs
-ends-within (moved h k) = k
+-- it stays where it is
+pub moved-none : {line : List ℕ} {c : Cursor} → IsPlace line (c .at) → Moved line (c .at) (Next c)
+moved-none {line} {c} k = moved 0 (sym (past-none line (c .at))) zero-le k
 
-pub moved-from : {at mid : ℕ} {bs : List ℕ} {r : Step} → at ≤ mid → Moved mid bs r → Moved at bs r
-moved-from le (moved h k) = moved (le-trans le h) k
-moved-from le stopped = stopped
+pub moved-left : {line : List ℕ} {at : ℕ} {c : Cursor} → Moved line at (Next c) → bytesLeft line (c .at) ≤ bytesLeft line at
+moved-left {line} {at} (moved n e h k) = omega (arith, ap (bytesLeft line) e, left-past line at n)
 
-pub moved-on : {at : ℕ} {bs : List ℕ} {c : Cursor} {r : Step} → Moved at bs (Next c) → Moved (c .at) bs r → Moved at bs r
-moved-on m w = moved-from (goes m) w
+-- behind so many bytes, where the bytes left say so
+pub moved-past : {line : List ℕ} {at : ℕ} {c : Cursor} (n : ℕ) → Moved line at (Next c) → n ≤ bytesLeft line at → bytesFrom line (c .at) ≡ bytesFrom line (past line at n) → c .at ≡ past line at n
+moved-past {line} {at} n (moved m e h k) le same = e ∙ ap (past line at) (past-once line at h le (ap (bytesFrom line) (sym e) ∙ same))
+
+pub moved-on : {line : List ℕ} {at : ℕ} {c : Cursor} {r : Step} → Moved line at (Next c) → Moved line (c .at) r → Moved line at r
+moved-on {line} {at} (moved n e h k) (moved m d i j) =
+    moved (n + m) (d ∙ ap (λ (a : ℕ). past line a m) e ∙ past-past line at n m) (omega (arith, h, i, ap (bytesLeft line) e, left-past line at n)) j
+moved-on u stopped = stopped
 
 -- ---- numbers below a bound
 pub below-more : {m n : ℕ} {x : Number} → m ≤ n → Below m x → Below n x
@@ -44,11 +50,11 @@ number-below b e = value-below (rw e at b)
 module _ {line : List ℕ} {at : ℕ} {x : Number} {y : Read ℕ} (v : ReadsNumber line at x y) where
   pub number-got : {f : Found} → x ≡ Is f → y ≡ got (f .value) (bytesFrom line (f .next .at))
   unfolding given
-  number-got e = sym (v .is) ∙ ap (given (bytesOf line)) e
+  number-got e = sym (v .is) ∙ ap (given line) e
 
   pub number-bad : {n : ℕ} → x ≡ Refused n → y ≡ bad n
   unfolding given
-  number-bad e = sym (v .is) ∙ ap (given (bytesOf line)) e
+  number-bad e = sym (v .is) ∙ ap (given line) e
 
 -- a parser gives some value, with these bytes left
 pub record Gives {A : Type 0} (y : Read A) (bs : List ℕ) : Type 0 where
@@ -68,15 +74,15 @@ forget-bad (bad m) n e = let same : m ≡ n = cc in ap bad same
 module _ {A : Type 0} {line : List ℕ} {at : ℕ} {r : Step} {y : Read A} (v : Passes line at r (forget y)) where
   pub pass-got : {c : Cursor} → r ≡ Next c → Gives y (bytesFrom line (c .at))
   unfolding passed
-  pass-got e = forget-got y _ (sym (v .is) ∙ ap (passed (bytesOf line)) e)
+  pass-got e = forget-got y _ (sym (v .is) ∙ ap (passed line) e)
 
   pub pass-bad : {n : ℕ} → r ≡ Stop n → y ≡ bad n
   unfolding passed
-  pass-bad e = forget-bad y _ (sym (v .is) ∙ ap (passed (bytesOf line)) e)
+  pass-bad e = forget-bad y _ (sym (v .is) ∙ ap (passed line) e)
 
 -- ---- behind a cursor that moved: the parser's equation, and what was read from there on
 module _ {line : List ℕ} {at : ℕ} {x : Number} {y : Read ℕ} (v : ReadsNumber line at x y) where
-  pub number-moved : {f : Found} → x ≡ Is f → Moved at (bytesOf line) (Next (f .next))
+  pub number-moved : {f : Found} → x ≡ Is f → Moved line at (Next (f .next))
   number-moved e = rw e at (v .on)
 
   -- the same answer, of another parser
@@ -96,21 +102,21 @@ pub number-refused : {line : List ℕ} {at n : ℕ} {z : Read ℕ} → z ≡ bad
 unfolding given
 number-refused p = record { is = sym p; on = stopped }
 
-pub pass-moved : {line : List ℕ} {at : ℕ} {r : Step} {y : Read (Unit {0})} {c : Cursor} → Passes line at r y → r ≡ Next c → Moved at (bytesOf line) (Next c)
+pub pass-moved : {line : List ℕ} {at : ℕ} {r : Step} {y : Read (Unit {0})} {c : Cursor} → Passes line at r y → r ≡ Next c → Moved line at (Next c)
 pass-moved v e = rw e at (v .on)
 
 pub pass-none : {line : List ℕ} {at n : ℕ} {x : Number} {s : Step} {z : Read (Unit {0})} → x ≡ Refused n → s ≡ stepOf x → z ≡ bad n → Passes line at s z
 unfolding passed
 pass-none e d p = rw (d, e) (record { is = sym p; on = stopped })
 
-pub pass-here : {line : List ℕ} {at : ℕ} {c : Cursor} {z : Read (Unit {0})} → Moved at (bytesOf line) (Next c) → z ≡ got tt (bytesFrom line (c .at)) → Passes line at (Next c) z
+pub pass-here : {line : List ℕ} {at : ℕ} {c : Cursor} {z : Read (Unit {0})} → Moved line at (Next c) → z ≡ got tt (bytesFrom line (c .at)) → Passes line at (Next c) z
 unfolding passed
 pass-here m p = record { is = sym p; on = m }
 
-pub reads-behind : {line : List ℕ} {at : ℕ} {c : Cursor} {w : Number} {y z : Read ℕ} → Moved at (bytesOf line) (Next c) → z ≡ y → ReadsNumber line (c .at) w y → ReadsNumber line at w z
+pub reads-behind : {line : List ℕ} {at : ℕ} {c : Cursor} {w : Number} {y z : Read ℕ} → Moved line at (Next c) → z ≡ y → ReadsNumber line (c .at) w y → ReadsNumber line at w z
 reads-behind m p u = record { is = u .is ∙ sym p; on = moved-on m (u .on) }
 
-pub passes-behind : {line : List ℕ} {at : ℕ} {c : Cursor} {s : Step} {y z : Read (Unit {0})} → Moved at (bytesOf line) (Next c) → z ≡ y → Passes line (c .at) s y → Passes line at s z
+pub passes-behind : {line : List ℕ} {at : ℕ} {c : Cursor} {s : Step} {y z : Read (Unit {0})} → Moved line at (Next c) → z ≡ y → Passes line (c .at) s y → Passes line at s z
 passes-behind m p u = record { is = u .is ∙ sym p; on = moved-on m (u .on) }
 
 -- ---- a number and then, a pass and then: to a number, to a pass

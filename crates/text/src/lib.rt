@@ -3,10 +3,11 @@ pub mod lines;
 
 ghost use mathlib.Core.Path.{_≡_};
 ghost use Prim.Native.Nat.{_<_, _^_};
+ghost use lib.Dec.{ltb};
 ghost use Rattle.language.specs.Limits.{byteRange};
 ghost use Rattle.language.specs.Parser.{byte as byteRead, index as indexRead, count as countRead};
 ghost use Rattle.language.specs.ReadExpr.{int as intRead, sizeAt, result as resultRead, plain, declared as declaredRead, field as fieldRead};
-ghost use Rattle.text.specs.Bytes.{digitValue, bytesFrom, ReadsNumber, Passes, Below, stepOf, forget, mapRead, plainWord, declaredWord, fieldWord};
+ghost use Rattle.text.specs.Bytes.{digitValue, bytesFrom, bytesLeft, ReadsNumber, Passes, Below, stepOf, forget, mapRead, plainWord, declaredWord, fieldWord};
 ghost use Rattle.text.specs.Codes.{codePlace, placeIn, namedWord};
 use language::codes::DIGIT_BASE;
 use language::codes::FIELD_FIRST;
@@ -31,9 +32,9 @@ use language::refusals::OUTSIDE_LIMITS;
 pub const TYPE_STEP: u32 = 256;
 
 // A byte is spelled by so many digits, and an Int takes so many bytes.
-pub const BYTE_DIGITS: usize = 2;
+const BYTE_DIGITS: usize = 2;
 
-pub const INT_BYTES: usize = 4;
+const INT_BYTES: usize = 4;
 
 // What the bytes of an Int before its last are worth.
 const FIRST_BYTE: u32 = BYTE_RANGE * SECOND_BYTE;
@@ -60,7 +61,7 @@ pub fn digit(c: u8) -> u32
     (code % DIGIT_BASE + LETTER_ADDS * (code / LETTERS_FROM)) % DIGIT_BASE
 }
 
-// A place in a frame: the number of bytes before it. Each read hands it back moved on.
+// A place in a frame. That it is the number of bytes before it, only this crate says: others hand it on. Each read hands it back moved on.
 pub struct Cursor {
     pub at: usize,
 }
@@ -96,6 +97,13 @@ pub fn step_of(x: Number) -> Step
 }
 
 impl Cursor {
+    // Whether bytes are left.
+    pub fn more(self, line: &[u8]) -> bool
+        ensures { λ r. ⌜ r ≡ ltb 0 (bytesLeft (now (line .entry)) (self .at)) ⌝ }
+    {
+        self.at < line.len() / BYTE_DIGITS
+    }
+
     // The next byte; 4 where the line ends.
     pub fn byte(self, line: &[u8]) -> Number
         ensures { λ r. ⌜ ReadsNumber (now (line .entry)) (self .at) r (byteRead (bytesFrom (now (line .entry)) (self .at))) × Below byteRange r ⌝ }

@@ -64,7 +64,7 @@ spell-one (b ∷ l) = rw (spell-one l)
 parameters-exact : (types : ℕ) → Exact (counted 0 parametersMost (plain types)) (λ ps. length ps ∷ spellAll plainBytes ps) (Counted 0 parametersMost (WithinPlain types))
 parameters-exact types = counted-exact (plain-exact types) 0 parametersMost
 
-conditions-exact : (vars : ℕ) → Exact (counted 0 conditionsMost (condition vars)) (λ cs. length cs ∷ spellAll conditionBytes cs) (Counted 0 conditionsMost (WithinCondition vars))
+pub conditions-exact : (vars : ℕ) → Exact (counted 0 conditionsMost (condition vars)) (λ cs. length cs ∷ spellAll conditionBytes cs) (Counted 0 conditionsMost (WithinCondition vars))
 conditions-exact vars = counted-exact (condition-exact vars) 0 conditionsMost
 
 measure-exact : (vars : ℕ) → Exact (counted 0 measuresMost (index vars)) (λ m. length m ∷ spellAll one m) (Counted 0 measuresMost (λ i. i < vars))

@@ -10,7 +10,9 @@ use Rattle.expression_reader.specs.ScopeLaws.{levels-in, levels-most, le
 use Rattle.expression_reader.specs.HeadLaws.{code-level, code-form, head-none, head-done, last-form, fewer-levels}
 use Rattle.expression_reader.specs.FormLaws.{index-less, opens-whole, bool-whole, int-whole, variable-whole, now-whole, last-whole, let-whole, case-whole, fit-whole, leaf-bool, leaf-int, leaf-variable, leaf-now, leaf-last, opens-if, opens-operator, opens-size, opens-call, opens-construct, binding-stops, binding-done}
 use Rattle.expression_reader.specs.CaseLaws.{branches-none, branches-stop, branches-done, case-stops, case-subject, case-type, case-done, fit-stops, fit-subject, fit-arm, fit-done}
-use Rattle.expression_reader.specs.NestedLaws.{NestedTo, nested-start, nested-end, nested-resumed, nested-refused, nested-passed, nested-inside, bytesLeft, fewer-left}
+use Rattle.expression_reader.specs.NestedLaws.{NestedTo, nested-start, nested-end, nested-resumed, nested-refused, nested-passed, nested-inside, fewer-left}
+use Rattle.text.specs.Places.{bytesLeft}
+use Rattle.expression_reader.specs.Weights.{levelWeight, behindRank, formRank, branchesRank, nestedRank, headRank}
 use borrow.Fn.Kinds.{In}
 use borrow.Fn.PlainCycle.{Measures, is, falls, and}
 use Rattle.expression_reader.proofs.behind.Reads as behind
@@ -56,25 +58,25 @@ use Rattle.expression_reader.proofs.+behind+binding+branches+case_of+fi
 use Rattle.expression_reader.proofs.+behind+binding+branches+case_of+fit+head+nested.Tie.{close}
 
 abbrev μ-behind : Measures 2 behind-kinds.ps ℕ
-μ-behind κs a = a .1 .1 .1 .1 .0 * 1024 + 800
+μ-behind κs a = a .1 .1 .1 .1 .0 * levelWeight + behindRank
 
 abbrev μ-binding : Measures 2 binding-kinds.ps ℕ
-μ-binding κs a = a .1 .1 .1 .1 .0 * 1024 + 700
+μ-binding κs a = a .1 .1 .1 .1 .0 * levelWeight + formRank
 
 abbrev μ-branches : Measures 2 branches-kinds.ps ℕ
-μ-branches κs a = a .1 .1 .1 .1 .0 * 1024 + (300 + (byteRange - a .1 .1 .1 .1 .1 .1 .0))
+μ-branches κs a = a .1 .1 .1 .1 .0 * levelWeight + (branchesRank + (byteRange - a .1 .1 .1 .1 .1 .1 .0))
 
 abbrev μ-case-of : Measures 2 case-of-kinds.ps ℕ
-μ-case-of κs a = a .1 .1 .1 .1 .0 * 1024 + 700
+μ-case-of κs a = a .1 .1 .1 .1 .0 * levelWeight + formRank
 
 abbrev μ-fit : Measures 2 fit-kinds.ps ℕ
-μ-fit κs a = a .1 .1 .1 .1 .0 * 1024 + 700
+μ-fit κs a = a .1 .1 .1 .1 .0 * levelWeight + formRank
 
 abbrev μ-head : Measures 2 head-kinds.ps ℕ
-μ-head κs a = a .1 .1 .1 .1 .0 * 1024 + 1
+μ-head κs a = a .1 .1 .1 .1 .0 * levelWeight + headRank
 
 abbrev μ-nested : Measures 2 nested-kinds.ps ℕ
-μ-nested κs a = a .1 .1 .1 .1 .0 * 1024 + 2
+μ-nested κs a = a .1 .1 .1 .1 .0 * levelWeight + nestedRank
 
 abbrev behind-at : ℕ → In 2 behind-kinds.ps
 behind-at t = and 2 behind-kinds.ps (is 2 behind-kinds.ps μ-behind t) behind.Pre

@@ -16,7 +16,7 @@ step-of-requires : tie.Need-step-of-requires
 step-of-requires c κs = tt
 
 returns : tie.Need-returns
-returns c = input-no-type _ _ _ (c .before .before .before .declared .ensures .0) (c .before .enum-told .given .1) (c .step-of .ensures)
+returns c = input-no-type _ _ _ (c .before .before .before .before .before .pre .1) (c .before .before .before .declared .ensures .0) (c .before .enum-told .given .1) (c .step-of .ensures)
 
 outside-requires : tie.Need-outside-requires
 outside-requires c κs = tt
@@ -31,7 +31,7 @@ put-channel-requires : tie.Need-put-channel-requires
 put-channel-requires c κs = (c .put-channel-arg .given .0 .1)
 
 returns-2 : tie.Need-returns-2
-returns-2 c = input-read _ _ _ (c .before .before .before .before .before .before .before .before .before .before .declared .ensures .0) (c .before .before .before .before .before .before .before .before .x .given .1) (c .before .before .before .before .before .before .before .before .before .before .before .before .pre) (c .before .before .place .ensures) (follows-as (c .before .before .before .before .before .outside .ensures) (c .before .before .before .expr .ensures)) (c .put-channel .ensures)
+returns-2 c = input-read _ _ _ (c .before .before .before .before .before .before .before .before .before .before .before .before .pre .1) (c .before .before .before .before .before .before .before .before .before .before .declared .ensures .0) (c .before .before .before .before .before .before .before .before .x .given .1) (c .before .before .before .before .before .before .before .before .before .before .before .before .pre .0) (c .before .before .place .ensures) (follows-as (c .before .before .before .before .before .outside .ensures) (c .before .before .before .expr .ensures)) (c .put-channel .ensures)
 
 pub input-frame-spec : {M : Type 1} → statement M
 input-frame-spec =

@@ -17,7 +17,7 @@ step-of-requires : tie.Need-step-of-requires
 step-of-requires c κs = tt
 
 returns : tie.Need-returns
-returns c = node-no-type _ _ _ (c .before .before .before .declared .ensures .0) _ (c .before .enum-told .given .1) (c .step-of .ensures)
+returns c = node-no-type _ _ _ (c .before .before .before .before .before .pre .1) (c .before .before .before .declared .ensures .0) _ (c .before .enum-told .given .1) (c .step-of .ensures)
 
 outside-requires : tie.Need-outside-requires
 outside-requires c κs = tt
@@ -32,10 +32,10 @@ enum-told-2 : tie.Need-enum-told-2
 enum-told-2 c = (c .match2 .keys2)
 
 returns-2 : tie.Need-returns-2
-returns-2 c = node-no-initial _ _ _ (c .before .before .before .before .before .before .before .before .before .declared .ensures .0) _ (c .before .before .before .before .before .before .before .x .given .1) (follows-as (c .before .before .before .before .outside .ensures) (c .before .before .expr .ensures)) (c .enum-told2 .given .1)
+returns-2 c = node-no-initial _ _ _ (c .before .before .before .before .before .before .before .before .before .before .before .pre .1) (c .before .before .before .before .before .before .before .before .before .declared .ensures .0) _ (c .before .before .before .before .before .before .before .x .given .1) (follows-as (c .before .before .before .before .outside .ensures) (c .before .before .expr .ensures)) (c .enum-told2 .given .1)
 
 add-before : tie.Need-add-before
-add-before c = omega (arith, (c .before .before .before .before .before .before .before .before .before .before .before .before .before .pre .few .inputs), (c .before .before .before .before .before .before .before .before .before .before .before .before .before .pre .few .nodes))
+add-before c = omega (arith, (c .before .before .before .before .before .before .before .before .before .before .before .before .before .pre .0 .few .inputs), (c .before .before .before .before .before .before .before .before .before .before .before .before .before .pre .0 .few .nodes))
 
 outside-requires-2 : tie.Need-outside-requires-2
 outside-requires-2 c κs = tt
@@ -53,7 +53,7 @@ put-channel-requires : tie.Need-put-channel-requires
 put-channel-requires c κs = (c .put-channel-arg .given .0 .1)
 
 returns-3 : tie.Need-returns-3
-returns-3 c = node-read _ _ _ (c .before .before .before .before .before .before .before .before .before .before .before .before .before .before .before .before .before .before .declared .ensures .0) _ (c .before .before .before .before .before .before .before .before .before .before .before .before .before .before .before .before .x .given .1) (follows-as (c .before .before .before .before .before .before .before .before .before .before .before .before .before .outside .ensures) (c .before .before .before .before .before .before .before .before .before .before .before .expr .ensures)) (c .before .before .before .before .before .before .before .before .before .y .given .1) (c .before .before .before .before .before .before .before .before .before .before .before .before .before .before .before .before .before .before .before .before .pre) (c .before .before .before .place .ensures) (c .before .before .place2 .ensures) (follows-as (c .before .before .before .before .before .before .outside2 .ensures) (c .before .before .before .before .expr2 .ensures)) (c .put-channel .ensures)
+returns-3 c = node-read _ _ _ (c .before .before .before .before .before .before .before .before .before .before .before .before .before .before .before .before .before .before .before .before .pre .1) (c .before .before .before .before .before .before .before .before .before .before .before .before .before .before .before .before .before .before .declared .ensures .0) _ (c .before .before .before .before .before .before .before .before .before .before .before .before .before .before .before .before .x .given .1) (follows-as (c .before .before .before .before .before .before .before .before .before .before .before .before .before .outside .ensures) (c .before .before .before .before .before .before .before .before .before .before .before .expr .ensures)) (c .before .before .before .before .before .before .before .before .before .y .given .1) (c .before .before .before .before .before .before .before .before .before .before .before .before .before .before .before .before .before .before .before .before .pre .0) (c .before .before .before .place .ensures) (c .before .before .place2 .ensures) (follows-as (c .before .before .before .before .before .before .outside2 .ensures) (c .before .before .before .before .expr2 .ensures)) (c .put-channel .ensures)
 
 pub node-frame-spec : {M : Type 1} → statement M
 node-frame-spec =
