@@ -130,8 +130,9 @@ pub fn find(list: &[u32], memo: &[u32; MEMO_WORDS], used: u32, f: u32, sizes: &[
     let k = memo[hint_place(f, sizes)];
     if 0 < k {
         if k <= used {
-            if is_instance(list, k - 1, f, sizes) {
-                return Search::Found(k - 1);
+            let hinted = k - 1;
+            if is_instance(list, hinted, f, sizes) {
+                return Search::Found(hinted);
             }
         }
     }

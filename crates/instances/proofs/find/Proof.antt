@@ -13,14 +13,11 @@ mul-k c = omega (arith, (c .hint-place .ensures))
 element-copy-out-k : tie.Need-element-copy-out-k
 element-copy-out-k c = omega (arith, (c .hint-place .ensures))
 
-sub-is-instance : tie.Need-sub-is-instance
-sub-is-instance c = omega (arith, (c .before .if1 .taken))
+sub-hinted : tie.Need-sub-hinted
+sub-hinted c = omega (arith, (c .before .if1 .taken))
 
 is-instance-requires : tie.Need-is-instance-requires
 is-instance-requires c κs = tt
-
-sub-t16 : tie.Need-sub-t16
-sub-t16 c = omega (arith, (c .before .before .before .if1 .taken))
 
 returns : tie.Need-returns
 returns c = hint-found (c .before .before .before .if1 .taken) (c .before .before .if2 .taken) (c .before .is-instance .ensures) (c .if3 .taken)
@@ -38,9 +35,8 @@ find-spec =
     hint-place-requires
     mul-k
     element-copy-out-k
-    sub-is-instance
+    sub-hinted
     is-instance-requires
-    sub-t16
     returns
     walk-requires
     returns-2)
