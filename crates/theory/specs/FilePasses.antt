@@ -25,8 +25,14 @@ module _ {B : Type 0} {R : B → Type 0} {N : ℕ → ℕ → Type 0} where
   -- refusal 9 in a frame of the file, or the plain types hold
   pub plain-outcome : (P : File) {r : Result B} → ((f : ℕ) → FrameOf P f → N 9 f) → (WellPlain P → Outcome R N r) → Outcome R N (plainTypes P r)
   unfolding plainTypes
-  plain-outcome P no-pass pass = each-outcome 9 _ _ (λ f low high. no-pass f (omega (arith, length-map (P .functions) (plainFunction P), length-map (P .inputs) (plainInput P), length-map (P .nodes) (plainNode P),
-      length-append (map (plainFunction P) (P .functions)) (map (plainInput P) (P .inputs) ++ map (plainNode P) (P .nodes)), length-append (map (plainInput P) (P .inputs)) (map (plainNode P) (P .nodes))))) (λ es. pass (well-plain P (ok true) (each-passes 9 _ (ok true) es)))
+  plain-outcome P no-pass pass = each-outcome 9 _ _ (λ f low high. no-pass f (omega (
+    arith,
+    length-map (P .functions) (plainFunction P),
+    length-map (P .inputs) (plainInput P),
+    length-map (P .nodes) (plainNode P),
+    length-append (map (plainFunction P) (P .functions)) (map (plainInput P) (P .inputs) ++ map (plainNode P) (P .nodes)),
+    length-append (map (plainInput P) (P .inputs)) (map (plainNode P) (P .nodes)),
+  ))) (λ es. pass (well-plain P (ok true) (each-passes 9 _ (ok true) es)))
 
 pub outcome-of : {A : Type 0} {N : ℕ → ℕ → Type 0} (r : Result A) → ((n frame : ℕ) → r ≡ no n frame → N n frame) → Outcome Anything N r
 outcome-of (ok a) f = accepted tt
