@@ -11,3 +11,4 @@ pub mod SkipHeads
 pub mod Parted
 pub mod SkipLaws
 pub mod ScopeShapes
+pub mod Places

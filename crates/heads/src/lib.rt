@@ -1,4 +1,5 @@
 // Reading the head of an expression: its form by the first byte, with the bytes that belong to it.
+pub mod places;
 pub mod skip;
 
 ghost use mathlib.Core.Path.{_≡_};

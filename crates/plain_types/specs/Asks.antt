@@ -1,6 +1,6 @@
 -- What the functions of the cycle promise. Each is asked for the plain type of something spelled at its place, in a scope whose types
 -- are the first words of the lent array; the words below the scope's end stay as they were, on any bytes.
-use Prim.Native.Nat.{ℕ, _+_, _-_, _*_, _≤_, _<_, _^_}
+use Prim.Native.Nat.{ℕ, _+_, _*_, _≤_, _<_, _^_}
 use mathlib.Core.List.{List, [], map}
 use mathlib.Core.Option.{Option}
 use mathlib.Core.Path.{_≡_, sym, ap, _∙_}
@@ -13,7 +13,6 @@ use Rattle.language.specs.Scope.{Scope, wider}
 use Rattle.language.specs.Within.{All, WithinPlain, WithinSize, WithinResult, WithinExpr, WithinExprs, WithinBranches}
 use Rattle.language.specs.Layout.{tagStep}
 use Rattle.language.specs.PlainTypes.{isPlain, arePlain, plainOf, plainsOf, plainBranches}
-use Rattle.text.specs.declared.Cursor.{Cursor}
 use Rattle.text.specs.Bytes.{plainWord}
 use Rattle.text.specs.Places.{past}
 use Rattle.encoding.specs.Spells.{Spells}
@@ -23,21 +22,11 @@ use Rattle.index.specs.Sections.{channelsOf}
 use Rattle.index.specs.Indexed.{declaredAt, lineCount, Indexed}
 use Rattle.plain_types.specs.declared.words.PlainType.{PlainType}
 use Rattle.plain_types.specs.declared.words.Typing.{Typing}
-use Rattle.plain_types.specs.declared.places.Place.{Place}
-use Rattle.plain_types.specs.declared.places.Series.{Series}
-use Rattle.plain_types.specs.declared.places.BranchSeries.{BranchSeries}
+use Rattle.heads.specs.declared.places.Place.{Place}
+use Rattle.plain_types.specs.declared.series.Series.{Series}
+use Rattle.plain_types.specs.declared.series.BranchSeries.{BranchSeries}
 use Rattle.plain_types.specs.Words.{typeAt, wantedType}
 use Rattle.plain_types.specs.Agrees.{meaning, Agrees}
-
--- ---- places: the same with another cursor, with so many variables more, and with a level less
-abbrev pub movedTo : Place → Cursor → Place
-movedTo p c = record { at = c; levels = p .levels; line = p .line; variables = p .variables }
-
-abbrev pub widerBy : ℕ → Place → Cursor → Place
-widerBy n p c = record { at = c; levels = p .levels; line = p .line; variables = p .variables + n }
-
-abbrev pub insideOf : Place → Cursor → Place
-insideOf p c = record { at = c; levels = p .levels - 1; line = p .line; variables = p .variables }
 
 -- no sum overflows: each level binds fewer variables than a byte can count
 abbrev pub Room : ℕ → Place → Type 0

@@ -29,11 +29,12 @@ use Rattle.plain_types.specs.declared.words.Typed.{Typed}
 use Rattle.plain_types.specs.declared.words.Typing.{Typing}
 use Rattle.plain_types.specs.declared.words.Typing.the-variants.{Is, Wrong}
 use Rattle.plain_types.specs.declared.words.Want.the-variants.{Fields}
-use Rattle.plain_types.specs.declared.places.Place.{Place}
-use Rattle.plain_types.specs.declared.places.BranchSeries.{BranchSeries}
+use Rattle.heads.specs.declared.places.Place.{Place}
+use Rattle.plain_types.specs.declared.series.BranchSeries.{BranchSeries}
 use Rattle.plain_types.specs.Words.{namedType, wantedType, entered, ReadsResult}
 use Rattle.plain_types.specs.Agrees.{meaning, Agrees, typed-is, typed-there, agrees-as, wrong, answered, when-true, when-false, both-first, both-not}
-use Rattle.plain_types.specs.Asks.{movedTo, widerBy, Kept, Stage, Part, list-ends, AskCase, AskBranches, TypesWant, TypesCase, TypesBranches}
+use Rattle.heads.specs.Places.{movedTo, widerBy}
+use Rattle.plain_types.specs.Asks.{Kept, Stage, Part, list-ends, AskCase, AskBranches, TypesWant, TypesCase, TypesBranches}
 use Rattle.plain_types.specs.WordLaws.{named-is}
 use Rattle.plain_types.specs.EnterLaws.{kept-same, kept-then, kept-below, entered-kept, stage-kept, stage-entered}
 use Rattle.plain_types.specs.PlainLaws.{branches-none, branches-more, plain-case}

@@ -27,10 +27,11 @@ use Rattle.plain_types.specs.declared.words.PlainType.{PlainType}
 use Rattle.plain_types.specs.declared.words.PlainType.the-variants.{Bool as BoolIs, Int as IntIs}
 use Rattle.plain_types.specs.declared.words.Typing.{Typing}
 use Rattle.plain_types.specs.declared.words.Typing.the-variants.{Is}
-use Rattle.plain_types.specs.declared.places.Place.{Place}
+use Rattle.heads.specs.declared.places.Place.{Place}
 use Rattle.plain_types.specs.Words.{typeAt}
 use Rattle.plain_types.specs.Agrees.{meaning, answered}
-use Rattle.plain_types.specs.Asks.{insideOf, Stage, Part, part-ends, TypesExpr, TypesLet, TypesIf, TypesOp, TypesCall, TypesCon, TypesCase, TypesAdj, TypesFit}
+use Rattle.heads.specs.Places.{insideOf}
+use Rattle.plain_types.specs.Asks.{Stage, Part, part-ends, TypesExpr, TypesLet, TypesIf, TypesOp, TypesCall, TypesCon, TypesCase, TypesAdj, TypesFit}
 use Rattle.plain_types.specs.WordLaws.{plain-at}
 use Rattle.plain_types.specs.EnterLaws.{no-level, less-deep, room-sizes, kept-same}
 use Rattle.plain_types.specs.PlainLaws.{plain-bool, plain-int, plain-var, plain-now, plain-last}

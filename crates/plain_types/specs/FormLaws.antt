@@ -32,10 +32,11 @@ use Rattle.plain_types.specs.declared.words.PlainType.the-variants.{Bool
 use Rattle.plain_types.specs.declared.words.Typed.{Typed}
 use Rattle.plain_types.specs.declared.words.Typing.{Typing}
 use Rattle.plain_types.specs.declared.words.Typing.the-variants.{Is, Wrong}
-use Rattle.plain_types.specs.declared.places.Place.{Place}
+use Rattle.heads.specs.declared.places.Place.{Place}
 use Rattle.plain_types.specs.Words.{WordOf, operandOf, outcomeOf}
 use Rattle.plain_types.specs.Agrees.{meaning, TypeFound, typed, untyped, agrees-as, Holds, holds, fails, wrong, answered, chain-some, chain-none, chain-never, when-true, when-false, both-first, both-not}
-use Rattle.plain_types.specs.Asks.{movedTo, widerBy, Kept, Stage, Part, AskExpr, AskWant, AskOp, AskAdj, TypesExpr, TypesWant, TypesLet, TypesIf, TypesOp, TypesAdj, TypesFit}
+use Rattle.heads.specs.Places.{movedTo, widerBy}
+use Rattle.plain_types.specs.Asks.{Kept, Stage, Part, AskExpr, AskWant, AskOp, AskAdj, TypesExpr, TypesWant, TypesLet, TypesIf, TypesOp, TypesAdj, TypesFit}
 use Rattle.plain_types.specs.WordLaws.{operand-is, outcome-is}
 use Rattle.plain_types.specs.EnterLaws.{room-variables, kept-same, kept-then, kept-below, kept-put, stage-kept, stage-bound}
 use Rattle.plain_types.specs.ReadLaws.{size-passed}

@@ -34,8 +34,9 @@ use Rattle.plain_types.specs.declared.words.Typed.{Typed}
 use Rattle.plain_types.specs.declared.words.Typing.{Typing}
 use Rattle.plain_types.specs.declared.words.Typing.the-variants.{Is, Wrong}
 use Rattle.plain_types.specs.declared.words.Want.the-variants.{Parameters}
-use Rattle.plain_types.specs.declared.places.Place.{Place}
-use Rattle.plain_types.specs.Words.{typeAt, lineBehindTypes, wantedType, entered, Returns}
+use Rattle.heads.specs.declared.places.Place.{Place}
+use Rattle.heads.specs.Places.{lineBehindTypes}
+use Rattle.plain_types.specs.Words.{typeAt, wantedType, entered, Returns}
 use Rattle.plain_types.specs.Agrees.{meaning, Agrees, is-some, is-none, holds, fails, both-first, both-not}
 use Rattle.plain_types.specs.Asks.{Stage, Part, TypesWant}
 use Rattle.plain_types.specs.Initials.{TestsInitial}

@@ -18,7 +18,7 @@ use Rattle.index.specs.declared.Counts.{Counts}
 use Rattle.encoding.specs.WithinParts.{node-within}
 use Rattle.index.specs.Sections.{channelsOf, countsIn}
 use Rattle.index.specs.Indexed.{channelLine, NodeIndexed, Indexed, Counted}
-use Rattle.plain_types.specs.Words.{lineBehindTypes}
+use Rattle.heads.specs.Places.{lineBehindTypes}
 use Rattle.plain_types.specs.Verdicts.{FunctionFits, InitialFits, NodeFits, frameTests, firstRefused, refusedFrame, verdict, FrameFits, JudgesAll}
 use Rattle.plain_types.specs.FrameLaws.{there}
 

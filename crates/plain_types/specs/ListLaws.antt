@@ -33,11 +33,12 @@ use Rattle.plain_types.specs.declared.words.Typed.{Typed}
 use Rattle.plain_types.specs.declared.words.Typing.{Typing}
 use Rattle.plain_types.specs.declared.words.Typing.the-variants.{Is, Wrong}
 use Rattle.plain_types.specs.declared.words.Want.the-variants.{Parameters, Fields}
-use Rattle.plain_types.specs.declared.places.Place.{Place}
-use Rattle.plain_types.specs.declared.places.Series.{Series}
+use Rattle.heads.specs.declared.places.Place.{Place}
+use Rattle.plain_types.specs.declared.series.Series.{Series}
 use Rattle.plain_types.specs.Words.{namedType, typeAt, ownOrOther, wantedType, Returns}
 use Rattle.plain_types.specs.Agrees.{meaning, agrees-as, wrong, answered, chain-some, when-true, when-false, both-first, both-not}
-use Rattle.plain_types.specs.Asks.{movedTo, Part, list-ends, AskSeveral, TypesWant, TypesCall, TypesCon, TypesSeveral}
+use Rattle.heads.specs.Places.{movedTo}
+use Rattle.plain_types.specs.Asks.{Part, list-ends, AskSeveral, TypesWant, TypesCall, TypesCon, TypesSeveral}
 use Rattle.plain_types.specs.WordLaws.{plain-at, named-is, plain-fewer, field-plain, field-small}
 use Rattle.plain_types.specs.EnterLaws.{word-at, kept-same, kept-then, stage-kept}
 use Rattle.plain_types.specs.PlainLaws.{are-none, are-more, plain-call, plain-con}

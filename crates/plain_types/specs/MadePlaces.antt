@@ -4,9 +4,9 @@ use mathlib.Core.List.{List}
 use mathlib.Core.Path.{_≡_, ap, subst}
 use Rattle.plain_types.specs.declared.words.PlainType.{PlainType}
 use Rattle.plain_types.specs.declared.words.Typing.{Typing}
-use Rattle.plain_types.specs.declared.places.Place.{Place}
-use Rattle.plain_types.specs.declared.places.Series.{Series}
-use Rattle.plain_types.specs.declared.places.BranchSeries.{BranchSeries}
+use Rattle.heads.specs.declared.places.Place.{Place}
+use Rattle.plain_types.specs.declared.series.Series.{Series}
+use Rattle.plain_types.specs.declared.series.BranchSeries.{BranchSeries}
 use Rattle.plain_types.specs.Asks.{TypesExpr, TypesWant, TypesLet, TypesIf, TypesOp, TypesCall, TypesCon, TypesSeveral, TypesCase, TypesBranches, TypesAdj, TypesFit}
 
 pub same-levels : {p q : Place} → p ≡ q → p .levels ≡ q .levels

@@ -1,5 +1,5 @@
 -- Reading a result type and a size that are spelled at a place, return by return; the line of a frame, and what a parameter or a field wants.
-use Prim.Native.Nat.{ℕ, _+_, _*_, _%_, _≤_, _<_}
+use Prim.Native.Nat.{ℕ, _+_, _*_, _≤_, _<_}
 use mathlib.Core.List.{List, [], _∷_}
 use mathlib.Core.Option.{some}
 use mathlib.Core.Path.{_≡_, refl, sym, ap, _∙_, subst, subst₂}
@@ -33,8 +33,7 @@ use Rattle.encoding.specs.CursorSpells.{passed-over}
 use Rattle.heads.specs.SkipHeads.{byte-found, byte-there, next-at, next-there}
 use Rattle.heads.specs.PartLaws.{size-wider}
 use Rattle.encoding.specs.WithinParts.{function-within}
-use Rattle.index.specs.declared.Counts.{Counts}
-use Rattle.index.specs.Sections.{framesOf, typesOf, functionsOf, countsIn}
+use Rattle.index.specs.Sections.{framesOf, typesOf, functionsOf}
 use Rattle.index.specs.Indexed.{fieldAt, resultAt, framePart, functionLine, Indexed}
 use Rattle.plain_types.specs.declared.words.PlainType.{PlainType}
 use Rattle.plain_types.specs.declared.words.Typed.{Typed}
@@ -43,12 +42,9 @@ use Rattle.plain_types.specs.declared.words.Typing.the-variants.{Is, Wro
 use Rattle.plain_types.specs.declared.words.Want.{Want}
 use Rattle.plain_types.specs.declared.words.Want.the-variants.{Parameters, Fields}
 use Rattle.plain_types.specs.Agrees.{meaning, Agrees, answered, typed-is, typed-there}
-use Rattle.plain_types.specs.Words.{namedType, typeAt, lineBehindTypes, ownOrOther, wantedType, ReadsResult, Returns}
+use Rattle.heads.specs.Places.{lineBehindTypes}
+use Rattle.plain_types.specs.Words.{namedType, typeAt, ownOrOther, wantedType, ReadsResult, Returns}
 use Rattle.plain_types.specs.WordLaws.{named-is, own-is, other-is}
-
--- ---- the line of a frame
-pub line-is : (index : List ℕ) (i : ℕ) {n : Counts} → n ≡ countsIn index → n .types + i % tagStep ≡ lineBehindTypes index i
-line-is index i e = ap (λ (m : Counts). m .types + i % tagStep) e
 
 -- ---- what is wanted
 pub wanted-parameter : (index : List ℕ) (want : Want) (j : ℕ) {f word : ℕ} {r : PlainType} → want ≡ Parameters f → word ≡ getD (functionsOf index) (functionWords * f + 1 + j) 0 → r ≡ typeAt word → r ≡ wantedType index want j

@@ -17,7 +17,7 @@ use Rattle.index.specs.Sections.{channelsOf}
 use Rattle.index.specs.Indexed.{declaredAt, channelLine, lineCount, ChannelIndexed, NodeIndexed, Indexed}
 use Rattle.plain_types.specs.declared.words.Typing.{Typing}
 use Rattle.plain_types.specs.declared.words.Typing.the-variants.{Is, Wrong}
-use Rattle.plain_types.specs.declared.places.Place.{Place}
+use Rattle.heads.specs.declared.places.Place.{Place}
 use Rattle.plain_types.specs.Agrees.{meaning}
 use Rattle.plain_types.specs.Words.{typeAt}
 use Rattle.plain_types.specs.Asks.{Part}

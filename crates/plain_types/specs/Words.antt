@@ -15,7 +15,7 @@ use Rattle.language.specs.PlainTypes.{plainResult}
 use Rattle.text.specs.declared.Cursor.{Cursor}
 use Rattle.text.specs.Bytes.{plainWord}
 use Rattle.index.specs.Tables.{functionWords}
-use Rattle.index.specs.Sections.{typesOf, functionsOf, countsIn}
+use Rattle.index.specs.Sections.{typesOf, functionsOf}
 use Rattle.text.specs.Places.{past}
 use Rattle.encoding.specs.Spells.{Spells}
 use Rattle.index.specs.Indexed.{fieldAt, Indexed}
@@ -37,10 +37,6 @@ typeAt word = choose (eqb word 0) BoolIs (choose (ltb word tagStep) IntIs (named
 pub record WordOf (x : PlainType) (r : ℕ) : Type 0 where
   pub is : r ≡ plainWord (meaning x)
   pub small : WithinPlain tagStep (meaning x)
-
--- the line of frame i behind the types
-abbrev pub lineBehindTypes : List ℕ → ℕ → ℕ
-lineBehindTypes index i = countsIn index .types + i % tagStep
 
 -- ---- operators, by their codes
 abbrev pub operandOf : ℕ → PlainType

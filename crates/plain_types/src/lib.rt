@@ -3,15 +3,15 @@ mod exprs;
 mod frames;
 mod initials;
 mod lists;
-mod places;
+mod series;
 mod words;
 
 ghost use Rattle.plain_types.specs.Verdicts.{JudgesAll};
 use frames::frame_agrees;
+use heads::places::line_behind_types;
 use index::INDEX_WORDS;
 use language::limits::CHANNELS_MOST;
 use language::limits::FUNCTIONS_MOST;
-use words::line_behind_types;
 
 // How many frames have types to check: those of functions and of channels.
 const BODIES_MOST: usize = FUNCTIONS_MOST + CHANNELS_MOST;

@@ -1,11 +1,15 @@
 // Plain types, and their words in the index and in a scope: 0 Bool, 1 Int, else 256 × (t + 1), and in the index the size.
 ghost use mathlib.Core.Path.{_≡_};
 ghost use Rattle.language.specs.PlainTypes.{samePlain, isNamed};
+ghost use Rattle.index.specs.Sections.{channelsOf};
+ghost use Rattle.index.specs.Indexed.{declaredAt};
 ghost use Rattle.plain_types.specs.declared.words.Typing.the-variants.{Is};
 ghost use Rattle.plain_types.specs.Agrees.{meaning};
-ghost use Rattle.plain_types.specs.Words.{namedType, typeAt, WordOf, operandOf, outcomeOf, lineBehindTypes, wantedType, entered, ReadsResult, Returns};
+ghost use Rattle.plain_types.specs.Words.{namedType, typeAt, WordOf, operandOf, outcomeOf, wantedType, entered, ReadsResult, Returns};
+use heads::places::SCOPE_WORDS;
+use heads::places::line_behind_types;
 use index::INDEX_WORDS;
-use index::frame_counts;
+use index::channels::declared_word;
 use index::frames::frame_line;
 use index::functions::parameter_word;
 use index::functions::result_start;
@@ -17,14 +21,10 @@ use language::codes::OPERATOR_EQUAL;
 use language::codes::TYPE_NAMED;
 use language::limits::NESTING_MOST;
 use language::limits::SIZE_VARIABLES_MOST;
-use language::limits::VARIABLES_MOST;
 use text::Cursor;
 use text::Number;
 use text::Step;
 use text::TYPE_STEP;
-
-// The words of a scope.
-pub const SCOPE_WORDS: usize = VARIABLES_MOST as usize;
 
 // A plain type: Bool, Int, or the number of a named type.
 pub enum PlainType {
@@ -104,14 +104,6 @@ pub fn is_named(x: PlainType) -> bool
         PlainType::Int => false,
         PlainType::Named(_) => true,
     }
-}
-
-// The line of frame i behind the types, its number a byte.
-pub fn line_behind_types(index: &[u32; INDEX_WORDS], i: u32) -> u32
-    ensures { λ r. ⌜ r ≡ lineBehindTypes (now (index .entry)) i ⌝ }
-{
-    let counts = frame_counts(index);
-    counts.types + i % TYPE_STEP
 }
 
 // The type of both operands of an operator, by its code.
@@ -206,4 +198,11 @@ pub fn returned(text: &[u8], index: &[u32; INDEX_WORDS], f: u32) -> PlainType
         return PlainType::Bool;
     };
     k.of
+}
+
+// A channel: its declared type, the size left out.
+pub fn channel(index: &[u32; INDEX_WORDS], c: u32, next: Cursor) -> Typing
+    ensures { λ r. ⌜ r ≡ Is (record { of = typeAt (declaredAt (channelsOf (now (index .entry))) c); next = next }) ⌝ }
+{
+    answer(type_of(declared_word(index, c)), next)
 }

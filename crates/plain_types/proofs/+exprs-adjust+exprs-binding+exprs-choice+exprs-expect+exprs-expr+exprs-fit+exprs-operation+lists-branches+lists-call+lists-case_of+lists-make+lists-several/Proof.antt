@@ -55,10 +55,10 @@ use Rattle.index.proofs.put.Reads as put-reads
 use Rattle.index.proofs.types.constructors.Reads as constructors-reads
 use Rattle.index.proofs.types.fields.Reads as fields-reads
 use Rattle.index.proofs.word_at.Reads as word-at-reads
-use Rattle.plain_types.proofs.places.channel.Reads as channel-reads
-use Rattle.plain_types.proofs.places.inside.Reads as inside-reads
-use Rattle.plain_types.proofs.places.moved.Reads as moved-reads
-use Rattle.plain_types.proofs.places.widened.Reads as widened-reads
+use Rattle.plain_types.proofs.words.channel.Reads as channel-reads
+use Rattle.heads.proofs.places.inside.Reads as inside-reads
+use Rattle.heads.proofs.places.moved.Reads as moved-reads
+use Rattle.heads.proofs.places.widened.Reads as widened-reads
 use Rattle.plain_types.proofs.words.answer.Reads as answer-reads
 use Rattle.plain_types.proofs.words.enter.Reads as enter-reads
 use Rattle.plain_types.proofs.words.is_named.Reads as is-named-reads

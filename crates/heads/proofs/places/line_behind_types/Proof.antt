@@ -1,8 +1,8 @@
 -- The line of a frame, by the number of types that the index tells.
 use native.Mathlib.Omega.{arith}
-use Rattle.plain_types.specs.ReadLaws.{line-is}
-use Rattle.plain_types.proofs.words.line_behind_types.Statement.{statement}
-use Rattle.plain_types.proofs.words.line_behind_types.Tie as tie
+use Rattle.heads.specs.Places.{line-is}
+use Rattle.heads.proofs.places.line_behind_types.Statement.{statement}
+use Rattle.heads.proofs.places.line_behind_types.Tie as tie
 
 frame-counts-requires : tie.Need-frame-counts-requires
 frame-counts-requires c κs = tt

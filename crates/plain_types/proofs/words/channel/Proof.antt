@@ -1,8 +1,8 @@
 -- A channel's type is that of the index's word.
 use mathlib.Core.Path.{_∙_}
 use Rattle.plain_types.specs.ReadLaws.{channel-is}
-use Rattle.plain_types.proofs.places.channel.Statement.{statement}
-use Rattle.plain_types.proofs.places.channel.Tie as tie
+use Rattle.plain_types.proofs.words.channel.Statement.{statement}
+use Rattle.plain_types.proofs.words.channel.Tie as tie
 
 declared-word-requires : tie.Need-declared-word-requires
 declared-word-requires c κs = tt

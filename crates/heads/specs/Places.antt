@@ -1,0 +1,25 @@
+-- Places: the same with another cursor, with so many variables more, and with a level less; and the line of a frame.
+use Prim.Native.Nat.{ℕ, _+_, _-_, _%_}
+use mathlib.Core.List.{List}
+use mathlib.Core.Path.{_≡_, ap}
+use Rattle.language.specs.Layout.{tagStep}
+use Rattle.text.specs.declared.Cursor.{Cursor}
+use Rattle.index.specs.declared.Counts.{Counts}
+use Rattle.index.specs.Sections.{countsIn}
+use Rattle.heads.specs.declared.places.Place.{Place}
+
+abbrev pub movedTo : Place → Cursor → Place
+movedTo p c = record { at = c; levels = p .levels; line = p .line; variables = p .variables }
+
+abbrev pub widerBy : ℕ → Place → Cursor → Place
+widerBy n p c = record { at = c; levels = p .levels; line = p .line; variables = p .variables + n }
+
+abbrev pub insideOf : Place → Cursor → Place
+insideOf p c = record { at = c; levels = p .levels - 1; line = p .line; variables = p .variables }
+
+-- the line of frame i behind the types
+abbrev pub lineBehindTypes : List ℕ → ℕ → ℕ
+lineBehindTypes index i = countsIn index .types + i % tagStep
+
+pub line-is : (index : List ℕ) (i : ℕ) {n : Counts} → n ≡ countsIn index → n .types + i % tagStep ≡ lineBehindTypes index i
+line-is index i e = ap (λ (m : Counts). m .types + i % tagStep) e
