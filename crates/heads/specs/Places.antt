@@ -1,11 +1,15 @@
 -- Places: the same with another cursor, with so many variables more, and with a level less; and the line of a frame.
-use Prim.Native.Nat.{ℕ, _+_, _-_, _%_}
+use Prim.Native.Nat.{ℕ, _+_, _-_, _%_, _<_}
 use mathlib.Core.List.{List}
 use mathlib.Core.Path.{_≡_, ap}
+use native.Mathlib.Omega.{arith}
+use lib.ListN.{length}
+use Rattle.language.specs.Syntax.{File}
 use Rattle.language.specs.Layout.{tagStep}
 use Rattle.text.specs.declared.Cursor.{Cursor}
 use Rattle.index.specs.declared.Counts.{Counts}
 use Rattle.index.specs.Sections.{countsIn}
+use Rattle.index.specs.Indexed.{functionLine, Indexed}
 use Rattle.heads.specs.declared.places.Place.{Place}
 
 abbrev pub movedTo : Place → Cursor → Place
@@ -23,3 +27,7 @@ lineBehindTypes index i = countsIn index .types + i % tagStep
 
 pub line-is : (index : List ℕ) (i : ℕ) {n : Counts} → n ≡ countsIn index → n .types + i % tagStep ≡ lineBehindTypes index i
 line-is index i e = ap (λ (m : Counts). m .types + i % tagStep) e
+
+-- in a file that was read, frame f behind the types is function f
+pub function-line : {text index : List ℕ} {P : File} {f : ℕ} → Indexed text index P → f < length (P .functions) → lineBehindTypes index f ≡ functionLine P f
+function-line i less = omega (arith, i .counted .typeCount, less, i .within .fewFunctions)

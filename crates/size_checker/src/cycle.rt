@@ -1,7 +1,6 @@
 // Expressions, arguments, branches and bodies: they call each other, falling by the instances left and by the levels left.
 ghost use Prim.Native.Nat.{suc, _<_, _≤_};
-ghost use lib.ListN.{length};
-ghost use Rattle.language.specs.Limits.{byteRange, sizeVariablesMost};
+ghost use Rattle.language.specs.Limits.{byteRange};
 ghost use Rattle.size_steps.specs.Sites.{Room};
 ghost use Rattle.size_steps.specs.Agreement.{table};
 ghost use Rattle.size_steps.specs.Leaves.{Operands, Entered};
@@ -12,6 +11,7 @@ use estimate::one_cell;
 use heads::Form;
 use heads::VariableAt;
 use heads::head_at;
+use heads::places::SCOPE_WORDS;
 use heads::skip::skip;
 use heads::variable_at;
 use index::INDEX_WORDS;
@@ -29,8 +29,6 @@ use instances::find;
 use instances::finish;
 use language::limits::FIELDS_MOST;
 use language::limits::INSTANCES_MOST;
-use language::limits::SIZE_VARIABLES_MOST;
-use language::limits::VARIABLES_MOST;
 use language::refusals::BAD_CODE;
 use language::refusals::OUTSIDE_LIMITS;
 use language::refusals::SIZE_OUTSIDE;
@@ -41,7 +39,8 @@ use size_steps::Counted;
 use size_steps::Counting;
 use size_steps::Entering;
 use size_steps::Entry;
-use size_steps::Place;
+use size_steps::SCOPE_SIZES;
+use size_steps::Site;
 use size_steps::Sizing;
 use size_steps::Subject;
 use size_steps::leaves::again;
@@ -60,7 +59,7 @@ use size_steps::numbers::is_type;
 use size_steps::numbers::joined;
 use size_steps::numbers::larger;
 use size_steps::numbers::leaf;
-use size_steps::numbers::none;
+use size_steps::numbers::none_at;
 use size_steps::numbers::not_entered;
 use size_steps::numbers::nothing_yet;
 use size_steps::numbers::operated;
@@ -71,11 +70,11 @@ use size_steps::numbers::slotted;
 use size_steps::numbers::subject;
 use size_steps::numbers::type_word;
 use size_steps::numbers::with_let;
-use size_steps::places::behind;
-use size_steps::places::body_place;
-use size_steps::places::down;
-use size_steps::places::moved;
-use size_steps::places::widen;
+use size_steps::sites::behind;
+use size_steps::sites::body_site;
+use size_steps::sites::down;
+use size_steps::sites::moved_on;
+use size_steps::sites::widen;
 use sizes::SizeAt;
 use sizes::SizedType;
 use sizes::TypeAt;
@@ -93,18 +92,19 @@ pub fn expr(
     index: &[u32; INDEX_WORDS],
     list: &mut [u32],
     memo: &mut [u32; MEMO_WORDS],
-    scope: &mut [u32],
-    sizes: &mut [u8],
-    p: Place,
+    scope: &mut [u32; SCOPE_WORDS],
+    sizes: &mut [u8; SCOPE_SIZES],
+    p: Site,
 ) -> Sizing
-    requires { ⌜ Room (p .levels) (length (now scope)) (length (now sizes)) p ⌝ }
+    requires { ⌜ Room (p .place .levels) p ⌝ }
     ensures { λ r. ⌜ Sizes ExprPart (lent (now (text .entry)) (now (index .entry))) (buffers (table (now (list .entry)) (now (memo .entry))) (now (scope .entry)) (now (sizes .entry))) p r (buffers (table (now (list .exit)) (now (memo .exit))) (now (scope .exit)) (now (sizes .exit))) ⌝ }
 {
-    if p.levels == 0 {
-        return Sizing::Refused(OUTSIDE_LIMITS, p.line + 1);
+    let here = p.place;
+    if here.levels == 0 {
+        return Sizing::Refused(OUTSIDE_LIMITS, here.line + 1);
     }
-    let at = p.at;
-    let line = frame_line(text, index, p.line);
+    let at = here.at;
+    let line = frame_line(text, index, here.line);
     let h = head_at(line, at);
     let form = h.form;
     let next = h.next;
@@ -125,15 +125,16 @@ fn compound(
     index: &[u32; INDEX_WORDS],
     list: &mut [u32],
     memo: &mut [u32; MEMO_WORDS],
-    scope: &mut [u32],
-    sizes: &mut [u8],
-    p: Place,
+    scope: &mut [u32; SCOPE_WORDS],
+    sizes: &mut [u8; SCOPE_SIZES],
+    p: Site,
     form: Form,
 ) -> Sizing
-    requires { ⌜ Room (suc (p .levels)) (length (now scope)) (length (now sizes)) p ⌝ }
+    requires { ⌜ Room (suc (p .place .levels)) p ⌝ }
     requires { ⌜ Operands form ⌝ }
     ensures { λ r. ⌜ Sizes (CompoundPart form) (lent (now (text .entry)) (now (index .entry))) (buffers (table (now (list .entry)) (now (memo .entry))) (now (scope .entry)) (now (sizes .entry))) p r (buffers (table (now (list .exit)) (now (memo .exit))) (now (scope .exit)) (now (sizes .exit))) ⌝ }
 {
+    let here = p.place;
     match form {
         Form::Let => binding(text, index, list, memo, scope, sizes, p),
         Form::If => choice(text, index, list, memo, scope, sizes, p),
@@ -143,7 +144,7 @@ fn compound(
         Form::Case(t) => case_of(text, index, list, memo, scope, sizes, p, t),
         Form::Adjust => adjust(text, index, list, memo, scope, sizes, p),
         Form::Fit(k) => fit(text, index, list, memo, scope, sizes, p, k),
-        _ => Sizing::Refused(BAD_CODE, p.line + 1),
+        _ => Sizing::Refused(BAD_CODE, here.line + 1),
     }
 }
 
@@ -153,18 +154,19 @@ fn binding(
     index: &[u32; INDEX_WORDS],
     list: &mut [u32],
     memo: &mut [u32; MEMO_WORDS],
-    scope: &mut [u32],
-    sizes: &mut [u8],
-    p: Place,
+    scope: &mut [u32; SCOPE_WORDS],
+    sizes: &mut [u8; SCOPE_SIZES],
+    p: Site,
 ) -> Sizing
-    requires { ⌜ Room (suc (p .levels)) (length (now scope)) (length (now sizes)) p ⌝ }
+    requires { ⌜ Room (suc (p .place .levels)) p ⌝ }
     ensures { λ r. ⌜ Sizes LetPart (lent (now (text .entry)) (now (index .entry))) (buffers (table (now (list .entry)) (now (memo .entry))) (now (scope .entry)) (now (sizes .entry))) p r (buffers (table (now (list .exit)) (now (memo .exit))) (now (scope .exit)) (now (sizes .exit))) ⌝ }
 {
+    let here = p.place;
     let x = expr(text, index, list, memo, scope, sizes, p);
     let Sizing::Is(a) = x else {
         return x;
     };
-    put(scope, p.variables as usize, type_word(a));
+    put(scope, here.variables as usize, type_word(a));
     let q = widen(behind(p, a), 1, 0);
     let y = expr(text, index, list, memo, scope, sizes, q);
     let Sizing::Is(b) = y else {
@@ -179,13 +181,14 @@ fn choice(
     index: &[u32; INDEX_WORDS],
     list: &mut [u32],
     memo: &mut [u32; MEMO_WORDS],
-    scope: &mut [u32],
-    sizes: &mut [u8],
-    p: Place,
+    scope: &mut [u32; SCOPE_WORDS],
+    sizes: &mut [u8; SCOPE_SIZES],
+    p: Site,
 ) -> Sizing
-    requires { ⌜ Room (suc (p .levels)) (length (now scope)) (length (now sizes)) p ⌝ }
+    requires { ⌜ Room (suc (p .place .levels)) p ⌝ }
     ensures { λ r. ⌜ Sizes IfPart (lent (now (text .entry)) (now (index .entry))) (buffers (table (now (list .entry)) (now (memo .entry))) (now (scope .entry)) (now (sizes .entry))) p r (buffers (table (now (list .exit)) (now (memo .exit))) (now (scope .exit)) (now (sizes .exit))) ⌝ }
 {
+    let here = p.place;
     let x = expr(text, index, list, memo, scope, sizes, p);
     let Sizing::Is(a) = x else {
         return x;
@@ -201,7 +204,7 @@ fn choice(
         return z;
     };
     if !agree(d, b) {
-        return Sizing::Refused(SIZES_DISAGREE, p.line + 1);
+        return Sizing::Refused(SIZES_DISAGREE, here.line + 1);
     }
     chosen(a, b, d)
 }
@@ -212,12 +215,12 @@ fn operation(
     index: &[u32; INDEX_WORDS],
     list: &mut [u32],
     memo: &mut [u32; MEMO_WORDS],
-    scope: &mut [u32],
-    sizes: &mut [u8],
-    p: Place,
+    scope: &mut [u32; SCOPE_WORDS],
+    sizes: &mut [u8; SCOPE_SIZES],
+    p: Site,
     o: u32,
 ) -> Sizing
-    requires { ⌜ Room (suc (p .levels)) (length (now scope)) (length (now sizes)) p ⌝ }
+    requires { ⌜ Room (suc (p .place .levels)) p ⌝ }
     ensures { λ r. ⌜ Sizes (OpPart o) (lent (now (text .entry)) (now (index .entry))) (buffers (table (now (list .entry)) (now (memo .entry))) (now (scope .entry)) (now (sizes .entry))) p r (buffers (table (now (list .exit)) (now (memo .exit))) (now (scope .exit)) (now (sizes .exit))) ⌝ }
 {
     let x = expr(text, index, list, memo, scope, sizes, p);
@@ -238,17 +241,18 @@ fn several(
     index: &[u32; INDEX_WORDS],
     list: &mut [u32],
     memo: &mut [u32; MEMO_WORDS],
-    scope: &mut [u32],
-    sizes: &mut [u8],
-    p: Place,
+    scope: &mut [u32; SCOPE_WORDS],
+    sizes: &mut [u8; SCOPE_SIZES],
+    p: Site,
     row: &mut [u32],
     n: u32,
 ) -> Counting
-    requires { ⌜ Room (suc (p .levels)) (length (now scope)) (length (now sizes)) p × (n < byteRange) ⌝ }
+    requires { ⌜ Room (suc (p .place .levels)) p × (n < byteRange) ⌝ }
     ensures { λ r. ⌜ SizesAll (lent (now (text .entry)) (now (index .entry))) (buffers (table (now (list .entry)) (now (memo .entry))) (now (scope .entry)) (now (sizes .entry))) p n (now (row .entry)) r (buffers (table (now (list .exit)) (now (memo .exit))) (now (scope .exit)) (now (sizes .exit))) (now (row .exit)) ⌝ }
 {
-    let line = frame_line(text, index, p.line);
-    let mut all = none(p);
+    let here = p.place;
+    let line = frame_line(text, index, here.line);
+    let mut all = none_at(p);
     let mut i: u32 = 0;
     while i < n {
         let at = all.next;
@@ -259,7 +263,7 @@ fn several(
                 all = passed(all, next);
             }
             VariableAt::Other => {
-                let q = moved(p, at, all.used);
+                let q = moved_on(p, at, all.used);
                 let x = expr(text, index, list, memo, scope, sizes, q);
                 let Sizing::Is(a) = x else {
                     return refused_all(x);
@@ -279,17 +283,17 @@ fn call(
     index: &[u32; INDEX_WORDS],
     list: &mut [u32],
     memo: &mut [u32; MEMO_WORDS],
-    scope: &mut [u32],
-    sizes: &mut [u8],
-    p: Place,
+    scope: &mut [u32; SCOPE_WORDS],
+    sizes: &mut [u8; SCOPE_SIZES],
+    p: Site,
     f: u32,
 ) -> Sizing
-    requires { ⌜ Room (suc (p .levels)) (length (now scope)) (length (now sizes)) p ⌝ }
+    requires { ⌜ Room (suc (p .place .levels)) p ⌝ }
     requires { ⌜ f < byteRange ⌝ }
     ensures { λ r. ⌜ Sizes (CallPart f) (lent (now (text .entry)) (now (index .entry))) (buffers (table (now (list .entry)) (now (memo .entry))) (now (scope .entry)) (now (sizes .entry))) p r (buffers (table (now (list .exit)) (now (memo .exit))) (now (scope .exit)) (now (sizes .exit))) ⌝ }
 {
     let n = arity(index, f);
-    let mut row = [0u32; VARIABLES_MOST as usize];
+    let mut row = [0u32; SCOPE_WORDS];
     let x = several(text, index, list, memo, scope, sizes, p, &mut row, n);
     let Counting::Are(a) = x else {
         return refused(x);
@@ -303,20 +307,20 @@ fn apply(
     index: &[u32; INDEX_WORDS],
     list: &mut [u32],
     memo: &mut [u32; MEMO_WORDS],
-    scope: &mut [u32],
-    p: Place,
+    scope: &mut [u32; SCOPE_WORDS],
+    p: Site,
     a: Counted,
     f: u32,
     n: u32,
 ) -> Sizing
-    requires { ⌜ Room (suc (p .levels)) (length (now scope)) sizeVariablesMost p ⌝ }
+    requires { ⌜ Room (suc (p .place .levels)) p ⌝ }
     requires { ⌜ (p .used ≤ a .used) × ((f < byteRange) × (n < byteRange)) ⌝ }
     ensures { λ r. ⌜ Applies f n a (lent (now (text .entry)) (now (index .entry))) (table (now (list .entry)) (now (memo .entry))) (now (scope .entry)) p r (table (now (list .exit)) (now (memo .exit))) ⌝ }
 {
-    let mut held = [0u8; SIZE_VARIABLES_MOST as usize];
+    let mut held = [0u8; SCOPE_SIZES];
     let m = named_sizes(scope, n, &mut held);
     let next = a.next;
-    let q = moved(p, next, a.used);
+    let q = moved_on(p, next, a.used);
     let z = enter(text, index, list, memo, scope, &mut held, q, f, n, m);
     let Sizing::Is(b) = z else {
         return z;
@@ -330,14 +334,14 @@ fn enter(
     index: &[u32; INDEX_WORDS],
     list: &mut [u32],
     memo: &mut [u32; MEMO_WORDS],
-    scope: &mut [u32],
-    sizes: &mut [u8],
-    p: Place,
+    scope: &mut [u32; SCOPE_WORDS],
+    sizes: &mut [u8; SCOPE_SIZES],
+    p: Site,
     f: u32,
     n: u32,
     m: u32,
 ) -> Sizing
-    requires { ⌜ Room (suc (p .levels)) (length (now scope)) (length (now sizes)) p ⌝ }
+    requires { ⌜ Room (suc (p .place .levels)) p ⌝ }
     requires { ⌜ (f < byteRange) × ((n < byteRange) × (m ≤ n)) ⌝ }
     ensures { λ r. ⌜ Enters f n m (lent (now (text .entry)) (now (index .entry))) (buffers (table (now (list .entry)) (now (memo .entry))) (now (scope .entry)) (now (sizes .entry))) p r (buffers (table (now (list .exit)) (now (memo .exit))) (now (scope .exit)) (now (sizes .exit))) ⌝ }
 {
@@ -354,14 +358,14 @@ fn enter_new(
     index: &[u32; INDEX_WORDS],
     list: &mut [u32],
     memo: &mut [u32; MEMO_WORDS],
-    scope: &mut [u32],
-    sizes: &mut [u8],
-    p: Place,
+    scope: &mut [u32; SCOPE_WORDS],
+    sizes: &mut [u8; SCOPE_SIZES],
+    p: Site,
     f: u32,
     n: u32,
     m: u32,
 ) -> Sizing
-    requires { ⌜ Room (suc (p .levels)) (length (now scope)) (length (now sizes)) p ⌝ }
+    requires { ⌜ Room (suc (p .place .levels)) p ⌝ }
     requires { ⌜ (f < byteRange) × ((n < byteRange) × (m ≤ n)) ⌝ }
     ensures { λ r. ⌜ EntersNew f n m (lent (now (text .entry)) (now (index .entry))) (buffers (table (now (list .entry)) (now (memo .entry))) (now (scope .entry)) (now (sizes .entry))) p r (buffers (table (now (list .exit)) (now (memo .exit))) (now (scope .exit)) (now (sizes .exit))) ⌝ }
 {
@@ -378,32 +382,34 @@ fn body(
     index: &[u32; INDEX_WORDS],
     list: &mut [u32],
     memo: &mut [u32; MEMO_WORDS],
-    scope: &mut [u32],
-    sizes: &mut [u8],
-    p: Place,
+    scope: &mut [u32; SCOPE_WORDS],
+    sizes: &mut [u8; SCOPE_SIZES],
+    p: Site,
     e: Entry,
 ) -> Sizing
-    requires { ⌜ Room (suc (p .levels)) (length (now scope)) (length (now sizes)) p ⌝ }
+    requires { ⌜ Room (suc (p .place .levels)) p ⌝ }
     requires { ⌜ Entered e ⌝ }
     ensures { λ r. ⌜ ChecksBody e (lent (now (text .entry)) (now (index .entry))) (buffers (table (now (list .entry)) (now (memo .entry))) (now (scope .entry)) (now (sizes .entry))) p r (buffers (table (now (list .exit)) (now (memo .exit))) (now (scope .exit)) (now (sizes .exit))) ⌝ }
 {
+    let here = p.place;
     if INSTANCES_MOST <= p.used as usize {
-        return Sizing::Refused(TOO_MANY_INSTANCES, p.line + 1);
+        return Sizing::Refused(TOO_MANY_INSTANCES, here.line + 1);
     }
     let ty = e.ty;
     add(list, memo, p.used, e.function, sizes, word_of(ty));
-    let q = body_place(index, p, e);
+    let q = body_site(index, p, e);
     let x = expr(text, index, list, memo, scope, sizes, q);
     let Sizing::Is(a) = x else {
         return x;
     };
     if !is_type(a, ty) {
-        return Sizing::Refused(SIZES_DISAGREE, q.line + 1);
+        let inner = q.place;
+        return Sizing::Refused(SIZES_DISAGREE, inner.line + 1);
     }
     let numbers = a.numbers;
     finish(list, p.used, numbers);
-    let at = p.at;
-    leaf(ty, numbers, moved(p, at, a.used))
+    let at = here.at;
+    leaf(ty, numbers, moved_on(p, at, a.used))
 }
 
 // `19`: a constructor and its fields.
@@ -412,13 +418,13 @@ fn construct(
     index: &[u32; INDEX_WORDS],
     list: &mut [u32],
     memo: &mut [u32; MEMO_WORDS],
-    scope: &mut [u32],
-    sizes: &mut [u8],
-    p: Place,
+    scope: &mut [u32; SCOPE_WORDS],
+    sizes: &mut [u8; SCOPE_SIZES],
+    p: Site,
     t: u32,
     c: u32,
 ) -> Sizing
-    requires { ⌜ Room (suc (p .levels)) (length (now scope)) (length (now sizes)) p ⌝ }
+    requires { ⌜ Room (suc (p .place .levels)) p ⌝ }
     requires { ⌜ (t < byteRange) × (c < byteRange) ⌝ }
     ensures { λ r. ⌜ Sizes (ConPart t c) (lent (now (text .entry)) (now (index .entry))) (buffers (table (now (list .entry)) (now (memo .entry))) (now (scope .entry)) (now (sizes .entry))) p r (buffers (table (now (list .exit)) (now (memo .exit))) (now (scope .exit)) (now (sizes .exit))) ⌝ }
 {
@@ -437,31 +443,32 @@ fn case_of(
     index: &[u32; INDEX_WORDS],
     list: &mut [u32],
     memo: &mut [u32; MEMO_WORDS],
-    scope: &mut [u32],
-    sizes: &mut [u8],
-    p: Place,
+    scope: &mut [u32; SCOPE_WORDS],
+    sizes: &mut [u8; SCOPE_SIZES],
+    p: Site,
     t: u32,
 ) -> Sizing
-    requires { ⌜ Room (suc (p .levels)) (length (now scope)) (length (now sizes)) p ⌝ }
+    requires { ⌜ Room (suc (p .place .levels)) p ⌝ }
     requires { ⌜ t < byteRange ⌝ }
     ensures { λ r. ⌜ Sizes (CasePart t) (lent (now (text .entry)) (now (index .entry))) (buffers (table (now (list .entry)) (now (memo .entry))) (now (scope .entry)) (now (sizes .entry))) p r (buffers (table (now (list .exit)) (now (memo .exit))) (now (scope .exit)) (now (sizes .exit))) ⌝ }
 {
+    let here = p.place;
     let x = expr(text, index, list, memo, scope, sizes, p);
     let Sizing::Is(a) = x else {
         return x;
     };
     let ty = a.ty;
     let SizedType::Named(_, m) = ty else {
-        return Sizing::Refused(TYPES_DISAGREE, p.line + 1);
+        return Sizing::Refused(TYPES_DISAGREE, here.line + 1);
     };
     let written = a.next;
-    let line = frame_line(text, index, p.line);
+    let line = frame_line(text, index, here.line);
     let y = type_at(line, written, sizes);
     let TypeAt::Is(wanted, next) = y else {
-        return Sizing::Refused(SIZE_OUTSIDE, p.line + 1);
+        return Sizing::Refused(SIZE_OUTSIDE, here.line + 1);
     };
     let s = subject(t, m, wanted);
-    let q = moved(p, next, a.used);
+    let q = moved_on(p, next, a.used);
     let z = branches(text, index, list, memo, scope, sizes, q, s, 0);
     let Sizing::Is(b) = z else {
         return z;
@@ -475,13 +482,13 @@ fn branches(
     index: &[u32; INDEX_WORDS],
     list: &mut [u32],
     memo: &mut [u32; MEMO_WORDS],
-    scope: &mut [u32],
-    sizes: &mut [u8],
-    p: Place,
+    scope: &mut [u32; SCOPE_WORDS],
+    sizes: &mut [u8; SCOPE_SIZES],
+    p: Site,
     s: Subject,
     k: u32,
 ) -> Sizing
-    requires { ⌜ Room (suc (p .levels)) (length (now scope)) (length (now sizes)) p ⌝ }
+    requires { ⌜ Room (suc (p .place .levels)) p ⌝ }
     requires { ⌜ (s .of < byteRange) × (k ≤ byteRange) ⌝ }
     ensures { λ r. ⌜ SizesBranches s k (lent (now (text .entry)) (now (index .entry))) (buffers (table (now (list .entry)) (now (memo .entry))) (now (scope .entry)) (now (sizes .entry))) p r (buffers (table (now (list .exit)) (now (memo .exit))) (now (scope .exit)) (now (sizes .exit))) ⌝ }
 {
@@ -508,24 +515,25 @@ fn branch(
     index: &[u32; INDEX_WORDS],
     list: &mut [u32],
     memo: &mut [u32; MEMO_WORDS],
-    scope: &mut [u32],
-    sizes: &mut [u8],
-    p: Place,
+    scope: &mut [u32; SCOPE_WORDS],
+    sizes: &mut [u8; SCOPE_SIZES],
+    p: Site,
     s: Subject,
     k: u32,
 ) -> Sizing
-    requires { ⌜ Room (suc (p .levels)) (length (now scope)) (length (now sizes)) p ⌝ }
+    requires { ⌜ Room (suc (p .place .levels)) p ⌝ }
     requires { ⌜ (s .of < byteRange) × (k < byteRange) ⌝ }
     ensures { λ r. ⌜ SizesBranch s k (lent (now (text .entry)) (now (index .entry))) (buffers (table (now (list .entry)) (now (memo .entry))) (now (scope .entry)) (now (sizes .entry))) p r (buffers (table (now (list .exit)) (now (memo .exit))) (now (scope .exit)) (now (sizes .exit))) ⌝ }
 {
+    let here = p.place;
     let own = own_fields(index, s.of, k);
     let m = s.size;
     if (m as u32) <= own {
-        let at = p.at;
+        let at = here.at;
         let ty = s.ty;
-        let line = frame_line(text, index, p.line);
-        let next = skip(line, index, at, p.levels);
-        return leaf(ty, nothing(), moved(p, next, p.used));
+        let line = frame_line(text, index, here.line);
+        let next = skip(line, index, at, here.levels);
+        return leaf(ty, nothing(), moved_on(p, next, p.used));
     }
     first_split(sizes, p.sizes as usize, own, m - 1);
     at_splits(text, index, list, memo, scope, sizes, p, s, k)
@@ -537,31 +545,32 @@ fn at_splits(
     index: &[u32; INDEX_WORDS],
     list: &mut [u32],
     memo: &mut [u32; MEMO_WORDS],
-    scope: &mut [u32],
-    sizes: &mut [u8],
-    p: Place,
+    scope: &mut [u32; SCOPE_WORDS],
+    sizes: &mut [u8; SCOPE_SIZES],
+    p: Site,
     s: Subject,
     k: u32,
 ) -> Sizing
-    requires { ⌜ Room (suc (p .levels)) (length (now scope)) (length (now sizes)) p ⌝ }
+    requires { ⌜ Room (suc (p .place .levels)) p ⌝ }
     requires { ⌜ (s .of < byteRange) × (k < byteRange) ⌝ }
     ensures { λ r. ⌜ SizesSplits s k (lent (now (text .entry)) (now (index .entry))) (buffers (table (now (list .entry)) (now (memo .entry))) (now (scope .entry)) (now (sizes .entry))) p r (buffers (table (now (list .exit)) (now (memo .exit))) (now (scope .exit)) (now (sizes .exit))) ⌝ }
 {
+    let here = p.place;
     let n = fields(index, s.of, k);
     let own = own_fields(index, s.of, k);
-    let at = p.at;
+    let at = here.at;
     let ty = s.ty;
     let mut all = nothing_yet(ty, p);
     let mut more = true;
     while more {
-        bind_fields(index, scope, sizes, s.of, k, p.variables, p.sizes);
-        let q = widen(moved(p, at, all.used), n, own);
+        bind_fields(index, scope, sizes, s.of, k, here.variables, p.sizes);
+        let q = widen(moved_on(p, at, all.used), n, own);
         let x = expr(text, index, list, memo, scope, sizes, q);
         let Sizing::Is(a) = x else {
             return x;
         };
         if !is_type(a, ty) {
-            return Sizing::Refused(SIZES_DISAGREE, p.line + 1);
+            return Sizing::Refused(SIZES_DISAGREE, here.line + 1);
         }
         all = larger(all, a);
         more = next_split(sizes, p.sizes as usize, own);
@@ -575,30 +584,31 @@ fn adjust(
     index: &[u32; INDEX_WORDS],
     list: &mut [u32],
     memo: &mut [u32; MEMO_WORDS],
-    scope: &mut [u32],
-    sizes: &mut [u8],
-    p: Place,
+    scope: &mut [u32; SCOPE_WORDS],
+    sizes: &mut [u8; SCOPE_SIZES],
+    p: Site,
 ) -> Sizing
-    requires { ⌜ Room (suc (p .levels)) (length (now scope)) (length (now sizes)) p ⌝ }
+    requires { ⌜ Room (suc (p .place .levels)) p ⌝ }
     ensures { λ r. ⌜ Sizes AdjPart (lent (now (text .entry)) (now (index .entry))) (buffers (table (now (list .entry)) (now (memo .entry))) (now (scope .entry)) (now (sizes .entry))) p r (buffers (table (now (list .exit)) (now (memo .exit))) (now (scope .exit)) (now (sizes .exit))) ⌝ }
 {
-    let at = p.at;
-    let line = frame_line(text, index, p.line);
+    let here = p.place;
+    let at = here.at;
+    let line = frame_line(text, index, here.line);
     let s = size_at(line, at, sizes);
     let SizeAt::Is(k, next) = s else {
-        return Sizing::Refused(SIZE_OUTSIDE, p.line + 1);
+        return Sizing::Refused(SIZE_OUTSIDE, here.line + 1);
     };
-    let q = moved(p, next, p.used);
+    let q = moved_on(p, next, p.used);
     let x = expr(text, index, list, memo, scope, sizes, q);
     let Sizing::Is(a) = x else {
         return x;
     };
     let ty = a.ty;
     let SizedType::Named(t, j) = ty else {
-        return Sizing::Refused(TYPES_DISAGREE, p.line + 1);
+        return Sizing::Refused(TYPES_DISAGREE, here.line + 1);
     };
     if k < j {
-        return Sizing::Refused(SIZES_DISAGREE, p.line + 1);
+        return Sizing::Refused(SIZES_DISAGREE, here.line + 1);
     }
     adjusted(t, k, a)
 }
@@ -609,24 +619,25 @@ fn fit(
     index: &[u32; INDEX_WORDS],
     list: &mut [u32],
     memo: &mut [u32; MEMO_WORDS],
-    scope: &mut [u32],
-    sizes: &mut [u8],
-    p: Place,
+    scope: &mut [u32; SCOPE_WORDS],
+    sizes: &mut [u8; SCOPE_SIZES],
+    p: Site,
     k: u32,
 ) -> Sizing
-    requires { ⌜ Room (suc (p .levels)) (length (now scope)) (length (now sizes)) p × (k < byteRange) ⌝ }
+    requires { ⌜ Room (suc (p .place .levels)) p × (k < byteRange) ⌝ }
     ensures { λ r. ⌜ Sizes (FitPart k) (lent (now (text .entry)) (now (index .entry))) (buffers (table (now (list .entry)) (now (memo .entry))) (now (scope .entry)) (now (sizes .entry))) p r (buffers (table (now (list .exit)) (now (memo .exit))) (now (scope .exit)) (now (sizes .exit))) ⌝ }
 {
+    let here = p.place;
     let x = expr(text, index, list, memo, scope, sizes, p);
     let Sizing::Is(a) = x else {
         return x;
     };
     let ty = a.ty;
     let SizedType::Named(t, _) = ty else {
-        return Sizing::Refused(TYPES_DISAGREE, p.line + 1);
+        return Sizing::Refused(TYPES_DISAGREE, here.line + 1);
     };
     let word = word_of(SizedType::Named(t, k as u8));
-    put(scope, p.variables as usize, word);
+    put(scope, here.variables as usize, word);
     let q = widen(behind(p, a), 1, 0);
     let y = expr(text, index, list, memo, scope, sizes, q);
     let Sizing::Is(b) = y else {
@@ -638,7 +649,7 @@ fn fit(
         return z;
     };
     if !agree(d, b) {
-        return Sizing::Refused(SIZES_DISAGREE, p.line + 1);
+        return Sizing::Refused(SIZES_DISAGREE, here.line + 1);
     }
     fitted(a, b, d)
 }

@@ -26,11 +26,11 @@ use Rattle.sizes.specs.declared.SizedType.the-variants.{Named}
 use Rattle.sizes.specs.Promises.{AgreesSize, size-is, size-outside, SizeBound, size-bound, no-size, SizeGiven}
 use Rattle.sizes.specs.Prefixes.{size-in-scope}
 use Rattle.index.specs.Sections.{framesOf}
-use Rattle.size_steps.specs.declared.Place.{Place}
+use Rattle.size_steps.specs.declared.Site.{Site}
 use Rattle.size_steps.specs.declared.Checked.{Checked}
 use Rattle.size_steps.specs.declared.Sizing.{Sizing}
 use Rattle.size_steps.specs.declared.Sizing.the-variants.{Is, Refused}
-use Rattle.size_steps.specs.Sites.{movedTo, kept-all, kept-moved}
+use Rattle.size_steps.specs.Sites.{movedOn, kept-all, kept-moved}
 use Rattle.size_steps.specs.Agreement.{agrees, not-grown, grows-to, bind-is, bind-no, named-before, need-holds, need-fails, from-some, from-none}
 use Rattle.size_laws.specs.Promises.{Lent, Buffers, Here, Sizes, ExprPart}
 use Rattle.size_laws.specs.Parts.{AdjPart}
@@ -51,15 +51,15 @@ pub size-most : {k : ℕ} {next : Cursor} {r : SizeAt} → SizeBound r → r ≡
 size-most {k} (size-bound {k = j} bound) d = let size : j ≡ k = cc in subst Bound size bound
 size-most no-size d = absurd (let z : _≡_ {A = ℕ} 0 1 = cc in omega arith)
 
-module _ {t : Lent} {b : Buffers} {p : Place} {line : List ℕ} {s : SizeAt} (g : SizeGiven line (p .at) (b .sizes) s) (cut : line ≡ framePart (t .text) (framesOf (t .index)) (p .line)) where
+module _ {t : Lent} {b : Buffers} {p : Site} {line : List ℕ} {s : SizeAt} (g : SizeGiven line (p .place .at) (b .sizes) s) (cut : line ≡ framePart (t .text) (framesOf (t .index)) (p .place .line)) where
   -- the size that is spelled at the place, of the sizes in scope
-  pub size-here : {P : File} {S : Scope} {q : Stand} {Γ : List Ty} {Δ : List ℕ} {L : List Instance} {left : ℕ} → Here t b p P S q Γ Δ L left → {k : Size} → WithinSize (S .sizes) nestingMost k → Spells sizeBytes (lineAt (t .text) (p .line)) (p .at .at) k →
-      AgreesSize (typeSize Δ k) (past (lineAt (t .text) (p .line)) (p .at .at) (length (sizeBytes k))) s
+  pub size-here : {P : File} {S : Scope} {q : Stand} {Γ : List Ty} {Δ : List ℕ} {L : List Instance} {left : ℕ} → Here t b p P S q Γ Δ L left → {k : Size} → WithinSize (S .sizes) nestingMost k → Spells sizeBytes (lineAt (t .text) (p .place .line)) (p .place .at .at) k →
+      AgreesSize (typeSize Δ k) (past (lineAt (t .text) (p .place .line)) (p .place .at .at) (length (sizeBytes k))) s
   size-here {P} {S} h {k} w spelled =
-      let there : line ≡ lineAt (t .text) (p .line) = part-is-line (h .indexed) (p .line) (h .site .line) cut in
-      subst (λ x. AgreesSize x (past (lineAt (t .text) (p .line)) (p .at .at) (length (sizeBytes k))) s) (sym (size-in-scope (b .sizes) w) ∙ ap (λ l. typeSize l k) (sizes-scope h)) (rw (sym there) (g .says (S .sizes) k w (rw there spelled)))
+      let there : line ≡ lineAt (t .text) (p .place .line) = part-is-line (h .indexed) (p .place .line) (h .site .line) cut in
+      subst (λ x. AgreesSize x (past (lineAt (t .text) (p .place .line)) (p .place .at .at) (length (sizeBytes k))) s) (sym (size-in-scope (b .sizes) w) ∙ ap (λ l. typeSize l k) (sizes-scope h)) (rw (sym there) (g .says (S .sizes) k w (rw there spelled)))
 
-  pub adj-outside : s ≡ SizeOutside → Sizes AdjPart t b p (Refused 10 (p .line + 1)) b
+  pub adj-outside : s ≡ SizeOutside → Sizes AdjPart t b p (Refused 10 (p .place .line + 1)) b
   unfolding sized
   adj-outside d = record {
     says = λ P S q Γ Δ L left h end e part. let i = part .head in
@@ -69,11 +69,11 @@ module _ {t : Lent} {b : Buffers} {p : Place} {line : List ℕ} {s : SizeAt} (g 
   }
 
   -- the size is k, and the expression behind it
-  module _ {k : ℕ} {next : Cursor} {m : Place} {x : Sizing} {b₁ : Buffers} (d : s ≡ SizeIs k next) (moved : m ≡ movedTo p next (p .used)) (u : Sizes ExprPart t b m x b₁) where
-    behind : Sizes ExprPart t b (movedTo p next (p .used)) x b₁
+  module _ {k : ℕ} {next : Cursor} {m : Site} {x : Sizing} {b₁ : Buffers} (d : s ≡ SizeIs k next) (moved : m ≡ movedOn p next (p .used)) (u : Sizes ExprPart t b m x b₁) where
+    behind : Sizes ExprPart t b (movedOn p next (p .used)) x b₁
     behind = sizes-at moved u
 
-    here-sized : {P : File} {S : Scope} {q : Stand} {Γ : List Ty} {Δ : List ℕ} {L : List Instance} {left : ℕ} → Here t b p P S q Γ Δ L left → Here t b (movedTo p next (p .used)) P S q Γ Δ L left
+    here-sized : {P : File} {S : Scope} {q : Stand} {Γ : List Ty} {Δ : List ℕ} {L : List Instance} {left : ℕ} → Here t b p P S q Γ Δ L left → Here t b (movedOn p next (p .used)) P S q Γ Δ L left
     here-sized h = here-moved h next kept-all (h .holds) (omega arith)
 
     pub adj-refused : {n frame : ℕ} → x ≡ Refused n frame → Sizes AdjPart t b p x b₁
@@ -99,7 +99,7 @@ module _ {t : Lent} {b : Buffers} {p : Place} {line : List ℕ} {s : SizeAt} (g 
     }
 
     module _ {a : Checked} {y j : ℕ} (d₂ : x ≡ Is a) (ty : a .ty ≡ Named y j) where
-      pub adj-lowered : k < j → Sizes AdjPart t b p (Refused 11 (p .line + 1)) b₁
+      pub adj-lowered : k < j → Sizes AdjPart t b p (Refused 11 (p .place .line + 1)) b₁
       unfolding sized
       adj-lowered less = record {
         says = λ P S q Γ Δ L left h end e part. let i = part .head in let size = is-size (size-here h (i .within) (i .spelled)) d in

@@ -26,7 +26,7 @@ use Rattle.encoding.specs.FrameSpells.{lineAt}
 use Rattle.instances.specs.ListLaws.{sizes-taken}
 use Rattle.sizes.specs.Rows.{NamedSizes}
 use Rattle.index.specs.Sections.{functionsOf}
-use Rattle.size_steps.specs.declared.Place.{Place}
+use Rattle.size_steps.specs.declared.Site.{Site}
 use Rattle.size_steps.specs.declared.Counted.{Counted}
 use Rattle.size_steps.specs.Sites.{Bounded, bounded-small}
 use Rattle.size_steps.specs.Agreement.{Table, CountedAs}
@@ -36,20 +36,20 @@ use Rattle.size_laws.specs.HereLaws.{ends-at, suc-same}
 use Rattle.size_steps.specs.Leaves.{SizesFor}
 
 -- ---- which function is called, and its arguments
-pub record Called (t : Lent) (p : Place) (P : File) (S : Scope) (f n end : ℕ) (e : Expr) : Type 0 where
+pub record Called (t : Lent) (p : Site) (P : File) (S : Scope) (f n end : ℕ) (e : Expr) : Type 0 where
   pub function : Function
   pub is : look (P .functions) f ≡ some function
   pub count : n ≡ length (function .parameters)
   pub few : n ≤ parametersMost
   pub list : Exprs
   pub form : e ≡ ecall f list
-  pub part : ExprsPart (lineAt (t .text) (p .line)) p S n end list
+  pub part : ExprsPart (lineAt (t .text) (p .place .line)) p S n end list
 
 abbrev pub ArityOf : List ℕ → ℕ → ℕ → Type 0
 ArityOf functions f n = (n ≡ getD functions (functionWords * f) 0 % byteRange) × (n < byteRange)
 
-pub called : {t : Lent} {b : Buffers} {p : Place} {P : File} {S : Scope} {q : Stand} {Γ : List Ty} {Δ : List ℕ} {L : List Instance} {left f n end : ℕ} {e : Expr} → ArityOf (functionsOf (t .index)) f n →
-    Here t b p P S q Γ Δ L left → CallPart f (lineAt (t .text) (p .line)) p S end e → Called t p P S f n end e
+pub called : {t : Lent} {b : Buffers} {p : Site} {P : File} {S : Scope} {q : Stand} {Γ : List Ty} {Δ : List ℕ} {L : List Instance} {left f n end : ℕ} {e : Expr} → ArityOf (functionsOf (t .index)) f n →
+    Here t b p P S q Γ Δ L left → CallPart f (lineAt (t .text) (p .place .line)) p S end e → Called t p P S f n end e
 called {t} {p} {S} {f} {n} {end} arity h part =
     let i = part .head in
     let k = h .site .known .functions f (i .less) in
@@ -65,7 +65,7 @@ called {t} {p} {S} {f} {n} {end} arity h part =
       form = i .is;
       part = record {
         spelled = i .spelled;
-        within = subst (λ m. WithinExprs (p .levels) S m (i .list)) all (subst (λ m. WithinExprs m S (getD (S .arities) f 0) (i .list)) (sym (suc-same (i .deep))) (i .within));
+        within = subst (λ m. WithinExprs (p .place .levels) S m (i .list)) all (subst (λ m. WithinExprs m S (getD (S .arities) f 0) (i .list)) (sym (suc-same (i .deep))) (i .within));
         ends = ends-at part (i .is) (i .long);
       };
     }

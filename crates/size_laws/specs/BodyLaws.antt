@@ -25,17 +25,18 @@ use Rattle.text.specs.Bytes.{declaredWord}
 use Rattle.text.specs.Places.{past}
 use Rattle.encoding.specs.Spells.{Spells}
 use Rattle.encoding.specs.FrameSpells.{lineAt}
-use Rattle.index.specs.Indexed.{bodyAt}
+use Rattle.index.specs.Indexed.{bodyAt, functionLine}
 use Rattle.encoding.specs.Known.{BodyKnown, body-known}
 use Rattle.instances.specs.Listed.{Adds, Notes, Finishes}
 use Rattle.sizes.specs.Promises.{meaning}
 use Rattle.index.specs.Sections.{functionsOf}
-use Rattle.size_steps.specs.declared.Place.{Place}
+use Rattle.heads.specs.Places.{lineBehindTypes, function-line}
+use Rattle.size_steps.specs.declared.Site.{Site}
 use Rattle.size_steps.specs.declared.Checked.{Checked}
 use Rattle.size_steps.specs.declared.Sizing.{Sizing}
 use Rattle.size_steps.specs.declared.Sizing.the-variants.{Is, Refused}
 use Rattle.size_steps.specs.declared.Entry.{Entry}
-use Rattle.size_steps.specs.Sites.{movedTo, around-one, Site}
+use Rattle.size_steps.specs.Sites.{movedOn, around-one, Sited}
 use Rattle.size_steps.specs.Agreement.{Row, Met, table, Holds, Agrees, agrees, refused, itself, Grows, not-grown, grows-to, grows-same, bind-is, bind-no, need-holds, need-fails}
 use Rattle.size_laws.specs.SeveralAgree.{grown-as, bind-knows}
 use Rattle.size_laws.specs.Promises.{Lent, Buffers, buffers, IndexedFile, Here, entering, Sizes, ExprPart, Given, ChecksBody}
@@ -62,16 +63,15 @@ module _ (P : File) (frame g : ℕ) (F : Function) (ks : List ℕ) (τ : Ty) (L 
 
 -- ---- what is known where a body starts
 module _ {P : File} {e : Entry} {F : Function} {ks scope sizes : List ℕ} (v : Given P e F ks scope sizes) where
-  pub body-site : (p : Place) (index : List ℕ) → p .types ≡ length (P .types) → (k : BodyKnown P F) →
-      Site P (k .scope) (inside (e .function) (summedMeasure (F .measure) ks)) (parameterTypes (F .parameters) ks) ks scope sizes (bodyOf index p e)
+  pub body-site : (p : Site) (index : List ℕ) → lineBehindTypes index (e .function) ≡ functionLine P (e .function) → (k : BodyKnown P F) →
+      Sited P (k .scope) (inside (e .function) (summedMeasure (F .measure) ks)) (parameterTypes (F .parameters) ks) ks scope sizes (bodyOf index p e)
   unfolding channelsAt frameAt
-  body-site p index types k = let a = v .argued in record {
+  body-site p index told k = let a = v .argued in record {
     known = k .known;
     channels = λ c τ is. none-is-not-some is;
-    typeCount = types;
-    frame = omega (arith, types);
-    line = omega (arith, types, look-less (P .functions) (e .function) (v .function));
-    around = around-one {f = e .function} {w = summedMeasure (F .measure) ks} (add-one (e .function)) (v .measures);
+    frame = omega (arith, told);
+    line = omega (arith, told, look-less (P .functions) (e .function) (v .function));
+    around = around-one {f = e .function} {w = summedMeasure (F .measure) ks} told (v .measures);
     variables = a .count ∙ sym (parameters-long (F .parameters) ks);
     variablesIn = k .variables ∙ sym (parameters-long (F .parameters) ks);
     types = a .types;
@@ -92,15 +92,15 @@ module _ {P : File} {e : Entry} {F : Function} {ks scope sizes : List ℕ} (v : 
   body-met {word} n w G is = subst (λ H. Met H ks word) (only is) (record { type = meaning (e .ty); conditions = v .conditions; result = v .result; small = v .small; word = w })
 
 -- ---- body
-module _ (e : Entry) {t : Lent} {b : Buffers} (p : Place) where
-  pub body-full : instancesMost ≤ p .used → ChecksBody e t b p (Refused 14 (p .line + 1)) b
+module _ (e : Entry) {t : Lent} {b : Buffers} (p : Site) where
+  pub body-full : instancesMost ≤ p .used → ChecksBody e t b p (Refused 14 (p .place .line + 1)) b
   body-full full = record {
-    says = λ P F ks L left i types h deep v new. rw (no-room P (suc (p .line)) (e .function) F ks (meaning (e .ty)) L left new (omega (arith, full, h .count))) (refused (ap (Refused 14) (add-one (p .line))));
+    says = λ P F ks L left i h deep v new. rw (no-room P (suc (p .place .line)) (e .function) F ks (meaning (e .ty)) L left new (omega (arith, full, h .count))) (refused (ap (Refused 14) (add-one (p .place .line))));
     grows = not-grown;
   }
 
   -- the record added, and the body checked
-  module _ {words memo : List ℕ} {word : ℕ} {q : Place} {x : Sizing} {b₁ : Buffers} (room : p .used < instancesMost) (w : word ≡ declaredWord (meaning (e .ty)))
+  module _ {words memo : List ℕ} {word : ℕ} {q : Site} {x : Sizing} {b₁ : Buffers} (room : p .used < instancesMost) (w : word ≡ declaredWord (meaning (e .ty)))
       (a : Adds (b .list .words) (p .used) (e .function) (b .sizes) words × Notes (b .list .memo) (p .used) word memo) (at : q ≡ bodyOf (t .index) p e) (u : Sizes ExprPart t (buffers (table words memo) (b .scope) (b .sizes)) q x b₁) where
     inner : Sizes ExprPart t (buffers (table words memo) (b .scope) (b .sizes)) (bodyOf (t .index) p e) x b₁
     inner = subst (λ z. Sizes ExprPart t (buffers (table words memo) (b .scope) (b .sizes)) z x b₁) at u
@@ -109,53 +109,56 @@ module _ (e : Entry) {t : Lent} {b : Buffers} (p : Place) where
     body-grows = grows-same (omega arith) (inner .grows)
 
     -- the body as the definition has it
-    module _ (P : File) (F : Function) (ks : List ℕ) (L : List Instance) (left : ℕ) (i : IndexedFile t P) (types : p .types ≡ length (P .types)) (h : Holds P (b .list) (p .used) L) (deep : instancesMost ≤ left + length L)
+    module _ (P : File) (F : Function) (ks : List ℕ) (L : List Instance) (left : ℕ) (i : IndexedFile t P) (h : Holds P (b .list) (p .used) L) (deep : instancesMost ≤ left + length L)
         (v : Given P e F ks (b .scope) (b .sizes)) (new : find L (e .function) ks ≡ none) where
+      told : lineBehindTypes (t .index) (e .function) ≡ functionLine P (e .function)
+      told = function-line i (look-less (P .functions) (e .function) (v .function))
+
       known : BodyKnown P F
       known = body-known (i .within) (e .function) (v .function)
 
       here : Here t (buffers (table words memo) (b .scope) (b .sizes)) (bodyOf (t .index) p e) P (known .scope) (inside (e .function) (summedMeasure (F .measure) ks)) (parameterTypes (F .parameters) ks) ks (L ++ (entered (e .function) ks nothing ∷ [])) (left - 1)
       here = record {
         indexed = i;
-        site = body-site v p (t .index) types known;
+        site = body-site v p (t .index) told known;
         holds = holds-added h (a .0) (a .1) room (v .argued .padded) new (body-row v nothing) (body-met v nothing w);
         deep = omega (arith, deep, length-append L (entered (e .function) ks nothing ∷ []), room, h .count);
       }
 
-      part : ExprPart (lineAt (t .text) (p .types + e .function)) (bodyOf (t .index) p e) (known .scope) (past (lineAt (t .text) (p .types + e .function)) (bodyAt (functionsOf (t .index)) (e .function)) (length (exprBytes (F .body)))) (F .body)
+      part : ExprPart (lineAt (t .text) (lineBehindTypes (t .index) (e .function))) (bodyOf (t .index) p e) (known .scope) (past (lineAt (t .text) (lineBehindTypes (t .index) (e .function))) (bodyAt (functionsOf (t .index)) (e .function)) (length (exprBytes (F .body)))) (F .body)
       part = record {
-        spelled = subst (λ n. Spells exprBytes (lineAt (t .text) (n + e .function)) (bodyAt (functionsOf (t .index)) (e .function)) (F .body)) (sym types) (i .eachFunction (e .function) (v .function) .body);
+        spelled = subst (λ n. Spells exprBytes (lineAt (t .text) n) (bodyAt (functionsOf (t .index)) (e .function)) (F .body)) (sym told) (i .eachFunction (e .function) (v .function) .body);
         within = known .within;
         ends = refl;
       }
 
-      body-agrees : Agrees P itself (past (lineAt (t .text) (p .types + e .function)) (bodyAt (functionsOf (t .index)) (e .function)) (length (exprBytes (F .body)))) (b₁ .list) x (bodyRun P (entering P (left - 1)) (e .function) F ks L)
+      body-agrees : Agrees P itself (past (lineAt (t .text) (lineBehindTypes (t .index) (e .function))) (bodyAt (functionsOf (t .index)) (e .function)) (length (exprBytes (F .body)))) (b₁ .list) x (bodyRun P (entering P (left - 1)) (e .function) F ks L)
       body-agrees = inner .says P (known .scope) (inside (e .function) (summedMeasure (F .measure) ks)) (parameterTypes (F .parameters) ks) ks (L ++ (entered (e .function) ks nothing ∷ [])) (left - 1) here _ (F .body) part
 
       body-keeps : Sat (λ (y : Sized). Extends (L ++ (entered (e .function) ks nothing ∷ [])) (y .list)) (bodyRun P (entering P (left - 1)) (e .function) F ks L)
       body-keeps = sized-keeps P (entering P (left - 1)) (enters-keep P instancesMost (left - 1)) (F .body) _ _ _ _
 
-      entered-here : entering P left (suc (p .line)) (e .function) F ks (meaning (e .ty)) L ≡ bind (bodyRun P (entering P (left - 1)) (e .function) F ks L) (leaving P (suc (p .line)) (e .function) F ks (meaning (e .ty)) L)
-      entered-here = entered-now P (suc (p .line)) (e .function) F ks (meaning (e .ty)) L left (left - 1) (omega (arith, deep, room, h .count)) new (omega (arith, room, h .count))
+      entered-here : entering P left (suc (p .place .line)) (e .function) F ks (meaning (e .ty)) L ≡ bind (bodyRun P (entering P (left - 1)) (e .function) F ks L) (leaving P (suc (p .place .line)) (e .function) F ks (meaning (e .ty)) L)
+      entered-here = entered-now P (suc (p .place .line)) (e .function) F ks (meaning (e .ty)) L left (left - 1) (omega (arith, deep, room, h .count)) new (omega (arith, room, h .count))
 
     pub body-refused : {n frame : ℕ} → x ≡ Refused n frame → ChecksBody e t b p x b₁
     body-refused d = record {
-      says = λ P F ks L left i types h deep v new. rw (entered-here P F ks L left i types h deep v new) (bind-no _ (body-agrees P F ks L left i types h deep v new) d d);
+      says = λ P F ks L left i h deep v new. rw (entered-here P F ks L left i h deep v new) (bind-no _ (body-agrees P F ks L left i h deep v new) d d);
       grows = body-grows;
     }
 
     module _ {k : Checked} {r : Bool} (d : x ≡ Is k) (same : r ≡ sameType (meaning (k .ty)) (meaning (e .ty))) where
-      pub body-differs : r ≡ false → ChecksBody e t b p (Refused 11 (q .line + 1)) b₁
+      pub body-differs : r ≡ false → ChecksBody e t b p (Refused 11 (q .place .line + 1)) b₁
       body-differs no-match = record {
-        says = λ P F ks L left i types h deep v new. rw (entered-here P F ks L left i types h deep v new) (bind-is _ (body-agrees P F ks L left i types h deep v new) d (λ y c.
-            need-fails _ (ap (λ τ. sameType τ (meaning (e .ty))) (sym (c .type)) ∙ sym same ∙ no-match) (ap (λ z. Refused 11 (z .line + 1)) at ∙ ap (λ n. Refused 11 (n + e .function + 1)) types)));
+        says = λ P F ks L left i h deep v new. rw (entered-here P F ks L left i h deep v new) (bind-is _ (body-agrees P F ks L left i h deep v new) d (λ y c.
+            need-fails _ (ap (λ τ. sameType τ (meaning (e .ty))) (sym (c .type)) ∙ sym same ∙ no-match) (ap (λ z. Refused 11 (z .place .line + 1)) at ∙ ap (λ n. Refused 11 (n + 1)) (told P F ks L left i h deep v new))));
         grows = not-grown;
       }
 
-      pub body-done : {words′ : List ℕ} {m : Place} {z : Sizing} → r ≡ true → Finishes (b₁ .list .words) (p .used) (k .numbers) words′ → m ≡ movedTo p (p .at) (k .used) → z ≡ leafOf (e .ty) (k .numbers) m →
+      pub body-done : {words′ : List ℕ} {m : Site} {z : Sizing} → r ≡ true → Finishes (b₁ .list .words) (p .used) (k .numbers) words′ → m ≡ movedOn p (p .place .at) (k .used) → z ≡ leafOf (e .ty) (k .numbers) m →
           ChecksBody e t b p z (buffers (table words′ (b₁ .list .memo)) (b₁ .scope) (b₁ .sizes))
       body-done {words′} match fin moved answer = let whole = answer ∙ ap (leafOf (e .ty) (k .numbers)) moved in record {
-        says = λ P F ks L left i types h deep v new. rw (entered-here P F ks L left i types h deep v new) (bind-knows _ (body-agrees P F ks L left i types h deep v new) (body-keeps P F ks L left i types h deep v new) d (λ y g c.
+        says = λ P F ks L left i h deep v new. rw (entered-here P F ks L left i h deep v new) (bind-knows _ (body-agrees P F ks L left i h deep v new) (body-keeps P F ks L left i h deep v new) d (λ y g c.
             need-holds 11 (functionFrame P (e .function)) (ap (λ τ. sameType τ (meaning (e .ty))) (sym (c .type)) ∙ sym same ∙ match)
             (agrees whole (record {
               type = refl;

@@ -32,10 +32,10 @@ use Rattle.splits.specs.Moves.{Starts}
 use Rattle.splits.specs.SplitSizes.{splits-are}
 use Rattle.splits.specs.Walks.{starts-keep, walk-starts}
 use Rattle.index.specs.Sections.{framesOf, typesOf, functionsOf}
-use Rattle.size_steps.specs.declared.Place.{Place}
+use Rattle.size_steps.specs.declared.Site.{Site}
 use Rattle.size_steps.specs.declared.Sizing.{Sizing}
 use Rattle.size_steps.specs.declared.Subject.{Subject}
-use Rattle.size_steps.specs.Sites.{movedTo, Kept, kept-all, kept-then, site-kept}
+use Rattle.size_steps.specs.Sites.{movedOn, Kept, kept-all, kept-then, site-kept}
 use Rattle.size_steps.specs.Agreement.{agrees}
 use Rattle.size_laws.specs.Promises.{Lent, Buffers, buffers, IndexedFile, UpToMost, SizesBranch, SizesSplits}
 use Rattle.size_steps.specs.Leaves.{leafOf}
@@ -65,17 +65,17 @@ unfolding splits
 split-most zero n le most = all-cons all-nil all-nil
 split-most (suc r) n le most = all-map (λ ks s. all-map (λ (k : ℕ) less. omega (arith, less, most)) (sizes-in-sum ks n (omega (arith, s .sums)))) (splits-are (suc r) n (omega arith) (omega (arith, le)))
 
-module _ {s : Subject} {k own : ℕ} {t : Lent} {b : Buffers} {p : Place} (told : (own ≡ ownWord t (s .of) k % byteRange) × (own < byteRange)) where
+module _ {s : Subject} {k own : ℕ} {t : Lent} {b : Buffers} {p : Site} (told : (own ≡ ownWord t (s .of) k % byteRange) × (own < byteRange)) where
   -- ---- the subject is too small for the constructor
-  pub branch-skipped : {line : List ℕ} {next : Cursor} {o : Place} {numbers : Estimate} {r : Sizing} → s .size ≤ own → line ≡ framePart (t .text) (framesOf (t .index)) (p .line) →
-      Skips line (typesOf (t .index)) (functionsOf (t .index)) (p .at) (p .levels) next → o ≡ movedTo p next (p .used) → Makes nothing numbers → r ≡ leafOf (s .ty) numbers o → SizesBranch s k t b p r b
+  pub branch-skipped : {line : List ℕ} {next : Cursor} {o : Site} {numbers : Estimate} {r : Sizing} → s .size ≤ own → line ≡ framePart (t .text) (framesOf (t .index)) (p .place .line) →
+      Skips line (typesOf (t .index)) (functionsOf (t .index)) (p .place .at) (p .place .levels) next → o ≡ movedOn p next (p .used) → Makes nothing numbers → r ≡ leafOf (s .ty) numbers o → SizesBranch s k t b p r b
   unfolding choose
   branch-skipped {next} {numbers} small cut skips moved made is = record {
     says = λ P S q Γ Δ L left h fs w there end e part.
-        let is-line = part-is-line (h .indexed) (p .line) (h .site .line) cut in
+        let is-line = part-is-line (h .indexed) (p .place .line) (h .site .line) cut in
         let over = skips .says _ e (known-shapes (h .indexed) (wider-known _ _ (h .site .known))) (part .within) (rw is-line (part .spelled)) in
         rw (le-leb (s .size) (owns fs) (omega (arith, small, owns-told k (h .indexed) (w .of) there told))) (agrees (is ∙ ap (leafOf (s .ty) numbers) moved)
-        (record { type = refl; small = w .ty; numbers = made .says; ends = over ∙ ap (λ (l : List ℕ). past l (p .at .at) (length (exprBytes e))) is-line ∙ sym (part .ends); holds = h .holds }));
+        (record { type = refl; small = w .ty; numbers = made .says; ends = over ∙ ap (λ (l : List ℕ). past l (p .place .at .at) (length (exprBytes e))) is-line ∙ sym (part .ends); holds = h .holds }));
     grows = grown-is (is ∙ ap (leafOf (s .ty) numbers) moved) (omega arith);
     kept = kept-all;
   }

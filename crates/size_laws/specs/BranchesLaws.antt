@@ -25,12 +25,12 @@ use Rattle.estimate.specs.declared.Estimate.{Estimate}
 use Rattle.estimate.specs.Stands.{Makes, Combines}
 use Rattle.sizes.specs.Promises.{meaning}
 use Rattle.index.specs.Sections.{typesOf}
-use Rattle.size_steps.specs.declared.Place.{Place}
+use Rattle.size_steps.specs.declared.Site.{Site}
 use Rattle.size_steps.specs.declared.Checked.{Checked}
 use Rattle.size_steps.specs.declared.Sizing.{Sizing}
 use Rattle.size_steps.specs.declared.Sizing.the-variants.{Is, Refused}
 use Rattle.size_steps.specs.declared.Subject.{Subject}
-use Rattle.size_steps.specs.Sites.{movedTo, Kept, kept-all, kept-then, kept-moved}
+use Rattle.size_steps.specs.Sites.{movedOn, Kept, kept-all, kept-then, kept-moved}
 use Rattle.size_steps.specs.Agreement.{CheckedAs, Agrees, Grows, agrees, ofType, grows-to, grows-same, bind-is, bind-no}
 use Rattle.size_laws.specs.Promises.{Lent, Buffers, IndexedFile, Here, BranchPart, BranchesPart, entering, Wanted, SizesBranch, SizesBranches}
 use Rattle.size_steps.specs.Leaves.{leafOf}
@@ -47,17 +47,17 @@ no-branches wb-nil e = refl
 no-branches (wb-cons w ws) e = absurd (let z : _≡_ {A = ℕ} 0 1 = cc in omega arith)
 
 -- ---- the first branch and those behind it, with their constructors
-record Apart (line : List ℕ) (p : Place) (S : Scope) (end : ℕ) (cs : List Constructor) (bs : Exprs) (k : ℕ) : Type 0 where
+record Apart (line : List ℕ) (p : Site) (S : Scope) (end : ℕ) (cs : List Constructor) (bs : Exprs) (k : ℕ) : Type 0 where
   fields : Constructor
   first : Expr
   others : Exprs
   is : bs ≡ econs first others
   splits : drop k cs ≡ fields ∷ drop (suc k) cs
   there : look cs k ≡ some fields
-  part : BranchPart line p S fields (past line (p .at .at) (length (exprBytes first))) first
-  rest : Spells exprsBytes line (past line (p .at .at) (length (exprBytes first))) others
-  within : WithinBranches (p .levels) S (drop (suc k) cs) others
-  ends : end ≡ past line (past line (p .at .at) (length (exprBytes first))) (length (exprsBytes others))
+  part : BranchPart line p S fields (past line (p .place .at .at) (length (exprBytes first))) first
+  rest : Spells exprsBytes line (past line (p .place .at .at) (length (exprBytes first))) others
+  within : WithinBranches (p .place .levels) S (drop (suc k) cs) others
+  ends : end ≡ past line (past line (p .place .at .at) (length (exprBytes first))) (length (exprsBytes others))
 
 first-within : {n : ℕ} {S : Scope} {fs : Constructor} {cs : List Constructor} {e : Expr} {es : Exprs} → WithinBranches n S (fs ∷ cs) (econs e es) → WithinExpr n (wider (length fs) (owns fs) S) e
 first-within (wb-cons w ws) = w
@@ -65,11 +65,11 @@ first-within (wb-cons w ws) = w
 rest-within : {n : ℕ} {S : Scope} {fs : Constructor} {cs : List Constructor} {e : Expr} {es : Exprs} → WithinBranches n S (fs ∷ cs) (econs e es) → WithinBranches n S cs es
 rest-within (wb-cons w ws) = ws
 
-apart : {line : List ℕ} {p : Place} {S : Scope} {end : ℕ} (cs : List Constructor) {bs : Exprs} (k : ℕ) → k < length cs → BranchesPart line p S (drop k cs) end bs → Apart line p S end cs bs k
+apart : {line : List ℕ} {p : Site} {S : Scope} {end : ℕ} (cs : List Constructor) {bs : Exprs} (k : ℕ) → k < length cs → BranchesPart line p S (drop k cs) end bs → Apart line p S end cs bs k
 apart {line} {p} {S} {end} cs {bs} k less part =
     let split = drop-cons cs k [] less in
     let m = more-spelled (part .spelled) (omega (arith, branches-counted (part .within), length-drop k cs, less)) in
-    let w = subst (WithinBranches (p .levels) S (getD cs k [] ∷ drop (suc k) cs)) (m .is) (subst (λ l. WithinBranches (p .levels) S l bs) split (part .within)) in
+    let w = subst (WithinBranches (p .place .levels) S (getD cs k [] ∷ drop (suc k) cs)) (m .is) (subst (λ l. WithinBranches (p .place .levels) S l bs) split (part .within)) in
     record {
       fields = getD cs k [];
       first = m .first;
@@ -80,11 +80,11 @@ apart {line} {p} {S} {end} cs {bs} k less part =
       part = record { spelled = m .spelled; within = first-within w; ends = refl };
       rest = m .next;
       within = rest-within w;
-      ends = part .ends ∙ ap (λ (l : Exprs). past line (p .at .at) (length (exprsBytes l))) (m .is) ∙ m .ends;
+      ends = part .ends ∙ ap (λ (l : Exprs). past line (p .place .at .at) (length (exprsBytes l))) (m .is) ∙ m .ends;
     }
 
 -- ---- no constructor is left
-pub branches-none : {s : Subject} {k n : ℕ} {t : Lent} {b : Buffers} {p : Place} {numbers : Estimate} {r : Sizing} → (n ≡ getD (typesOf (t .index)) (typeWords * s .of) 0 % byteRange) × (n < byteRange) → n ≤ k → Makes nothing numbers →
+pub branches-none : {s : Subject} {k n : ℕ} {t : Lent} {b : Buffers} {p : Site} {numbers : Estimate} {r : Sizing} → (n ≡ getD (typesOf (t .index)) (typeWords * s .of) 0 % byteRange) × (n < byteRange) → n ≤ k → Makes nothing numbers →
     r ≡ leafOf (s .ty) numbers p → SizesBranches s k t b p r b
 unfolding sizedBranches exprsBytes
 branches-none {s} {k} {t} {b} {p} {numbers} told few made is = record {
@@ -96,15 +96,15 @@ branches-none {s} {k} {t} {b} {p} {numbers} told few made is = record {
         small = w .ty;
         numbers = made .says;
         holds = h .holds;
-        ends = sym (part .ends ∙ ap (λ (l : Exprs). past (lineAt (t .text) (p .line)) (p .at .at) (length (exprsBytes l))) empty ∙ past-none (lineAt (t .text) (p .line)) (p .at .at));
+        ends = sym (part .ends ∙ ap (λ (l : Exprs). past (lineAt (t .text) (p .place .line)) (p .place .at .at) (length (exprsBytes l))) empty ∙ past-none (lineAt (t .text) (p .place .line)) (p .place .at .at));
       }));
   grows = grown-is is (omega arith);
   kept = kept-all;
 }
 
-module _ {s : Subject} {k n : ℕ} {t : Lent} {b b₁ : Buffers} {p : Place} {x : Sizing} (told : (n ≡ getD (typesOf (t .index)) (typeWords * s .of) 0 % byteRange) × (n < byteRange)) (more : k < n) (v : SizesBranch s k t b p x b₁) where
+module _ {s : Subject} {k n : ℕ} {t : Lent} {b b₁ : Buffers} {p : Site} {x : Sizing} (told : (n ≡ getD (typesOf (t .index)) (typeWords * s .of) 0 % byteRange) × (n < byteRange)) (more : k < n) (v : SizesBranch s k t b p x b₁) where
   apart-at : {P : File} {S : Scope} {q : Stand} {Γ : List Ty} {Δ : List ℕ} {L : List Instance} {left end : ℕ} {bs : Exprs} → Here t b p P S q Γ Δ L left → Wanted P s →
-      BranchesPart (lineAt (t .text) (p .line)) p S (drop k (constructorsOf P (s .of))) end bs → Apart (lineAt (t .text) (p .line)) p S end (constructorsOf P (s .of)) bs k
+      BranchesPart (lineAt (t .text) (p .place .line)) p S (drop k (constructorsOf P (s .of))) end bs → Apart (lineAt (t .text) (p .place .line)) p S end (constructorsOf P (s .of)) bs k
   apart-at {P} h w part = apart (constructorsOf P (s .of)) k (omega (arith, more, constructors-told (h .indexed) (w .of) told)) part
 
   pub branches-first : {m frame : ℕ} → x ≡ Refused m frame → SizesBranches s k t b p x b₁
@@ -117,8 +117,8 @@ module _ {s : Subject} {k n : ℕ} {t : Lent} {b b₁ : Buffers} {p : Place} {x 
   }
 
   -- the branches behind it
-  module _ {a : Checked} {o : Place} {y : Sizing} {b₂ : Buffers} (d : x ≡ Is a) (moved : o ≡ movedTo p (a .next) (a .used)) (u : SizesBranches s (k + 1) t b₁ o y b₂) where
-    under : SizesBranches s (suc k) t b₁ (movedTo p (a .next) (a .used)) y b₂
+  module _ {a : Checked} {o : Site} {y : Sizing} {b₂ : Buffers} (d : x ≡ Is a) (moved : o ≡ movedOn p (a .next) (a .used)) (u : SizesBranches s (k + 1) t b₁ o y b₂) where
+    under : SizesBranches s (suc k) t b₁ (movedOn p (a .next) (a .used)) y b₂
     under = rw (sym (add-one k), sym moved) u
 
     branches-kept : Kept p (b .scope) (b .sizes) (b₂ .scope) (b₂ .sizes)
@@ -128,11 +128,11 @@ module _ {s : Subject} {k n : ℕ} {t : Lent} {b b₁ : Buffers} {p : Place} {x 
     branches-grows = grows-same (grows-to (v .grows) d) (under .grows)
 
     rest-at : {P : File} {S : Scope} {q : Stand} {Γ : List Ty} {Δ : List ℕ} {L : List Instance} {left end : ℕ} {bs : Exprs} {z : CountedDef} → Here t b p P S q Γ Δ L left → Wanted P s →
-        (i : Apart (lineAt (t .text) (p .line)) p S end (constructorsOf P (s .of)) bs k) → CheckedAs P (past (lineAt (t .text) (p .line)) (p .at .at) (length (exprBytes (i .first)))) (b₁ .list) a (ofType (meaning (s .ty)) z) →
+        (i : Apart (lineAt (t .text) (p .place .line)) p S end (constructorsOf P (s .of)) bs k) → CheckedAs P (past (lineAt (t .text) (p .place .line)) (p .place .at .at) (length (exprBytes (i .first)))) (b₁ .list) a (ofType (meaning (s .ty)) z) →
         Agrees P (ofType (meaning (s .ty))) end (b₂ .list) y (sizedBranches P (entering P left) (i .others) (drop (suc k) (constructorsOf P (s .of))) q Γ Δ (s .of) (s .size) (meaning (s .ty)) (z .list))
     rest-at {P} {S} {q} {Γ} {Δ} {left} {end} {z} h w i c =
         under .says P S q Γ Δ (z .list) left (here-moved h (a .next) (v .kept) (c .holds) (grows-to (v .grows) d)) w end (i .others)
-        (record { spelled = rw (c .ends) (i .rest); within = i .within; ends = i .ends ∙ ap (λ (n : ℕ). past (lineAt (t .text) (p .line)) n (length (exprsBytes (i .others)))) (sym (c .ends)) })
+        (record { spelled = rw (c .ends) (i .rest); within = i .within; ends = i .ends ∙ ap (λ (n : ℕ). past (lineAt (t .text) (p .place .line)) n (length (exprsBytes (i .others)))) (sym (c .ends)) })
 
     pub branches-rest : {m frame : ℕ} → y ≡ Refused m frame → SizesBranches s k t b p y b₂
     branches-rest d′ = record {

@@ -17,14 +17,14 @@ use Rattle.estimate.specs.declared.Estimate.{Estimate}
 use Rattle.estimate.specs.Stands.{Stands, Changes, Combines}
 use Rattle.sizes.specs.Rows.{NamedSizes}
 use Rattle.index.specs.Sections.{functionsOf}
-use Rattle.size_steps.specs.declared.Place.{Place}
+use Rattle.size_steps.specs.declared.Site.{Site}
 use Rattle.size_steps.specs.declared.Checked.{Checked}
 use Rattle.size_steps.specs.declared.Sizing.{Sizing}
 use Rattle.size_steps.specs.declared.Sizing.the-variants.{Is, Refused}
 use Rattle.size_steps.specs.declared.Counted.{Counted}
 use Rattle.size_steps.specs.declared.Counting.{Counting}
 use Rattle.size_steps.specs.declared.Counting.the-variants.{Are, Refused as RefusedAll}
-use Rattle.size_steps.specs.Sites.{movedTo}
+use Rattle.size_steps.specs.Sites.{movedOn}
 use Rattle.size_steps.specs.Agreement.{Table, Agrees, agrees, itself, ofType, before-9, grows-to, grows-same, grows-all-to, all-are, all-no, bind-is, bind-no, need-before, from-some}
 use Rattle.size_steps.specs.Leaves.{refusedOf}
 use Rattle.size_laws.specs.SeveralAgree.{grown-as, not-grown-as}
@@ -35,7 +35,7 @@ use Rattle.size_laws.specs.EnterLaws.{from-same}
 use Rattle.size_laws.specs.Sums.{through}
 
 -- ---- a call: its arguments, and what is behind them
-module _ {t : Lent} {b b₁ : Buffers} {p : Place} {f n : ℕ} {row row₁ : List ℕ} {x : Counting} (arity : ArityOf (functionsOf (t .index)) f n) (room : variablesMost ≤ length row) (v : SizesAll t b p n row x b₁ row₁) where
+module _ {t : Lent} {b b₁ : Buffers} {p : Site} {f n : ℕ} {row row₁ : List ℕ} {x : Counting} (arity : ArityOf (functionsOf (t .index)) f n) (room : variablesMost ≤ length row) (v : SizesAll t b p n row x b₁ row₁) where
   pub call-arguments : {k frame : ℕ} {r : Sizing} → x ≡ RefusedAll k frame → r ≡ refusedOf x → Sizes (CallPart f) t b p r b₁
   unfolding sized
   call-arguments d answer = record {
@@ -52,7 +52,6 @@ module _ {t : Lent} {b b₁ : Buffers} {p : Place} {f n : ℕ} {row row₁ : Lis
         rw (i .form) (all-are _ (v .says P S o Γ Δ L left h (omega (arith, room, i .few)) end (i .list) (i .part)) d (λ z c.
         from-some 6 _ _ (i .is) (need-before _ _ before-9 (λ s. u .says P o (i .function) z left end (record {
           indexed = h .indexed;
-          typeCount = h .site .typeCount;
           frame = h .site .frame;
           around = h .site .around;
           function = i .is;
@@ -94,15 +93,14 @@ applied-opened P enter o g F z =
     ∙ need-then (conditionsHold ks (F .conditions)) 12 (frameAt P o) (need (falls o g (summedMeasure (F .measure) ks)) 13 (frameAt P o) rest) (withArguments F z)
 
 -- ---- what is done behind the arguments
-module _ (p : Place) (a : Counted) {t : Lent} {list : Table} {row named named′ : List ℕ} {q : Place} {f n m : ℕ} (zeros : named ≡ replicate sizeVariablesMost 0) (u : NamedSizes row n named m named′)
-    (moved : q ≡ movedTo p (a .next) (a .used)) {x : Sizing} {b : Buffers} (v : Enters f n m t (buffers list row named′) q x b) where
-  entry : Enters f n m t (buffers list row named′) (movedTo p (a .next) (a .used)) x b
+module _ (p : Site) (a : Counted) {t : Lent} {list : Table} {row named named′ : List ℕ} {q : Site} {f n m : ℕ} (zeros : named ≡ replicate sizeVariablesMost 0) (u : NamedSizes row n named m named′)
+    (moved : q ≡ movedOn p (a .next) (a .used)) {x : Sizing} {b : Buffers} (v : Enters f n m t (buffers list row named′) q x b) where
+  entry : Enters f n m t (buffers list row named′) (movedOn p (a .next) (a .used)) x b
   entry = subst (λ r. Enters f n m t (buffers list row named′) r x b) moved v
 
   opened-as : {P : File} {o : Stand} {F : Function} {z : Sizeds} {left next : ℕ} → Argues t p f n a list row P o F z left next → Agrees P itself (a .next .at) (b .list) x (opened P (entering P left) o f F (sizesOf (z .types)) (z .list))
   opened-as {P} {o} {F} {z} {left} g = entry .says P o F (sizesOf (z .types)) (z .list) left (record {
     indexed = g .indexed;
-    typeCount = g .typeCount;
     frame = g .frame;
     around = g .around;
     function = g .function;

@@ -29,12 +29,12 @@ use Rattle.sizes.specs.Promises.{meaning, AgreesType, TypeGiven}
 use Rattle.sizes.specs.TypeLaws.{type-given, type-not-given, type-within}
 use Rattle.sizes.specs.Prefixes.{type-in-scope}
 use Rattle.index.specs.Sections.{framesOf}
-use Rattle.size_steps.specs.declared.Place.{Place}
+use Rattle.size_steps.specs.declared.Site.{Site}
 use Rattle.size_steps.specs.declared.Checked.{Checked}
 use Rattle.size_steps.specs.declared.Sizing.{Sizing}
 use Rattle.size_steps.specs.declared.Sizing.the-variants.{Is, Refused}
 use Rattle.size_steps.specs.declared.Subject.{Subject}
-use Rattle.size_steps.specs.Sites.{one-byte-bounded, movedTo, Kept, kept-then, kept-moved}
+use Rattle.size_steps.specs.Sites.{one-byte-bounded, movedOn, Kept, kept-then, kept-moved}
 use Rattle.size_steps.specs.Agreement.{Table, CheckedAs, Agrees, Grows, agrees, before-9, ofType, not-grown, grows-to, grows-same, bind-is, bind-no, need-before, named-before, from-some, from-none}
 use Rattle.size_laws.specs.Promises.{Lent, Buffers, Here, ExprPart, entering, Sizes, SizesBranches}
 use Rattle.size_laws.specs.Parts.{CasePart}
@@ -48,7 +48,7 @@ named-is : {B : Type 0} {P : File} {viewed : B → Sized} {next : ℕ} {table : 
 unfolding named
 named-is frame κ e a = rw e a
 
-module _ {t : Lent} {b b₁ : Buffers} {p : Place} {x : Sizing} (v : Sizes ExprPart t b p x b₁) where
+module _ {t : Lent} {b b₁ : Buffers} {p : Site} {x : Sizing} (v : Sizes ExprPart t b p x b₁) where
   pub case-first : {u n frame : ℕ} → x ≡ Refused n frame → Sizes (CasePart u) t b p x b₁
   unfolding sized
   case-first d = record {
@@ -70,16 +70,16 @@ module _ {t : Lent} {b b₁ : Buffers} {p : Place} {x : Sizing} (v : Sizes ExprP
     }
 
     -- the type that is wanted of the branches
-    module _ {w m : ℕ} {line : List ℕ} {y : TypeAt} (is : a .ty ≡ Named w m) (cut : line ≡ framePart (t .text) (framesOf (t .index)) (p .line)) (g : TypeGiven line (a .next) (b₁ .sizes) y) where
+    module _ {w m : ℕ} {line : List ℕ} {y : TypeAt} (is : a .ty ≡ Named w m) (cut : line ≡ framePart (t .text) (framesOf (t .index)) (p .place .line)) (g : TypeGiven line (a .next) (b₁ .sizes) y) where
       -- what was read, where the definition reads it
       result-read : {P : File} {S : Scope} {q : Stand} {Γ : List Ty} {Δ : List ℕ} {L : List Instance} {left types at : ℕ} {z : Sized} {r : ResultType} → Here t b p P S q Γ Δ L left → CheckedAs P at (b₁ .list) a z →
-          Spells resultBytes (lineAt (t .text) (p .line)) at r → WithinResult types (S .sizes) r → AgreesType (typeAt Δ r) (past (lineAt (t .text) (p .line)) at (length (resultBytes r))) y
+          Spells resultBytes (lineAt (t .text) (p .place .line)) at r → WithinResult types (S .sizes) r → AgreesType (typeAt Δ r) (past (lineAt (t .text) (p .place .line)) at (length (resultBytes r))) y
       result-read {r} h c s w =
-          let there = part-is-line (h .indexed) (p .line) (h .site .line) cut in
+          let there = part-is-line (h .indexed) (p .place .line) (h .site .line) cut in
           let sizes = sizes-scope (here-behind h (behind-first v d) c) in
           rw (sym (c .ends), sym (sym (type-in-scope (b₁ .sizes) w) ∙ ap (λ (l : List ℕ). typeAt l r) sizes), sym there) (g .says _ _ r w (rw (there, c .ends) s))
 
-      pub case-outside : {u : ℕ} → y ≡ TypeOutside → Sizes (CasePart u) t b p (Refused 10 (p .line + 1)) b₁
+      pub case-outside : {u : ℕ} → y ≡ TypeOutside → Sizes (CasePart u) t b p (Refused 10 (p .place .line + 1)) b₁
       unfolding sized
       case-outside o = record {
         says = λ P S q Γ Δ L left h end e part. let i = part .head in
@@ -90,9 +90,9 @@ module _ {t : Lent} {b b₁ : Buffers} {p : Place} {x : Sizing} (v : Sizes ExprP
         kept = v .kept;
       }
 
-      module _ {u : ℕ} {wanted : SizedType} {next : Cursor} {o : Place} {z : Sizing} {b₂ : Buffers} (given : y ≡ TypeIs wanted next) (moved : o ≡ movedTo p next (a .used))
+      module _ {u : ℕ} {wanted : SizedType} {next : Cursor} {o : Site} {z : Sizing} {b₂ : Buffers} (given : y ≡ TypeIs wanted next) (moved : o ≡ movedOn p next (a .used))
           {s : Subject} (subject : s ≡ subjectOf u m wanted) (br : SizesBranches s 0 t b₁ o z b₂) where
-        under : SizesBranches (subjectOf u m wanted) 0 t b₁ (movedTo p next (a .used)) z b₂
+        under : SizesBranches (subjectOf u m wanted) 0 t b₁ (movedOn p next (a .used)) z b₂
         under = subst₂ (λ i j. SizesBranches i 0 t b₁ j z b₂) subject moved br
 
         case-kept : Kept p (b .scope) (b .sizes) (b₂ .scope) (b₂ .sizes)
@@ -103,15 +103,15 @@ module _ {t : Lent} {b b₁ : Buffers} {p : Place} {x : Sizing} (v : Sizes ExprP
 
         -- the branches, where the definition checks them
         branches-at : {P : File} {S : Scope} {q : Stand} {Γ : List Ty} {Δ : List ℕ} {L : List Instance} {left levels at : ℕ} {bs : Exprs} {s : Sized} → Here t b p P S q Γ Δ L left → (r : ResultType) →
-            CheckedAs P at (b₁ .list) a s → (read : AgreesType (typeAt Δ r) (past (lineAt (t .text) (p .line)) at (length (resultBytes r))) y) → Spells exprsBytes (lineAt (t .text) (p .line)) (past (lineAt (t .text) (p .line)) at (length (resultBytes r))) bs →
-            u < length (S .types) → WithinBranches levels S (getD (S .types) u []) bs → p .levels ≡ levels →
-            Agrees P (ofType (meaning wanted)) (past (lineAt (t .text) (p .line)) (past (lineAt (t .text) (p .line)) at (length (resultBytes r))) (length (exprsBytes bs))) (b₂ .list) z (sizedBranches P (entering P left) bs (constructorsOf P u) q Γ Δ u m (meaning wanted) (s .list))
+            CheckedAs P at (b₁ .list) a s → (read : AgreesType (typeAt Δ r) (past (lineAt (t .text) (p .place .line)) at (length (resultBytes r))) y) → Spells exprsBytes (lineAt (t .text) (p .place .line)) (past (lineAt (t .text) (p .place .line)) at (length (resultBytes r))) bs →
+            u < length (S .types) → WithinBranches levels S (getD (S .types) u []) bs → p .place .levels ≡ levels →
+            Agrees P (ofType (meaning wanted)) (past (lineAt (t .text) (p .place .line)) (past (lineAt (t .text) (p .place .line)) at (length (resultBytes r))) (length (exprsBytes bs))) (b₂ .list) z (sizedBranches P (entering P left) bs (constructorsOf P u) q Γ Δ u m (meaning wanted) (s .list))
         branches-at {P} {S} {q} {Γ} {Δ} {left} {levels} {at} {bs} {s} h r c read spelled less within levels-are =
             let there = type-given given read .1 in
             under .says P S q Γ Δ (s .list) left (here-moved h next (v .kept) (c .holds) (grows-to (v .grows) d))
             (record { of = omega (arith, less, ap length (h .site .known .types)); size = bounded-size (c .small) (sym (c .type) ∙ ap meaning is); ty = one-byte-bounded (type-within given (g .bound)) })
-            (past (lineAt (t .text) (p .line)) (past (lineAt (t .text) (p .line)) at (length (resultBytes r))) (length (exprsBytes bs))) bs
-            (record { spelled = rw there spelled; within = rw (levels-are, sym (h .site .known .types)) within; ends = ap (λ (n : ℕ). past (lineAt (t .text) (p .line)) n (length (exprsBytes bs))) (sym there) })
+            (past (lineAt (t .text) (p .place .line)) (past (lineAt (t .text) (p .place .line)) at (length (resultBytes r))) (length (exprsBytes bs))) bs
+            (record { spelled = rw there spelled; within = rw (levels-are, sym (h .site .known .types)) within; ends = ap (λ (n : ℕ). past (lineAt (t .text) (p .place .line)) n (length (exprsBytes bs))) (sym there) })
 
         pub case-branches : {n n₂ : ℕ} → z ≡ Refused n n₂ → Sizes (CasePart u) t b p z b₂
         unfolding sized

@@ -1,5 +1,5 @@
 -- Counts against the limits, and an expression of a channel: what each return gives.
-use Prim.Native.Nat.{ℕ, _+_, _*_, _≤_, _<_, _^_}
+use Prim.Native.Nat.{ℕ, _+_, _*_, _≤_, _<_}
 use mathlib.Core.List.{List, [], map}
 use mathlib.Core.Bool.{Bool, true, false}
 use mathlib.Core.Path.{_≡_, refl, sym, ap, ap₂, _∙_, subst}
@@ -7,7 +7,7 @@ use native.Mathlib.Omega.{arith}
 use lib.ListN.{length, getD, length-append, length-map}
 use lib.Dec.{leb}
 use borrow.Author.Tests.{leb-true, leb-false}
-use Rattle.language.specs.Limits.{typesMost, functionsMost, inputsMost, nodesMost, channelsMost, variablesMost, sizeVariablesMost, instancesMost}
+use Rattle.language.specs.Limits.{typesMost, functionsMost, inputsMost, nodesMost, channelsMost, instancesMost}
 use Rattle.language.specs.Syntax.{Ty, Expr, Input, Node, File, declaredTypes, channelFrame}
 use Rattle.language.specs.Scope.{outerScope}
 use Rattle.language.specs.Format.{exprBytes}
@@ -27,7 +27,7 @@ use Rattle.encoding.specs.Known.{outer-known}
 use Rattle.sizes.specs.declared.SizedType.{SizedType}
 use Rattle.sizes.specs.Promises.{meaning}
 use Rattle.index.specs.Sections.{channelsOf}
-use Rattle.size_steps.specs.declared.Place.{Place}
+use Rattle.size_steps.specs.declared.Site.{Site}
 use Rattle.size_steps.specs.declared.Checked.{Checked}
 use Rattle.size_steps.specs.declared.Sizing.{Sizing}
 use Rattle.size_steps.specs.declared.Sizing.the-variants.{Is, Refused}
@@ -38,7 +38,7 @@ use Rattle.size_steps.specs.Leaves.{ChannelTyped}
 use Rattle.size_laws.specs.HereLaws.{part-at}
 use Rattle.size_laws.specs.TurnLaws.{sizes-at}
 use Rattle.size_laws.specs.TypesTold.{channel-bounded, channel-typed}
-use Rattle.size_laws.specs.FileParts.{Few, Limited, few, many, outerPlace, Standing, Named, SizesChannel}
+use Rattle.size_laws.specs.FileParts.{Few, Limited, few, many, outerSite, Standing, Named, SizesChannel}
 
 -- ---- counts
 module _ {n : Counts} where
@@ -67,21 +67,18 @@ module _ {n : Counts} where
   limited-many (many f) e = f
 
 -- ---- room for an expression of a channel
-pub room-outer : {n : Counts} {c at used : ℕ} {p : Place} {scope sizes : ℕ} → Few n → c < channelsMost → p ≡ outerPlace n c at used → variablesMost ≤ scope → sizeVariablesMost ≤ sizes → Room (p .levels) scope sizes p
-room-outer f less is scope sizes = rw is (record {
-  scope = scope;
-  sizeScope = sizes;
+pub room-outer : {n : Counts} {c at used : ℕ} {p : Site} → Few n → c < channelsMost → p ≡ outerSite n c at used → Room (p .place .levels) p
+room-outer f less is = rw is (record {
   levels = omega arith;
   under = omega arith;
-  types = f .types;
   line = omega (arith, f .types, f .functions, less);
   variables = omega arith;
   sizes = omega arith;
 })
 
 -- ---- an expression of channel c
-module _ {t : Lent} {list : Table} {scope sizes : List ℕ} {n : Counts} {c word at used : ℕ} {p : Place} {x : Sizing} {b : Buffers}
-    (here : at ≡ getD (channelsOf (t .index)) (channelWords * c + word) 0) (place : p ≡ outerPlace n c at used) (u : Sizes ExprPart t (buffers list scope sizes) p x b) where
+module _ {t : Lent} {list : Table} {scope sizes : List ℕ} {n : Counts} {c word at used : ℕ} {p : Site} {x : Sizing} {b : Buffers}
+    (here : at ≡ getD (channelsOf (t .index)) (channelWords * c + word) 0) (place : p ≡ outerSite n c at used) (u : Sizes ExprPart t (buffers list scope sizes) p x b) where
   -- the expression as the definition has it
   module _ (P : File) (i : IndexedFile t P) (k : CountsAre n P) (C : List Ty) (named : Named P C) (e : Expr) (τ : Ty) (s : Standing t P word c e τ) (L : List Instance) (h : Holds P list used L) where
     line-is : channelLine P c ≡ n .types + n .functions + c
@@ -96,17 +93,16 @@ module _ {t : Lent} {list : Table} {scope sizes : List ℕ} {n : Counts} {c word
       length-map (P .nodes) (λ (m : Node). m .declared),
     )
 
-    channel-here : Here t (buffers list scope sizes) (outerPlace n c at used) P (outerScope (P .types) (P .functions) (s .now) (s .last)) (outside (channelFrame P c) C) [] [] L instancesMost
+    channel-here : Here t (buffers list scope sizes) (outerSite n c at used) P (outerScope (P .types) (P .functions) (s .now) (s .last)) (outside (channelFrame P c) C) [] [] L instancesMost
     unfolding channelsAt frameAt outerScope
     channel-here = record {
       indexed = i;
       site = record {
         known = outer-known P (s .now) (s .last);
         channels = named;
-        typeCount = sym (k .typeCount);
         frame = omega (arith, line-is);
         line = omega (arith, line-is, below);
-        around = around-none refl;
+        around = around-none (omega (arith, line-is));
         variables = refl;
         variablesIn = refl;
         types = refl;
@@ -122,7 +118,7 @@ module _ {t : Lent} {list : Table} {scope sizes : List ℕ} {n : Counts} {c word
     channel-agrees : Agrees P itself (past (lineAt (t .text) (channelLine P c)) (getD (channelsOf (t .index)) (channelWords * c + word) 0) (length (exprBytes e))) (b .list) x (sized P (entering P instancesMost) e (outside (channelFrame P c) C) [] [] L)
     channel-agrees = subst (λ m. Agrees P itself (past (lineAt (t .text) m) (getD (channelsOf (t .index)) (channelWords * c + word) 0) (length (exprBytes e))) (b .list) x (sized P (entering P instancesMost) e (outside (channelFrame P c) C) [] [] L)) (sym line-is)
         (sizes-at place u .says P _ (outside (channelFrame P c) C) [] [] L instancesMost channel-here _ e
-        (part-at (outerPlace n c at used) (subst (λ m. Spells exprBytes (lineAt (t .text) m) (getD (channelsOf (t .index)) (channelWords * c + word) 0) e) line-is (s .spelled)) (s .within) here refl))
+        (part-at (outerSite n c at used) (subst (λ m. Spells exprBytes (lineAt (t .text) m) (getD (channelsOf (t .index)) (channelWords * c + word) 0) e) line-is (s .spelled)) (s .within) here refl))
 
     -- the type that was found, against the declared one
     test-is : {σ : Ty} {ty : SizedType} {r : Bool} (found : SizedType) → ChannelTyped (t .index) c ty → r ≡ sameType (meaning found) (meaning ty) → meaning found ≡ σ → sameType σ τ ≡ r
@@ -133,12 +129,12 @@ module _ {t : Lent} {list : Table} {scope sizes : List ℕ} {n : Counts} {c word
   channel-refused d = record { says = λ P i k C named e τ s L h. bind-no _ (channel-agrees P i k C named e τ s L h) d d }
 
   module _ {a : Checked} {ty : SizedType} {r : Bool} (d : x ≡ Is a) (typed : ChannelTyped (t .index) c ty) (same : r ≡ sameType (meaning (a .ty)) (meaning ty)) where
-    pub channel-differs : r ≡ false → SizesChannel t list n c word used (Refused 11 (p .line + 1)) (b .list)
+    pub channel-differs : r ≡ false → SizesChannel t list n c word used (Refused 11 (p .place .line + 1)) (b .list)
     unfolding sizedChannel
     channel-differs no-match = record {
       says = λ P i k C named e τ s L h. bind-is _ (channel-agrees P i k C named e τ s L h) d (λ y g.
           need-fails _ (test-is P i k C named e τ s L h (a .ty) typed same (g .type) ∙ no-match)
-          (ap (λ z. Refused 11 (z .line + 1)) place ∙ ap (λ m. Refused 11 (m + 1)) (sym (line-is P i k C named e τ s L h))));
+          (ap (λ z. Refused 11 (z .place .line + 1)) place ∙ ap (λ m. Refused 11 (m + 1)) (sym (line-is P i k C named e τ s L h))));
     }
 
     pub channel-done : {z : Sizing} → r ≡ true → z ≡ Is a → SizesChannel t list n c word used z (b .list)

@@ -1,5 +1,5 @@
 -- The expressions of channels one after the other: what each turn and each return gives.
-use Prim.Native.Nat.{ℕ, suc, _+_, _-_, _≤_, _<_}
+use Prim.Native.Nat.{ℕ, suc, _+_, _≤_, _<_}
 use mathlib.Core.List.{List}
 use mathlib.Core.Path.{_≡_, refl, sym, ap, _∙_, subst}
 use native.Mathlib.Omega.{arith}
@@ -8,6 +8,7 @@ use Rattle.language.specs.Result.{Result, no, bind}
 use Rattle.language.specs.Syntax.{Ty, Expr, File}
 use Rattle.language.specs.Estimate.{Estimate as Exact, nothing, after}
 use Rattle.language.specs.Checker.{Instance, Counted as CountedDef}
+use Rattle.text.specs.declared.Cursor.{Cursor}
 use Rattle.index.specs.declared.Counts.{Counts}
 use Rattle.estimate.specs.Stands.{Stands}
 use Rattle.index.specs.Indexed.{Counted as CountsAre}
@@ -20,8 +21,8 @@ use Rattle.size_steps.specs.declared.Counting.the-variants.{Are, Refused}
 use Rattle.size_steps.specs.Agreement.{Table, Holds, Before, Agrees, agrees, refused, beyond, ofType}
 use Rattle.size_laws.specs.Promises.{Lent, IndexedFile}
 use Rattle.size_steps.specs.Leaves.{refusedAll}
-use Rattle.size_laws.specs.FileParts.{Named, SizesChannel, summed, Lasting, no-more, one-more, AgreesSum, sum-agrees, sum-refused, sum-beyond, channelCount, SizesChannels, NoneYet}
-use Rattle.size_steps.specs.Numbers.{Joins}
+use Rattle.size_laws.specs.FileParts.{Named, SizesChannel, summed, Lasting, no-more, one-more, AgreesSum, sum-agrees, sum-refused, sum-beyond, channelCount, SizesChannels}
+use Rattle.size_steps.specs.Numbers.{NoneCounted, Joins}
 
 -- ---- before channel c: what was summed so far, and the expressions that are left decide the whole
 data Reached (t : Lent) (P : File) (C : List Ty) (word last c : ℕ) (list : Table) (all : Counted) (whole : Result CountedDef) : Type 0 where
@@ -32,8 +33,8 @@ pub record Along (t : Lent) (list₀ : Table) (n : Counts) (from word used c : �
   says : (P : File) → IndexedFile t P → CountsAre n P → (C : List Ty) → Named P C → (es : List Expr) (τs : List Ty) → Lasting t P word (channelCount n) from es τs → (L : List Instance) → Holds P list₀ used L →
       Reached t P C word (channelCount n) c list all (summed P C nothing from es τs L)
 
-pub along-start : {t : Lent} {list : Table} {n : Counts} {from word used : ℕ} {all : Counted} → NoneYet used all → Along t list n from word used from list all
-along-start {list} none = record { says = λ P i k C named es τs ls L h. reached ls (none .numbers .says) (subst (λ m. Holds P list m L) (sym (none .same)) h) refl }
+pub along-start : {t : Lent} {list : Table} {n : Counts} {from word used : ℕ} {start : Cursor} {all : Counted} → NoneCounted start used all → Along t list n from word used from list all
+along-start {list} none = rw (none .is) (record { says = λ P i k C named es τs ls L h. reached ls (none .none .says) h refl })
 
 -- ---- one turn
 module _ {t : Lent} {P : File} {C : List Ty} {word last c end : ℕ} {list : Table} {all : Counted} {whole : Result CountedDef} {x : Sizing} {y : Exact} {τ : Ty} {es : List Expr} {τs : List Ty} where

@@ -18,7 +18,7 @@ use Rattle.index.specs.Tables.{typeWords, constructorWords}
 use Rattle.encoding.specs.ExprLists.{exprCount, exprs-counted}
 use Rattle.encoding.specs.FrameSpells.{lineAt}
 use Rattle.index.specs.Sections.{typesOf}
-use Rattle.size_steps.specs.declared.Place.{Place}
+use Rattle.size_steps.specs.declared.Site.{Site}
 use Rattle.size_steps.specs.declared.Sizing.{Sizing}
 use Rattle.size_steps.specs.declared.Counted.{Counted}
 use Rattle.size_steps.specs.declared.Counting.{Counting}
@@ -44,7 +44,7 @@ sizeds-counted P enter enil p Γ Δ L = accepted refl
 sizeds-counted P enter (econs e es) p Γ Δ L = bind-outcome (any-sized P enter e p Γ Δ L) (λ q _ _. bind-outcome (sizeds-counted P enter es p Γ Δ (q .list)) (λ r _ y. accepted (ap suc y)))
 
 -- ---- which constructor is made, and its fields
-pub record Constructed (t : Lent) (p : Place) (P : File) (S : Scope) (of c n end : ℕ) (e : Expr) : Type 0 where
+pub record Constructed (t : Lent) (p : Site) (P : File) (S : Scope) (of c n end : ℕ) (e : Expr) : Type 0 where
   pub fields : Constructor
   pub type : of < length (P .types)
   pub is : look (constructorsOf P of) c ≡ some fields
@@ -52,13 +52,13 @@ pub record Constructed (t : Lent) (p : Place) (P : File) (S : Scope) (of c n end
   pub few : n ≤ fieldsMost
   pub list : Exprs
   pub form : e ≡ econ of c list
-  pub part : ExprsPart (lineAt (t .text) (p .line)) p S n end list
+  pub part : ExprsPart (lineAt (t .text) (p .place .line)) p S n end list
 
 abbrev pub FieldsOf : List ℕ → ℕ → ℕ → ℕ → Type 0
 FieldsOf types of c n = (n ≡ getD types (typeWords * of + 1 + constructorWords * c) 0 % byteRange) × (n < byteRange)
 
-pub constructed : {t : Lent} {b : Buffers} {p : Place} {P : File} {S : Scope} {q : Stand} {Γ : List Ty} {Δ : List ℕ} {L : List Instance} {left of c n end : ℕ} {e : Expr} → FieldsOf (typesOf (t .index)) of c n →
-    Here t b p P S q Γ Δ L left → ConPart of c (lineAt (t .text) (p .line)) p S end e → Constructed t p P S of c n end e
+pub constructed : {t : Lent} {b : Buffers} {p : Site} {P : File} {S : Scope} {q : Stand} {Γ : List Ty} {Δ : List ℕ} {L : List Instance} {left of c n end : ℕ} {e : Expr} → FieldsOf (typesOf (t .index)) of c n →
+    Here t b p P S q Γ Δ L left → ConPart of c (lineAt (t .text) (p .place .line)) p S end e → Constructed t p P S of c n end e
 constructed {t} {p} {P} {S} {of} {c} {n} told h part =
     let i = part .head in
     let same = h .site .known .types in
@@ -77,13 +77,13 @@ constructed {t} {p} {P} {S} {of} {c} {n} told h part =
       form = i .is;
       part = record {
         spelled = i .spelled;
-        within = subst (λ m. WithinExprs (p .levels) S m (i .list)) all (subst (λ m. WithinExprs m S (length (getD (getD (S .types) of []) c [])) (i .list)) (sym (suc-same (i .deep))) (i .within));
+        within = subst (λ m. WithinExprs (p .place .levels) S m (i .list)) all (subst (λ m. WithinExprs m S (length (getD (getD (S .types) of []) c [])) (i .list)) (sym (suc-same (i .deep))) (i .within));
         ends = ends-at part (i .is) (i .long);
       };
     }
 
 -- ---- the returns
-module _ {t : Lent} {b b₁ : Buffers} {p : Place} {of c n : ℕ} {row row₁ : List ℕ} {x : Counting} (told : FieldsOf (typesOf (t .index)) of c n) (room : fieldsMost ≤ length row) (v : SizesAll t b p n row x b₁ row₁) where
+module _ {t : Lent} {b b₁ : Buffers} {p : Site} {of c n : ℕ} {row row₁ : List ℕ} {x : Counting} (told : FieldsOf (typesOf (t .index)) of c n) (room : fieldsMost ≤ length row) (v : SizesAll t b p n row x b₁ row₁) where
   pub con-fields : {k frame : ℕ} {r : Sizing} → x ≡ RefusedAll k frame → r ≡ refusedOf x → Sizes (ConPart of c) t b p r b₁
   unfolding sized
   con-fields d answer = record {

@@ -1,11 +1,11 @@
 -- A call behind its arguments: the instance looked up, or entered for the first time. What each return of `enter` and `enter_new` gives.
-use Prim.Native.Nat.{ℕ, zero, suc, _+_, _≤_, _<_}
+use Prim.Native.Nat.{ℕ, zero, suc, _≤_, _<_}
 use mathlib.Core.List.{List}
 use mathlib.Core.Bool.{true}
 use mathlib.Core.Option.{Option, none, some}
 use mathlib.Core.Path.{_≡_, refl, sym, ap, _∙_, subst}
 use native.Mathlib.Omega.{arith}
-use lib.ListN.{length, getElem? as look}
+use lib.ListN.{getElem? as look}
 use Rattle.language.specs.Result.{Result, ok, bind, need, from}
 use Rattle.language.specs.Syntax.{Ty, Function, File, functionFrame}
 use Rattle.language.specs.Within.{All}
@@ -14,12 +14,11 @@ use Rattle.language.specs.Estimate.{Estimate as Exact}
 use Rattle.language.specs.Typing.{Place as Stand, frameAt, falls}
 use Rattle.language.specs.Checker.{Instance, Sized, Counted as CountedDef, find, foundOr, enterAt}
 use Rattle.theory.specs.Alls.{all-map}
-use Rattle.theory.specs.Instances.{entered}
 use Rattle.instances.specs.declared.Search.{Search}
 use Rattle.instances.specs.declared.Search.the-variants.{Found, Absent}
 use Rattle.instances.specs.Listed.{SameArity, Agrees as Searched, found, absent, Finds}
 use Rattle.sizes.specs.Promises.{meaning}
-use Rattle.size_steps.specs.declared.Place.{Place}
+use Rattle.size_steps.specs.declared.Site.{Site}
 use Rattle.size_steps.specs.declared.Sizing.{Sizing}
 use Rattle.size_steps.specs.declared.Sizing.the-variants.{Refused}
 use Rattle.size_steps.specs.declared.Entry.{Entry}
@@ -70,7 +69,7 @@ from-same (some a) n frame h = h a
 from-same none n frame h = refl
 
 -- ---- enter
-module _ {f n m : ℕ} {t : Lent} {b : Buffers} {p : Place} {x : Search} (s : Finds (b .list .words) (p .used) f (b .sizes) x) where
+module _ {f n m : ℕ} {t : Lent} {b : Buffers} {p : Site} {x : Search} (s : Finds (b .list .words) (p .used) f (b .sizes) x) where
   searched : {P : File} {o : Stand} {F : Function} {ks : List ℕ} {L : List Instance} {left : ℕ} → Opens f n m t b p P o F ks L left → Searched L f ks x
   searched g = let h = g .holds in s .says _ _ (h .listed) (h .count) (h .once) (g .argued .padded) (same-arity h (g .function) (g .argued))
 
@@ -81,9 +80,9 @@ module _ {f n m : ℕ} {t : Lent} {b : Buffers} {p : Place} {x : Search} (s : Fi
         let y = was-found (searched g) d in
         let there : Recorded P (b .list) (p .used) f i F ks L (y .instance) = record { holds = g .holds; there = y .there; function = y .function; sizes = y .sizes } in
         need-holds 12 _ (recorded-met (g .function) there .conditions)
-        (subst (Agrees P itself (p .at .at) (b .list) r) (ap (need (falls o f (summedMeasure (F .measure) ks)) 13 (frameAt P o)) (from-same (typeAt ks (F .result)) 10 (functionFrame P f) (λ τ.
+        (subst (Agrees P itself (p .place .at .at) (b .list) r) (ap (need (falls o f (summedMeasure (F .measure) ks)) 13 (frameAt P o)) (from-same (typeAt ks (F .result)) 10 (functionFrame P f) (λ τ.
         ap (λ a. bind a (λ (z : CountedDef). ok (ofType τ z))) (sym (entered-before P (frameAt P o) f F ks τ L left (y .is))))))
-        (again .says P o F ks L (y .instance) (g .indexed) (g .typeCount) (g .frame) (g .around) (g .function) (sizes-for (g .argued)) there));
+        (again .says P o F ks L (y .instance) (g .indexed) (g .frame) (g .around) (g .function) (sizes-for (g .argued)) there));
     grows = again .grows;
   }
 
@@ -118,7 +117,7 @@ record IsReady (P : File) (o : Stand) (f n m : ℕ) (F : Function) (ks : List �
   variables : e .variables ≡ n
   sizes : e .sizes ≡ m
 
-ready-of : {P : File} {o : Stand} {p : Place} {f n m : ℕ} {F : Function} {ks : List ℕ} {y : Entering} {e : Entry} → Prepared P o p f n m F ks y → y ≡ Ready e → IsReady P o f n m F ks e
+ready-of : {P : File} {o : Stand} {p : Site} {f n m : ℕ} {F : Function} {ks : List ℕ} {y : Entering} {e : Entry} → Prepared P o p f n m F ks y → y ≡ Ready e → IsReady P o f n m F ks e
 ready-of {P} {o} {f} {n} {m} {F} {ks} {e} (ready {e = j} d c g r i w k l) d′ = subst (IsReady P o f n m F ks) (let both : Ready j ≡ Ready e = sym d ∙ d′ in let same : j ≡ e = cc in same)
     (record { conditions = c; falling = g; result = r; function = i; measures = w; variables = k; sizes = l })
 ready-of (no-condition d c) d′ = absurd (let both = sym d ∙ d′ in let z : _≡_ {A = ℕ} 0 1 = cc in omega arith)
@@ -132,22 +131,22 @@ typed-as τ (agrees e c) = agrees e c
 typed-as τ (refused e) = refused e
 typed-as τ (beyond j) = beyond j
 
-module _ {f n m : ℕ} {t : Lent} {b : Buffers} {p : Place} {y : Entering} (w : Prepares (t .text) (t .index) (b .sizes) p f n m y) where
+module _ {f n m : ℕ} {t : Lent} {b : Buffers} {p : Site} {y : Entering} (w : Prepares (t .text) (t .index) (b .sizes) p f n m y) where
   prepared : {P : File} {o : Stand} {F : Function} {ks : List ℕ} {L : List Instance} {left : ℕ} → Opens f n m t b p P o F ks L left → Prepared P o p f n m F ks y
-  prepared g = w .says _ _ _ _ (g .indexed) (g .typeCount) (g .around) (g .function) (sizes-for (g .argued))
+  prepared g = w .says _ _ _ _ (g .indexed) (g .around) (g .function) (sizes-for (g .argued))
 
   pub new-refused : {k frame : ℕ} {r : Sizing} → y ≡ NotEntered k frame → r ≡ notEntered y → EntersNew f n m t b p r b
   new-refused {r = r} d answer = record {
-    says = λ P o F ks L left g new. refusing _ (g .frame) (g .typeCount) (prepared g);
+    says = λ P o F ks L left g new. refusing _ (g .frame) (prepared g);
     grows = not-grown-as (answer ∙ ap notEntered d);
   }
     where
-      refusing : {P : File} {o : Stand} {F : Function} {ks : List ℕ} {next : ℕ} {list : Table} (κ : Ty → Result Sized) → frameAt P o ≡ suc (p .line) → p .types ≡ length (P .types) → Prepared P o p f n m F ks y →
+      refusing : {P : File} {o : Stand} {F : Function} {ks : List ℕ} {next : ℕ} {list : Table} (κ : Ty → Result Sized) → frameAt P o ≡ suc (p .place .line) → Prepared P o p f n m F ks y →
           Agrees P itself next list r (need (conditionsHold ks (F .conditions)) 12 (frameAt P o) (need (falls o f (summedMeasure (F .measure) ks)) 13 (frameAt P o) (from (typeAt ks (F .result)) 10 (functionFrame P f) κ)))
-      refusing κ at types (ready e c g r i j k l) = absurd (let z : _≡_ {A = ℕ} 0 1 = cc in omega arith)
-      refusing κ at types (no-condition e c) = need-fails _ c (answer ∙ ap notEntered e ∙ ap (Refused 12) (sym at))
-      refusing κ at types (no-fall e c g) = need-holds _ _ c (need-fails _ g (answer ∙ ap notEntered e ∙ ap (Refused 13) (sym at)))
-      refusing {P} κ at types (no-size e c g r) = need-holds _ _ c (need-holds _ _ g (from-none _ r (answer ∙ ap notEntered e ∙ ap (Refused 10) (let same : suc (p .types + f) ≡ functionFrame P f = omega (arith, types) in same))))
+      refusing κ at (ready e c g r i j k l) = absurd (let z : _≡_ {A = ℕ} 0 1 = cc in omega arith)
+      refusing κ at (no-condition e c) = need-fails _ c (answer ∙ ap notEntered e ∙ ap (Refused 12) (sym at))
+      refusing κ at (no-fall e c g) = need-holds _ _ c (need-fails _ g (answer ∙ ap notEntered e ∙ ap (Refused 13) (sym at)))
+      refusing κ at (no-size e c g r) = need-holds _ _ c (need-holds _ _ g (from-none _ r (answer ∙ ap notEntered e)))
 
   pub new-entered : {e : Entry} {r : Sizing} {b₁ : Buffers} → y ≡ Ready e → ChecksBody e t b p r b₁ → EntersNew f n m t b p r b₁
   new-entered {e} {r} {b₁} d u = record {
@@ -157,7 +156,7 @@ module _ {f n m : ℕ} {t : Lent} {b : Buffers} {p : Place} {y : Entering} (w : 
         let arguments : Argued F ks (e .variables) (e .sizes) (b .scope) (b .sizes) = subst₂ (λ v s. Argued F ks v s (b .scope) (b .sizes)) (sym (i .variables)) (sym (i .sizes)) (g .argued) in
         let given : Given P e F ks (b .scope) (b .sizes) = record { function = here; measures = i .measures; argued = arguments; conditions = i .conditions; result = i .result; small = entry-is (w .of) d .small } in
         need-holds 12 _ (i .conditions) (need-holds 13 _ (i .falling) (from-some 10 _ _ (i .result) (typed-as (meaning (e .ty))
-        (subst₂ (λ frame h. Agrees P (ofType (meaning (e .ty))) (p .at .at) (b₁ .list) r (entering P left frame h F ks (meaning (e .ty)) L)) (sym (g .frame)) (i .function)
-        (u .says P F ks L left (g .indexed) (g .typeCount) (g .holds) (g .deep) given (subst (λ h. find L h ks ≡ none) (sym (i .function)) new))))));
+        (subst₂ (λ frame h. Agrees P (ofType (meaning (e .ty))) (p .place .at .at) (b₁ .list) r (entering P left frame h F ks (meaning (e .ty)) L)) (sym (g .frame)) (i .function)
+        (u .says P F ks L left (g .indexed) (g .holds) (g .deep) given (subst (λ h. find L h ks ≡ none) (sym (i .function)) new))))));
     grows = u .grows;
   }

@@ -25,7 +25,7 @@ use Rattle.heads.specs.HeadForms.{LetHead, IfHead, OpHead, CallHead, ConHead, C
 use Rattle.sizes.specs.declared.SizedType.{SizedType}
 use Rattle.sizes.specs.declared.SizedType.the-variants.{Bool as BoolIs, Int as IntIs}
 use Rattle.index.specs.Sections.{framesOf}
-use Rattle.size_steps.specs.declared.Place.{Place}
+use Rattle.size_steps.specs.declared.Site.{Site}
 use Rattle.size_steps.specs.declared.Sizing.{Sizing}
 use Rattle.size_steps.specs.declared.Sizing.the-variants.{Refused}
 use Rattle.size_steps.specs.Sites.{bounded-bool, bounded-int, bounded-small, downTo, kept-all}
@@ -85,7 +85,7 @@ some-level (w-case room less e r bs) = omega arith
 some-level (w-adj room s e) = omega arith
 some-level (w-fit room k a b d) = omega arith
 
-pub expr-deep : {t : Lent} {b : Buffers} {p : Place} {n frame : ℕ} → p .levels ≡ 0 → Sizes ExprPart t b p (Refused n frame) b
+pub expr-deep : {t : Lent} {b : Buffers} {p : Site} {n frame : ℕ} → p .place .levels ≡ 0 → Sizes ExprPart t b p (Refused n frame) b
 expr-deep none = record {
   says = λ P S q Γ Δ L left h end e part. absurd (omega (arith, none, some-level (part .within)));
   grows = not-grown;
@@ -93,7 +93,7 @@ expr-deep none = record {
 }
 
 -- ---- a leaf, which ends behind its head
-module _ {x : Sizing} {ty : SizedType} {numbers : Estimate} {r : Place} (p : Place) (next : Cursor) (down : r ≡ downTo p next) (is : x ≡ leafOf ty numbers r) where
+module _ {x : Sizing} {ty : SizedType} {numbers : Estimate} {r : Site} (p : Site) (next : Cursor) (down : r ≡ downTo p next) (is : x ≡ leafOf ty numbers r) where
   leaf-is : x ≡ leafOf ty numbers (downTo p next)
   leaf-is = is ∙ ap (leafOf ty numbers) down
 
@@ -101,17 +101,17 @@ module _ {x : Sizing} {ty : SizedType} {numbers : Estimate} {r : Place} (p : Pla
   leaf-grows = rw leaf-is (grown {k = record { ty = ty; numbers = numbers; next = next; used = p .used }} (omega arith))
 
 -- ---- the parts of a form, as they stand behind its head
-form-part : {p : Place} {next : Cursor} {l : List ℕ} {S : Scope} {end : ℕ} {e : Expr} (Of : List ℕ → ℕ → ℕ → ℕ → Scope → Expr → Type 0) → ExprPart l p S end e → Of l (p .at .at) (next .at) (p .levels) S e → FormPart Of l (downTo p next) S end e
+form-part : {p : Site} {next : Cursor} {l : List ℕ} {S : Scope} {end : ℕ} {e : Expr} (Of : List ℕ → ℕ → ℕ → ℕ → Scope → Expr → Type 0) → ExprPart l p S end e → Of l (p .place .at .at) (next .at) (p .place .levels) S e → FormPart Of l (downTo p next) S end e
 form-part {p} {next} {l} {S} {e} Of part of = record {
-  from = p .at .at;
-  head = let deep : p .levels ≡ suc (p .levels - 1) = omega (arith, some-level (part .within)) in subst (λ n. Of l (p .at .at) (next .at) n S e) deep of;
+  from = p .place .at .at;
+  head = let deep : p .place .levels ≡ suc (p .place .levels - 1) = omega (arith, some-level (part .within)) in subst (λ n. Of l (p .place .at .at) (next .at) n S e) deep of;
   ends = part .ends;
 }
 
 -- ---- the head that was read of the line of the place; r the place behind it
-module _ {t : Lent} {b : Buffers} {p : Place} {line : List ℕ} {h : Head} (cut : line ≡ framePart (t .text) (framesOf (t .index)) (p .line)) (read : Heads line (p .at .at) h) {r : Place} (down : r ≡ downTo p (h .next)) where
-  read-here : {P : File} {S : Scope} {q : Stand} {Γ : List Ty} {Δ : List ℕ} {L : List Instance} {left : ℕ} → Here t b p P S q Γ Δ L left → Heads (lineAt (t .text) (p .line)) (p .at .at) h
-  read-here k = subst (λ l. Heads l (p .at .at) h) (part-is-line (k .indexed) (p .line) (k .site .line) cut) read
+module _ {t : Lent} {b : Buffers} {p : Site} {line : List ℕ} {h : Head} (cut : line ≡ framePart (t .text) (framesOf (t .index)) (p .place .line)) (read : Heads line (p .place .at .at) h) {r : Site} (down : r ≡ downTo p (h .next)) where
+  read-here : {P : File} {S : Scope} {q : Stand} {Γ : List Ty} {Δ : List ℕ} {L : List Instance} {left : ℕ} → Here t b p P S q Γ Δ L left → Heads (lineAt (t .text) (p .place .line)) (p .place .at .at) h
+  read-here k = subst (λ l. Heads l (p .place .at .at) h) (part-is-line (k .indexed) (p .place .line) (k .site .line) cut) read
 
   -- ---- leaves
   pub expr-bool : {x : Sizing} {numbers : Estimate} {v : ℕ} → h .form ≡ BoolForm v → x ≡ leafOf BoolIs numbers r → Makes oneCell numbers → Sizes ExprPart t b p x b
@@ -163,7 +163,7 @@ module _ {t : Lent} {b : Buffers} {p : Place} {line : List ℕ} {h : Head} (cut 
   }
 
   -- ---- a form whose parts stand behind the head
-  arm : {x : Sizing} {b′ : Buffers} (Of : Part) → ((S : Scope) (end : ℕ) (e : Expr) → Heads (lineAt (t .text) (p .line)) (p .at .at) h → ExprPart (lineAt (t .text) (p .line)) p S end e → Of (lineAt (t .text) (p .line)) (downTo p (h .next)) S end e) →
+  arm : {x : Sizing} {b′ : Buffers} (Of : Part) → ((S : Scope) (end : ℕ) (e : Expr) → Heads (lineAt (t .text) (p .place .line)) (p .place .at .at) h → ExprPart (lineAt (t .text) (p .place .line)) p S end e → Of (lineAt (t .text) (p .place .line)) (downTo p (h .next)) S end e) →
       Sizes Of t b r x b′ → Sizes ExprPart t b p x b′
   arm {x} {b′} Of to v = let u : Sizes Of t b (downTo p (h .next)) x b′ = subst (λ z. Sizes Of t b z x b′) down v in record {
     says = λ P S q Γ Δ L left k end e part. u .says P S q Γ Δ L left (here-down k (h .next)) end e (to S end e (read-here k) part);
@@ -225,10 +225,10 @@ pub last-counted : {line : List ℕ} {at first c : ℕ} {h : Head} → Heads lin
 last-counted r is small = omega (arith, shown r is .1 .small, small)
 
 -- ---- a form by its number: what the function for that form gives, or nothing where there are no parts
-pub compound-is : {t : Lent} {b b′ : Buffers} {p : Place} {x : Sizing} {form f : Form} → form ≡ f → Sizes (CompoundPart f) t b p x b′ → Sizes (CompoundPart form) t b p x b′
+pub compound-is : {t : Lent} {b b′ : Buffers} {p : Site} {x : Sizing} {form f : Form} → form ≡ f → Sizes (CompoundPart f) t b p x b′ → Sizes (CompoundPart form) t b p x b′
 compound-is {t} {b} {b′} {p} {x} is v = subst (λ z. Sizes (CompoundPart z) t b p x b′) (sym is) v
 
-module _ (line : List ℕ) (p : Place) (S : Scope) (end : ℕ) (e : Expr) where
+module _ (line : List ℕ) (p : Site) (S : Scope) (end : ℕ) (e : Expr) where
   no-parts : (form : Form) → hasParts form ≡ false → CompoundPart form line p S end e → ⊥
   no-parts (BoolForm v) none part = part
   no-parts (Int v) none part = part
@@ -245,7 +245,7 @@ module _ (line : List ℕ) (p : Place) (S : Scope) (end : ℕ) (e : Expr) where
   no-parts Adjust none part = false-is-not-true (sym none)
   no-parts (Fit n) none part = false-is-not-true (sym none)
 
-pub compound-none : {t : Lent} {b : Buffers} {p : Place} {n frame : ℕ} (form : Form) → hasParts form ≡ false → Sizes (CompoundPart form) t b p (Refused n frame) b
+pub compound-none : {t : Lent} {b : Buffers} {p : Site} {n frame : ℕ} (form : Form) → hasParts form ≡ false → Sizes (CompoundPart form) t b p (Refused n frame) b
 compound-none form none = record {
   says = λ P S q Γ Δ L left h end e part. absurd (no-parts _ _ _ _ _ form none part);
   grows = not-grown;

@@ -19,8 +19,8 @@ use Rattle.encoding.specs.Known.{wider-known}
 use Rattle.sizes.specs.Rows.{ToldFields, FieldsBound}
 use Rattle.sizes.specs.ToldLaws.{told-fields}
 use Rattle.index.specs.Sections.{typesOf}
-use Rattle.size_steps.specs.declared.Place.{Place}
-use Rattle.size_steps.specs.Sites.{Bounded, bounded-bool, bounded-int, bounded-named, widened, Site}
+use Rattle.size_steps.specs.declared.Site.{Site}
+use Rattle.size_steps.specs.Sites.{Bounded, bounded-bool, bounded-int, bounded-named, widenedBy, Sited}
 use Rattle.size_laws.specs.Promises.{Lent, Buffers, buffers, Here, UpToMost}
 use Rattle.size_laws.specs.HereLaws.{Fits}
 
@@ -43,10 +43,10 @@ fields-bounded less (all-cons w-own ws) (all-cons le sizes) = all-cons (bounded-
 fields-bounded {t} less (all-cons (w-other {t = u} {k} earlier bound) ws) sizes = all-cons (bounded-named {t = u} {k = k} (omega (arith, earlier, less)) (bound .1)) (fields-bounded less ws sizes)
 
 -- ---- under the fields of a constructor at the split that stands behind the sizes in scope
-pub here-fields : {t : Lent} {b : Buffers} {p : Place} {P : File} {S : Scope} {q : Stand} {Γ : List Ty} {Δ : List ℕ} {L : List Instance} {left u : ℕ} (c : ℕ) {fs : Constructor} {scope : List ℕ} → Here t b p P S q Γ Δ L left →
+pub here-fields : {t : Lent} {b : Buffers} {p : Site} {P : File} {S : Scope} {q : Stand} {Γ : List Ty} {Δ : List ℕ} {L : List Instance} {left u : ℕ} (c : ℕ) {fs : Constructor} {scope : List ℕ} → Here t b p P S q Γ Δ L left →
     u < length (P .types) → look (constructorsOf P u) c ≡ some fs → variablesMost ≤ length (b .scope) → sizeVariablesMost ≤ length (b .sizes) → Fits (wider (length fs) (owns fs) S) →
-    All UpToMost (take (owns fs) (drop (p .sizes) (b .sizes))) → FieldsBound (typesOf (t .index)) (b .scope) (b .sizes) u c (p .variables) (p .sizes) scope →
-    Here t (buffers (b .list) scope (b .sizes)) (widened p (length fs) (owns fs)) P (wider (length fs) (owns fs) S) q
+    All UpToMost (take (owns fs) (drop (p .sizes) (b .sizes))) → FieldsBound (typesOf (t .index)) (b .scope) (b .sizes) u c (p .place .variables) (p .sizes) scope →
+    Here t (buffers (b .list) scope (b .sizes)) (widenedBy p (length fs) (owns fs)) P (wider (length fs) (owns fs) S) q
     (Γ ++ fieldTypes u fs (take (owns fs) (drop (p .sizes) (b .sizes)))) (Δ ++ take (owns fs) (drop (p .sizes) (b .sizes))) L left
 unfolding wider
 here-fields {t} {b} {p} {P} {S} {q} {Γ} {Δ} {L} {left} {u} c {fs} {scope} h less there room sizeRoom fits most bound = record {
@@ -54,7 +54,6 @@ here-fields {t} {b} {p} {P} {S} {q} {Γ} {Δ} {L} {left} {u} c {fs} {scope} h le
   site = record {
     known = wider-known (length fs) (owns fs) (s .known);
     channels = s .channels;
-    typeCount = s .typeCount;
     frame = s .frame;
     line = s .line;
     around = s .around;
@@ -70,7 +69,7 @@ here-fields {t} {b} {p} {P} {S} {q} {Γ} {Δ} {L} {left} {u} c {fs} {scope} h le
   deep = h .deep;
 }
   where
-    s : Site P S q Γ Δ (b .scope) (b .sizes) p
+    s : Sited P S q Γ Δ (b .scope) (b .sizes) p
     s = h .site
 
     ks : List ℕ
@@ -82,5 +81,5 @@ here-fields {t} {b} {p} {P} {S} {q} {Γ} {Δ} {L} {left} {u} c {fs} {scope} h le
     long : length ks ≡ owns fs
     long = length-take-le (owns fs) (drop (p .sizes) (b .sizes)) (omega (arith, length-drop (p .sizes) (b .sizes), sizeRoom, fits .sizes, h .site .sizeCount, h .site .sizesIn))
 
-    written : (take (p .variables + length fs) scope ≡ take (p .variables) (b .scope) ++ map declaredWord (fieldTypes u fs ks)) × (drop (p .variables + length fs) scope ≡ drop (p .variables + length fs) (b .scope))
+    written : (take (p .place .variables + length fs) scope ≡ take (p .place .variables) (b .scope) ++ map declaredWord (fieldTypes u fs ks)) × (drop (p .place .variables + length fs) scope ≡ drop (p .place .variables + length fs) (b .scope))
     written = bound .says fs ks told refl long (omega (arith, room, fits .variables, h .site .variables, h .site .variablesIn))

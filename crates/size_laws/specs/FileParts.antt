@@ -19,11 +19,11 @@ use Rattle.index.specs.Tables.{channelWords}
 use Rattle.encoding.specs.Spells.{Spells}
 use Rattle.encoding.specs.FrameSpells.{lineAt}
 use Rattle.index.specs.declared.Counts.{Counts}
-use Rattle.estimate.specs.Stands.{Stands, Makes}
+use Rattle.estimate.specs.Stands.{Stands}
 use Rattle.index.specs.Indexed.{channelLine, Counted as CountsAre}
 use Rattle.instances.specs.Listed.{instanceWordsCount}
 use Rattle.index.specs.Sections.{channelsOf}
-use Rattle.size_steps.specs.declared.Place.{Place}
+use Rattle.size_steps.specs.declared.Site.{Site}
 use Rattle.size_steps.specs.declared.Sizing.{Sizing}
 use Rattle.size_steps.specs.declared.Counted.{Counted}
 use Rattle.size_steps.specs.declared.Counting.{Counting}
@@ -43,8 +43,9 @@ pub data Limited (n : Counts) : Bool → Type 0 where
   many : (Few n → ⊥) → Limited n false
 
 -- ---- where an expression of channel c stands
-abbrev pub outerPlace : Counts → ℕ → ℕ → ℕ → Place
-outerPlace n c at used = record { at = record { at = at }; levels = nestingMost; types = n .types; line = n .types + n .functions + c; around = 0; measure = 0; variables = 0; sizes = 0; used = used }
+abbrev pub outerSite : Counts → ℕ → ℕ → ℕ → Site
+outerSite n c at used =
+    record { place = record { at = record { at = at }; levels = nestingMost; line = n .types + n .functions + c; variables = 0 }; sizes = 0; measure = 0; used = used }
 
 -- ---- one expression of channel c, at the place that a word of the channel's entry tells; its declared type is τ
 pub record Standing (t : Lent) (P : File) (word c : ℕ) (e : Expr) (τ : Ty) : Type 0 where
@@ -61,8 +62,10 @@ initialWord = 1
 abbrev pub updateWord : ℕ
 updateWord = 2
 
-abbrev pub InitialOrUpdate : ℕ → Type 0
-InitialOrUpdate word = (word ≡ updateWord → ⊥) → word ≡ initialWord
+-- which of them is meant: the update or the initial value
+abbrev pub entryWord : Bool → ℕ
+entryWord true = updateWord
+entryWord false = initialWord
 
 -- the channels that it may name are the file's
 abbrev pub Named : File → List Ty → Type 0
@@ -98,8 +101,3 @@ pub record SizesChannels (t : Lent) (list : Table) (n : Counts) (from word used 
 pub record SizesInitials (t : Lent) (list : List ℕ) (n : Counts) (r : Counting) (list′ : Table) : Type 0 where
   pub says : (P : File) → IndexedFile t P → CountsAre n P → instanceWordsCount * instancesMost ≤ length list → AgreesSum P list′ r (summed P [] nothing 0 (initialValues P) (declaredTypes P) [])
   pub few : {k : Counted} → r ≡ Are k → Few n
-
--- ---- nothing summed
-pub record NoneYet (used : ℕ) (r : Counted) : Type 0 where
-  pub numbers : Makes nothing (r .numbers)
-  pub same : r .used ≡ used

@@ -18,11 +18,11 @@ use Rattle.estimate.specs.declared.Estimate.{Estimate}
 use Rattle.estimate.specs.Stands.{Changes, Combines}
 use Rattle.sizes.specs.declared.SizedType.the-variants.{Named}
 use Rattle.sizes.specs.Promises.{meaning}
-use Rattle.size_steps.specs.declared.Place.{Place}
+use Rattle.size_steps.specs.declared.Site.{Site}
 use Rattle.size_steps.specs.declared.Checked.{Checked}
 use Rattle.size_steps.specs.declared.Sizing.{Sizing}
 use Rattle.size_steps.specs.declared.Sizing.the-variants.{Is, Refused}
-use Rattle.size_steps.specs.Sites.{movedTo, widened}
+use Rattle.size_steps.specs.Sites.{movedOn, widenedBy}
 use Rattle.size_steps.specs.Agreement.{CheckedAs, agrees, not-grown, bind-is, bind-no, named-before, need-holds, need-fails}
 use Rattle.size_laws.specs.Promises.{Lent, Buffers, Here, Sizes, ExprPart}
 use Rattle.size_laws.specs.Parts.{FitPart}
@@ -30,7 +30,7 @@ use Rattle.size_laws.specs.HereLaws.{Fits, fits-of, ends-at, here-bound,
 use Rattle.size_laws.specs.TurnLaws.{sizes-at, part-agrees, Behind, behind-first, behind-next, next-kept, next-grows, here-behind, boundIn, boundAt, bound-at, under-kept, under-grows, behind-under, in-frame, grown-is}
 use Rattle.size_laws.specs.NamedTypes.{is-named, NotNamed, bounded-at, named-type}
 
-module _ (k : ℕ) {t : Lent} {b b₁ : Buffers} {p : Place} {x : Sizing} (v : Sizes ExprPart t b p x b₁) where
+module _ (k : ℕ) {t : Lent} {b b₁ : Buffers} {p : Site} {x : Sizing} (v : Sizes ExprPart t b p x b₁) where
   pub fit-subject : {n frame : ℕ} → x ≡ Refused n frame → Sizes (FitPart k) t b p x b₁
   unfolding sized
   fit-subject d = record {
@@ -52,8 +52,8 @@ module _ (k : ℕ) {t : Lent} {b b₁ : Buffers} {p : Place} {x : Sizing} (v : S
   }
 
 -- the variable bound, and the first arm under it
-module _ (k : ℕ) {t : Lent} {b b₁ : Buffers} {p : Place} {x : Sizing} (v : Sizes ExprPart t b p x b₁) {a : Checked} {u j word : ℕ} {m o : Place} {y : Sizing} {b₂ : Buffers} (room : variablesMost ≤ length (b₁ .scope)) (d : x ≡ Is a) (ty : a .ty ≡ Named u j)
-    (is : word ≡ declaredWord (tnamed u k)) (moved : m ≡ movedTo p (a .next) (a .used)) (wide : o ≡ widened m 1 0) (w : Sizes ExprPart t (boundIn b₁ p word) o y b₂) where
+module _ (k : ℕ) {t : Lent} {b b₁ : Buffers} {p : Site} {x : Sizing} (v : Sizes ExprPart t b p x b₁) {a : Checked} {u j word : ℕ} {m o : Site} {y : Sizing} {b₂ : Buffers} (room : variablesMost ≤ length (b₁ .scope)) (d : x ≡ Is a) (ty : a .ty ≡ Named u j)
+    (is : word ≡ declaredWord (tnamed u k)) (moved : m ≡ movedOn p (a .next) (a .used)) (wide : o ≡ widenedBy m 1 0) (w : Sizes ExprPart t (boundIn b₁ p word) o y b₂) where
   second : Sizes ExprPart t (boundIn b₁ p word) (boundAt p a) y b₂
   second = sizes-at (bound-at p a moved wide) w
 
@@ -76,8 +76,8 @@ module _ (k : ℕ) {t : Lent} {b b₁ : Buffers} {p : Place} {x : Sizing} (v : S
   }
 
   -- the other arm, where the subject does not fit
-  module _ {l : Checked} {o₂ : Place} {z : Sizing} {b₃ : Buffers} (d₂ : y ≡ Is l) (moved₂ : o₂ ≡ movedTo p (l .next) (l .used)) (w₂ : Sizes ExprPart t b₂ o₂ z b₃) where
-    third : Sizes ExprPart t b₂ (movedTo p (l .next) (l .used)) z b₃
+  module _ {l : Checked} {o₂ : Site} {z : Sizing} {b₃ : Buffers} (d₂ : y ≡ Is l) (moved₂ : o₂ ≡ movedOn p (l .next) (l .used)) (w₂ : Sizes ExprPart t b₂ o₂ z b₃) where
+    third : Sizes ExprPart t b₂ (movedOn p (l .next) (l .used)) z b₃
     third = sizes-at moved₂ w₂
 
     two : Behind p b b₂ l
@@ -96,7 +96,7 @@ module _ (k : ℕ) {t : Lent} {b b₁ : Buffers} {p : Place} {x : Sizing} (v : S
     }
 
     module _ {f : Checked} {r : Bool} (d₃ : z ≡ Is f) (same : r ≡ sameType (meaning (f .ty)) (meaning (l .ty))) where
-      pub fit-differ : r ≡ false → Sizes (FitPart k) t b p (Refused 11 (p .line + 1)) b₃
+      pub fit-differ : r ≡ false → Sizes (FitPart k) t b p (Refused 11 (p .place .line + 1)) b₃
       unfolding sized
       fit-differ differ = record {
         says = λ P S q Γ Δ L left h end e part. let i = part .head in

@@ -1,5 +1,5 @@
 -- What is known where an expression stands goes on: to the parts of a form, behind a part that was checked, under one more variable.
-use Prim.Native.Nat.{ℕ, suc, _+_, _-_, _≤_}
+use Prim.Native.Nat.{ℕ, suc, _≤_}
 use mathlib.Core.List.{List, [], _∷_, _++_, map-append}
 use mathlib.Core.Bool.{true}
 use mathlib.Core.Path.{_≡_, sym, ap, _∙_}
@@ -23,8 +23,8 @@ use Rattle.text.specs.Bytes.{declaredWord}
 use Rattle.text.specs.Places.{past}
 use Rattle.encoding.specs.Spells.{Spells}
 use Rattle.encoding.specs.Known.{wider-known}
-use Rattle.size_steps.specs.declared.Place.{Place}
-use Rattle.size_steps.specs.Sites.{Bounded, movedTo, downTo, widened, Kept, site-kept, site-moved, site-down}
+use Rattle.size_steps.specs.declared.Site.{Site}
+use Rattle.size_steps.specs.Sites.{Bounded, movedOn, downTo, widenedBy, Kept, site-kept, site-moved, site-down}
 use Rattle.size_steps.specs.Agreement.{Holds}
 use Rattle.size_laws.specs.Promises.{Lent, Buffers, buffers, Here, ExprPart, FormPart}
 
@@ -56,20 +56,20 @@ pub suc-same : {m n : ℕ} → suc m ≡ suc n → m ≡ n
 suc-same e = omega (arith, e)
 
 -- ---- a part by where it is spelled
-pub part-at : {line : List ℕ} {S : Scope} {e : Expr} (p : Place) {at n : ℕ} → Spells exprBytes line at e → WithinExpr n S e → p .at .at ≡ at → p .levels ≡ n → ExprPart line p S (past line at (length (exprBytes e))) e
+pub part-at : {line : List ℕ} {S : Scope} {e : Expr} (p : Site) {at n : ℕ} → Spells exprBytes line at e → WithinExpr n S e → p .place .at .at ≡ at → p .place .levels ≡ n → ExprPart line p S (past line at (length (exprBytes e))) e
 part-at {line} {e = e} p s w here levels = record { spelled = rw here s; within = rw levels w; ends = ap (λ (i : ℕ). past line i (length (exprBytes e))) (sym here) }
 
 -- where the parts of a form end
-pub ends-at : {Head : List ℕ → ℕ → ℕ → ℕ → Scope → Expr → Type 0} {line : List ℕ} {p : Place} {S : Scope} {end next : ℕ} {e f : Expr} (part : FormPart Head line p S end e) → e ≡ f → past line (part .from) (length (exprBytes f)) ≡ next → end ≡ next
+pub ends-at : {Head : List ℕ → ℕ → ℕ → ℕ → Scope → Expr → Type 0} {line : List ℕ} {p : Site} {S : Scope} {end next : ℕ} {e f : Expr} (part : FormPart Head line p S end e) → e ≡ f → past line (part .from) (length (exprBytes f)) ≡ next → end ≡ next
 ends-at {line = line} part is long = part .ends ∙ ap (λ (z : Expr). past line (part .from) (length (exprBytes z))) is ∙ long
 
 -- ---- one level down
-pub here-down : {t : Lent} {b : Buffers} {p : Place} {P : File} {S : Scope} {q : Stand} {Γ : List Ty} {Δ : List ℕ} {L : List Instance} {left : ℕ} → Here t b p P S q Γ Δ L left → (at : Cursor) → Here t b (downTo p at) P S q Γ Δ L left
+pub here-down : {t : Lent} {b : Buffers} {p : Site} {P : File} {S : Scope} {q : Stand} {Γ : List Ty} {Δ : List ℕ} {L : List Instance} {left : ℕ} → Here t b p P S q Γ Δ L left → (at : Cursor) → Here t b (downTo p at) P S q Γ Δ L left
 here-down h at = record { indexed = h .indexed; site = site-down (h .site) at; holds = h .holds; deep = h .deep }
 
 -- ---- behind a part that was checked
-pub here-moved : {t : Lent} {b b′ : Buffers} {p : Place} {P : File} {S : Scope} {q : Stand} {Γ : List Ty} {Δ : List ℕ} {L M : List Instance} {left used : ℕ} → Here t b p P S q Γ Δ L left → (at : Cursor) →
-    Kept p (b .scope) (b .sizes) (b′ .scope) (b′ .sizes) → Holds P (b′ .list) used M → p .used ≤ used → Here t b′ (movedTo p at used) P S q Γ Δ M left
+pub here-moved : {t : Lent} {b b′ : Buffers} {p : Site} {P : File} {S : Scope} {q : Stand} {Γ : List Ty} {Δ : List ℕ} {L M : List Instance} {left used : ℕ} → Here t b p P S q Γ Δ L left → (at : Cursor) →
+    Kept p (b .scope) (b .sizes) (b′ .scope) (b′ .sizes) → Holds P (b′ .list) used M → p .used ≤ used → Here t b′ (movedOn p at used) P S q Γ Δ M left
 here-moved {used} h at k m le = record {
   indexed = h .indexed;
   site = site-moved (site-kept (h .site) k) at used;
@@ -78,22 +78,21 @@ here-moved {used} h at k m le = record {
 }
 
 -- ---- under one more variable
-pub here-bound : {t : Lent} {b : Buffers} {p : Place} {P : File} {S : Scope} {q : Stand} {Γ : List Ty} {Δ : List ℕ} {L : List Instance} {left : ℕ} {τ : Ty} {word : ℕ} → Here t b p P S q Γ Δ L left →
+pub here-bound : {t : Lent} {b : Buffers} {p : Site} {P : File} {S : Scope} {q : Stand} {Γ : List Ty} {Δ : List ℕ} {L : List Instance} {left : ℕ} {τ : Ty} {word : ℕ} → Here t b p P S q Γ Δ L left →
     variablesMost ≤ length (b .scope) → Fits (wider 1 0 S) → Bounded τ → word ≡ declaredWord τ →
-    Here t (buffers (b .list) (set (b .scope) (p .variables) word) (b .sizes)) (widened p 1 0) P (wider 1 0 S) q (Γ ++ (τ ∷ [])) Δ L left
+    Here t (buffers (b .list) (set (b .scope) (p .place .variables) word) (b .sizes)) (widenedBy p 1 0) P (wider 1 0 S) q (Γ ++ (τ ∷ [])) Δ L left
 unfolding wider
 here-bound {b} {p} {Γ} {Δ} {τ} {word} h room fits small is = let s = h .site in record {
   indexed = h .indexed;
   site = record {
     known = wider-known 1 0 (s .known);
     channels = s .channels;
-    typeCount = s .typeCount;
     frame = s .frame;
     line = s .line;
     around = s .around;
     variables = omega (arith, length-append Γ (τ ∷ []), s .variables);
     variablesIn = omega (arith, length-append Γ (τ ∷ []), s .variablesIn);
-    types = rw (add-one, take-suc-set (b .scope) (p .variables) word (omega (arith, room, fits .variables, s .variables, s .variablesIn)), s .types, is) (sym (map-append declaredWord Γ (τ ∷ [])));
+    types = rw (add-one, take-suc-set (b .scope) (p .place .variables) word (omega (arith, room, fits .variables, s .variables, s .variablesIn)), s .types, is) (sym (map-append declaredWord Γ (τ ∷ [])));
     small = all-snoc (s .small) small;
     sizeCount = omega (arith, s .sizeCount);
     sizesIn = omega (arith, s .sizesIn);

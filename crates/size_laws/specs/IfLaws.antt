@@ -9,18 +9,18 @@ use Rattle.theory.specs.SameTests.{same-type}
 use Rattle.estimate.specs.declared.Estimate.{Estimate}
 use Rattle.estimate.specs.Stands.{Combines}
 use Rattle.sizes.specs.Promises.{meaning}
-use Rattle.size_steps.specs.declared.Place.{Place}
+use Rattle.size_steps.specs.declared.Site.{Site}
 use Rattle.size_steps.specs.declared.Checked.{Checked}
 use Rattle.size_steps.specs.declared.Sizing.{Sizing}
 use Rattle.size_steps.specs.declared.Sizing.the-variants.{Is, Refused}
-use Rattle.size_steps.specs.Sites.{movedTo}
+use Rattle.size_steps.specs.Sites.{movedOn}
 use Rattle.size_steps.specs.Agreement.{agrees, not-grown, before-9, bind-is, bind-no, need-before, need-holds, need-fails}
 use Rattle.size_laws.specs.Promises.{Lent, Buffers, Sizes, ExprPart}
 use Rattle.size_laws.specs.Parts.{IfPart}
 use Rattle.size_laws.specs.HereLaws.{ends-at, suc-same}
 use Rattle.size_laws.specs.TurnLaws.{sizes-at, part-agrees, Behind, behind-first, behind-next, next-kept, next-grows, here-behind, in-frame, grown-is}
 
-module _ {t : Lent} {b b₁ : Buffers} {p : Place} {x : Sizing} (v : Sizes ExprPart t b p x b₁) where
+module _ {t : Lent} {b b₁ : Buffers} {p : Site} {x : Sizing} (v : Sizes ExprPart t b p x b₁) where
   pub if-first : {n frame : ℕ} → x ≡ Refused n frame → Sizes IfPart t b p x b₁
   unfolding sized
   if-first d = record {
@@ -30,8 +30,8 @@ module _ {t : Lent} {b b₁ : Buffers} {p : Place} {x : Sizing} (v : Sizes ExprP
     kept = v .kept;
   }
 
-  module _ {a : Checked} {m : Place} {y : Sizing} {b₂ : Buffers} (d : x ≡ Is a) (moved : m ≡ movedTo p (a .next) (a .used)) (u : Sizes ExprPart t b₁ m y b₂) where
-    second : Sizes ExprPart t b₁ (movedTo p (a .next) (a .used)) y b₂
+  module _ {a : Checked} {m : Site} {y : Sizing} {b₂ : Buffers} (d : x ≡ Is a) (moved : m ≡ movedOn p (a .next) (a .used)) (u : Sizes ExprPart t b₁ m y b₂) where
+    second : Sizes ExprPart t b₁ (movedOn p (a .next) (a .used)) y b₂
     second = sizes-at moved u
 
     one : Behind p b b₁ a
@@ -48,8 +48,8 @@ module _ {t : Lent} {b b₁ : Buffers} {p : Place} {x : Sizing} (v : Sizes ExprP
       kept = next-kept one second;
     }
 
-    module _ {k : Checked} {o : Place} {z : Sizing} {b₃ : Buffers} (d₂ : y ≡ Is k) (moved₂ : o ≡ movedTo p (k .next) (k .used)) (w : Sizes ExprPart t b₂ o z b₃) where
-      third : Sizes ExprPart t b₂ (movedTo p (k .next) (k .used)) z b₃
+    module _ {k : Checked} {o : Site} {z : Sizing} {b₃ : Buffers} (d₂ : y ≡ Is k) (moved₂ : o ≡ movedOn p (k .next) (k .used)) (w : Sizes ExprPart t b₂ o z b₃) where
+      third : Sizes ExprPart t b₂ (movedOn p (k .next) (k .used)) z b₃
       third = sizes-at moved₂ w
 
       two : Behind p b b₂ k
@@ -68,7 +68,7 @@ module _ {t : Lent} {b b₁ : Buffers} {p : Place} {x : Sizing} (v : Sizes ExprP
       }
 
       module _ {l : Checked} {r : Bool} (d₃ : z ≡ Is l) (same : r ≡ sameType (meaning (l .ty)) (meaning (k .ty))) where
-        pub if-differ : r ≡ false → Sizes IfPart t b p (Refused 11 (p .line + 1)) b₃
+        pub if-differ : r ≡ false → Sizes IfPart t b p (Refused 11 (p .place .line + 1)) b₃
         unfolding sized
         if-differ differ = record {
           says = λ P S q Γ Δ L left h end e part. let i = part .head in

@@ -9,18 +9,18 @@ use Rattle.text.specs.Bytes.{declaredWord}
 use Rattle.estimate.specs.declared.Estimate.{Estimate}
 use Rattle.estimate.specs.Stands.{Changes, Combines}
 use Rattle.sizes.specs.Promises.{meaning}
-use Rattle.size_steps.specs.declared.Place.{Place}
+use Rattle.size_steps.specs.declared.Site.{Site}
 use Rattle.size_steps.specs.declared.Checked.{Checked}
 use Rattle.size_steps.specs.declared.Sizing.{Sizing}
 use Rattle.size_steps.specs.declared.Sizing.the-variants.{Is, Refused}
-use Rattle.size_steps.specs.Sites.{movedTo, widened}
+use Rattle.size_steps.specs.Sites.{movedOn, widenedBy}
 use Rattle.size_steps.specs.Agreement.{agrees, grows-to, bind-is, bind-no}
 use Rattle.size_laws.specs.Promises.{Lent, Buffers, Sizes, ExprPart}
 use Rattle.size_laws.specs.Parts.{LetPart}
 use Rattle.size_laws.specs.TurnLaws.{sizes-at, part-agrees, Behind, behind-first, here-behind, boundIn, boundAt, bound-at, under-kept, under-grows, grown-is}
 use Rattle.size_laws.specs.HereLaws.{fits-of, ends-at, here-bound, suc-same}
 
-module _ {t : Lent} {b b₁ : Buffers} {p : Place} {x : Sizing} (v : Sizes ExprPart t b p x b₁) where
+module _ {t : Lent} {b b₁ : Buffers} {p : Site} {x : Sizing} (v : Sizes ExprPart t b p x b₁) where
   pub let-first : {n frame : ℕ} → x ≡ Refused n frame → Sizes LetPart t b p x b₁
   unfolding sized
   let-first d = record {
@@ -31,8 +31,8 @@ module _ {t : Lent} {b b₁ : Buffers} {p : Place} {x : Sizing} (v : Sizes ExprP
   }
 
   -- the variable bound, and the second part under it
-  module _ {a : Checked} {word : ℕ} {m o : Place} {y : Sizing} {b₂ : Buffers} (room : variablesMost ≤ length (b₁ .scope)) (d : x ≡ Is a) (is : word ≡ declaredWord (meaning (a .ty)))
-      (moved : m ≡ movedTo p (a .next) (a .used)) (wide : o ≡ widened m 1 0) (u : Sizes ExprPart t (boundIn b₁ p word) o y b₂) where
+  module _ {a : Checked} {word : ℕ} {m o : Site} {y : Sizing} {b₂ : Buffers} (room : variablesMost ≤ length (b₁ .scope)) (d : x ≡ Is a) (is : word ≡ declaredWord (meaning (a .ty)))
+      (moved : m ≡ movedOn p (a .next) (a .used)) (wide : o ≡ widenedBy m 1 0) (u : Sizes ExprPart t (boundIn b₁ p word) o y b₂) where
     under : Sizes ExprPart t (boundIn b₁ p word) (boundAt p a) y b₂
     under = sizes-at (bound-at p a moved wide) u
 

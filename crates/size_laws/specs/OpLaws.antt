@@ -9,11 +9,11 @@ use Rattle.language.specs.Checker.{sized}
 use Rattle.estimate.specs.declared.Estimate.{Estimate}
 use Rattle.estimate.specs.Stands.{Makes, Combines}
 use Rattle.sizes.specs.declared.SizedType.{SizedType}
-use Rattle.size_steps.specs.declared.Place.{Place}
+use Rattle.size_steps.specs.declared.Site.{Site}
 use Rattle.size_steps.specs.declared.Checked.{Checked}
 use Rattle.size_steps.specs.declared.Sizing.{Sizing}
 use Rattle.size_steps.specs.declared.Sizing.the-variants.{Is, Refused}
-use Rattle.size_steps.specs.Sites.{Bounded, bounded-bool, bounded-int, movedTo}
+use Rattle.size_steps.specs.Sites.{Bounded, bounded-bool, bounded-int, movedOn}
 use Rattle.size_steps.specs.Agreement.{agrees, before-9, bind-is, bind-no, need-before}
 use Rattle.size_laws.specs.Promises.{Lent, Buffers, Sizes, ExprPart}
 use Rattle.size_laws.specs.Parts.{OpPart}
@@ -33,7 +33,7 @@ bounded-operation ole = bounded-bool
 bounded-operation oand = bounded-bool
 bounded-operation oor = bounded-bool
 
-module _ {t : Lent} {b b₁ : Buffers} {p : Place} {x : Sizing} (v : Sizes ExprPart t b p x b₁) where
+module _ {t : Lent} {b b₁ : Buffers} {p : Site} {x : Sizing} (v : Sizes ExprPart t b p x b₁) where
   pub op-first : {o n frame : ℕ} → x ≡ Refused n frame → Sizes (OpPart o) t b p x b₁
   unfolding sized
   op-first d = record {
@@ -43,8 +43,8 @@ module _ {t : Lent} {b b₁ : Buffers} {p : Place} {x : Sizing} (v : Sizes ExprP
     kept = v .kept;
   }
 
-  module _ {a : Checked} {m : Place} {y : Sizing} {b₂ : Buffers} (d : x ≡ Is a) (moved : m ≡ movedTo p (a .next) (a .used)) (u : Sizes ExprPart t b₁ m y b₂) where
-    second : Sizes ExprPart t b₁ (movedTo p (a .next) (a .used)) y b₂
+  module _ {a : Checked} {m : Site} {y : Sizing} {b₂ : Buffers} (d : x ≡ Is a) (moved : m ≡ movedOn p (a .next) (a .used)) (u : Sizes ExprPart t b₁ m y b₂) where
+    second : Sizes ExprPart t b₁ (movedOn p (a .next) (a .used)) y b₂
     second = sizes-at moved u
 
     one : Behind p b b₁ a

@@ -26,13 +26,13 @@ use Rattle.index.specs.Indexed.{Indexed}
 use Rattle.instances.specs.Listed.{SizesAre}
 use Rattle.sizes.specs.Promises.{meaning}
 use Rattle.splits.specs.Next.{Chain}
-use Rattle.size_steps.specs.declared.Place.{Place}
+use Rattle.size_steps.specs.declared.Site.{Site}
 use Rattle.size_steps.specs.declared.Sizing.{Sizing}
 use Rattle.size_steps.specs.declared.Counted.{Counted}
 use Rattle.size_steps.specs.declared.Counting.{Counting}
 use Rattle.size_steps.specs.declared.Entry.{Entry}
 use Rattle.size_steps.specs.declared.Subject.{Subject}
-use Rattle.size_steps.specs.Sites.{Bounded, Around, Site, Kept}
+use Rattle.size_steps.specs.Sites.{Bounded, Around, Sited, Kept}
 use Rattle.size_steps.specs.Agreement.{Table, Holds, CountedAs, Agrees, itself, ofType, AgreesAll, Grows, GrowsAll}
 
 -- ---- what is lent: the text and its index, and what is written
@@ -55,9 +55,9 @@ abbrev pub IndexedFile : Lent → File → Type 0
 IndexedFile t P = Indexed (t .text) (t .index) P
 
 -- ---- what is known where an expression stands; left: how deep bodies may still be entered
-pub record Here (t : Lent) (b : Buffers) (p : Place) (P : File) (S : Scope) (q : Stand) (Γ : List Ty) (Δ : List ℕ) (L : List Instance) (left : ℕ) : Type 0 where
+pub record Here (t : Lent) (b : Buffers) (p : Site) (P : File) (S : Scope) (q : Stand) (Γ : List Ty) (Δ : List ℕ) (L : List Instance) (left : ℕ) : Type 0 where
   pub indexed : IndexedFile t P
-  pub site : Site P S q Γ Δ (b .scope) (b .sizes) p
+  pub site : Sited P S q Γ Δ (b .scope) (b .sizes) p
   pub holds : Holds P (b .list) (p .used) L
   pub deep : instancesMost ≤ left + length L
 
@@ -66,40 +66,40 @@ entering P left = enterAt P instancesMost left
 
 -- ---- the parts that are spelled at a place, and where they end
 -- an expression
-pub record ExprPart (line : List ℕ) (p : Place) (S : Scope) (end : ℕ) (e : Expr) : Type 0 where
-  pub spelled : Spells exprBytes line (p .at .at) e
-  pub within : WithinExpr (p .levels) S e
-  pub ends : end ≡ past line (p .at .at) (length (exprBytes e))
+pub record ExprPart (line : List ℕ) (p : Site) (S : Scope) (end : ℕ) (e : Expr) : Type 0 where
+  pub spelled : Spells exprBytes line (p .place .at .at) e
+  pub within : WithinExpr (p .place .levels) S e
+  pub ends : end ≡ past line (p .place .at .at) (length (exprBytes e))
 
 -- the parts of a form whose head stands before the place
-pub record FormPart (Head : List ℕ → ℕ → ℕ → ℕ → Scope → Expr → Type 0) (line : List ℕ) (p : Place) (S : Scope) (end : ℕ) (e : Expr) : Type 0 where
+pub record FormPart (Head : List ℕ → ℕ → ℕ → ℕ → Scope → Expr → Type 0) (line : List ℕ) (p : Site) (S : Scope) (end : ℕ) (e : Expr) : Type 0 where
   pub from : ℕ
-  pub head : Head line from (p .at .at) (suc (p .levels)) S e
+  pub head : Head line from (p .place .at .at) (suc (p .place .levels)) S e
   pub ends : end ≡ past line from (length (exprBytes e))
 
 -- so many expressions
-pub record ExprsPart (line : List ℕ) (p : Place) (S : Scope) (n end : ℕ) (es : Exprs) : Type 0 where
-  pub spelled : Spells exprsBytes line (p .at .at) es
-  pub within : WithinExprs (p .levels) S n es
-  pub ends : end ≡ past line (p .at .at) (length (exprsBytes es))
+pub record ExprsPart (line : List ℕ) (p : Site) (S : Scope) (n end : ℕ) (es : Exprs) : Type 0 where
+  pub spelled : Spells exprsBytes line (p .place .at .at) es
+  pub within : WithinExprs (p .place .levels) S n es
+  pub ends : end ≡ past line (p .place .at .at) (length (exprsBytes es))
 
 -- the branches of a case, for these constructors
-pub record BranchesPart (line : List ℕ) (p : Place) (S : Scope) (cs : List Constructor) (end : ℕ) (bs : Exprs) : Type 0 where
-  pub spelled : Spells exprsBytes line (p .at .at) bs
-  pub within : WithinBranches (p .levels) S cs bs
-  pub ends : end ≡ past line (p .at .at) (length (exprsBytes bs))
+pub record BranchesPart (line : List ℕ) (p : Site) (S : Scope) (cs : List Constructor) (end : ℕ) (bs : Exprs) : Type 0 where
+  pub spelled : Spells exprsBytes line (p .place .at .at) bs
+  pub within : WithinBranches (p .place .levels) S cs bs
+  pub ends : end ≡ past line (p .place .at .at) (length (exprsBytes bs))
 
 -- ---- promises
-pub record Sizes (Part : List ℕ → Place → Scope → ℕ → Expr → Type 0) (t : Lent) (b : Buffers) (p : Place) (r : Sizing) (b′ : Buffers) : Type 0 where
+pub record Sizes (Part : List ℕ → Site → Scope → ℕ → Expr → Type 0) (t : Lent) (b : Buffers) (p : Site) (r : Sizing) (b′ : Buffers) : Type 0 where
   pub says : (P : File) (S : Scope) (q : Stand) (Γ : List Ty) (Δ : List ℕ) (L : List Instance) (left : ℕ) → Here t b p P S q Γ Δ L left →
-      (end : ℕ) (e : Expr) → Part (lineAt (t .text) (p .line)) p S end e → Agrees P itself end (b′ .list) r (sized P (entering P left) e q Γ Δ L)
+      (end : ℕ) (e : Expr) → Part (lineAt (t .text) (p .place .line)) p S end e → Agrees P itself end (b′ .list) r (sized P (entering P left) e q Γ Δ L)
   pub grows : Grows (p .used) r
   pub kept : Kept p (b .scope) (b .sizes) (b′ .scope) (b′ .sizes)
 
 -- arguments and fields, n of them, into a row of words
-pub record SizesAll (t : Lent) (b : Buffers) (p : Place) (n : ℕ) (row : List ℕ) (r : Counting) (b′ : Buffers) (row′ : List ℕ) : Type 0 where
+pub record SizesAll (t : Lent) (b : Buffers) (p : Site) (n : ℕ) (row : List ℕ) (r : Counting) (b′ : Buffers) (row′ : List ℕ) : Type 0 where
   pub says : (P : File) (S : Scope) (q : Stand) (Γ : List Ty) (Δ : List ℕ) (L : List Instance) (left : ℕ) → Here t b p P S q Γ Δ L left → n ≤ length row →
-      (end : ℕ) (es : Exprs) → ExprsPart (lineAt (t .text) (p .line)) p S n end es → AgreesAll P end (b′ .list) row′ r (sizeds P (entering P left) es q Γ Δ L)
+      (end : ℕ) (es : Exprs) → ExprsPart (lineAt (t .text) (p .place .line)) p S n end es → AgreesAll P end (b′ .list) row′ r (sizeds P (entering P left) es q Γ Δ L)
   pub grows : GrowsAll (p .used) r
   pub kept : Kept p (b .scope) (b .sizes) (b′ .scope) (b′ .sizes)
 
@@ -110,9 +110,9 @@ pub record Wanted (P : File) (s : Subject) : Type 0 where
   pub ty : Bounded (meaning (s .ty))
 
 -- the branches of a case from constructor k on
-pub record SizesBranches (s : Subject) (k : ℕ) (t : Lent) (b : Buffers) (p : Place) (r : Sizing) (b′ : Buffers) : Type 0 where
+pub record SizesBranches (s : Subject) (k : ℕ) (t : Lent) (b : Buffers) (p : Site) (r : Sizing) (b′ : Buffers) : Type 0 where
   pub says : (P : File) (S : Scope) (q : Stand) (Γ : List Ty) (Δ : List ℕ) (L : List Instance) (left : ℕ) → Here t b p P S q Γ Δ L left → Wanted P s →
-      (end : ℕ) (bs : Exprs) → BranchesPart (lineAt (t .text) (p .line)) p S (drop k (constructorsOf P (s .of))) end bs →
+      (end : ℕ) (bs : Exprs) → BranchesPart (lineAt (t .text) (p .place .line)) p S (drop k (constructorsOf P (s .of))) end bs →
       Agrees P (ofType (meaning (s .ty))) end (b′ .list) r (sizedBranches P (entering P left) bs (drop k (constructorsOf P (s .of))) q Γ Δ (s .of) (s .size) (meaning (s .ty)) L)
   pub grows : Grows (p .used) r
   pub kept : Kept p (b .scope) (b .sizes) (b′ .scope) (b′ .sizes)
@@ -130,14 +130,14 @@ module _ (P : File) (enter : Enter) where
   oneBranch e fs q Γ Δ t m τ L = choose (leb m (owns fs)) (ok (record { numbers = nothing; list = L })) (branchAt e fs q Γ Δ t τ (splits (owns fs) (m - 1)) L)
 
 -- an expression in the scope of the branch of a constructor
-pub record BranchPart (line : List ℕ) (p : Place) (S : Scope) (fs : Constructor) (end : ℕ) (e : Expr) : Type 0 where
-  pub spelled : Spells exprBytes line (p .at .at) e
-  pub within : WithinExpr (p .levels) (wider (length fs) (owns fs) S) e
-  pub ends : end ≡ past line (p .at .at) (length (exprBytes e))
+pub record BranchPart (line : List ℕ) (p : Site) (S : Scope) (fs : Constructor) (end : ℕ) (e : Expr) : Type 0 where
+  pub spelled : Spells exprBytes line (p .place .at .at) e
+  pub within : WithinExpr (p .place .levels) (wider (length fs) (owns fs) S) e
+  pub ends : end ≡ past line (p .place .at .at) (length (exprBytes e))
 
-pub record SizesBranch (s : Subject) (k : ℕ) (t : Lent) (b : Buffers) (p : Place) (r : Sizing) (b′ : Buffers) : Type 0 where
+pub record SizesBranch (s : Subject) (k : ℕ) (t : Lent) (b : Buffers) (p : Site) (r : Sizing) (b′ : Buffers) : Type 0 where
   pub says : (P : File) (S : Scope) (q : Stand) (Γ : List Ty) (Δ : List ℕ) (L : List Instance) (left : ℕ) → Here t b p P S q Γ Δ L left →
-      (fs : Constructor) → Wanted P s → look (constructorsOf P (s .of)) k ≡ some fs → (end : ℕ) (e : Expr) → BranchPart (lineAt (t .text) (p .line)) p S fs end e →
+      (fs : Constructor) → Wanted P s → look (constructorsOf P (s .of)) k ≡ some fs → (end : ℕ) (e : Expr) → BranchPart (lineAt (t .text) (p .place .line)) p S fs end e →
       Agrees P (ofType (meaning (s .ty))) end (b′ .list) r (oneBranch P (entering P left) e fs q Γ Δ (s .of) (s .size) (meaning (s .ty)) L)
   pub grows : Grows (p .used) r
   pub kept : Kept p (b .scope) (b .sizes) (b′ .scope) (b′ .sizes)
@@ -146,9 +146,9 @@ abbrev pub UpToMost : ℕ → Type 0
 UpToMost k = k ≤ sizeMost
 
 -- the same where the first split stands among the sizes, and these are all
-pub record SizesSplits (s : Subject) (k : ℕ) (t : Lent) (b : Buffers) (p : Place) (r : Sizing) (b′ : Buffers) : Type 0 where
+pub record SizesSplits (s : Subject) (k : ℕ) (t : Lent) (b : Buffers) (p : Site) (r : Sizing) (b′ : Buffers) : Type 0 where
   pub says : (P : File) (S : Scope) (q : Stand) (Γ : List Ty) (Δ : List ℕ) (L : List Instance) (left : ℕ) → Here t b p P S q Γ Δ L left →
-      (fs : Constructor) → Wanted P s → look (constructorsOf P (s .of)) k ≡ some fs → (end : ℕ) (e : Expr) → BranchPart (lineAt (t .text) (p .line)) p S fs end e →
+      (fs : Constructor) → Wanted P s → look (constructorsOf P (s .of)) k ≡ some fs → (end : ℕ) (e : Expr) → BranchPart (lineAt (t .text) (p .place .line)) p S fs end e →
       (kss : List (List ℕ)) → Chain (take (owns fs) (drop (p .sizes) (b .sizes))) kss → All (All UpToMost) kss →
       Agrees P (ofType (meaning (s .ty))) end (b′ .list) r (branchAt P (entering P left) e fs q Γ Δ (s .of) (meaning (s .ty)) kss L)
   pub grows : Grows (p .used) r
@@ -171,24 +171,23 @@ opened P enter o g F ks L = need (conditionsHold ks (F .conditions)) 12 (frameAt
     (from (typeAt ks (F .result)) 10 (functionFrame P g) (λ τ. bind (enter (frameAt P o) g F ks τ L) (λ r. ok (ofType τ r)))))
 
 -- f is called at sizes ks: what is known where its body is looked up, or entered
-pub record Opens (f n m : ℕ) (t : Lent) (b : Buffers) (p : Place) (P : File) (o : Stand) (F : Function) (ks : List ℕ) (L : List Instance) (left : ℕ) : Type 0 where
+pub record Opens (f n m : ℕ) (t : Lent) (b : Buffers) (p : Site) (P : File) (o : Stand) (F : Function) (ks : List ℕ) (L : List Instance) (left : ℕ) : Type 0 where
   pub indexed : IndexedFile t P
-  pub typeCount : p .types ≡ length (P .types)
-  pub frame : frameAt P o ≡ suc (p .line)
-  pub around : Around (p .around) (p .measure) o
+  pub frame : frameAt P o ≡ suc (p .place .line)
+  pub around : Around P (p .place .line) (p .measure) o
   pub function : look (P .functions) f ≡ some F
   pub argued : Argued F ks n m (b .scope) (b .sizes)
   pub holds : Holds P (b .list) (p .used) L
   pub deep : instancesMost ≤ left + length L
 
-pub record Enters (f n m : ℕ) (t : Lent) (b : Buffers) (p : Place) (r : Sizing) (b′ : Buffers) : Type 0 where
-  pub says : (P : File) (o : Stand) (F : Function) (ks : List ℕ) (L : List Instance) (left : ℕ) → Opens f n m t b p P o F ks L left → Agrees P itself (p .at .at) (b′ .list) r (opened P (entering P left) o f F ks L)
+pub record Enters (f n m : ℕ) (t : Lent) (b : Buffers) (p : Site) (r : Sizing) (b′ : Buffers) : Type 0 where
+  pub says : (P : File) (o : Stand) (F : Function) (ks : List ℕ) (L : List Instance) (left : ℕ) → Opens f n m t b p P o F ks L left → Agrees P itself (p .place .at .at) (b′ .list) r (opened P (entering P left) o f F ks L)
   pub grows : Grows (p .used) r
 
 -- where it was not entered before
-pub record EntersNew (f n m : ℕ) (t : Lent) (b : Buffers) (p : Place) (r : Sizing) (b′ : Buffers) : Type 0 where
+pub record EntersNew (f n m : ℕ) (t : Lent) (b : Buffers) (p : Site) (r : Sizing) (b′ : Buffers) : Type 0 where
   pub says : (P : File) (o : Stand) (F : Function) (ks : List ℕ) (L : List Instance) (left : ℕ) → Opens f n m t b p P o F ks L left → find L f ks ≡ none →
-      Agrees P itself (p .at .at) (b′ .list) r (opened P (entering P left) o f F ks L)
+      Agrees P itself (p .place .at .at) (b′ .list) r (opened P (entering P left) o f F ks L)
   pub grows : Grows (p .used) r
 
 -- ---- the body of an entry, whose scope holds the parameters' types and the sizes of the named ones
@@ -200,10 +199,10 @@ pub record Given (P : File) (e : Entry) (F : Function) (ks : List ℕ) (scope si
   pub result : typeAt ks (F .result) ≡ some (meaning (e .ty))
   pub small : Bounded (meaning (e .ty))
 
-pub record ChecksBody (e : Entry) (t : Lent) (b : Buffers) (p : Place) (r : Sizing) (b′ : Buffers) : Type 0 where
-  pub says : (P : File) (F : Function) (ks : List ℕ) (L : List Instance) (left : ℕ) → IndexedFile t P → p .types ≡ length (P .types) → Holds P (b .list) (p .used) L → instancesMost ≤ left + length L →
+pub record ChecksBody (e : Entry) (t : Lent) (b : Buffers) (p : Site) (r : Sizing) (b′ : Buffers) : Type 0 where
+  pub says : (P : File) (F : Function) (ks : List ℕ) (L : List Instance) (left : ℕ) → IndexedFile t P → Holds P (b .list) (p .used) L → instancesMost ≤ left + length L →
       Given P e F ks (b .scope) (b .sizes) → find L (e .function) ks ≡ none →
-      Agrees P (ofType (meaning (e .ty))) (p .at .at) (b′ .list) r (entering P left (suc (p .line)) (e .function) F ks (meaning (e .ty)) L)
+      Agrees P (ofType (meaning (e .ty))) (p .place .at .at) (b′ .list) r (entering P left (suc (p .place .line)) (e .function) F ks (meaning (e .ty)) L)
   pub grows : Grows (p .used) r
 
 -- ---- all that the definition does behind the arguments of a call
@@ -213,11 +212,10 @@ applied P enter o g F z = need (conditionsHold (sizesOf (z .types)) (F .conditio
     ok (record { type = τ; numbers = withSlots (length (F .parameters)) (after (z .numbers) (inCall (r .numbers))); list = r .list })))))
 
 -- z: the arguments for the definition, which agree with the parameters; a, row: what the code holds of them
-pub record Argues (t : Lent) (p : Place) (f n : ℕ) (a : Counted) (list : Table) (row : List ℕ) (P : File) (o : Stand) (F : Function) (z : Sizeds) (left next : ℕ) : Type 0 where
+pub record Argues (t : Lent) (p : Site) (f n : ℕ) (a : Counted) (list : Table) (row : List ℕ) (P : File) (o : Stand) (F : Function) (z : Sizeds) (left next : ℕ) : Type 0 where
   pub indexed : IndexedFile t P
-  pub typeCount : p .types ≡ length (P .types)
-  pub frame : frameAt P o ≡ suc (p .line)
-  pub around : Around (p .around) (p .measure) o
+  pub frame : frameAt P o ≡ suc (p .place .line)
+  pub around : Around P (p .place .line) (p .measure) o
   pub function : look (P .functions) f ≡ some F
   pub count : n ≡ length (F .parameters)
   pub few : n ≤ parametersMost
@@ -225,6 +223,6 @@ pub record Argues (t : Lent) (p : Place) (f n : ℕ) (a : Counted) (list : Table
   pub agree : sameTypes (parameterTypes (F .parameters) (sizesOf (z .types))) (z .types) ≡ true
   pub deep : instancesMost ≤ left + length (z .list)
 
-pub record Applies (f n : ℕ) (a : Counted) (t : Lent) (list : Table) (row : List ℕ) (p : Place) (r : Sizing) (list′ : Table) : Type 0 where
+pub record Applies (f n : ℕ) (a : Counted) (t : Lent) (list : Table) (row : List ℕ) (p : Site) (r : Sizing) (list′ : Table) : Type 0 where
   pub says : (P : File) (o : Stand) (F : Function) (z : Sizeds) (left next : ℕ) → Argues t p f n a list row P o F z left next → Agrees P itself next list′ r (applied P (entering P left) o f F z)
   pub grows : Grows (a .used) r

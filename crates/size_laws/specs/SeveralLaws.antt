@@ -30,14 +30,14 @@ use Rattle.heads.specs.Heads.{Shows, Heads}
 use Rattle.heads.specs.HeadForms.{var-head}
 use Rattle.heads.specs.Variables.{VariableRead, is-variable, no-variable}
 use Rattle.sizes.specs.Promises.{meaning}
-use Rattle.size_steps.specs.declared.Place.{Place}
+use Rattle.size_steps.specs.declared.Site.{Site}
 use Rattle.size_steps.specs.declared.Checked.{Checked}
 use Rattle.size_steps.specs.declared.Sizing.{Sizing}
 use Rattle.size_steps.specs.declared.Sizing.the-variants.{Is, Refused}
 use Rattle.size_steps.specs.declared.Counted.{Counted}
 use Rattle.size_steps.specs.declared.Counting.{Counting}
 use Rattle.size_steps.specs.declared.Counting.the-variants.{Are, Refused as RefusedAll}
-use Rattle.size_steps.specs.Sites.{Bounded, movedTo, Kept, kept-all, kept-then, kept-moved}
+use Rattle.size_steps.specs.Sites.{Bounded, movedOn, Kept, kept-all, kept-then, kept-moved}
 use Rattle.size_steps.specs.Agreement.{table, Holds, Before, before-6, CheckedAs, CountedAs, Agrees, agrees, refused, beyond, itself, AgreesAll, agree, refused-all, beyond-all, grown-all, not-grown-all, grows-to}
 use Rattle.size_steps.specs.Leaves.{refusedAll}
 use Rattle.size_steps.specs.Numbers.{NoneCounted, Joins, passedTo}
@@ -50,22 +50,22 @@ use Rattle.size_laws.specs.Sums.{after-none, andThen, noneOf, andOne, no
 
 -- ---- before part i of n: whole is the definition's answer for all of them, xs were checked and es are left; or an earlier pass
 -- would have refused
-pub data Gathered (t : Lent) (p : Place) (P : File) (S : Scope) (q : Stand) (Γ : List Ty) (Δ : List ℕ) (left n i end : ℕ) (b : Buffers) (row : List ℕ) (all : Counted) (whole : Result Sizeds) : Type 0 where
-  gathered : {xs : Sizeds} {es : Exprs} → length (xs .types) ≡ i → CountedAs P (all .next .at) (b .list) row all xs → ExprsPart (lineAt (t .text) (p .line)) (movedTo p (all .next) (all .used)) S (n - i) end es →
+pub data Gathered (t : Lent) (p : Site) (P : File) (S : Scope) (q : Stand) (Γ : List Ty) (Δ : List ℕ) (left n i end : ℕ) (b : Buffers) (row : List ℕ) (all : Counted) (whole : Result Sizeds) : Type 0 where
+  gathered : {xs : Sizeds} {es : Exprs} → length (xs .types) ≡ i → CountedAs P (all .next .at) (b .list) row all xs → ExprsPart (lineAt (t .text) (p .place .line)) (movedOn p (all .next) (all .used)) S (n - i) end es →
       whole ≡ bind (sizeds P (entering P left) es q Γ Δ (xs .list)) (λ ys. ok (andThen xs ys)) → Gathered t p P S q Γ Δ left n i end b row all whole
   lost : {k frame : ℕ} → Before k → whole ≡ no k frame → Gathered t p P S q Γ Δ left n i end b row all whole
 
-pub record Gathers (t : Lent) (b₀ : Buffers) (p : Place) (n : ℕ) (row₀ : List ℕ) (i : ℕ) (b : Buffers) (row : List ℕ) (all : Counted) : Type 0 where
+pub record Gathers (t : Lent) (b₀ : Buffers) (p : Site) (n : ℕ) (row₀ : List ℕ) (i : ℕ) (b : Buffers) (row : List ℕ) (all : Counted) : Type 0 where
   pub says : (P : File) (S : Scope) (q : Stand) (Γ : List Ty) (Δ : List ℕ) (L : List Instance) (left : ℕ) → Here t b₀ p P S q Γ Δ L left → n ≤ length row₀ →
-      (end : ℕ) (es : Exprs) → ExprsPart (lineAt (t .text) (p .line)) p S n end es → Gathered t p P S q Γ Δ left n i end b row all (sizeds P (entering P left) es q Γ Δ L)
+      (end : ℕ) (es : Exprs) → ExprsPart (lineAt (t .text) (p .place .line)) p S n end es → Gathered t p P S q Γ Δ left n i end b row all (sizeds P (entering P left) es q Γ Δ L)
   pub grown : p .used ≤ all .used
   pub kept : Kept p (b₀ .scope) (b₀ .sizes) (b .scope) (b .sizes)
   pub long : length row ≡ length row₀
 
-pub gathers-start : {t : Lent} {b : Buffers} {p : Place} {n : ℕ} {row : List ℕ} {all : Counted} → NoneCounted p all → Gathers t b p n row 0 b row all
+pub gathers-start : {t : Lent} {b : Buffers} {p : Site} {n : ℕ} {row : List ℕ} {all : Counted} → NoneCounted (p .place .at) (p .used) all → Gathers t b p n row 0 b row all
 gathers-start {t} {p = p} {n = n} made = rw (made .is) (record {
   says = λ P S q Γ Δ L left h room end es part. gathered {xs = noneOf L} refl (record { types = refl; small = all-nil; numbers = made .none .says; ends = refl; holds = h .holds })
-      (subst (λ m. ExprsPart (lineAt (t .text) (p .line)) (movedTo p (p .at) (p .used)) S m end es) (let same : n ≡ n - 0 = omega arith in same) (record { spelled = part .spelled; within = part .within; ends = part .ends })) (none-then L _);
+      (subst (λ m. ExprsPart (lineAt (t .text) (p .place .line)) (movedOn p (p .place .at) (p .used)) S m end es) (let same : n ≡ n - 0 = omega arith in same) (record { spelled = part .spelled; within = part .within; ends = part .ends })) (none-then L _);
   grown = omega arith;
   kept = kept-all;
   long = refl;
@@ -79,27 +79,27 @@ types-more row i τs τ word count less is so =
     ap (λ k. take k (set row i word)) long ∙ take-suc-set row i word less ∙ ap (λ k. take k row ++ (word ∷ [])) (sym count) ∙ ap (λ l. l ++ (word ∷ [])) so ∙ ap (λ w. map declaredWord τs ++ (w ∷ [])) is ∙ sym (map-append declaredWord τs (τ ∷ []))
 
 -- ---- one turn
-module _ {t : Lent} {b₀ b : Buffers} {p : Place} {n i : ℕ} {row₀ row : List ℕ} {all : Counted} (v : Gathers t b₀ p n row₀ i b row all) (less : i < n) where
+module _ {t : Lent} {b₀ b : Buffers} {p : Site} {n i : ℕ} {row₀ row : List ℕ} {all : Counted} (v : Gathers t b₀ p n row₀ i b row all) (less : i < n) where
   -- one is left, and others behind it
   one-left : n - i ≡ suc (n - (i + 1))
   one-left = omega (arith, less)
 
   here-now : {P : File} {S : Scope} {q : Stand} {Γ : List Ty} {Δ : List ℕ} {L : List Instance} {left : ℕ} {xs : Sizeds} → Here t b₀ p P S q Γ Δ L left → CountedAs P (all .next .at) (b .list) row all xs →
-      Here t b (movedTo p (all .next) (all .used)) P S q Γ Δ (xs .list) left
+      Here t b (movedOn p (all .next) (all .used)) P S q Γ Δ (xs .list) left
   here-now h c = here-moved h (all .next) (v .kept) (c .holds) (v .grown)
 
   module _ {P : File} {S : Scope} {q : Stand} {Γ : List Ty} {Δ : List ℕ} {left end : ℕ} {b₁ : Buffers} {all₁ : Counted} {xs : Sizeds} {es : Exprs} {word : ℕ} {whole : Result Sizeds}
-      (count : length (xs .types) ≡ i) (room : i < length row) (c : CountedAs P (all .next .at) (b .list) row all xs) (m : MorePart (lineAt (t .text) (p .line)) (movedTo p (all .next) (all .used)) S (n - (i + 1)) end es) where
+      (count : length (xs .types) ≡ i) (room : i < length row) (c : CountedAs P (all .next .at) (b .list) row all xs) (m : MorePart (lineAt (t .text) (p .place .line)) (movedOn p (all .next) (all .used)) S (n - (i + 1)) end es) where
     gathered-one : {row₁ : List ℕ} (y : Sized) → row₁ ≡ set row i word → word ≡ declaredWord (y .type) → Bounded (y .type) → Stands (all₁ .numbers) (after (xs .numbers) (y .numbers)) → Holds P (b₁ .list) (all₁ .used) (y .list) →
-        all₁ .next .at ≡ past (lineAt (t .text) (p .line)) (all .next .at) (length (exprBytes (m .of .first))) → whole ≡ bind (sizeds P (entering P left) (m .of .others) q Γ Δ (y .list)) (λ ys. ok (andThen (andOne xs y) ys)) →
+        all₁ .next .at ≡ past (lineAt (t .text) (p .place .line)) (all .next .at) (length (exprBytes (m .of .first))) → whole ≡ bind (sizeds P (entering P left) (m .of .others) q Γ Δ (y .list)) (λ ys. ok (andThen (andOne xs y) ys)) →
         Gathered t p P S q Γ Δ left n (i + 1) end b₁ row₁ all₁ whole
     gathered-one y put is small stands holds ends rest = rw put (gathered {xs = andOne xs y} (omega (arith, length-append (xs .types) (y .type ∷ []), count))
         (record { types = types-more row i (xs .types) (y .type) word count room is (c .types); small = all-snoc (c .small) small; numbers = stands; ends = refl; holds = holds })
-        (subst (λ k. ExprsPart (lineAt (t .text) (p .line)) (movedTo p (all₁ .next) (all₁ .used)) S (n - (i + 1)) k (m .of .others)) (sym (m .ends)) (exprs-at _ (m .next) (m .of .withins) ends refl)) rest)
+        (subst (λ k. ExprsPart (lineAt (t .text) (p .place .line)) (movedOn p (all₁ .next) (all₁ .used)) S (n - (i + 1)) k (m .of .others)) (sym (m .ends)) (exprs-at _ (m .next) (m .of .withins) ends refl)) rest)
 
   -- an expression was checked
-  module _ {o : Place} {x : Sizing} {b₁ : Buffers} (at : o ≡ movedTo p (all .next) (all .used)) (u : Sizes ExprPart t b o x b₁) where
-    now : Sizes ExprPart t b (movedTo p (all .next) (all .used)) x b₁
+  module _ {o : Site} {x : Sizing} {b₁ : Buffers} (at : o ≡ movedOn p (all .next) (all .used)) (u : Sizes ExprPart t b o x b₁) where
+    now : Sizes ExprPart t b (movedOn p (all .next) (all .used)) x b₁
     now = sizes-at at u
 
     now-kept : Kept p (b₀ .scope) (b₀ .sizes) (b₁ .scope) (b₁ .sizes)
@@ -107,11 +107,11 @@ module _ {t : Lent} {b₀ b : Buffers} {p : Place} {n i : ℕ} {row₀ row : Lis
 
     -- what it gave, and what the definition has of it
     module _ {P : File} {S : Scope} {q : Stand} {Γ : List Ty} {Δ : List ℕ} {L : List Instance} {left end : ℕ} (h : Here t b₀ p P S q Γ Δ L left) where
-      first-agrees : {xs : Sizeds} {es : Exprs} → CountedAs P (all .next .at) (b .list) row all xs → (m : MorePart (lineAt (t .text) (p .line)) (movedTo p (all .next) (all .used)) S (n - (i + 1)) end es) →
-          Agrees P itself (past (lineAt (t .text) (p .line)) (all .next .at) (length (exprBytes (m .of .first)))) (b₁ .list) x (sized P (entering P left) (m .of .first) q Γ Δ (xs .list))
+      first-agrees : {xs : Sizeds} {es : Exprs} → CountedAs P (all .next .at) (b .list) row all xs → (m : MorePart (lineAt (t .text) (p .place .line)) (movedOn p (all .next) (all .used)) S (n - (i + 1)) end es) →
+          Agrees P itself (past (lineAt (t .text) (p .place .line)) (all .next .at) (length (exprBytes (m .of .first)))) (b₁ .list) x (sized P (entering P left) (m .of .first) q Γ Δ (xs .list))
       first-agrees c m = part-agrees now (here-now h c) (m .spelled) (m .of .within) refl refl
 
-      whole-first : (xs : Sizeds) {es : Exprs} {whole : Result Sizeds} (m : MorePart (lineAt (t .text) (p .line)) (movedTo p (all .next) (all .used)) S (n - (i + 1)) end es) → whole ≡ bind (sizeds P (entering P left) es q Γ Δ (xs .list)) (λ ys. ok (andThen xs ys)) →
+      whole-first : (xs : Sizeds) {es : Exprs} {whole : Result Sizeds} (m : MorePart (lineAt (t .text) (p .place .line)) (movedOn p (all .next) (all .used)) S (n - (i + 1)) end es) → whole ≡ bind (sizeds P (entering P left) es q Γ Δ (xs .list)) (λ ys. ok (andThen xs ys)) →
           whole ≡ bind (sized P (entering P left) (m .of .first) q Γ Δ (xs .list)) (λ (y : Sized). bind (sizeds P (entering P left) (m .of .others) q Γ Δ (y .list)) (λ ys. ok (andThen (andOne xs y) ys)))
       whole-first xs m is = is ∙ ap (λ l. bind (sizeds P (entering P left) l q Γ Δ (xs .list)) (λ ys. ok (andThen xs ys))) (m .of .is) ∙ then-more P (entering P left) q Γ Δ xs (m .of .first) (m .of .others)
 
@@ -134,13 +134,13 @@ module _ {t : Lent} {b₀ b : Buffers} {p : Place} {n i : ℕ} {row₀ row : Lis
         go h (lost j is) = rw is (beyond-all j)
 
     gathers-on : {P : File} {S : Scope} {q : Stand} {Γ : List Ty} {Δ : List ℕ} {left end : ℕ} {k : Checked} {word : ℕ} {row₁ : List ℕ} {all₁ : Counted} {xs : Sizeds} {es : Exprs} {a : Result Sized} {whole : Result Sizeds} → x ≡ Is k → word ≡ declaredWord (meaning (k .ty)) → row₁ ≡ set row i word → Joins all k all₁ →
-        length (xs .types) ≡ i → i < length row → CountedAs P (all .next .at) (b .list) row all xs → (m : MorePart (lineAt (t .text) (p .line)) (movedTo p (all .next) (all .used)) S (n - (i + 1)) end es) →
-        Agrees P itself (past (lineAt (t .text) (p .line)) (all .next .at) (length (exprBytes (m .of .first)))) (b₁ .list) x a → whole ≡ bind a (λ (y : Sized). bind (sizeds P (entering P left) (m .of .others) q Γ Δ (y .list)) (λ ys. ok (andThen (andOne xs y) ys))) →
+        length (xs .types) ≡ i → i < length row → CountedAs P (all .next .at) (b .list) row all xs → (m : MorePart (lineAt (t .text) (p .place .line)) (movedOn p (all .next) (all .used)) S (n - (i + 1)) end es) →
+        Agrees P itself (past (lineAt (t .text) (p .place .line)) (all .next .at) (length (exprBytes (m .of .first)))) (b₁ .list) x a → whole ≡ bind a (λ (y : Sized). bind (sizeds P (entering P left) (m .of .others) q Γ Δ (y .list)) (λ ys. ok (andThen (andOne xs y) ys))) →
         Gathered t p P S q Γ Δ left n (i + 1) end b₁ row₁ all₁ whole
     unfolding bind
     gathers-on {P} {k = k} {all₁ = all₁} d is put joins count room c m (agrees {k = j} {x = y} e g) rest =
         let same : j ≡ k = (let both : Is j ≡ Is k = sym e ∙ d in cc) in
-        let next : ℕ = past (lineAt (t .text) (p .line)) (all .next .at) (length (exprBytes (m .of .first))) in
+        let next : ℕ = past (lineAt (t .text) (p .place .line)) (all .next .at) (length (exprBytes (m .of .first))) in
         let f : CheckedAs P next (b₁ .list) k y = subst (λ z. CheckedAs P next (b₁ .list) z y) same g in
         gathered-one {b₁ = b₁} {all₁ = all₁} count room c m y put (is ∙ ap declaredWord (f .type)) (f .small) (joins .numbers .says _ _ (c .numbers) (f .numbers))
         (subst (λ u. Holds P (b₁ .list) u (y .list)) (sym (joins .used)) (f .holds)) (ap (λ z. z .at) (joins .next) ∙ f .ends) rest
@@ -161,7 +161,7 @@ module _ {t : Lent} {b₀ b : Buffers} {p : Place} {n i : ℕ} {row₀ row : Lis
         go h room (lost j e) = lost j e
 
   -- a variable, whose word is taken over as it stands in the scope
-  module _ {line : List ℕ} {r : VariableAt} {number : ℕ} {next : Cursor} (cut : line ≡ framePart (t .text) (framesOf (t .index)) (p .line)) (read : VariableRead line (all .next .at) r) (d : r ≡ VariableIs number next) where
+  module _ {line : List ℕ} {r : VariableAt} {number : ℕ} {next : Cursor} (cut : line ≡ framePart (t .text) (framesOf (t .index)) (p .place .line)) (read : VariableRead line (all .next .at) r) (d : r ≡ VariableIs number next) where
     shows : Heads line (all .next .at) (record { form = Variable number; next = next })
     shows = go read d
       where
@@ -179,8 +179,8 @@ module _ {t : Lent} {b₀ b : Buffers} {p : Place} {n i : ℕ} {row₀ row : Lis
     })
       where
         typed : {P : File} {S : Scope} {q : Stand} {Γ : List Ty} {Δ : List ℕ} {L : List Instance} {left end : ℕ} {xs : Sizeds} {es : Exprs} {whole : Result Sizeds} → Here t b₀ p P S q Γ Δ L left → n ≤ length row₀ → length (xs .types) ≡ i →
-            (c : CountedAs P (all .next .at) (b .list) row all xs) (m : MorePart (lineAt (t .text) (p .line)) (movedTo p (all .next) (all .used)) S (n - (i + 1)) end es) →
-            next .at ≡ past (lineAt (t .text) (p .line)) (all .next .at) (length (exprBytes (m .of .first))) → (o : Option Ty) → look Γ number ≡ o →
+            (c : CountedAs P (all .next .at) (b .list) row all xs) (m : MorePart (lineAt (t .text) (p .place .line)) (movedOn p (all .next) (all .used)) S (n - (i + 1)) end es) →
+            next .at ≡ past (lineAt (t .text) (p .place .line)) (all .next .at) (length (exprBytes (m .of .first))) → (o : Option Ty) → look Γ number ≡ o →
             whole ≡ bind (from o 6 (frameAt P q) (λ τ. ok (record { type = τ; numbers = nothing; list = xs .list }))) (λ (y : Sized). bind (sizeds P (entering P left) (m .of .others) q Γ Δ (y .list)) (λ ys. ok (andThen (andOne xs y) ys))) →
             Gathered t p P S q Γ Δ left n (i + 1) end b row₁ (passedTo all next) whole
         typed {xs = xs} h room count c m ends (some τ) there rest =
@@ -193,7 +193,7 @@ module _ {t : Lent} {b₀ b : Buffers} {p : Place} {n i : ℕ} {row₀ row : Lis
             Gathered t p P S q Γ Δ left n (i + 1) end b row₁ (passedTo all next) whole
         go {P} {q = q} {Γ = Γ} {Δ = Δ} {left = left} h room (gathered {xs} {es} count c part e) =
             let m = more-part part one-left in
-            let here = subst (λ l. Heads l (all .next .at) (record { form = Variable number; next = next })) (part-is-line (h .indexed) (p .line) (h .site .line) cut) shows in
+            let here = subst (λ l. Heads l (all .next .at) (record { form = Variable number; next = next })) (part-is-line (h .indexed) (p .place .line) (h .site .line) cut) shows in
             let head = var-head here (m .spelled) (m .of .within) refl in
             typed {xs = xs} h room count c m (head .ends) (look Γ number) refl
             (e ∙ ap (λ l. bind (sizeds P (entering P left) l q Γ Δ (xs .list)) (λ ys. ok (andThen xs ys))) (m .of .is) ∙ then-more P (entering P left) q Γ Δ xs (m .of .first) (m .of .others)
@@ -201,7 +201,7 @@ module _ {t : Lent} {b₀ b : Buffers} {p : Place} {n i : ℕ} {row₀ row : Lis
         go h room (lost j e) = lost j e
 
 -- ---- all were checked
-pub several-done : {t : Lent} {b₀ b : Buffers} {p : Place} {n i : ℕ} {row₀ row : List ℕ} {all : Counted} {r : Counting} → Gathers t b₀ p n row₀ i b row all → n ≤ i → r ≡ Are all → SizesAll t b₀ p n row₀ r b row
+pub several-done : {t : Lent} {b₀ b : Buffers} {p : Site} {n i : ℕ} {row₀ row : List ℕ} {all : Counted} {r : Counting} → Gathers t b₀ p n row₀ i b row all → n ≤ i → r ≡ Are all → SizesAll t b₀ p n row₀ r b row
 unfolding exprsBytes
 several-done {t} {b₀} {b} {p} {n} {i} {row₀} {row} {all} v ended answer = rw answer (record {
   says = λ P S q Γ Δ L left h room end es part. go (v .says P S q Γ Δ L left h room end es part);
@@ -213,29 +213,27 @@ several-done {t} {b₀} {b} {p} {n} {i} {row₀} {row} {all} v ended answer = rw
     go {P} {q = q} {Γ = Γ} {Δ = Δ} {left = left} (gathered {xs} {es} count c part e) =
         let z : es ≡ enil = none-within (part .within) (omega (arith, ended)) in
         rw (e ∙ ap (λ l. bind (sizeds P (entering P left) l q Γ Δ (xs .list)) (λ ys. ok (andThen xs ys))) z ∙ then-none P (entering P left) q Γ Δ xs)
-        (agree refl (record { types = c .types; small = c .small; numbers = c .numbers; ends = sym (part .ends ∙ ap (λ (l : Exprs). past (lineAt (t .text) (p .line)) (all .next .at) (length (exprsBytes l))) z ∙ past-none (lineAt (t .text) (p .line)) (all .next .at)); holds = c .holds }))
+        (agree refl (record { types = c .types; small = c .small; numbers = c .numbers; ends = sym (part .ends ∙ ap (λ (l : Exprs). past (lineAt (t .text) (p .place .line)) (all .next .at) (length (exprsBytes l))) z ∙ past-none (lineAt (t .text) (p .place .line)) (all .next .at)); holds = c .holds }))
     go (lost j e) = rw e (beyond-all j)
 
--- ---- the loop: what is known before a turn, with the lengths of what is lent
-pub record Turned (t : Lent) (list₀ memo₀ scope₀ sizes₀ : List ℕ) (p : Place) (n : ℕ) (row₀ : List ℕ) (i : ℕ) (list memo scope sizes row : List ℕ) (all : Counted) : Type 0 where
+-- ---- the loop: what is known before a turn, with the length of the list
+pub record Turned (t : Lent) (list₀ memo₀ scope₀ sizes₀ : List ℕ) (p : Site) (n : ℕ) (row₀ : List ℕ) (i : ℕ) (list memo scope sizes row : List ℕ) (all : Counted) : Type 0 where
   pub gathers : Gathers t (buffers (table list₀ memo₀) scope₀ sizes₀) p n row₀ i (buffers (table list memo) scope sizes) row all
   pub list-long : length list ≡ length list₀
-  pub scope-long : length scope ≡ length scope₀
-  pub sizes-long : length sizes ≡ length sizes₀
 
-pub turned-start : {t : Lent} {list memo scope sizes : List ℕ} {p : Place} {n : ℕ} {row : List ℕ} {all : Counted} → NoneCounted p all → Turned t list memo scope sizes p n row 0 list memo scope sizes row all
-turned-start made = record { gathers = gathers-start made; list-long = refl; scope-long = refl; sizes-long = refl }
+pub turned-start : {t : Lent} {list memo scope sizes : List ℕ} {p : Site} {n : ℕ} {row : List ℕ} {all : Counted} → NoneCounted (p .place .at) (p .used) all → Turned t list memo scope sizes p n row 0 list memo scope sizes row all
+turned-start made = record { gathers = gathers-start made; list-long = refl }
 
 -- where two arms meet, each thing is what the arm left in it
-module _ {t : Lent} {list₀ memo₀ scope₀ sizes₀ : List ℕ} {p : Place} {n : ℕ} {row₀ : List ℕ} {i : ℕ} {list memo scope sizes row : List ℕ} {all : Counted} (v : Turned t list₀ memo₀ scope₀ sizes₀ p n row₀ i list memo scope sizes row all) (less : i < n)
+module _ {t : Lent} {list₀ memo₀ scope₀ sizes₀ : List ℕ} {p : Site} {n : ℕ} {row₀ : List ℕ} {i : ℕ} {list memo scope sizes row : List ℕ} {all : Counted} (v : Turned t list₀ memo₀ scope₀ sizes₀ p n row₀ i list memo scope sizes row all) (less : i < n)
     {list′ memo′ scope′ sizes′ row′ row₁ : List ℕ} {all′ all₁ : Counted} where
-  pub turned-variable : {line : List ℕ} {r : VariableAt} {number : ℕ} {next : Cursor} → line ≡ framePart (t .text) (framesOf (t .index)) (p .line) → VariableRead line (all .next .at) r → r ≡ VariableIs number next → (word : ℕ) → word ≡ getD scope number 0 →
+  pub turned-variable : {line : List ℕ} {r : VariableAt} {number : ℕ} {next : Cursor} → line ≡ framePart (t .text) (framesOf (t .index)) (p .place .line) → VariableRead line (all .next .at) r → r ≡ VariableIs number next → (word : ℕ) → word ≡ getD scope number 0 →
       row₁ ≡ set row i word → all₁ ≡ passedTo all next → list′ ≡ list → memo′ ≡ memo → scope′ ≡ scope → sizes′ ≡ sizes → row′ ≡ row₁ → all′ ≡ all₁ → Turned t list₀ memo₀ scope₀ sizes₀ p n row₀ (i + 1) list′ memo′ scope′ sizes′ row′ all′
   turned-variable cut read d word is put passed same-list same-memo same-scope same-sizes same-row same-all = rw (same-list, same-memo, same-scope, same-sizes, same-row, same-all)
-      (record { gathers = several-variable (v .gathers) less cut read d word is put passed; list-long = v .list-long; scope-long = v .scope-long; sizes-long = v .sizes-long })
+      (record { gathers = several-variable (v .gathers) less cut read d word is put passed; list-long = v .list-long })
 
-  pub turned-expr : {o : Place} {x : Sizing} {k : Checked} {list₁ memo₁ scope₁ sizes₁ : List ℕ} → o ≡ movedTo p (all .next) (all .used) → Sizes ExprPart t (buffers (table list memo) scope sizes) o x (buffers (table list₁ memo₁) scope₁ sizes₁) →
-      length list₁ ≡ length list → length scope₁ ≡ length scope → length sizes₁ ≡ length sizes → x ≡ Is k → (word : ℕ) → word ≡ declaredWord (meaning (k .ty)) → row₁ ≡ set row i word → Joins all k all₁ →
+  pub turned-expr : {o : Site} {x : Sizing} {k : Checked} {list₁ memo₁ scope₁ sizes₁ : List ℕ} → o ≡ movedOn p (all .next) (all .used) → Sizes ExprPart t (buffers (table list memo) scope sizes) o x (buffers (table list₁ memo₁) scope₁ sizes₁) →
+      length list₁ ≡ length list → x ≡ Is k → (word : ℕ) → word ≡ declaredWord (meaning (k .ty)) → row₁ ≡ set row i word → Joins all k all₁ →
       list′ ≡ list₁ → memo′ ≡ memo₁ → scope′ ≡ scope₁ → sizes′ ≡ sizes₁ → row′ ≡ row₁ → all′ ≡ all₁ → Turned t list₀ memo₀ scope₀ sizes₀ p n row₀ (i + 1) list′ memo′ scope′ sizes′ row′ all′
-  turned-expr at u l s z d word is put joins same-list same-memo same-scope same-sizes same-row same-all = rw (same-list, same-memo, same-scope, same-sizes, same-row, same-all)
-      (record { gathers = several-turn (v .gathers) less at u word d is put joins; list-long = l ∙ v .list-long; scope-long = s ∙ v .scope-long; sizes-long = z ∙ v .sizes-long })
+  turned-expr at u l d word is put joins same-list same-memo same-scope same-sizes same-row same-all = rw (same-list, same-memo, same-scope, same-sizes, same-row, same-all)
+      (record { gathers = several-turn (v .gathers) less at u word d is put joins; list-long = l ∙ v .list-long })

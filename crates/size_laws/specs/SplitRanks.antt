@@ -20,8 +20,8 @@ use Rattle.splits.specs.Moves.{Moves}
 use Rattle.splits.specs.MoveLaws.{drop-of-take}
 use Rattle.splits.specs.Walks.{next-long}
 use Rattle.text.specs.declared.Cursor.{Cursor}
-use Rattle.size_steps.specs.declared.Place.{Place}
-use Rattle.size_steps.specs.Sites.{movedTo, widened, Kept}
+use Rattle.size_steps.specs.declared.Site.{Site}
+use Rattle.size_steps.specs.Sites.{movedOn, widenedBy, Kept}
 
 -- how many lists of so many digits there are, a digit for each number up to the largest size; and how many come behind this one
 unfoldable pub whole : ℕ → ℕ
@@ -105,11 +105,11 @@ walk-falls {moved = true} at r m = omega (arith, splits-fall at r m)
 walk-falls {moved = false} at r m = omega arith
 
 -- ---- a turn keeps the sizes up to the split's end, and then writes the next split
-module _ (p : Place) (n own : ℕ) {m o : Place} {used : ℕ} {at : Cursor} {scope sizes scope₁ sizes₁ : List ℕ} (moved : m ≡ movedTo p at used) (wide : o ≡ widened m n own) (kept : Kept o scope sizes scope₁ sizes₁) where
+module _ (p : Site) (n own : ℕ) {m o : Site} {used : ℕ} {at : Cursor} {scope sizes scope₁ sizes₁ : List ℕ} (moved : m ≡ movedOn p at used) (wide : o ≡ widenedBy m n own) (kept : Kept o scope sizes scope₁ sizes₁) where
   pub same-split : take own (drop (p .sizes) sizes₁) ≡ take own (drop (p .sizes) sizes)
   same-split =
-      let place = wide ∙ ap (λ (z : Place). widened z n own) moved in
-      let same : take (p .sizes + own) sizes₁ ≡ take (p .sizes + own) sizes = subst (λ (z : Place). Kept z scope sizes scope₁ sizes₁) place kept .sizesToo in
+      let place = wide ∙ ap (λ (z : Site). widenedBy z n own) moved in
+      let same : take (p .sizes + own) sizes₁ ≡ take (p .sizes + own) sizes = subst (λ (z : Site). Kept z scope sizes scope₁ sizes₁) place kept .sizesToo in
       sym (drop-of-take (p .sizes) own sizes₁) ∙ ap (drop (p .sizes)) same ∙ drop-of-take (p .sizes) own sizes
 
   pub turn-falls : {next : Bool} {sizes₂ : List ℕ} → Moves sizes₁ (p .sizes) own next sizes₂ → walkLeft next (take own (drop (p .sizes) sizes₂)) < walkLeft true (take own (drop (p .sizes) sizes))

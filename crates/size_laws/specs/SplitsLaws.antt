@@ -30,12 +30,12 @@ use Rattle.splits.specs.Walks.{moves-keep, walk-moves, walk-ends}
 use Rattle.sizes.specs.Rows.{FieldsBound}
 use Rattle.sizes.specs.ToldLaws.{told-fields, fields-counted}
 use Rattle.index.specs.Sections.{typesOf}
-use Rattle.size_steps.specs.declared.Place.{Place}
+use Rattle.size_steps.specs.declared.Site.{Site}
 use Rattle.size_steps.specs.declared.Checked.{Checked}
 use Rattle.size_steps.specs.declared.Sizing.{Sizing}
 use Rattle.size_steps.specs.declared.Sizing.the-variants.{Is, Refused}
 use Rattle.size_steps.specs.declared.Subject.{Subject}
-use Rattle.size_steps.specs.Sites.{Bounded, movedTo, widened, Kept, kept-then, kept-moved, kept-under}
+use Rattle.size_steps.specs.Sites.{Bounded, movedOn, widenedBy, Kept, kept-then, kept-moved, kept-under}
 use Rattle.size_steps.specs.Agreement.{Table, Holds, Before, CheckedAs, Agrees, Grows, agrees, refused, beyond, itself, ofType, grown, not-grown, grows-to, grows-same, bind-is, bind-no, need-fails}
 use Rattle.size_laws.specs.Promises.{Lent, Buffers, buffers, Here, ExprPart, entering, BranchPart, UpToMost, Wanted, Sizes, SizesSplits}
 use Rattle.size_laws.specs.HereLaws.{fits-of, here-moved}
@@ -157,12 +157,12 @@ agreed {k} {τ} frame (answered c) same small =
 agreed frame (unanswered before) same small = unanswered before
 
 -- ---- the loop's body: the fields bound, and the branch's expression under them
-module _ {s : Subject} {k n own : ℕ} {t : Lent} {b₀ b b₁ : Buffers} {p m o : Place} {all : Checked} {scope : List ℕ} {x : Sizing} (w : Walks s k t b₀ p true b all)
+module _ {s : Subject} {k n own : ℕ} {t : Lent} {b₀ b b₁ : Buffers} {p m o : Site} {all : Checked} {scope : List ℕ} {x : Sizing} (w : Walks s k t b₀ p true b all)
     (count : (n ≡ fieldsWord t (s .of) k % byteRange) × (n < byteRange)) (told : (own ≡ ownWord t (s .of) k % byteRange) × (own < byteRange)) (room : variablesMost ≤ length (b .scope)) (sizeRoom : sizeVariablesMost ≤ length (b .sizes))
-    (bound : FieldsBound (typesOf (t .index)) (b .scope) (b .sizes) (s .of) k (p .variables) (p .sizes) scope) (moved : m ≡ movedTo p (p .at) (all .used)) (wide : o ≡ widened m n own)
+    (bound : FieldsBound (typesOf (t .index)) (b .scope) (b .sizes) (s .of) k (p .place .variables) (p .sizes) scope) (moved : m ≡ movedOn p (p .place .at) (all .used)) (wide : o ≡ widenedBy m n own)
     (v : Sizes ExprPart t (buffers (b .list) scope (b .sizes)) o x b₁) where
-  under : Sizes ExprPart t (buffers (b .list) scope (b .sizes)) (widened (movedTo p (p .at) (all .used)) n own) x b₁
-  under = subst (λ z. Sizes ExprPart t (buffers (b .list) scope (b .sizes)) z x b₁) (wide ∙ ap (λ z. widened z n own) moved) v
+  under : Sizes ExprPart t (buffers (b .list) scope (b .sizes)) (widenedBy (movedOn p (p .place .at) (all .used)) n own) x b₁
+  under = subst (λ z. Sizes ExprPart t (buffers (b .list) scope (b .sizes)) z x b₁) (wide ∙ ap (λ z. widenedBy z n own) moved) v
 
   turn-kept : Kept p (b₀ .scope) (b₀ .sizes) (b₁ .scope) (b₁ .sizes)
   turn-kept = kept-then (w .kept) (kept-then (record { variables = bound .before; sizesToo = refl }) (kept-moved (kept-under n own (under .kept))))
@@ -172,10 +172,10 @@ module _ {s : Subject} {k n own : ℕ} {t : Lent} {b₀ b b₁ : Buffers} {p m o
 
   -- the expression, where the definition checks it
   inside-branch : {P : File} {S : Scope} {q : Stand} {Γ : List Ty} {Δ : List ℕ} {L M : List Instance} {left end : ℕ} {fs : Constructor} {e : Expr} → Here t b₀ p P S q Γ Δ L left → Wanted P s →
-      look (constructorsOf P (s .of)) k ≡ some fs → BranchPart (lineAt (t .text) (p .line)) p S fs end e → Holds P (b .list) (all .used) M → All UpToMost (take (owns fs) (drop (p .sizes) (b .sizes))) →
+      look (constructorsOf P (s .of)) k ≡ some fs → BranchPart (lineAt (t .text) (p .place .line)) p S fs end e → Holds P (b .list) (all .used) M → All UpToMost (take (owns fs) (drop (p .sizes) (b .sizes))) →
       Agrees P itself end (b₁ .list) x (sized P (entering P left) e q (Γ ++ fieldTypes (s .of) fs (take (owns fs) (drop (p .sizes) (b .sizes)))) (Δ ++ take (owns fs) (drop (p .sizes) (b .sizes))) M)
   inside-branch {P} {S} {q} {Γ} {Δ} {M} {left} {end} {fs} {e} h wanted there part holds most =
-      let here = here-fields k (here-moved h (p .at) (w .kept) holds (w .grown)) (wanted .of) there room sizeRoom (fits-of (part .within)) most bound in
+      let here = here-fields k (here-moved h (p .place .at) (w .kept) holds (w .grown)) (wanted .of) there room sizeRoom (fits-of (part .within)) most bound in
       let fields : n ≡ length fs = fields-counted (told-fields (h .indexed) (s .of) k (wanted .of) there) count in
       let owned : own ≡ owns fs = owns-told k (h .indexed) (wanted .of) there told in
       let there = rw (fields, owned) at under in
@@ -190,7 +190,7 @@ module _ {s : Subject} {k n own : ℕ} {t : Lent} {b₀ b b₁ : Buffers} {p m o
   }
 
   module _ {a : Checked} {same : Bool} (d : x ≡ Is a) (tested : same ≡ sameType (meaning (a .ty)) (meaning (s .ty))) where
-    pub splits-differ : same ≡ false → SizesSplits s k t b₀ p (Refused 11 (p .line + 1)) b₁
+    pub splits-differ : same ≡ false → SizesSplits s k t b₀ p (Refused 11 (p .place .line + 1)) b₁
     splits-differ other = record {
       says = λ P S q Γ Δ L left h fs wanted there end e part kss chain most.
           stops (length fs) (w .says P S q Γ Δ L left h fs wanted there end e part kss chain most) (λ M holds sizes. bind-is _ (inside-branch h wanted there part holds sizes) d (λ y c.
@@ -216,7 +216,7 @@ module _ {s : Subject} {k n own : ℕ} {t : Lent} {b₀ b b₁ : Buffers} {p m o
     })
 
 -- ---- the loop is left
-pub splits-done : {s : Subject} {k n : ℕ} {t : Lent} {b₀ b : Buffers} {p : Place} {all : Checked} {numbers : Held} {r : Sizing} → Walks s k t b₀ p false b all → (n ≡ fieldsWord t (s .of) k % byteRange) × (n < byteRange) →
+pub splits-done : {s : Subject} {k n : ℕ} {t : Lent} {b₀ b : Buffers} {p : Site} {all : Checked} {numbers : Held} {r : Sizing} → Walks s k t b₀ p false b all → (n ≡ fieldsWord t (s .of) k % byteRange) × (n < byteRange) →
     Changes (withSlots n) (all .numbers) numbers → r ≡ Is (record { ty = all .ty; numbers = numbers; next = all .next; used = all .used }) → SizesSplits s k t b₀ p r b
 splits-done {s} {k} w count held is = record {
   says = λ P S q Γ Δ L left h fs wanted there end e part kss chain most.

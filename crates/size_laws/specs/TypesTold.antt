@@ -21,8 +21,8 @@ use Rattle.index.specs.Indexed.{declaredAt}
 use Rattle.encoding.specs.WithinParts.{input-within, node-within}
 use Rattle.sizes.specs.declared.SizedType.{SizedType}
 use Rattle.sizes.specs.Promises.{meaning}
-use Rattle.size_steps.specs.declared.Place.{Place}
-use Rattle.size_steps.specs.Sites.{Bounded, bounded-bool, bounded-int, bounded-named, bounded-small, Site}
+use Rattle.size_steps.specs.declared.Site.{Site}
+use Rattle.size_steps.specs.Sites.{Bounded, bounded-bool, bounded-int, bounded-named, bounded-small, Sited}
 use Rattle.size_steps.specs.Leaves.{ChannelTyped}
 use Rattle.size_laws.specs.Promises.{Lent, IndexedFile}
 
@@ -32,10 +32,10 @@ pub record Told (word : ℕ) (τ : Ty) : Type 0 where
   pub small : Bounded τ
 
 -- ---- variables
-pub variable-told : {P : File} {S : Scope} {q : Stand} {Γ : List Ty} {Δ scope sizes : List ℕ} {p : Place} → Site P S q Γ Δ scope sizes p → (v : ℕ) {τ : Ty} → look Γ v ≡ some τ → Told (getD scope v 0) τ
+pub variable-told : {P : File} {S : Scope} {q : Stand} {Γ : List Ty} {Δ scope sizes : List ℕ} {p : Site} → Sited P S q Γ Δ scope sizes p → (v : ℕ) {τ : Ty} → look Γ v ≡ some τ → Told (getD scope v 0) τ
 variable-told {Γ} {scope} {p} s v e =
-    let less : v < p .variables = omega (arith, look-less Γ v e, s .variables) in
-    record { is = sym (sym (getD-take (p .variables) scope v 0 less) ∙ ap (λ l. getD l v 0) (s .types) ∙ look-getD (map declaredWord Γ) v 0 (look-map declaredWord Γ v e)); small = all-at (s .small) v e }
+    let less : v < p .place .variables = omega (arith, look-less Γ v e, s .variables) in
+    record { is = sym (sym (getD-take (p .place .variables) scope v 0 less) ∙ ap (λ l. getD l v 0) (s .types) ∙ look-getD (map declaredWord Γ) v 0 (look-map declaredWord Γ v e)); small = all-at (s .small) v e }
 
 -- ---- channels
 -- what stands at a place of two lists

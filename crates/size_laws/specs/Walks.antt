@@ -18,7 +18,7 @@ use Rattle.estimate.specs.declared.Estimate.{Estimate as Held}
 use Rattle.estimate.specs.Stands.{Stands, Makes}
 use Rattle.sizes.specs.Promises.{meaning}
 use Rattle.splits.specs.Next.{Chain}
-use Rattle.size_steps.specs.declared.Place.{Place}
+use Rattle.size_steps.specs.declared.Site.{Site}
 use Rattle.size_steps.specs.declared.Checked.{Checked}
 use Rattle.size_steps.specs.declared.Subject.{Subject}
 use Rattle.size_steps.specs.Sites.{Kept, kept-all}
@@ -35,16 +35,16 @@ pub data Progress (P : File) (f : List ℕ → List Instance → Result CountedD
   past : {n frame : ℕ} → Before n → a ≡ no n frame → Progress P f r at end b all more a
 
 -- b₀: the buffers before the loop; b, all, more: those, the answer so far and the test before a turn
-pub record Walks (s : Subject) (k : ℕ) (t : Lent) (b₀ : Buffers) (p : Place) (more : Bool) (b : Buffers) (all : Checked) : Type 0 where
+pub record Walks (s : Subject) (k : ℕ) (t : Lent) (b₀ : Buffers) (p : Site) (more : Bool) (b : Buffers) (all : Checked) : Type 0 where
   pub says : (P : File) (S : Scope) (q : Stand) (Γ : List Ty) (Δ : List ℕ) (L : List Instance) (left : ℕ) → Here t b₀ p P S q Γ Δ L left →
-      (fs : Constructor) → Wanted P s → look (constructorsOf P (s .of)) k ≡ some fs → (end : ℕ) (e : Expr) → BranchPart (lineAt (t .text) (p .line)) p S fs end e →
+      (fs : Constructor) → Wanted P s → look (constructorsOf P (s .of)) k ≡ some fs → (end : ℕ) (e : Expr) → BranchPart (lineAt (t .text) (p .place .line)) p S fs end e →
       (kss : List (List ℕ)) → Chain (take (owns fs) (drop (p .sizes) (b₀ .sizes))) kss → All (All UpToMost) kss →
       Progress P (atSplit P (entering P left) e fs q Γ Δ (s .of) (meaning (s .ty))) (owns fs) (p .sizes) end b all more (atSplits kss (atSplit P (entering P left) e fs q Γ Δ (s .of) (meaning (s .ty))) L)
   pub ty : all .ty ≡ s .ty
   pub grown : p .used ≤ all .used
   pub kept : Kept p (b₀ .scope) (b₀ .sizes) (b .scope) (b .sizes)
 
-pub walks-start : {s : Subject} {k : ℕ} {t : Lent} {b : Buffers} {p : Place} {numbers : Held} {all : Checked} → Makes nothing numbers → all ≡ record { ty = s .ty; numbers = numbers; next = p .at; used = p .used } → Walks s k t b p true b all
+pub walks-start : {s : Subject} {k : ℕ} {t : Lent} {b : Buffers} {p : Site} {numbers : Held} {all : Checked} → Makes nothing numbers → all ≡ record { ty = s .ty; numbers = numbers; next = p .place .at; used = p .used } → Walks s k t b p true b all
 walks-start made is = rw is (record {
   says = λ P S q Γ Δ L left h fs w there end e part kss chain most. going {x = nothing} refl (joined-none _) chain most (made .says) (h .holds);
   ty = refl;
@@ -53,5 +53,5 @@ walks-start made is = rw is (record {
 })
 
 -- by the test of the loop
-pub walks-are : {s : Subject} {k : ℕ} {t : Lent} {b₀ b : Buffers} {p : Place} {more next : Bool} {all : Checked} → more ≡ next → Walks s k t b₀ p more b all → Walks s k t b₀ p next b all
+pub walks-are : {s : Subject} {k : ℕ} {t : Lent} {b₀ b : Buffers} {p : Site} {more next : Bool} {all : Checked} → more ≡ next → Walks s k t b₀ p more b all → Walks s k t b₀ p next b all
 walks-are {s} {k} {t} {b₀} {b} {p} {all} e w = subst (λ m. Walks s k t b₀ p m b all) e w

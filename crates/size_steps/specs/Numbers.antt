@@ -7,7 +7,7 @@ use Rattle.estimate.specs.declared.Estimate.{Estimate}
 use Rattle.estimate.specs.Stands.{Makes, Changes, Combines}
 use Rattle.sizes.specs.declared.SizedType.{SizedType}
 use Rattle.sizes.specs.declared.SizedType.the-variants.{Named}
-use Rattle.size_steps.specs.declared.Place.{Place}
+use Rattle.size_steps.specs.declared.Site.{Site}
 use Rattle.size_steps.specs.declared.Checked.{Checked}
 use Rattle.size_steps.specs.declared.Sizing.{Sizing}
 use Rattle.size_steps.specs.declared.Sizing.the-variants.{Is}
@@ -86,10 +86,10 @@ pub record FitNumbers (a b d : Checked) (r : Sizing) : Type 0 where
 
 -- ---- parts one after the other
 -- none so far
-pub record NoneCounted (p : Place) (r : Counted) : Type 0 where
+pub record NoneCounted (next : Cursor) (used : ℕ) (r : Counted) : Type 0 where
   pub numbers : Estimate
   pub none : Makes nothing numbers
-  pub is : r ≡ record { numbers = numbers; next = p .at; used = p .used }
+  pub is : r ≡ record { numbers = numbers; next = next; used = used }
 
 -- those so far and one more
 pub record Joins (all : Counted) (a : Checked) (r : Counted) : Type 0 where
@@ -102,7 +102,7 @@ abbrev pub passedTo : Counted → Cursor → Counted
 passedTo all next = record { numbers = all .numbers; next = next; used = all .used }
 
 -- nothing so far
-pub record NothingYet (ty : SizedType) (p : Place) (r : Checked) : Type 0 where
+pub record NothingYet (ty : SizedType) (p : Site) (r : Checked) : Type 0 where
   pub numbers : Estimate
   pub none : Makes nothing numbers
-  pub is : r ≡ record { ty = ty; numbers = numbers; next = p .at; used = p .used }
+  pub is : r ≡ record { ty = ty; numbers = numbers; next = p .place .at; used = p .used }

@@ -1,18 +1,21 @@
 // What a form asks of the index and of the lines: types, conditions, measures, fields.
-ghost use Prim.Native.Nat.{_<_, _≤_, _+_, _^_};
-ghost use Rattle.language.specs.Limits.{byteRange, typesMost};
-ghost use Rattle.size_steps.specs.Leaves.{Typed, ChannelTyped, Falls, Prepares, MayCall, Makes};
+ghost use mathlib.Core.Path.{_≡_};
+ghost use Prim.Native.Nat.{_<_, _^_};
+ghost use Rattle.language.specs.Limits.{byteRange};
+ghost use Rattle.size_steps.specs.Leaves.{Typed, ChannelTyped, callsItself, Falls, Prepares, MayCall, Makes};
 ghost use Rattle.size_steps.specs.Agreement.{table};
 ghost use Rattle.size_steps.specs.Lookups.{Again};
 use super::Checked;
 use super::Counted;
 use super::Entering;
 use super::Entry;
-use super::Place;
+use super::SCOPE_SIZES;
+use super::Site;
 use super::Sizing;
 use super::numbers::leaf;
 use estimate::after;
 use estimate::one_cell;
+use heads::places::line_behind_types;
 use index::INDEX_WORDS;
 use index::channels::declared_word;
 use index::frames::frame_line;
@@ -51,14 +54,19 @@ pub fn channel_type(index: &[u32; INDEX_WORDS], c: u32) -> SizedType
     type_of(declared_word(index, c))
 }
 
-// For a self-call whether the summed measure falls; any other call may be made.
-pub fn falls(p: Place, f: u32, w: u32) -> bool
-    ensures { λ r. ⌜ Falls p f w r ⌝ }
+// Whether a call of f at a site is one of the function around it.
+fn calls_itself(index: &[u32; INDEX_WORDS], p: Site, f: u32) -> bool
+    ensures { λ r. ⌜ r ≡ callsItself (now (index .entry)) p f ⌝ }
 {
-    if p.around == 0 {
-        return true;
-    }
-    if p.around - 1 != f {
+    let here = p.place;
+    here.line == line_behind_types(index, f)
+}
+
+// For a self-call whether the summed measure falls; any other call may be made.
+fn falls(index: &[u32; INDEX_WORDS], p: Site, f: u32, w: u32) -> bool
+    ensures { λ r. ⌜ Falls (now (index .entry)) p f w r ⌝ }
+{
+    if !calls_itself(index, p, f) {
         return true;
     }
     w < p.measure
@@ -68,26 +76,28 @@ pub fn falls(p: Place, f: u32, w: u32) -> bool
 pub fn prepare(
     text: &[u8],
     index: &[u32; INDEX_WORDS],
-    sizes: &[u8],
-    p: Place,
+    sizes: &[u8; SCOPE_SIZES],
+    p: Site,
     f: u32,
     n: u32,
     m: u32,
 ) -> Entering
-    requires { ⌜ (p .types ≤ typesMost) × ((p .line < 2 ^ 16) × (f < byteRange)) ⌝ }
+    requires { ⌜ p .place .line < 2 ^ 16 ⌝ }
     ensures { λ r. ⌜ Prepares (now (text .entry)) (now (index .entry)) (now (sizes .entry)) p f n m r ⌝ }
 {
-    let line = frame_line(text, index, p.types + f);
+    let here = p.place;
+    let called = line_behind_types(index, f);
+    let line = frame_line(text, index, called);
     if !conditions_hold(line, conditions_start(index, f), sizes) {
-        return Entering::Refused(CONDITION_FAILS, p.line + 1);
+        return Entering::Refused(CONDITION_FAILS, here.line + 1);
     }
     let w = summed_measure(line, measure_start(index, f), sizes);
-    if !falls(p, f, w) {
-        return Entering::Refused(MEASURE_NOT_LESS, p.line + 1);
+    if !falls(index, p, f, w) {
+        return Entering::Refused(MEASURE_NOT_LESS, here.line + 1);
     }
     let x = type_at(line, result_start(index, f), sizes);
     let TypeAt::Is(ty, _) = x else {
-        return Entering::Refused(SIZE_OUTSIDE, p.types + f + 1);
+        return Entering::Refused(SIZE_OUTSIDE, called + 1);
     };
     Entering::Ready(Entry {
         function: f,
@@ -99,14 +109,19 @@ pub fn prepare(
 }
 
 // Whether f may be called here at these sizes: the summed measure of a self-call must fall. Of any other call it is not worked out.
-fn may_call(text: &[u8], index: &[u32; INDEX_WORDS], sizes: &[u8], p: Place, f: u32) -> bool
-    requires { ⌜ (p .types ≤ typesMost) × (f < byteRange) ⌝ }
+fn may_call(
+    text: &[u8],
+    index: &[u32; INDEX_WORDS],
+    sizes: &[u8; SCOPE_SIZES],
+    p: Site,
+    f: u32,
+) -> bool
     ensures { λ r. ⌜ MayCall (now (text .entry)) (now (index .entry)) (now (sizes .entry)) p f r ⌝ }
 {
-    if p.around != f + 1 {
+    if !calls_itself(index, p, f) {
         return true;
     }
-    let line = frame_line(text, index, p.types + f);
+    let line = frame_line(text, index, line_behind_types(index, f));
     let w = summed_measure(line, measure_start(index, f), sizes);
     w < p.measure
 }
@@ -118,32 +133,34 @@ pub fn again(
     index: &[u32; INDEX_WORDS],
     list: &[u32],
     memo: &[u32; MEMO_WORDS],
-    sizes: &[u8],
-    p: Place,
+    sizes: &[u8; SCOPE_SIZES],
+    p: Site,
     f: u32,
     i: u32,
 ) -> Sizing
-    requires { ⌜ (p .types ≤ typesMost) × ((p .line < 2 ^ 16) × (f < byteRange)) ⌝ }
+    requires { ⌜ p .place .line < 2 ^ 16 ⌝ }
     ensures { λ r. ⌜ Again (now (text .entry)) (now (index .entry)) (table (now (list .entry)) (now (memo .entry))) (now (sizes .entry)) p f i r ⌝ }
 {
     if !may_call(text, index, sizes, p, f) {
-        return Sizing::Refused(MEASURE_NOT_LESS, p.line + 1);
+        let here = p.place;
+        return Sizing::Refused(MEASURE_NOT_LESS, here.line + 1);
     }
     let ty = type_of(result_word(memo, i));
     leaf(ty, numbers(list, i), p)
 }
 
 // A constructor whose fields were checked: its size, then that each field is exactly what it must be.
-pub fn made(index: &[u32; INDEX_WORDS], row: &[u32], p: Place, a: Counted, t: u32, c: u32) -> Sizing
-    requires { ⌜ (p .line < 2 ^ 16) × (t < byteRange) ⌝ }
+pub fn made(index: &[u32; INDEX_WORDS], row: &[u32], p: Site, a: Counted, t: u32, c: u32) -> Sizing
+    requires { ⌜ (p .place .line < 2 ^ 16) × (t < byteRange) ⌝ }
     ensures { λ r. ⌜ Makes (now (index .entry)) (now (row .entry)) p a t c r ⌝ }
 {
+    let here = p.place;
     let size = own_sum(index, row, t, c);
     if SIZE_MOST <= size {
-        return Sizing::Refused(SIZE_OUTSIDE, p.line + 1);
+        return Sizing::Refused(SIZE_OUTSIDE, here.line + 1);
     }
     if !fields_agree(index, row, t, c) {
-        return Sizing::Refused(SIZES_DISAGREE, p.line + 1);
+        return Sizing::Refused(SIZES_DISAGREE, here.line + 1);
     }
     let fields = a.numbers;
     let next = a.next;

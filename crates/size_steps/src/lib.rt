@@ -1,25 +1,24 @@
-// The steps of the size checker that work on no expression: the place of a part, what a form asks of the index and of the lines, and
+// The steps of the size checker that work on no expression: the site of a part, what a form asks of the index and of the lines, and
 // what it makes of the answers of its parts.
 pub mod leaves;
 pub mod numbers;
-pub mod places;
+pub mod sites;
 
 use estimate::Estimate;
+use heads::places::Place;
+use language::limits::SIZE_VARIABLES_MOST;
 use sizes::SizedType;
 use text::Cursor;
 
-// Where an expression stands: its place in the line of a frame, the levels left, how many types the file has, its line, counted from 0,
-// the function around it and one (0 where there is none) at its summed measure, how many variables and size variables are in
-// scope, and how many instances have been entered.
-pub struct Place {
-    pub at: Cursor,
-    pub levels: u32,
-    pub types: u32,
-    pub line: u32,
-    pub around: u32,
-    pub measure: u32,
-    pub variables: u32,
+// The bytes of a scope's sizes, one for each size variable.
+pub const SCOPE_SIZES: usize = SIZE_VARIABLES_MOST as usize;
+
+// Where an expression stands, and at which instance: its place, how many size variables are in scope, the summed measure of the
+// function around it (any number where there is none), and how many instances have been entered.
+pub struct Site {
+    pub place: Place,
     pub sizes: u32,
+    pub measure: u32,
     pub used: u32,
 }
 

@@ -8,7 +8,7 @@ use super::Checked;
 use super::Counted;
 use super::Counting;
 use super::Entering;
-use super::Place;
+use super::Site;
 use super::Sizing;
 use super::Subject;
 use estimate::Estimate;
@@ -26,11 +26,12 @@ use sizes::same;
 use sizes::word_of;
 use text::Cursor;
 
-// A constant, a variable or a channel, which ends where the place is.
-pub fn leaf(ty: SizedType, numbers: Estimate, p: Place) -> Sizing
+// A constant, a variable or a channel, which ends where the site is.
+pub fn leaf(ty: SizedType, numbers: Estimate, p: Site) -> Sizing
     ensures { λ r. ⌜ r ≡ leafOf ty numbers p ⌝ }
 {
-    let at = p.at;
+    let here = p.place;
+    let at = here.at;
     Sizing::Is(Checked {
         ty: ty,
         numbers: numbers,
@@ -206,16 +207,24 @@ pub fn fitted(a: Checked, b: Checked, d: Checked) -> Sizing
     counted(d, numbers)
 }
 
-// No part so far.
-pub fn none(p: Place) -> Counted
-    ensures { λ r. ⌜ NoneCounted p r ⌝ }
+// No part so far, with so many instances entered.
+pub fn none(next: Cursor, used: u32) -> Counted
+    ensures { λ r. ⌜ NoneCounted next used r ⌝ }
 {
-    let at = p.at;
     Counted {
         numbers: nothing(),
-        next: at,
-        used: p.used,
+        next: next,
+        used: used,
     }
+}
+
+// No part so far, of those from a site on.
+pub fn none_at(p: Site) -> Counted
+    ensures { λ r. ⌜ NoneCounted (p .place .at) (p .used) r ⌝ }
+{
+    let here = p.place;
+    let at = here.at;
+    none(at, p.used)
 }
 
 // The parts so far, and then one more.
@@ -246,10 +255,11 @@ pub fn passed(all: Counted, next: Cursor) -> Counted
 }
 
 // A branch of this type before its first split.
-pub fn nothing_yet(ty: SizedType, p: Place) -> Checked
+pub fn nothing_yet(ty: SizedType, p: Site) -> Checked
     ensures { λ r. ⌜ NothingYet ty p r ⌝ }
 {
-    let at = p.at;
+    let here = p.place;
+    let at = here.at;
     Checked {
         ty: ty,
         numbers: nothing(),

@@ -4,7 +4,7 @@ use mathlib.Core.Path.{_≡_, refl, ap, _∙_, subst}
 use native.Mathlib.Omega.{arith}
 use lib.ListN.{length, take, drop}
 use borrow.Author.Tests.{not-true, not-false}
-use Rattle.size_laws.specs.Loads.{load, load-same, load-moved, load-wide, load-down, load-body, room-same, room-wide, room-down, room-widens, scope-long, sizes-long, room-behind, room-rest, room-kept, room-body, room-inner, room-row, grows-behind, grows-wide}
+use Rattle.size_laws.specs.Loads.{load, load-same, load-moved, load-wide, load-down, load-body, room-same, room-wide, room-down, room-widens, room-behind, room-rest, room-body, grows-behind, grows-wide}
 use Rattle.size_laws.specs.TurnLaws.{put-is}
 use Rattle.size_steps.specs.Agreement.{table, grows-to, grows-all-to}
 use mathlib.Core.Bool.{false}
@@ -38,6 +38,7 @@ use Rattle.size_laws.specs.AdjLaws.{adj-outside, adj-refused, adj-plain, adj-lo
 use Rattle.size_laws.specs.FitLaws.{fit-subject, fit-plain, fit-first, fit-other, fit-differ, fit-done}
 use Rattle.size_laws.specs.LetLaws.{let-first, let-second, let-done}
 use borrow.Author.Needs.{needs}
+use Prim.Native.Nat.{ℕ, _<_}
 use borrow.Fn.Kinds.{In}
 use borrow.Fn.PlainCycle.{Measures, is, falls, and}
 use Rattle.size_checker.proofs.cycle.adjust.Reads as adjust
@@ -125,7 +126,7 @@ use Rattle.size_steps.proofs.numbers.is_type.Reads as is-type-reads
 use Rattle.size_steps.proofs.numbers.joined.Reads as joined-reads
 use Rattle.size_steps.proofs.numbers.larger.Reads as larger-reads
 use Rattle.size_steps.proofs.numbers.leaf.Reads as leaf-reads
-use Rattle.size_steps.proofs.numbers.none.Reads as none-reads
+use Rattle.size_steps.proofs.numbers.none_at.Reads as none-at-reads
 use Rattle.size_steps.proofs.numbers.not_entered.Reads as not-entered-reads
 use Rattle.size_steps.proofs.numbers.nothing_yet.Reads as nothing-yet-reads
 use Rattle.size_steps.proofs.numbers.operated.Reads as operated-reads
@@ -136,11 +137,11 @@ use Rattle.size_steps.proofs.numbers.slotted.Reads as slotted-reads
 use Rattle.size_steps.proofs.numbers.subject.Reads as subject-reads
 use Rattle.size_steps.proofs.numbers.type_word.Reads as type-word-reads
 use Rattle.size_steps.proofs.numbers.with_let.Reads as with-let-reads
-use Rattle.size_steps.proofs.places.behind.Reads as behind-reads
-use Rattle.size_steps.proofs.places.body_place.Reads as body-place-reads
-use Rattle.size_steps.proofs.places.down.Reads as down-reads
-use Rattle.size_steps.proofs.places.moved.Reads as moved-reads
-use Rattle.size_steps.proofs.places.widen.Reads as widen-reads
+use Rattle.size_steps.proofs.sites.behind.Reads as behind-reads
+use Rattle.size_steps.proofs.sites.body_site.Reads as body-site-reads
+use Rattle.size_steps.proofs.sites.down.Reads as down-reads
+use Rattle.size_steps.proofs.sites.moved_on.Reads as moved-on-reads
+use Rattle.size_steps.proofs.sites.widen.Reads as widen-reads
 use Rattle.sizes.proofs.rows.bind_fields.Reads as bind-fields-reads
 use Rattle.sizes.proofs.rows.named_sizes.Reads as named-sizes-reads
 use Rattle.sizes.proofs.size_at.Reads as size-at-reads
@@ -377,8 +378,8 @@ adjust-frame-line-requires : (t : ℕ) → adjust-lts.Need-frame-line-requires (
   frame-line-reads.Learnt,
   size-at-reads.Asked,
   size-at-reads.Learnt,
-  moved-reads.Asked,
-  moved-reads.Learnt,
+  moved-on-reads.Asked,
+  moved-on-reads.Learnt,
   expr-below t,
   expr.Post,
   adjusted-reads.Asked,
@@ -391,8 +392,8 @@ adjust-size-at-requires : (t : ℕ) → adjust-lts.Need-size-at-requires (
   frame-line-reads.Learnt,
   size-at-reads.Asked,
   size-at-reads.Learnt,
-  moved-reads.Asked,
-  moved-reads.Learnt,
+  moved-on-reads.Asked,
+  moved-on-reads.Learnt,
   expr-below t,
   expr.Post,
   adjusted-reads.Asked,
@@ -405,8 +406,8 @@ adjust-enum-known-s : (t : ℕ) → adjust-lts.Need-enum-known-s (
   frame-line-reads.Learnt,
   size-at-reads.Asked,
   size-at-reads.Learnt,
-  moved-reads.Asked,
-  moved-reads.Learnt,
+  moved-on-reads.Asked,
+  moved-on-reads.Learnt,
   expr-below t,
   expr.Post,
   adjusted-reads.Asked,
@@ -419,8 +420,8 @@ adjust-enum-told : (t : ℕ) → adjust-lts.Need-enum-told (
   frame-line-reads.Learnt,
   size-at-reads.Asked,
   size-at-reads.Learnt,
-  moved-reads.Asked,
-  moved-reads.Learnt,
+  moved-on-reads.Asked,
+  moved-on-reads.Learnt,
   expr-below t,
   expr.Post,
   adjusted-reads.Asked,
@@ -428,83 +429,69 @@ adjust-enum-told : (t : ℕ) → adjust-lts.Need-enum-told (
 ) (adjust-at t) adjust.Post
 adjust-enum-told t c = (c .match .keys2)
 
-adjust-add-t21 : (t : ℕ) → adjust-lts.Need-add-t21 (
+adjust-add-t22 : (t : ℕ) → adjust-lts.Need-add-t22 (
   frame-line-reads.Asked,
   frame-line-reads.Learnt,
   size-at-reads.Asked,
   size-at-reads.Learnt,
-  moved-reads.Asked,
-  moved-reads.Learnt,
+  moved-on-reads.Asked,
+  moved-on-reads.Learnt,
   expr-below t,
   expr.Post,
   adjusted-reads.Asked,
   adjusted-reads.Learnt,
 ) (adjust-at t) adjust.Post
-adjust-add-t21 t c = omega (arith, (c .before .before .before .before .before .before .before .before .before .before .before .pre .1 .line))
-
-adjust-same-length : (t : ℕ) → adjust-lts.Need-same-length (
-  frame-line-reads.Asked,
-  frame-line-reads.Learnt,
-  size-at-reads.Asked,
-  size-at-reads.Learnt,
-  moved-reads.Asked,
-  moved-reads.Learnt,
-  expr-below t,
-  expr.Post,
-  adjusted-reads.Asked,
-  adjusted-reads.Learnt,
-) (adjust-at t) adjust.Post
-adjust-same-length t c = refl
+adjust-add-t22 t c = omega (arith, (c .before .before .before .before .before .before .before .before .before .before .before .pre .1 .line))
 
 adjust-returns : (t : ℕ) → adjust-lts.Need-returns (
   frame-line-reads.Asked,
   frame-line-reads.Learnt,
   size-at-reads.Asked,
   size-at-reads.Learnt,
-  moved-reads.Asked,
-  moved-reads.Learnt,
+  moved-on-reads.Asked,
+  moved-on-reads.Learnt,
   expr-below t,
   expr.Post,
   adjusted-reads.Asked,
   adjusted-reads.Learnt,
 ) (adjust-at t) adjust.Post
-adjust-returns t c = adj-outside (c .before .before .before .size-at .ensures) (c .before .before .before .before .before .frame-line .ensures) (c .before .enum-told .given .1)
+adjust-returns t c = adj-outside (c .before .before .before .size-at .ensures) (c .before .before .before .before .before .before .frame-line .ensures) (c .before .enum-told .given .1)
 
-adjust-moved-requires : (t : ℕ) → adjust-lts.Need-moved-requires (
+adjust-moved-on-requires : (t : ℕ) → adjust-lts.Need-moved-on-requires (
   frame-line-reads.Asked,
   frame-line-reads.Learnt,
   size-at-reads.Asked,
   size-at-reads.Learnt,
-  moved-reads.Asked,
-  moved-reads.Learnt,
+  moved-on-reads.Asked,
+  moved-on-reads.Learnt,
   expr-below t,
   expr.Post,
   adjusted-reads.Asked,
   adjusted-reads.Learnt,
 ) (adjust-at t) adjust.Post
-adjust-moved-requires t c κs = tt
+adjust-moved-on-requires t c κs = tt
 
 adjust-expr-requires : (t : ℕ) → adjust-lts.Need-expr-requires (
   frame-line-reads.Asked,
   frame-line-reads.Learnt,
   size-at-reads.Asked,
   size-at-reads.Learnt,
-  moved-reads.Asked,
-  moved-reads.Learnt,
+  moved-on-reads.Asked,
+  moved-on-reads.Learnt,
   expr-below t,
   expr.Post,
   adjusted-reads.Asked,
   adjusted-reads.Learnt,
 ) (adjust-at t) adjust.Post
-adjust-expr-requires t c κs = (load-moved _ 900 (c .before .before .before .before .before .before .before .before .before .before .before .before .before .before .before .before .pre .0) _ 0 (c .before .before .before .before .moved .ensures) (omega arith) (omega arith), room-behind (c .before .before .before .before .before .before .before .before .before .before .before .before .before .before .before .before .pre .1) (c .before .before .before .before .moved .ensures) (refl) (refl))
+adjust-expr-requires t c κs = (load-moved _ 900 (c .before .before .before .before .before .before .before .before .before .before .before .before .before .before .before .before .pre .0) _ 0 (c .before .before .before .before .moved-on .ensures) (omega arith) (omega arith), room-behind (c .before .before .before .before .before .before .before .before .before .before .before .before .before .before .before .before .pre .1) (c .before .before .before .before .moved-on .ensures))
 
 adjust-enum-known-x : (t : ℕ) → adjust-lts.Need-enum-known-x (
   frame-line-reads.Asked,
   frame-line-reads.Learnt,
   size-at-reads.Asked,
   size-at-reads.Learnt,
-  moved-reads.Asked,
-  moved-reads.Learnt,
+  moved-on-reads.Asked,
+  moved-on-reads.Learnt,
   expr-below t,
   expr.Post,
   adjusted-reads.Asked,
@@ -517,8 +504,8 @@ adjust-enum-told-2 : (t : ℕ) → adjust-lts.Need-enum-told-2 (
   frame-line-reads.Learnt,
   size-at-reads.Asked,
   size-at-reads.Learnt,
-  moved-reads.Asked,
-  moved-reads.Learnt,
+  moved-on-reads.Asked,
+  moved-on-reads.Learnt,
   expr-below t,
   expr.Post,
   adjusted-reads.Asked,
@@ -526,69 +513,41 @@ adjust-enum-told-2 : (t : ℕ) → adjust-lts.Need-enum-told-2 (
 ) (adjust-at t) adjust.Post
 adjust-enum-told-2 t c = (c .match2 .keys2)
 
-adjust-same-length-2 : (t : ℕ) → adjust-lts.Need-same-length-2 (
+adjust-same-length : (t : ℕ) → adjust-lts.Need-same-length (
   frame-line-reads.Asked,
   frame-line-reads.Learnt,
   size-at-reads.Asked,
   size-at-reads.Learnt,
-  moved-reads.Asked,
-  moved-reads.Learnt,
+  moved-on-reads.Asked,
+  moved-on-reads.Learnt,
   expr-below t,
   expr.Post,
   adjusted-reads.Asked,
   adjusted-reads.Learnt,
 ) (adjust-at t) adjust.Post
-adjust-same-length-2 t c = (c .before .before .before .before .before .before .before .before .expr .kept .1 .1 .0)
-
-adjust-same-length-3 : (t : ℕ) → adjust-lts.Need-same-length-3 (
-  frame-line-reads.Asked,
-  frame-line-reads.Learnt,
-  size-at-reads.Asked,
-  size-at-reads.Learnt,
-  moved-reads.Asked,
-  moved-reads.Learnt,
-  expr-below t,
-  expr.Post,
-  adjusted-reads.Asked,
-  adjusted-reads.Learnt,
-) (adjust-at t) adjust.Post
-adjust-same-length-3 t c = (c .before .before .before .before .before .before .before .before .expr .kept .1 .1 .1 .1 .0)
-
-adjust-same-length-4 : (t : ℕ) → adjust-lts.Need-same-length-4 (
-  frame-line-reads.Asked,
-  frame-line-reads.Learnt,
-  size-at-reads.Asked,
-  size-at-reads.Learnt,
-  moved-reads.Asked,
-  moved-reads.Learnt,
-  expr-below t,
-  expr.Post,
-  adjusted-reads.Asked,
-  adjusted-reads.Learnt,
-) (adjust-at t) adjust.Post
-adjust-same-length-4 t c = (c .before .before .before .before .before .before .before .before .expr .kept .1 .1 .1 .1 .1 .0)
+adjust-same-length t c = (c .before .before .before .before .expr .kept .1 .1 .0)
 
 adjust-returns-2 : (t : ℕ) → adjust-lts.Need-returns-2 (
   frame-line-reads.Asked,
   frame-line-reads.Learnt,
   size-at-reads.Asked,
   size-at-reads.Learnt,
-  moved-reads.Asked,
-  moved-reads.Learnt,
+  moved-on-reads.Asked,
+  moved-on-reads.Learnt,
   expr-below t,
   expr.Post,
   adjusted-reads.Asked,
   adjusted-reads.Learnt,
 ) (adjust-at t) adjust.Post
-adjust-returns-2 t c = adj-refused (c .before .before .before .before .before .before .before .before .before .before .before .before .before .before .before .before .before .size-at .ensures) (c .before .before .before .before .before .before .before .before .before .before .before .before .before .before .before .before .before .before .before .frame-line .ensures) (c .before .before .before .before .before .before .before .before .before .before .before .before .before .before .before .s .given .1) (c .before .before .before .before .before .before .before .before .before .before .before .before .before .moved .ensures) (c .before .before .before .before .before .before .before .before .expr .ensures) (c .enum-told2 .given .1)
+adjust-returns-2 t c = adj-refused (c .before .before .before .before .before .before .before .before .before .before .before .before .before .size-at .ensures) (c .before .before .before .before .before .before .before .before .before .before .before .before .before .before .before .before .frame-line .ensures) (c .before .before .before .before .before .before .before .before .before .before .before .s .given .1) (c .before .before .before .before .before .before .before .before .before .moved-on .ensures) (c .before .before .before .before .expr .ensures) (c .enum-told2 .given .1)
 
 adjust-enum-known-ty : (t : ℕ) → adjust-lts.Need-enum-known-ty (
   frame-line-reads.Asked,
   frame-line-reads.Learnt,
   size-at-reads.Asked,
   size-at-reads.Learnt,
-  moved-reads.Asked,
-  moved-reads.Learnt,
+  moved-on-reads.Asked,
+  moved-on-reads.Learnt,
   expr-below t,
   expr.Post,
   adjusted-reads.Asked,
@@ -596,153 +555,97 @@ adjust-enum-known-ty : (t : ℕ) → adjust-lts.Need-enum-known-ty (
 ) (adjust-at t) adjust.Post
 adjust-enum-known-ty t c = (c .match3 .keys1)
 
-adjust-add-t29 : (t : ℕ) → adjust-lts.Need-add-t29 (
+adjust-add-t28 : (t : ℕ) → adjust-lts.Need-add-t28 (
   frame-line-reads.Asked,
   frame-line-reads.Learnt,
   size-at-reads.Asked,
   size-at-reads.Learnt,
-  moved-reads.Asked,
-  moved-reads.Learnt,
+  moved-on-reads.Asked,
+  moved-on-reads.Learnt,
   expr-below t,
   expr.Post,
   adjusted-reads.Asked,
   adjusted-reads.Learnt,
 ) (adjust-at t) adjust.Post
-adjust-add-t29 t c = omega (arith, (c .before .before .before .before .before .before .before .before .before .before .before .before .before .before .before .before .before .before .before .before .before .before .before .before .before .before .before .before .pre .1 .line))
+adjust-add-t28 t c = omega (arith, (c .before .before .before .before .before .before .before .before .before .before .before .before .before .before .before .before .before .before .before .before .before .before .before .before .pre .1 .line))
 
-adjust-same-length-5 : (t : ℕ) → adjust-lts.Need-same-length-5 (
+adjust-same-length-2 : (t : ℕ) → adjust-lts.Need-same-length-2 (
   frame-line-reads.Asked,
   frame-line-reads.Learnt,
   size-at-reads.Asked,
   size-at-reads.Learnt,
-  moved-reads.Asked,
-  moved-reads.Learnt,
+  moved-on-reads.Asked,
+  moved-on-reads.Learnt,
   expr-below t,
   expr.Post,
   adjusted-reads.Asked,
   adjusted-reads.Learnt,
 ) (adjust-at t) adjust.Post
-adjust-same-length-5 t c = (c .before .before .before .before .before .before .before .before .before .before .before .expr .kept .1 .1 .0)
-
-adjust-same-length-6 : (t : ℕ) → adjust-lts.Need-same-length-6 (
-  frame-line-reads.Asked,
-  frame-line-reads.Learnt,
-  size-at-reads.Asked,
-  size-at-reads.Learnt,
-  moved-reads.Asked,
-  moved-reads.Learnt,
-  expr-below t,
-  expr.Post,
-  adjusted-reads.Asked,
-  adjusted-reads.Learnt,
-) (adjust-at t) adjust.Post
-adjust-same-length-6 t c = (c .before .before .before .before .before .before .before .before .before .before .before .expr .kept .1 .1 .1 .1 .0)
-
-adjust-same-length-7 : (t : ℕ) → adjust-lts.Need-same-length-7 (
-  frame-line-reads.Asked,
-  frame-line-reads.Learnt,
-  size-at-reads.Asked,
-  size-at-reads.Learnt,
-  moved-reads.Asked,
-  moved-reads.Learnt,
-  expr-below t,
-  expr.Post,
-  adjusted-reads.Asked,
-  adjusted-reads.Learnt,
-) (adjust-at t) adjust.Post
-adjust-same-length-7 t c = (c .before .before .before .before .before .before .before .before .before .before .before .expr .kept .1 .1 .1 .1 .1 .0)
+adjust-same-length-2 t c = (c .before .before .before .before .before .before .before .expr .kept .1 .1 .0)
 
 adjust-returns-3 : (t : ℕ) → adjust-lts.Need-returns-3 (
   frame-line-reads.Asked,
   frame-line-reads.Learnt,
   size-at-reads.Asked,
   size-at-reads.Learnt,
-  moved-reads.Asked,
-  moved-reads.Learnt,
+  moved-on-reads.Asked,
+  moved-on-reads.Learnt,
   expr-below t,
   expr.Post,
   adjusted-reads.Asked,
   adjusted-reads.Learnt,
 ) (adjust-at t) adjust.Post
-adjust-returns-3 t c = adj-plain (c .before .before .before .before .before .before .before .before .before .before .before .before .before .before .before .before .before .before .before .before .size-at .ensures) (c .before .before .before .before .before .before .before .before .before .before .before .before .before .before .before .before .before .before .before .before .before .before .frame-line .ensures) (c .before .before .before .before .before .before .before .before .before .before .before .before .before .before .before .before .before .before .s .given .1) (c .before .before .before .before .before .before .before .before .before .before .before .before .before .before .before .before .moved .ensures) (c .before .before .before .before .before .before .before .before .before .before .before .expr .ensures) (c .before .before .before .x .given .1) (not-named _ (c .before .match3 .keys2))
+adjust-returns-3 t c = adj-plain (c .before .before .before .before .before .before .before .before .before .before .before .before .before .before .before .before .size-at .ensures) (c .before .before .before .before .before .before .before .before .before .before .before .before .before .before .before .before .before .before .before .frame-line .ensures) (c .before .before .before .before .before .before .before .before .before .before .before .before .before .before .s .given .1) (c .before .before .before .before .before .before .before .before .before .before .before .before .moved-on .ensures) (c .before .before .before .before .before .before .before .expr .ensures) (c .before .before .before .x .given .1) (not-named _ (c .before .match3 .keys2))
 
-adjust-add-t31 : (t : ℕ) → adjust-lts.Need-add-t31 (
+adjust-add-t30 : (t : ℕ) → adjust-lts.Need-add-t30 (
   frame-line-reads.Asked,
   frame-line-reads.Learnt,
   size-at-reads.Asked,
   size-at-reads.Learnt,
-  moved-reads.Asked,
-  moved-reads.Learnt,
+  moved-on-reads.Asked,
+  moved-on-reads.Learnt,
   expr-below t,
   expr.Post,
   adjusted-reads.Asked,
   adjusted-reads.Learnt,
 ) (adjust-at t) adjust.Post
-adjust-add-t31 t c = omega (arith, (c .before .before .before .before .before .before .before .before .before .before .before .before .before .before .before .before .before .before .before .before .before .before .before .before .before .before .before .before .before .before .before .pre .1 .line))
+adjust-add-t30 t c = omega (arith, (c .before .before .before .before .before .before .before .before .before .before .before .before .before .before .before .before .before .before .before .before .before .before .before .before .before .before .before .pre .1 .line))
 
-adjust-same-length-8 : (t : ℕ) → adjust-lts.Need-same-length-8 (
+adjust-same-length-3 : (t : ℕ) → adjust-lts.Need-same-length-3 (
   frame-line-reads.Asked,
   frame-line-reads.Learnt,
   size-at-reads.Asked,
   size-at-reads.Learnt,
-  moved-reads.Asked,
-  moved-reads.Learnt,
+  moved-on-reads.Asked,
+  moved-on-reads.Learnt,
   expr-below t,
   expr.Post,
   adjusted-reads.Asked,
   adjusted-reads.Learnt,
 ) (adjust-at t) adjust.Post
-adjust-same-length-8 t c = (c .before .before .before .before .before .before .before .before .before .before .before .before .before .before .expr .kept .1 .1 .0)
-
-adjust-same-length-9 : (t : ℕ) → adjust-lts.Need-same-length-9 (
-  frame-line-reads.Asked,
-  frame-line-reads.Learnt,
-  size-at-reads.Asked,
-  size-at-reads.Learnt,
-  moved-reads.Asked,
-  moved-reads.Learnt,
-  expr-below t,
-  expr.Post,
-  adjusted-reads.Asked,
-  adjusted-reads.Learnt,
-) (adjust-at t) adjust.Post
-adjust-same-length-9 t c = (c .before .before .before .before .before .before .before .before .before .before .before .before .before .before .expr .kept .1 .1 .1 .1 .0)
-
-adjust-same-length-10 : (t : ℕ) → adjust-lts.Need-same-length-10 (
-  frame-line-reads.Asked,
-  frame-line-reads.Learnt,
-  size-at-reads.Asked,
-  size-at-reads.Learnt,
-  moved-reads.Asked,
-  moved-reads.Learnt,
-  expr-below t,
-  expr.Post,
-  adjusted-reads.Asked,
-  adjusted-reads.Learnt,
-) (adjust-at t) adjust.Post
-adjust-same-length-10 t c = (c .before .before .before .before .before .before .before .before .before .before .before .before .before .before .expr .kept .1 .1 .1 .1 .1 .0)
+adjust-same-length-3 t c = (c .before .before .before .before .before .before .before .before .before .before .expr .kept .1 .1 .0)
 
 adjust-returns-4 : (t : ℕ) → adjust-lts.Need-returns-4 (
   frame-line-reads.Asked,
   frame-line-reads.Learnt,
   size-at-reads.Asked,
   size-at-reads.Learnt,
-  moved-reads.Asked,
-  moved-reads.Learnt,
+  moved-on-reads.Asked,
+  moved-on-reads.Learnt,
   expr-below t,
   expr.Post,
   adjusted-reads.Asked,
   adjusted-reads.Learnt,
 ) (adjust-at t) adjust.Post
-adjust-returns-4 t c = adj-lowered (c .before .before .before .before .before .before .before .before .before .before .before .before .before .before .before .before .before .before .before .before .before .before .before .size-at .ensures) (c .before .before .before .before .before .before .before .before .before .before .before .before .before .before .before .before .before .before .before .before .before .before .before .before .before .frame-line .ensures) (c .before .before .before .before .before .before .before .before .before .before .before .before .before .before .before .before .before .before .before .before .before .s .given .1) (c .before .before .before .before .before .before .before .before .before .before .before .before .before .before .before .before .before .before .before .moved .ensures) (c .before .before .before .before .before .before .before .before .before .before .before .before .before .before .expr .ensures) (c .before .before .before .before .before .before .x .given .1) (c .before .before .before .ty .given .1) (c .before .if1 .taken)
+adjust-returns-4 t c = adj-lowered (c .before .before .before .before .before .before .before .before .before .before .before .before .before .before .before .before .before .before .before .size-at .ensures) (c .before .before .before .before .before .before .before .before .before .before .before .before .before .before .before .before .before .before .before .before .before .before .frame-line .ensures) (c .before .before .before .before .before .before .before .before .before .before .before .before .before .before .before .before .before .s .given .1) (c .before .before .before .before .before .before .before .before .before .before .before .before .before .before .before .moved-on .ensures) (c .before .before .before .before .before .before .before .before .before .before .expr .ensures) (c .before .before .before .before .before .before .x .given .1) (c .before .before .before .ty .given .1) (c .before .if1 .taken)
 
 adjust-adjusted-requires : (t : ℕ) → adjust-lts.Need-adjusted-requires (
   frame-line-reads.Asked,
   frame-line-reads.Learnt,
   size-at-reads.Asked,
   size-at-reads.Learnt,
-  moved-reads.Asked,
-  moved-reads.Learnt,
+  moved-on-reads.Asked,
+  moved-on-reads.Learnt,
   expr-below t,
   expr.Post,
   adjusted-reads.Asked,
@@ -750,67 +653,39 @@ adjust-adjusted-requires : (t : ℕ) → adjust-lts.Need-adjusted-requires (
 ) (adjust-at t) adjust.Post
 adjust-adjusted-requires t c κs = tt
 
-adjust-same-length-11 : (t : ℕ) → adjust-lts.Need-same-length-11 (
+adjust-same-length-4 : (t : ℕ) → adjust-lts.Need-same-length-4 (
   frame-line-reads.Asked,
   frame-line-reads.Learnt,
   size-at-reads.Asked,
   size-at-reads.Learnt,
-  moved-reads.Asked,
-  moved-reads.Learnt,
+  moved-on-reads.Asked,
+  moved-on-reads.Learnt,
   expr-below t,
   expr.Post,
   adjusted-reads.Asked,
   adjusted-reads.Learnt,
 ) (adjust-at t) adjust.Post
-adjust-same-length-11 t c = (c .before .before .before .before .before .before .before .before .before .before .before .before .before .before .expr .kept .1 .1 .0)
-
-adjust-same-length-12 : (t : ℕ) → adjust-lts.Need-same-length-12 (
-  frame-line-reads.Asked,
-  frame-line-reads.Learnt,
-  size-at-reads.Asked,
-  size-at-reads.Learnt,
-  moved-reads.Asked,
-  moved-reads.Learnt,
-  expr-below t,
-  expr.Post,
-  adjusted-reads.Asked,
-  adjusted-reads.Learnt,
-) (adjust-at t) adjust.Post
-adjust-same-length-12 t c = (c .before .before .before .before .before .before .before .before .before .before .before .before .before .before .expr .kept .1 .1 .1 .1 .0)
-
-adjust-same-length-13 : (t : ℕ) → adjust-lts.Need-same-length-13 (
-  frame-line-reads.Asked,
-  frame-line-reads.Learnt,
-  size-at-reads.Asked,
-  size-at-reads.Learnt,
-  moved-reads.Asked,
-  moved-reads.Learnt,
-  expr-below t,
-  expr.Post,
-  adjusted-reads.Asked,
-  adjusted-reads.Learnt,
-) (adjust-at t) adjust.Post
-adjust-same-length-13 t c = (c .before .before .before .before .before .before .before .before .before .before .before .before .before .before .expr .kept .1 .1 .1 .1 .1 .0)
+adjust-same-length-4 t c = (c .before .before .before .before .before .before .before .before .before .before .expr .kept .1 .1 .0)
 
 adjust-returns-5 : (t : ℕ) → adjust-lts.Need-returns-5 (
   frame-line-reads.Asked,
   frame-line-reads.Learnt,
   size-at-reads.Asked,
   size-at-reads.Learnt,
-  moved-reads.Asked,
-  moved-reads.Learnt,
+  moved-on-reads.Asked,
+  moved-on-reads.Learnt,
   expr-below t,
   expr.Post,
   adjusted-reads.Asked,
   adjusted-reads.Learnt,
 ) (adjust-at t) adjust.Post
-adjust-returns-5 t c = adj-done (c .before .before .before .before .before .before .before .before .before .before .before .before .before .before .before .before .before .before .before .before .before .before .before .size-at .ensures) (c .before .before .before .before .before .before .before .before .before .before .before .before .before .before .before .before .before .before .before .before .before .before .before .before .before .frame-line .ensures) (c .before .before .before .before .before .before .before .before .before .before .before .before .before .before .before .before .before .before .before .before .before .s .given .1) (c .before .before .before .before .before .before .before .before .before .before .before .before .before .before .before .before .before .before .before .moved .ensures) (c .before .before .before .before .before .before .before .before .before .before .before .before .before .before .expr .ensures) (c .before .before .before .before .before .before .x .given .1) (c .before .before .before .ty .given .1) (c .before .if1 .left) (c .adjusted .ensures)
+adjust-returns-5 t c = adj-done (c .before .before .before .before .before .before .before .before .before .before .before .before .before .before .before .before .before .before .before .size-at .ensures) (c .before .before .before .before .before .before .before .before .before .before .before .before .before .before .before .before .before .before .before .before .before .before .frame-line .ensures) (c .before .before .before .before .before .before .before .before .before .before .before .before .before .before .before .before .before .s .given .1) (c .before .before .before .before .before .before .before .before .before .before .before .before .before .before .before .moved-on .ensures) (c .before .before .before .before .before .before .before .before .before .before .expr .ensures) (c .before .before .before .before .before .before .x .given .1) (c .before .before .before .ty .given .1) (c .before .if1 .left) (c .adjusted .ensures)
 
 apply-slice-aggregate-named-sizes : (t : ℕ) → apply-lts.Need-slice-aggregate-named-sizes (
   named-sizes-reads.Asked,
   named-sizes-reads.Learnt,
-  moved-reads.Asked,
-  moved-reads.Learnt,
+  moved-on-reads.Asked,
+  moved-on-reads.Learnt,
   enter-below t,
   enter.Post,
   called-reads.Asked,
@@ -821,8 +696,8 @@ apply-slice-aggregate-named-sizes t c = search needs
 apply-named-sizes-requires : (t : ℕ) → apply-lts.Need-named-sizes-requires (
   named-sizes-reads.Asked,
   named-sizes-reads.Learnt,
-  moved-reads.Asked,
-  moved-reads.Learnt,
+  moved-on-reads.Asked,
+  moved-on-reads.Learnt,
   enter-below t,
   enter.Post,
   called-reads.Asked,
@@ -830,47 +705,35 @@ apply-named-sizes-requires : (t : ℕ) → apply-lts.Need-named-sizes-requires (
 ) (apply-at t) apply.Post
 apply-named-sizes-requires t c κs = tt
 
-apply-moved-requires : (t : ℕ) → apply-lts.Need-moved-requires (
+apply-moved-on-requires : (t : ℕ) → apply-lts.Need-moved-on-requires (
   named-sizes-reads.Asked,
   named-sizes-reads.Learnt,
-  moved-reads.Asked,
-  moved-reads.Learnt,
+  moved-on-reads.Asked,
+  moved-on-reads.Learnt,
   enter-below t,
   enter.Post,
   called-reads.Asked,
   called-reads.Learnt,
 ) (apply-at t) apply.Post
-apply-moved-requires t c κs = tt
-
-apply-slice-aggregate-enter : (t : ℕ) → apply-lts.Need-slice-aggregate-enter (
-  named-sizes-reads.Asked,
-  named-sizes-reads.Learnt,
-  moved-reads.Asked,
-  moved-reads.Learnt,
-  enter-below t,
-  enter.Post,
-  called-reads.Asked,
-  called-reads.Learnt,
-) (apply-at t) apply.Post
-apply-slice-aggregate-enter t c = search needs
+apply-moved-on-requires t c κs = tt
 
 apply-enter-requires : (t : ℕ) → apply-lts.Need-enter-requires (
   named-sizes-reads.Asked,
   named-sizes-reads.Learnt,
-  moved-reads.Asked,
-  moved-reads.Learnt,
+  moved-on-reads.Asked,
+  moved-on-reads.Learnt,
   enter-below t,
   enter.Post,
   called-reads.Asked,
   called-reads.Learnt,
 ) (apply-at t) apply.Post
-apply-enter-requires t c κs = (load-moved _ 800 (c .before .before .before .before .before .before .before .before .before .before .before .before .before .pre .0) _ 90 (c .before .before .before .before .moved .ensures) (c .before .before .before .before .before .before .before .before .before .before .before .before .before .pre .1 .1 .0) (omega arith), (room-inner (c .before .before .before .before .before .before .before .before .before .before .before .before .before .pre .1 .0) (c .before .before .before .before .moved .ensures) (c .before .before .before .before .before .before .before .before .before .before .before .before .before .pre .1 .0 .scope) (omega (arith, (c .before .before .before .before .before .before .before .named-sizes .kept .1 .1 .0))), ((c .before .before .before .before .before .before .before .before .before .before .before .before .before .pre .1 .1 .1 .0), ((c .before .before .before .before .before .before .before .before .before .before .before .before .before .pre .1 .1 .1 .1), (c .before .before .before .before .before .before .before .named-sizes .ensures .few)))))
+apply-enter-requires t c κs = (load-moved _ 800 (c .before .before .before .before .before .before .before .before .before .before .before .before .before .pre .0) _ 90 (c .before .before .before .before .moved-on .ensures) (c .before .before .before .before .before .before .before .before .before .before .before .before .before .pre .1 .1 .0) (omega arith), (room-rest (c .before .before .before .before .before .before .before .before .before .before .before .before .before .pre .1 .0) (c .before .before .before .before .moved-on .ensures), ((c .before .before .before .before .before .before .before .before .before .before .before .before .before .pre .1 .1 .1 .0), ((c .before .before .before .before .before .before .before .before .before .before .before .before .before .pre .1 .1 .1 .1), (c .before .before .before .before .before .before .before .named-sizes .ensures .few)))))
 
 apply-enum-known-z : (t : ℕ) → apply-lts.Need-enum-known-z (
   named-sizes-reads.Asked,
   named-sizes-reads.Learnt,
-  moved-reads.Asked,
-  moved-reads.Learnt,
+  moved-on-reads.Asked,
+  moved-on-reads.Learnt,
   enter-below t,
   enter.Post,
   called-reads.Asked,
@@ -881,8 +744,8 @@ apply-enum-known-z t c = (c .match .keys1)
 apply-enum-told : (t : ℕ) → apply-lts.Need-enum-told (
   named-sizes-reads.Asked,
   named-sizes-reads.Learnt,
-  moved-reads.Asked,
-  moved-reads.Learnt,
+  moved-on-reads.Asked,
+  moved-on-reads.Learnt,
   enter-below t,
   enter.Post,
   called-reads.Asked,
@@ -893,44 +756,32 @@ apply-enum-told t c = (c .match .keys2)
 apply-same-length : (t : ℕ) → apply-lts.Need-same-length (
   named-sizes-reads.Asked,
   named-sizes-reads.Learnt,
-  moved-reads.Asked,
-  moved-reads.Learnt,
+  moved-on-reads.Asked,
+  moved-on-reads.Learnt,
   enter-below t,
   enter.Post,
   called-reads.Asked,
   called-reads.Learnt,
 ) (apply-at t) apply.Post
-apply-same-length t c = (c .before .before .before .before .before .before .before .enter .kept .1 .1 .0)
-
-apply-same-length-2 : (t : ℕ) → apply-lts.Need-same-length-2 (
-  named-sizes-reads.Asked,
-  named-sizes-reads.Learnt,
-  moved-reads.Asked,
-  moved-reads.Learnt,
-  enter-below t,
-  enter.Post,
-  called-reads.Asked,
-  called-reads.Learnt,
-) (apply-at t) apply.Post
-apply-same-length-2 t c = (c .before .before .before .before .before .before .before .enter .kept .1 .1 .1 .1 .0)
+apply-same-length t c = (c .before .before .before .before .enter .kept .1 .1 .0)
 
 apply-returns : (t : ℕ) → apply-lts.Need-returns (
   named-sizes-reads.Asked,
   named-sizes-reads.Learnt,
-  moved-reads.Asked,
-  moved-reads.Learnt,
+  moved-on-reads.Asked,
+  moved-on-reads.Learnt,
   enter-below t,
   enter.Post,
   called-reads.Asked,
   called-reads.Learnt,
 ) (apply-at t) apply.Post
-apply-returns t c = apply-refused (c .before .before .before .before .before .before .before .before .before .before .before .before .before .before .before .before .before .before .before .before .before .args .p) (c .before .before .before .before .before .before .before .before .before .before .before .before .before .before .before .before .before .before .before .before .before .args .a) refl (c .before .before .before .before .before .before .before .before .before .before .before .before .before .before .before .named-sizes .ensures) (c .before .before .before .before .before .before .before .before .before .before .before .before .moved .ensures) (c .before .before .before .before .before .before .before .enter .ensures) (c .enum-told .given .1)
+apply-returns t c = apply-refused (c .before .before .before .before .before .before .before .before .before .before .before .before .before .before .before .before .before .before .args .p) (c .before .before .before .before .before .before .before .before .before .before .before .before .before .before .before .before .before .before .args .a) refl (c .before .before .before .before .before .before .before .before .before .before .before .before .named-sizes .ensures) (c .before .before .before .before .before .before .before .before .before .moved-on .ensures) (c .before .before .before .before .enter .ensures) (c .enum-told .given .1)
 
 apply-called-requires : (t : ℕ) → apply-lts.Need-called-requires (
   named-sizes-reads.Asked,
   named-sizes-reads.Learnt,
-  moved-reads.Asked,
-  moved-reads.Learnt,
+  moved-on-reads.Asked,
+  moved-on-reads.Learnt,
   enter-below t,
   enter.Post,
   called-reads.Asked,
@@ -938,48 +789,36 @@ apply-called-requires : (t : ℕ) → apply-lts.Need-called-requires (
 ) (apply-at t) apply.Post
 apply-called-requires t c κs = tt
 
-apply-same-length-3 : (t : ℕ) → apply-lts.Need-same-length-3 (
+apply-same-length-2 : (t : ℕ) → apply-lts.Need-same-length-2 (
   named-sizes-reads.Asked,
   named-sizes-reads.Learnt,
-  moved-reads.Asked,
-  moved-reads.Learnt,
+  moved-on-reads.Asked,
+  moved-on-reads.Learnt,
   enter-below t,
   enter.Post,
   called-reads.Asked,
   called-reads.Learnt,
 ) (apply-at t) apply.Post
-apply-same-length-3 t c = (c .before .before .before .before .before .before .before .before .before .enter .kept .1 .1 .0)
-
-apply-same-length-4 : (t : ℕ) → apply-lts.Need-same-length-4 (
-  named-sizes-reads.Asked,
-  named-sizes-reads.Learnt,
-  moved-reads.Asked,
-  moved-reads.Learnt,
-  enter-below t,
-  enter.Post,
-  called-reads.Asked,
-  called-reads.Learnt,
-) (apply-at t) apply.Post
-apply-same-length-4 t c = (c .before .before .before .before .before .before .before .before .before .enter .kept .1 .1 .1 .1 .0)
+apply-same-length-2 t c = (c .before .before .before .before .before .before .enter .kept .1 .1 .0)
 
 apply-returns-2 : (t : ℕ) → apply-lts.Need-returns-2 (
   named-sizes-reads.Asked,
   named-sizes-reads.Learnt,
-  moved-reads.Asked,
-  moved-reads.Learnt,
+  moved-on-reads.Asked,
+  moved-on-reads.Learnt,
   enter-below t,
   enter.Post,
   called-reads.Asked,
   called-reads.Learnt,
 ) (apply-at t) apply.Post
-apply-returns-2 t c = apply-done (c .before .before .before .before .before .before .before .before .before .before .before .before .before .before .before .before .before .before .before .before .before .before .before .args .p) (c .before .before .before .before .before .before .before .before .before .before .before .before .before .before .before .before .before .before .before .before .before .before .before .args .a) refl (c .before .before .before .before .before .before .before .before .before .before .before .before .before .before .before .before .before .named-sizes .ensures) (c .before .before .before .before .before .before .before .before .before .before .before .before .before .before .moved .ensures) (c .before .before .before .before .before .before .before .before .before .enter .ensures) (c .before .before .z .given .1) (c .called .ensures .body) (c .called .ensures .both) (c .called .ensures .all) (c .called .ensures .is)
+apply-returns-2 t c = apply-done (c .before .before .before .before .before .before .before .before .before .before .before .before .before .before .before .before .before .before .before .before .args .p) (c .before .before .before .before .before .before .before .before .before .before .before .before .before .before .before .before .before .before .before .before .args .a) refl (c .before .before .before .before .before .before .before .before .before .before .before .before .before .before .named-sizes .ensures) (c .before .before .before .before .before .before .before .before .before .before .before .moved-on .ensures) (c .before .before .before .before .before .before .enter .ensures) (c .before .before .z .given .1) (c .called .ensures .body) (c .called .ensures .both) (c .called .ensures .all) (c .called .ensures .is)
 
 abbrev at-splits-Inv-loop : at-splits-lts.InvT-loop
-at-splits-Inv-loop text index list₀ memo₀ scope₀ sizes₀ p s k n own at ty all₀ more₀ list memo scope sizes all more =
-    Walks s k (lent text index) (buffers (table list₀ memo₀) scope₀ sizes₀) p more (buffers (table list memo) scope sizes) all × ((length list ≡ length list₀) × ((length scope ≡ length scope₀) × (length sizes ≡ length sizes₀)))
+at-splits-Inv-loop text index list₀ memo₀ scope₀ sizes₀ p s k here n own at ty all₀ more₀ list memo scope sizes all more =
+    Walks s k (lent text index) (buffers (table list₀ memo₀) scope₀ sizes₀) p more (buffers (table list memo) scope sizes) all × (length list ≡ length list₀)
 
 abbrev at-splits-μ-loop : at-splits-lts.MeasureT-loop
-at-splits-μ-loop text index list₀ memo₀ scope₀ sizes₀ p s k n own at ty all₀ more₀ list memo scope sizes all more =
+at-splits-μ-loop text index list₀ memo₀ scope₀ sizes₀ p s k here n own at ty all₀ more₀ list memo scope sizes all more =
     walkLeft more (take own (drop (p .sizes) sizes))
 
 at-splits-fields-requires : (t : ℕ) → at-splits-lts.Need-fields-requires (
@@ -991,8 +830,8 @@ at-splits-fields-requires : (t : ℕ) → at-splits-lts.Need-fields-requires (
   nothing-yet-reads.Learnt,
   bind-fields-reads.Asked,
   bind-fields-reads.Learnt,
-  moved-reads.Asked,
-  moved-reads.Learnt,
+  moved-on-reads.Asked,
+  moved-on-reads.Learnt,
   widen-reads.Asked,
   widen-reads.Learnt,
   expr-below t,
@@ -1017,8 +856,8 @@ at-splits-own-fields-requires : (t : ℕ) → at-splits-lts.Need-own-fields-requ
   nothing-yet-reads.Learnt,
   bind-fields-reads.Asked,
   bind-fields-reads.Learnt,
-  moved-reads.Asked,
-  moved-reads.Learnt,
+  moved-on-reads.Asked,
+  moved-on-reads.Learnt,
   widen-reads.Asked,
   widen-reads.Learnt,
   expr-below t,
@@ -1043,8 +882,8 @@ at-splits-nothing-yet-requires : (t : ℕ) → at-splits-lts.Need-nothing-yet-re
   nothing-yet-reads.Learnt,
   bind-fields-reads.Asked,
   bind-fields-reads.Learnt,
-  moved-reads.Asked,
-  moved-reads.Learnt,
+  moved-on-reads.Asked,
+  moved-on-reads.Learnt,
   widen-reads.Asked,
   widen-reads.Learnt,
   expr-below t,
@@ -1069,8 +908,8 @@ at-splits-loop-holds : (t : ℕ) → at-splits-lts.Need-loop-holds (
   nothing-yet-reads.Learnt,
   bind-fields-reads.Asked,
   bind-fields-reads.Learnt,
-  moved-reads.Asked,
-  moved-reads.Learnt,
+  moved-on-reads.Asked,
+  moved-on-reads.Learnt,
   widen-reads.Asked,
   widen-reads.Learnt,
   expr-below t,
@@ -1084,7 +923,7 @@ at-splits-loop-holds : (t : ℕ) → at-splits-lts.Need-loop-holds (
   slotted-reads.Asked,
   slotted-reads.Learnt,
 ) (at-splits-at t) at-splits.Post at-splits-Inv-loop at-splits-μ-loop
-at-splits-loop-holds t c = (walks-start (c .nothing-yet .ensures .none) (c .nothing-yet .ensures .is), (refl, (refl, refl)))
+at-splits-loop-holds t c = (walks-start (c .nothing-yet .ensures .none) (c .nothing-yet .ensures .is), refl)
 
 at-splits-bind-fields-requires : (t : ℕ) → at-splits-lts.Need-bind-fields-requires (
   fields-reads.Asked,
@@ -1095,8 +934,8 @@ at-splits-bind-fields-requires : (t : ℕ) → at-splits-lts.Need-bind-fields-re
   nothing-yet-reads.Learnt,
   bind-fields-reads.Asked,
   bind-fields-reads.Learnt,
-  moved-reads.Asked,
-  moved-reads.Learnt,
+  moved-on-reads.Asked,
+  moved-on-reads.Learnt,
   widen-reads.Asked,
   widen-reads.Learnt,
   expr-below t,
@@ -1112,7 +951,7 @@ at-splits-bind-fields-requires : (t : ℕ) → at-splits-lts.Need-bind-fields-re
 ) (at-splits-at t) at-splits.Post at-splits-Inv-loop at-splits-μ-loop
 at-splits-bind-fields-requires t c κs = tt
 
-at-splits-moved-requires : (t : ℕ) → at-splits-lts.Need-moved-requires (
+at-splits-moved-on-requires : (t : ℕ) → at-splits-lts.Need-moved-on-requires (
   fields-reads.Asked,
   fields-reads.Learnt,
   own-fields-reads.Asked,
@@ -1121,8 +960,8 @@ at-splits-moved-requires : (t : ℕ) → at-splits-lts.Need-moved-requires (
   nothing-yet-reads.Learnt,
   bind-fields-reads.Asked,
   bind-fields-reads.Learnt,
-  moved-reads.Asked,
-  moved-reads.Learnt,
+  moved-on-reads.Asked,
+  moved-on-reads.Learnt,
   widen-reads.Asked,
   widen-reads.Learnt,
   expr-below t,
@@ -1136,7 +975,7 @@ at-splits-moved-requires : (t : ℕ) → at-splits-lts.Need-moved-requires (
   slotted-reads.Asked,
   slotted-reads.Learnt,
 ) (at-splits-at t) at-splits.Post at-splits-Inv-loop at-splits-μ-loop
-at-splits-moved-requires t c κs = tt
+at-splits-moved-on-requires t c κs = tt
 
 at-splits-widen-requires : (t : ℕ) → at-splits-lts.Need-widen-requires (
   fields-reads.Asked,
@@ -1147,8 +986,8 @@ at-splits-widen-requires : (t : ℕ) → at-splits-lts.Need-widen-requires (
   nothing-yet-reads.Learnt,
   bind-fields-reads.Asked,
   bind-fields-reads.Learnt,
-  moved-reads.Asked,
-  moved-reads.Learnt,
+  moved-on-reads.Asked,
+  moved-on-reads.Learnt,
   widen-reads.Asked,
   widen-reads.Learnt,
   expr-below t,
@@ -1162,7 +1001,7 @@ at-splits-widen-requires : (t : ℕ) → at-splits-lts.Need-widen-requires (
   slotted-reads.Asked,
   slotted-reads.Learnt,
 ) (at-splits-at t) at-splits.Post at-splits-Inv-loop at-splits-μ-loop
-at-splits-widen-requires t c κs = room-widens (c .before .before .before .before .before .before .before .before .before .before .before .before .before .before .before .before .pre .1 .0) (c .moved .ensures) (omega (arith, (c .before .before .before .before .before .before .before .before .before .before .before .fields .ensures .1))) (omega (arith, (c .before .before .before .before .before .before .before .before .before .before .own-fields .ensures .1)))
+at-splits-widen-requires t c κs = room-widens (c .before .before .before .before .before .before .before .before .before .before .before .before .before .before .pre .1 .0) (c .moved-on .ensures) (omega (arith, (c .before .before .before .before .before .before .before .before .before .before .fields .ensures .1))) (omega (arith, (c .before .before .before .before .before .before .before .before .before .own-fields .ensures .1)))
 
 at-splits-expr-requires : (t : ℕ) → at-splits-lts.Need-expr-requires (
   fields-reads.Asked,
@@ -1173,8 +1012,8 @@ at-splits-expr-requires : (t : ℕ) → at-splits-lts.Need-expr-requires (
   nothing-yet-reads.Learnt,
   bind-fields-reads.Asked,
   bind-fields-reads.Learnt,
-  moved-reads.Asked,
-  moved-reads.Learnt,
+  moved-on-reads.Asked,
+  moved-on-reads.Learnt,
   widen-reads.Asked,
   widen-reads.Learnt,
   expr-below t,
@@ -1188,7 +1027,7 @@ at-splits-expr-requires : (t : ℕ) → at-splits-lts.Need-expr-requires (
   slotted-reads.Asked,
   slotted-reads.Learnt,
 ) (at-splits-at t) at-splits.Post at-splits-Inv-loop at-splits-μ-loop
-at-splits-expr-requires t c κs = (load-wide _ 100 (c .before .before .before .before .before .before .before .before .before .before .before .before .before .before .before .before .before .before .before .before .before .pre .0) _ _ _ _ 0 (c .before .before .before .before .before .moved .ensures) (c .before .before .before .before .widen .ensures) (c .before .before .before .before .before .before .before .before .before .before .before .before .loop .inv .0 .grown) (omega arith), room-wide (c .before .before .before .before .before .before .before .before .before .before .before .before .before .before .before .before .before .before .before .before .before .pre .1 .0) (c .before .before .before .before .before .moved .ensures) (c .before .before .before .before .widen .ensures) ((c .before .before .before .before .before .before .before .before .bind-fields .kept .1 .0) ∙ (c .before .before .before .before .before .before .before .before .before .before .before .before .loop .inv .1 .1 .0)) (c .before .before .before .before .before .before .before .before .before .before .before .before .loop .inv .1 .1 .1) (omega (arith, (c .before .before .before .before .before .before .before .before .before .before .before .before .before .before .before .before .fields .ensures .1))) (omega (arith, (c .before .before .before .before .before .before .before .before .before .before .before .before .before .before .before .own-fields .ensures .1))))
+at-splits-expr-requires t c κs = (load-wide _ 100 (c .before .before .before .before .before .before .before .before .before .before .before .before .before .before .before .before .before .before .before .pre .0) _ _ _ _ 0 (c .before .before .before .before .before .moved-on .ensures) (c .before .before .before .before .widen .ensures) (c .before .before .before .before .before .before .before .before .before .before .before .loop .inv .0 .grown) (omega arith), room-wide (c .before .before .before .before .before .before .before .before .before .before .before .before .before .before .before .before .before .before .before .pre .1 .0) (c .before .before .before .before .before .moved-on .ensures) (c .before .before .before .before .widen .ensures) (omega (arith, (c .before .before .before .before .before .before .before .before .before .before .before .before .before .before .before .fields .ensures .1))) (omega (arith, (c .before .before .before .before .before .before .before .before .before .before .before .before .before .before .own-fields .ensures .1))))
 
 at-splits-enum-known-x : (t : ℕ) → at-splits-lts.Need-enum-known-x (
   fields-reads.Asked,
@@ -1199,8 +1038,8 @@ at-splits-enum-known-x : (t : ℕ) → at-splits-lts.Need-enum-known-x (
   nothing-yet-reads.Learnt,
   bind-fields-reads.Asked,
   bind-fields-reads.Learnt,
-  moved-reads.Asked,
-  moved-reads.Learnt,
+  moved-on-reads.Asked,
+  moved-on-reads.Learnt,
   widen-reads.Asked,
   widen-reads.Learnt,
   expr-below t,
@@ -1225,8 +1064,8 @@ at-splits-enum-told : (t : ℕ) → at-splits-lts.Need-enum-told (
   nothing-yet-reads.Learnt,
   bind-fields-reads.Asked,
   bind-fields-reads.Learnt,
-  moved-reads.Asked,
-  moved-reads.Learnt,
+  moved-on-reads.Asked,
+  moved-on-reads.Learnt,
   widen-reads.Asked,
   widen-reads.Learnt,
   expr-below t,
@@ -1251,8 +1090,8 @@ at-splits-same-length : (t : ℕ) → at-splits-lts.Need-same-length (
   nothing-yet-reads.Learnt,
   bind-fields-reads.Asked,
   bind-fields-reads.Learnt,
-  moved-reads.Asked,
-  moved-reads.Learnt,
+  moved-on-reads.Asked,
+  moved-on-reads.Learnt,
   widen-reads.Asked,
   widen-reads.Learnt,
   expr-below t,
@@ -1266,59 +1105,7 @@ at-splits-same-length : (t : ℕ) → at-splits-lts.Need-same-length (
   slotted-reads.Asked,
   slotted-reads.Learnt,
 ) (at-splits-at t) at-splits.Post at-splits-Inv-loop at-splits-μ-loop
-at-splits-same-length t c = ((c .before .before .before .before .before .before .before .before .expr .kept .1 .1 .0) ∙ (c .before .before .before .before .before .before .before .before .before .before .before .before .before .before .before .before .before .before .before .before .before .loop .inv .1 .0))
-
-at-splits-same-length-2 : (t : ℕ) → at-splits-lts.Need-same-length-2 (
-  fields-reads.Asked,
-  fields-reads.Learnt,
-  own-fields-reads.Asked,
-  own-fields-reads.Learnt,
-  nothing-yet-reads.Asked,
-  nothing-yet-reads.Learnt,
-  bind-fields-reads.Asked,
-  bind-fields-reads.Learnt,
-  moved-reads.Asked,
-  moved-reads.Learnt,
-  widen-reads.Asked,
-  widen-reads.Learnt,
-  expr-below t,
-  expr.Post,
-  is-type-reads.Asked,
-  is-type-reads.Learnt,
-  larger-reads.Asked,
-  larger-reads.Learnt,
-  next-split-reads.Asked,
-  next-split-reads.Learnt,
-  slotted-reads.Asked,
-  slotted-reads.Learnt,
-) (at-splits-at t) at-splits.Post at-splits-Inv-loop at-splits-μ-loop
-at-splits-same-length-2 t c = ((c .before .before .before .before .before .before .before .before .expr .kept .1 .1 .1 .1 .0) ∙ (c .before .before .before .before .before .before .before .before .before .before .before .before .before .before .before .before .before .bind-fields .kept .1 .0) ∙ (c .before .before .before .before .before .before .before .before .before .before .before .before .before .before .before .before .before .before .before .before .before .loop .inv .1 .1 .0))
-
-at-splits-same-length-3 : (t : ℕ) → at-splits-lts.Need-same-length-3 (
-  fields-reads.Asked,
-  fields-reads.Learnt,
-  own-fields-reads.Asked,
-  own-fields-reads.Learnt,
-  nothing-yet-reads.Asked,
-  nothing-yet-reads.Learnt,
-  bind-fields-reads.Asked,
-  bind-fields-reads.Learnt,
-  moved-reads.Asked,
-  moved-reads.Learnt,
-  widen-reads.Asked,
-  widen-reads.Learnt,
-  expr-below t,
-  expr.Post,
-  is-type-reads.Asked,
-  is-type-reads.Learnt,
-  larger-reads.Asked,
-  larger-reads.Learnt,
-  next-split-reads.Asked,
-  next-split-reads.Learnt,
-  slotted-reads.Asked,
-  slotted-reads.Learnt,
-) (at-splits-at t) at-splits.Post at-splits-Inv-loop at-splits-μ-loop
-at-splits-same-length-3 t c = ((c .before .before .before .before .before .before .before .before .expr .kept .1 .1 .1 .1 .1 .0) ∙ (c .before .before .before .before .before .before .before .before .before .before .before .before .before .before .before .before .before .before .before .before .before .loop .inv .1 .1 .1))
+at-splits-same-length t c = (c .before .before .before .before .expr .kept .1 .1 .0) ∙ (c .before .before .before .before .before .before .before .before .before .before .before .before .before .before .before .before .loop .inv .1)
 
 at-splits-returns : (t : ℕ) → at-splits-lts.Need-returns (
   fields-reads.Asked,
@@ -1329,8 +1116,8 @@ at-splits-returns : (t : ℕ) → at-splits-lts.Need-returns (
   nothing-yet-reads.Learnt,
   bind-fields-reads.Asked,
   bind-fields-reads.Learnt,
-  moved-reads.Asked,
-  moved-reads.Learnt,
+  moved-on-reads.Asked,
+  moved-on-reads.Learnt,
   widen-reads.Asked,
   widen-reads.Learnt,
   expr-below t,
@@ -1344,7 +1131,7 @@ at-splits-returns : (t : ℕ) → at-splits-lts.Need-returns (
   slotted-reads.Asked,
   slotted-reads.Learnt,
 ) (at-splits-at t) at-splits.Post at-splits-Inv-loop at-splits-μ-loop
-at-splits-returns t c = splits-part (walks-are (c .before .before .before .before .before .before .before .before .before .before .before .before .before .before .before .before .before .before .before .before .loop-test .taken) (c .before .before .before .before .before .before .before .before .before .before .before .before .before .before .before .before .before .before .before .before .before .loop .inv .0)) (c .before .before .before .before .before .before .before .before .before .before .before .before .before .before .before .before .before .before .before .before .before .before .before .before .before .fields .ensures) (c .before .before .before .before .before .before .before .before .before .before .before .before .before .before .before .before .before .before .before .before .before .before .before .before .own-fields .ensures) (scope-long (c .before .before .before .before .before .before .before .before .before .before .before .before .before .before .before .before .before .before .before .before .before .before .before .before .before .before .before .before .before .before .pre .1 .0) ((c .before .before .before .before .before .before .before .before .before .before .before .before .before .before .before .before .before .before .before .before .before .loop .inv .1 .1 .0))) (sizes-long (c .before .before .before .before .before .before .before .before .before .before .before .before .before .before .before .before .before .before .before .before .before .before .before .before .before .before .before .before .before .before .pre .1 .0) ((c .before .before .before .before .before .before .before .before .before .before .before .before .before .before .before .before .before .before .before .before .before .loop .inv .1 .1 .1))) (c .before .before .before .before .before .before .before .before .before .before .before .before .before .before .before .before .before .bind-fields .ensures) (c .before .before .before .before .before .before .before .before .before .before .before .before .before .before .moved .ensures) (c .before .before .before .before .before .before .before .before .before .before .before .before .before .widen .ensures) (c .before .before .before .before .before .before .before .before .expr .ensures) (c .enum-told .given .1)
+at-splits-returns t c = splits-part (walks-are (c .before .before .before .before .before .before .before .before .before .before .before .before .before .before .before .loop-test .taken) (c .before .before .before .before .before .before .before .before .before .before .before .before .before .before .before .before .loop .inv .0)) (c .before .before .before .before .before .before .before .before .before .before .before .before .before .before .before .before .before .before .before .before .fields .ensures) (c .before .before .before .before .before .before .before .before .before .before .before .before .before .before .before .before .before .before .before .own-fields .ensures) (omega (arith, (c .before .before .before .before .before .before .before .before .before .before .before .before .before .before .bind-fields-arg .given .0 .1))) (omega (arith, (c .before .before .before .before .before .before .before .before .before .before .before .before .bind-fields-arg3 .given .0))) (c .before .before .before .before .before .before .before .before .before .before .before .bind-fields .ensures) (c .before .before .before .before .before .before .before .before .before .before .moved-on .ensures) (c .before .before .before .before .before .before .before .before .before .widen .ensures) (c .before .before .before .before .expr .ensures) (c .enum-told .given .1)
 
 at-splits-is-type-requires : (t : ℕ) → at-splits-lts.Need-is-type-requires (
   fields-reads.Asked,
@@ -1355,8 +1142,8 @@ at-splits-is-type-requires : (t : ℕ) → at-splits-lts.Need-is-type-requires (
   nothing-yet-reads.Learnt,
   bind-fields-reads.Asked,
   bind-fields-reads.Learnt,
-  moved-reads.Asked,
-  moved-reads.Learnt,
+  moved-on-reads.Asked,
+  moved-on-reads.Learnt,
   widen-reads.Asked,
   widen-reads.Learnt,
   expr-below t,
@@ -1372,7 +1159,7 @@ at-splits-is-type-requires : (t : ℕ) → at-splits-lts.Need-is-type-requires (
 ) (at-splits-at t) at-splits.Post at-splits-Inv-loop at-splits-μ-loop
 at-splits-is-type-requires t c κs = tt
 
-at-splits-add-t34 : (t : ℕ) → at-splits-lts.Need-add-t34 (
+at-splits-add-t33 : (t : ℕ) → at-splits-lts.Need-add-t33 (
   fields-reads.Asked,
   fields-reads.Learnt,
   own-fields-reads.Asked,
@@ -1381,8 +1168,8 @@ at-splits-add-t34 : (t : ℕ) → at-splits-lts.Need-add-t34 (
   nothing-yet-reads.Learnt,
   bind-fields-reads.Asked,
   bind-fields-reads.Learnt,
-  moved-reads.Asked,
-  moved-reads.Learnt,
+  moved-on-reads.Asked,
+  moved-on-reads.Learnt,
   widen-reads.Asked,
   widen-reads.Learnt,
   expr-below t,
@@ -1396,9 +1183,9 @@ at-splits-add-t34 : (t : ℕ) → at-splits-lts.Need-add-t34 (
   slotted-reads.Asked,
   slotted-reads.Learnt,
 ) (at-splits-at t) at-splits.Post at-splits-Inv-loop at-splits-μ-loop
-at-splits-add-t34 t c = omega (arith, (c .before .before .before .before .before .before .before .before .before .before .before .before .before .before .before .before .before .before .before .before .before .before .before .before .before .before .before .before .before .before .before .before .before .before .pre .1 .0 .line))
+at-splits-add-t33 t c = omega (arith, (c .before .before .before .before .before .before .before .before .before .before .before .before .before .before .before .before .before .before .before .before .before .before .before .before .before .before .before .before .pre .1 .0 .line))
 
-at-splits-same-length-4 : (t : ℕ) → at-splits-lts.Need-same-length-4 (
+at-splits-same-length-2 : (t : ℕ) → at-splits-lts.Need-same-length-2 (
   fields-reads.Asked,
   fields-reads.Learnt,
   own-fields-reads.Asked,
@@ -1407,8 +1194,8 @@ at-splits-same-length-4 : (t : ℕ) → at-splits-lts.Need-same-length-4 (
   nothing-yet-reads.Learnt,
   bind-fields-reads.Asked,
   bind-fields-reads.Learnt,
-  moved-reads.Asked,
-  moved-reads.Learnt,
+  moved-on-reads.Asked,
+  moved-on-reads.Learnt,
   widen-reads.Asked,
   widen-reads.Learnt,
   expr-below t,
@@ -1422,59 +1209,7 @@ at-splits-same-length-4 : (t : ℕ) → at-splits-lts.Need-same-length-4 (
   slotted-reads.Asked,
   slotted-reads.Learnt,
 ) (at-splits-at t) at-splits.Post at-splits-Inv-loop at-splits-μ-loop
-at-splits-same-length-4 t c = ((c .before .before .before .before .before .before .before .before .before .before .before .before .expr .kept .1 .1 .0) ∙ (c .before .before .before .before .before .before .before .before .before .before .before .before .before .before .before .before .before .before .before .before .before .before .before .before .before .loop .inv .1 .0))
-
-at-splits-same-length-5 : (t : ℕ) → at-splits-lts.Need-same-length-5 (
-  fields-reads.Asked,
-  fields-reads.Learnt,
-  own-fields-reads.Asked,
-  own-fields-reads.Learnt,
-  nothing-yet-reads.Asked,
-  nothing-yet-reads.Learnt,
-  bind-fields-reads.Asked,
-  bind-fields-reads.Learnt,
-  moved-reads.Asked,
-  moved-reads.Learnt,
-  widen-reads.Asked,
-  widen-reads.Learnt,
-  expr-below t,
-  expr.Post,
-  is-type-reads.Asked,
-  is-type-reads.Learnt,
-  larger-reads.Asked,
-  larger-reads.Learnt,
-  next-split-reads.Asked,
-  next-split-reads.Learnt,
-  slotted-reads.Asked,
-  slotted-reads.Learnt,
-) (at-splits-at t) at-splits.Post at-splits-Inv-loop at-splits-μ-loop
-at-splits-same-length-5 t c = ((c .before .before .before .before .before .before .before .before .before .before .before .before .expr .kept .1 .1 .1 .1 .0) ∙ (c .before .before .before .before .before .before .before .before .before .before .before .before .before .before .before .before .before .before .before .before .before .bind-fields .kept .1 .0) ∙ (c .before .before .before .before .before .before .before .before .before .before .before .before .before .before .before .before .before .before .before .before .before .before .before .before .before .loop .inv .1 .1 .0))
-
-at-splits-same-length-6 : (t : ℕ) → at-splits-lts.Need-same-length-6 (
-  fields-reads.Asked,
-  fields-reads.Learnt,
-  own-fields-reads.Asked,
-  own-fields-reads.Learnt,
-  nothing-yet-reads.Asked,
-  nothing-yet-reads.Learnt,
-  bind-fields-reads.Asked,
-  bind-fields-reads.Learnt,
-  moved-reads.Asked,
-  moved-reads.Learnt,
-  widen-reads.Asked,
-  widen-reads.Learnt,
-  expr-below t,
-  expr.Post,
-  is-type-reads.Asked,
-  is-type-reads.Learnt,
-  larger-reads.Asked,
-  larger-reads.Learnt,
-  next-split-reads.Asked,
-  next-split-reads.Learnt,
-  slotted-reads.Asked,
-  slotted-reads.Learnt,
-) (at-splits-at t) at-splits.Post at-splits-Inv-loop at-splits-μ-loop
-at-splits-same-length-6 t c = ((c .before .before .before .before .before .before .before .before .before .before .before .before .expr .kept .1 .1 .1 .1 .1 .0) ∙ (c .before .before .before .before .before .before .before .before .before .before .before .before .before .before .before .before .before .before .before .before .before .before .before .before .before .loop .inv .1 .1 .1))
+at-splits-same-length-2 t c = (c .before .before .before .before .before .before .before .before .expr .kept .1 .1 .0) ∙ (c .before .before .before .before .before .before .before .before .before .before .before .before .before .before .before .before .before .before .before .before .loop .inv .1)
 
 at-splits-returns-2 : (t : ℕ) → at-splits-lts.Need-returns-2 (
   fields-reads.Asked,
@@ -1485,8 +1220,8 @@ at-splits-returns-2 : (t : ℕ) → at-splits-lts.Need-returns-2 (
   nothing-yet-reads.Learnt,
   bind-fields-reads.Asked,
   bind-fields-reads.Learnt,
-  moved-reads.Asked,
-  moved-reads.Learnt,
+  moved-on-reads.Asked,
+  moved-on-reads.Learnt,
   widen-reads.Asked,
   widen-reads.Learnt,
   expr-below t,
@@ -1500,7 +1235,7 @@ at-splits-returns-2 : (t : ℕ) → at-splits-lts.Need-returns-2 (
   slotted-reads.Asked,
   slotted-reads.Learnt,
 ) (at-splits-at t) at-splits.Post at-splits-Inv-loop at-splits-μ-loop
-at-splits-returns-2 t c = splits-differ (walks-are (c .before .before .before .before .before .before .before .before .before .before .before .before .before .before .before .before .before .before .before .before .before .before .before .before .loop-test .taken) (c .before .before .before .before .before .before .before .before .before .before .before .before .before .before .before .before .before .before .before .before .before .before .before .before .before .loop .inv .0)) (c .before .before .before .before .before .before .before .before .before .before .before .before .before .before .before .before .before .before .before .before .before .before .before .before .before .before .before .before .before .fields .ensures) (c .before .before .before .before .before .before .before .before .before .before .before .before .before .before .before .before .before .before .before .before .before .before .before .before .before .before .before .before .own-fields .ensures) (scope-long (c .before .before .before .before .before .before .before .before .before .before .before .before .before .before .before .before .before .before .before .before .before .before .before .before .before .before .before .before .before .before .before .before .before .before .pre .1 .0) ((c .before .before .before .before .before .before .before .before .before .before .before .before .before .before .before .before .before .before .before .before .before .before .before .before .before .loop .inv .1 .1 .0))) (sizes-long (c .before .before .before .before .before .before .before .before .before .before .before .before .before .before .before .before .before .before .before .before .before .before .before .before .before .before .before .before .before .before .before .before .before .before .pre .1 .0) ((c .before .before .before .before .before .before .before .before .before .before .before .before .before .before .before .before .before .before .before .before .before .before .before .before .before .loop .inv .1 .1 .1))) (c .before .before .before .before .before .before .before .before .before .before .before .before .before .before .before .before .before .before .before .before .before .bind-fields .ensures) (c .before .before .before .before .before .before .before .before .before .before .before .before .before .before .before .before .before .before .moved .ensures) (c .before .before .before .before .before .before .before .before .before .before .before .before .before .before .before .before .before .widen .ensures) (c .before .before .before .before .before .before .before .before .before .before .before .before .expr .ensures) (c .before .before .before .before .x .given .1) (c .before .before .is-type .ensures) (not-true _ (c .before .if1 .taken))
+at-splits-returns-2 t c = splits-differ (walks-are (c .before .before .before .before .before .before .before .before .before .before .before .before .before .before .before .before .before .before .before .loop-test .taken) (c .before .before .before .before .before .before .before .before .before .before .before .before .before .before .before .before .before .before .before .before .loop .inv .0)) (c .before .before .before .before .before .before .before .before .before .before .before .before .before .before .before .before .before .before .before .before .before .before .before .before .fields .ensures) (c .before .before .before .before .before .before .before .before .before .before .before .before .before .before .before .before .before .before .before .before .before .before .before .own-fields .ensures) (omega (arith, (c .before .before .before .before .before .before .before .before .before .before .before .before .before .before .before .before .before .before .bind-fields-arg .given .0 .1))) (omega (arith, (c .before .before .before .before .before .before .before .before .before .before .before .before .before .before .before .before .bind-fields-arg3 .given .0))) (c .before .before .before .before .before .before .before .before .before .before .before .before .before .before .before .bind-fields .ensures) (c .before .before .before .before .before .before .before .before .before .before .before .before .before .before .moved-on .ensures) (c .before .before .before .before .before .before .before .before .before .before .before .before .before .widen .ensures) (c .before .before .before .before .before .before .before .before .expr .ensures) (c .before .before .before .before .x .given .1) (c .before .before .is-type .ensures) (not-true _ (c .before .if1 .taken))
 
 at-splits-larger-requires : (t : ℕ) → at-splits-lts.Need-larger-requires (
   fields-reads.Asked,
@@ -1511,8 +1246,8 @@ at-splits-larger-requires : (t : ℕ) → at-splits-lts.Need-larger-requires (
   nothing-yet-reads.Learnt,
   bind-fields-reads.Asked,
   bind-fields-reads.Learnt,
-  moved-reads.Asked,
-  moved-reads.Learnt,
+  moved-on-reads.Asked,
+  moved-on-reads.Learnt,
   widen-reads.Asked,
   widen-reads.Learnt,
   expr-below t,
@@ -1537,8 +1272,8 @@ at-splits-cast-next-split : (t : ℕ) → at-splits-lts.Need-cast-next-split (
   nothing-yet-reads.Learnt,
   bind-fields-reads.Asked,
   bind-fields-reads.Learnt,
-  moved-reads.Asked,
-  moved-reads.Learnt,
+  moved-on-reads.Asked,
+  moved-on-reads.Learnt,
   widen-reads.Asked,
   widen-reads.Learnt,
   expr-below t,
@@ -1563,8 +1298,8 @@ at-splits-next-split-requires : (t : ℕ) → at-splits-lts.Need-next-split-requ
   nothing-yet-reads.Learnt,
   bind-fields-reads.Asked,
   bind-fields-reads.Learnt,
-  moved-reads.Asked,
-  moved-reads.Learnt,
+  moved-on-reads.Asked,
+  moved-on-reads.Learnt,
   widen-reads.Asked,
   widen-reads.Learnt,
   expr-below t,
@@ -1589,8 +1324,8 @@ at-splits-loop-less : (t : ℕ) → at-splits-lts.Need-loop-less (
   nothing-yet-reads.Learnt,
   bind-fields-reads.Asked,
   bind-fields-reads.Learnt,
-  moved-reads.Asked,
-  moved-reads.Learnt,
+  moved-on-reads.Asked,
+  moved-on-reads.Learnt,
   widen-reads.Asked,
   widen-reads.Learnt,
   expr-below t,
@@ -1604,7 +1339,7 @@ at-splits-loop-less : (t : ℕ) → at-splits-lts.Need-loop-less (
   slotted-reads.Asked,
   slotted-reads.Learnt,
 ) (at-splits-at t) at-splits.Post at-splits-Inv-loop at-splits-μ-loop
-at-splits-loop-less t c = less-as _ (c .before .before .before .before .before .before .before .before .before .before .before .before .before .before .before .before .before .before .before .before .before .before .before .before .before .before .before .before .before .loop-test .taken) (turn-falls (c .before .before .before .before .before .before .before .before .before .before .before .before .before .before .before .before .before .before .before .before .before .before .before .before .before .before .before .before .before .before .before .before .before .before .before .before .before .before .before .args .p) _ _ (c .before .before .before .before .before .before .before .before .before .before .before .before .before .before .before .before .before .before .before .before .before .before .before .moved .ensures) (c .before .before .before .before .before .before .before .before .before .before .before .before .before .before .before .before .before .before .before .before .before .before .widen .ensures) (c .before .before .before .before .before .before .before .before .before .before .before .before .before .before .before .before .before .expr .ensures .kept) (c .before .before .next-split .ensures))
+at-splits-loop-less t c = less-as _ (c .before .before .before .before .before .before .before .before .before .before .before .before .before .before .before .before .before .before .before .before .before .before .loop-test .taken) (turn-falls (c .before .before .before .before .before .before .before .before .before .before .before .before .before .before .before .before .before .before .before .before .before .before .before .before .before .before .before .before .before .before .before .args .p) _ _ (c .before .before .before .before .before .before .before .before .before .before .before .before .before .before .before .before .before .moved-on .ensures) (c .before .before .before .before .before .before .before .before .before .before .before .before .before .before .before .before .widen .ensures) (c .before .before .before .before .before .before .before .before .before .before .before .expr .ensures .kept) (c .next-split .ensures))
 
 at-splits-loop-again : (t : ℕ) → at-splits-lts.Need-loop-again (
   fields-reads.Asked,
@@ -1615,8 +1350,8 @@ at-splits-loop-again : (t : ℕ) → at-splits-lts.Need-loop-again (
   nothing-yet-reads.Learnt,
   bind-fields-reads.Asked,
   bind-fields-reads.Learnt,
-  moved-reads.Asked,
-  moved-reads.Learnt,
+  moved-on-reads.Asked,
+  moved-on-reads.Learnt,
   widen-reads.Asked,
   widen-reads.Learnt,
   expr-below t,
@@ -1630,7 +1365,7 @@ at-splits-loop-again : (t : ℕ) → at-splits-lts.Need-loop-again (
   slotted-reads.Asked,
   slotted-reads.Learnt,
 ) (at-splits-at t) at-splits.Post at-splits-Inv-loop at-splits-μ-loop
-at-splits-loop-again t c = (splits-turn (walks-are (c .before .before .before .before .before .before .before .before .before .before .before .before .before .before .before .before .before .before .before .before .before .before .before .before .before .before .before .before .before .loop-test .taken) (c .before .before .before .before .before .before .before .before .before .before .before .before .before .before .before .before .before .before .before .before .before .before .before .before .before .before .before .before .before .before .loop .inv .0)) (c .before .before .before .before .before .before .before .before .before .before .before .before .before .before .before .before .before .before .before .before .before .before .before .before .before .before .before .before .before .before .before .before .before .before .fields .ensures) (c .before .before .before .before .before .before .before .before .before .before .before .before .before .before .before .before .before .before .before .before .before .before .before .before .before .before .before .before .before .before .before .before .before .own-fields .ensures) (scope-long (c .before .before .before .before .before .before .before .before .before .before .before .before .before .before .before .before .before .before .before .before .before .before .before .before .before .before .before .before .before .before .before .before .before .before .before .before .before .before .before .pre .1 .0) ((c .before .before .before .before .before .before .before .before .before .before .before .before .before .before .before .before .before .before .before .before .before .before .before .before .before .before .before .before .before .before .loop .inv .1 .1 .0))) (sizes-long (c .before .before .before .before .before .before .before .before .before .before .before .before .before .before .before .before .before .before .before .before .before .before .before .before .before .before .before .before .before .before .before .before .before .before .before .before .before .before .before .pre .1 .0) ((c .before .before .before .before .before .before .before .before .before .before .before .before .before .before .before .before .before .before .before .before .before .before .before .before .before .before .before .before .before .before .loop .inv .1 .1 .1))) (c .before .before .before .before .before .before .before .before .before .before .before .before .before .before .before .before .before .before .before .before .before .before .before .before .before .before .bind-fields .ensures) (c .before .before .before .before .before .before .before .before .before .before .before .before .before .before .before .before .before .before .before .before .before .before .before .moved .ensures) (c .before .before .before .before .before .before .before .before .before .before .before .before .before .before .before .before .before .before .before .before .before .before .widen .ensures) (c .before .before .before .before .before .before .before .before .before .before .before .before .before .before .before .before .before .expr .ensures) (c .before .before .before .before .before .before .before .before .before .x .given .1) (c .before .before .before .before .before .before .before .is-type .ensures) (not-false _ (c .before .before .before .before .before .before .if1 .left)) (sizes-long (c .before .before .before .before .before .before .before .before .before .before .before .before .before .before .before .before .before .before .before .before .before .before .before .before .before .before .before .before .before .before .before .before .before .before .before .before .before .before .before .pre .1 .0) ((c .before .before .before .before .before .before .before .before .before .before .before .before .before .before .before .before .before .expr .kept .1 .1 .1 .1 .1 .0) ∙ (c .before .before .before .before .before .before .before .before .before .before .before .before .before .before .before .before .before .before .before .before .before .before .before .before .before .before .before .before .before .before .loop .inv .1 .1 .1))) (c .before .before .before .before .before .larger .ensures .both) (c .before .before .before .before .before .larger .ensures .is) (c .before .before .next-split .ensures), (((c .before .before .before .before .before .before .before .before .before .before .before .before .before .before .before .before .before .expr .kept .1 .1 .0) ∙ (c .before .before .before .before .before .before .before .before .before .before .before .before .before .before .before .before .before .before .before .before .before .before .before .before .before .before .before .before .before .before .loop .inv .1 .0)), (((c .before .before .before .before .before .before .before .before .before .before .before .before .before .before .before .before .before .expr .kept .1 .1 .1 .1 .0) ∙ (c .before .before .before .before .before .before .before .before .before .before .before .before .before .before .before .before .before .before .before .before .before .before .before .before .before .before .bind-fields .kept .1 .0) ∙ (c .before .before .before .before .before .before .before .before .before .before .before .before .before .before .before .before .before .before .before .before .before .before .before .before .before .before .before .before .before .before .loop .inv .1 .1 .0)), (c .before .before .next-split .kept .0) ∙ ((c .before .before .before .before .before .before .before .before .before .before .before .before .before .before .before .before .before .expr .kept .1 .1 .1 .1 .1 .0) ∙ (c .before .before .before .before .before .before .before .before .before .before .before .before .before .before .before .before .before .before .before .before .before .before .before .before .before .before .before .before .before .before .loop .inv .1 .1 .1)))))
+at-splits-loop-again t c = (splits-turn (walks-are (c .before .before .before .before .before .before .before .before .before .before .before .before .before .before .before .before .before .before .before .before .before .before .loop-test .taken) (c .before .before .before .before .before .before .before .before .before .before .before .before .before .before .before .before .before .before .before .before .before .before .before .loop .inv .0)) (c .before .before .before .before .before .before .before .before .before .before .before .before .before .before .before .before .before .before .before .before .before .before .before .before .before .before .before .fields .ensures) (c .before .before .before .before .before .before .before .before .before .before .before .before .before .before .before .before .before .before .before .before .before .before .before .before .before .before .own-fields .ensures) (omega (arith, (c .before .before .before .before .before .before .before .before .before .before .before .before .before .before .before .before .before .before .before .before .before .bind-fields-arg .given .0 .1))) (omega (arith, (c .before .before .before .before .before .before .before .before .before .before .before .before .before .before .before .before .before .before .before .bind-fields-arg3 .given .0))) (c .before .before .before .before .before .before .before .before .before .before .before .before .before .before .before .before .before .before .bind-fields .ensures) (c .before .before .before .before .before .before .before .before .before .before .before .before .before .before .before .before .before .moved-on .ensures) (c .before .before .before .before .before .before .before .before .before .before .before .before .before .before .before .before .widen .ensures) (c .before .before .before .before .before .before .before .before .before .before .before .expr .ensures) (c .before .before .before .before .before .before .before .x .given .1) (c .before .before .before .before .before .is-type .ensures) (not-false _ (c .before .before .before .before .if1 .left)) (omega (arith, (c .before .before .next-split-arg .given .0 .1))) (c .before .before .before .larger .ensures .both) (c .before .before .before .larger .ensures .is) (c .next-split .ensures), (c .before .before .before .before .before .before .before .before .before .before .before .expr .kept .1 .1 .0) ∙ (c .before .before .before .before .before .before .before .before .before .before .before .before .before .before .before .before .before .before .before .before .before .before .before .loop .inv .1))
 
 at-splits-slotted-requires : (t : ℕ) → at-splits-lts.Need-slotted-requires (
   fields-reads.Asked,
@@ -1641,8 +1376,8 @@ at-splits-slotted-requires : (t : ℕ) → at-splits-lts.Need-slotted-requires (
   nothing-yet-reads.Learnt,
   bind-fields-reads.Asked,
   bind-fields-reads.Learnt,
-  moved-reads.Asked,
-  moved-reads.Learnt,
+  moved-on-reads.Asked,
+  moved-on-reads.Learnt,
   widen-reads.Asked,
   widen-reads.Learnt,
   expr-below t,
@@ -1658,7 +1393,7 @@ at-splits-slotted-requires : (t : ℕ) → at-splits-lts.Need-slotted-requires (
 ) (at-splits-at t) at-splits.Post at-splits-Inv-loop at-splits-μ-loop
 at-splits-slotted-requires t c κs = tt
 
-at-splits-same-length-7 : (t : ℕ) → at-splits-lts.Need-same-length-7 (
+at-splits-same-length-3 : (t : ℕ) → at-splits-lts.Need-same-length-3 (
   fields-reads.Asked,
   fields-reads.Learnt,
   own-fields-reads.Asked,
@@ -1667,8 +1402,8 @@ at-splits-same-length-7 : (t : ℕ) → at-splits-lts.Need-same-length-7 (
   nothing-yet-reads.Learnt,
   bind-fields-reads.Asked,
   bind-fields-reads.Learnt,
-  moved-reads.Asked,
-  moved-reads.Learnt,
+  moved-on-reads.Asked,
+  moved-on-reads.Learnt,
   widen-reads.Asked,
   widen-reads.Learnt,
   expr-below t,
@@ -1682,59 +1417,7 @@ at-splits-same-length-7 : (t : ℕ) → at-splits-lts.Need-same-length-7 (
   slotted-reads.Asked,
   slotted-reads.Learnt,
 ) (at-splits-at t) at-splits.Post at-splits-Inv-loop at-splits-μ-loop
-at-splits-same-length-7 t c = (c .before .before .loop .inv .1 .0)
-
-at-splits-same-length-8 : (t : ℕ) → at-splits-lts.Need-same-length-8 (
-  fields-reads.Asked,
-  fields-reads.Learnt,
-  own-fields-reads.Asked,
-  own-fields-reads.Learnt,
-  nothing-yet-reads.Asked,
-  nothing-yet-reads.Learnt,
-  bind-fields-reads.Asked,
-  bind-fields-reads.Learnt,
-  moved-reads.Asked,
-  moved-reads.Learnt,
-  widen-reads.Asked,
-  widen-reads.Learnt,
-  expr-below t,
-  expr.Post,
-  is-type-reads.Asked,
-  is-type-reads.Learnt,
-  larger-reads.Asked,
-  larger-reads.Learnt,
-  next-split-reads.Asked,
-  next-split-reads.Learnt,
-  slotted-reads.Asked,
-  slotted-reads.Learnt,
-) (at-splits-at t) at-splits.Post at-splits-Inv-loop at-splits-μ-loop
-at-splits-same-length-8 t c = (c .before .before .loop .inv .1 .1 .0)
-
-at-splits-same-length-9 : (t : ℕ) → at-splits-lts.Need-same-length-9 (
-  fields-reads.Asked,
-  fields-reads.Learnt,
-  own-fields-reads.Asked,
-  own-fields-reads.Learnt,
-  nothing-yet-reads.Asked,
-  nothing-yet-reads.Learnt,
-  bind-fields-reads.Asked,
-  bind-fields-reads.Learnt,
-  moved-reads.Asked,
-  moved-reads.Learnt,
-  widen-reads.Asked,
-  widen-reads.Learnt,
-  expr-below t,
-  expr.Post,
-  is-type-reads.Asked,
-  is-type-reads.Learnt,
-  larger-reads.Asked,
-  larger-reads.Learnt,
-  next-split-reads.Asked,
-  next-split-reads.Learnt,
-  slotted-reads.Asked,
-  slotted-reads.Learnt,
-) (at-splits-at t) at-splits.Post at-splits-Inv-loop at-splits-μ-loop
-at-splits-same-length-9 t c = (c .before .before .loop .inv .1 .1 .1)
+at-splits-same-length-3 t c = (c .before .before .loop .inv .1)
 
 at-splits-returns-3 : (t : ℕ) → at-splits-lts.Need-returns-3 (
   fields-reads.Asked,
@@ -1745,8 +1428,8 @@ at-splits-returns-3 : (t : ℕ) → at-splits-lts.Need-returns-3 (
   nothing-yet-reads.Learnt,
   bind-fields-reads.Asked,
   bind-fields-reads.Learnt,
-  moved-reads.Asked,
-  moved-reads.Learnt,
+  moved-on-reads.Asked,
+  moved-on-reads.Learnt,
   widen-reads.Asked,
   widen-reads.Learnt,
   expr-below t,
@@ -1776,7 +1459,7 @@ binding-expr-requires : (t : ℕ) → binding-lts.Need-expr-requires (
   with-let-reads.Asked,
   with-let-reads.Learnt,
 ) (binding-at t) binding.Post
-binding-expr-requires t c κs = (load-same _ 900 (c .before .before .before .before .before .before .before .before .pre .0) 0 (omega arith), room-same (c .before .before .before .before .before .before .before .before .pre .1) (omega arith))
+binding-expr-requires t c κs = (load-same _ 900 (c .before .before .before .before .before .before .before .pre .0) 0 (omega arith), room-same (c .before .before .before .before .before .before .before .pre .1) (omega arith))
 
 binding-enum-known-x : (t : ℕ) → binding-lts.Need-enum-known-x (
   expr-below t,
@@ -1824,39 +1507,7 @@ binding-same-length : (t : ℕ) → binding-lts.Need-same-length (
   with-let-reads.Asked,
   with-let-reads.Learnt,
 ) (binding-at t) binding.Post
-binding-same-length t c = (c .before .before .before .before .before .before .before .before .expr .kept .1 .1 .0)
-
-binding-same-length-2 : (t : ℕ) → binding-lts.Need-same-length-2 (
-  expr-below t,
-  expr.Post,
-  type-word-reads.Asked,
-  type-word-reads.Learnt,
-  put-reads.Asked,
-  put-reads.Learnt,
-  behind-reads.Asked,
-  behind-reads.Learnt,
-  widen-reads.Asked,
-  widen-reads.Learnt,
-  with-let-reads.Asked,
-  with-let-reads.Learnt,
-) (binding-at t) binding.Post
-binding-same-length-2 t c = (c .before .before .before .before .before .before .before .before .expr .kept .1 .1 .1 .1 .0)
-
-binding-same-length-3 : (t : ℕ) → binding-lts.Need-same-length-3 (
-  expr-below t,
-  expr.Post,
-  type-word-reads.Asked,
-  type-word-reads.Learnt,
-  put-reads.Asked,
-  put-reads.Learnt,
-  behind-reads.Asked,
-  behind-reads.Learnt,
-  widen-reads.Asked,
-  widen-reads.Learnt,
-  with-let-reads.Asked,
-  with-let-reads.Learnt,
-) (binding-at t) binding.Post
-binding-same-length-3 t c = (c .before .before .before .before .before .before .before .before .expr .kept .1 .1 .1 .1 .1 .0)
+binding-same-length t c = (c .before .before .before .before .expr .kept .1 .1 .0)
 
 binding-returns : (t : ℕ) → binding-lts.Need-returns (
   expr-below t,
@@ -1872,7 +1523,7 @@ binding-returns : (t : ℕ) → binding-lts.Need-returns (
   with-let-reads.Asked,
   with-let-reads.Learnt,
 ) (binding-at t) binding.Post
-binding-returns t c = let-first (c .before .before .before .before .before .before .before .before .expr .ensures) (c .enum-told .given .1)
+binding-returns t c = let-first (c .before .before .before .before .expr .ensures) (c .enum-told .given .1)
 
 binding-cast-put : (t : ℕ) → binding-lts.Need-cast-put (
   expr-below t,
@@ -1952,7 +1603,7 @@ binding-widen-requires : (t : ℕ) → binding-lts.Need-widen-requires (
   with-let-reads.Asked,
   with-let-reads.Learnt,
 ) (binding-at t) binding.Post
-binding-widen-requires t c κs = room-widens (c .before .before .before .before .before .before .before .before .before .before .before .before .before .before .before .before .before .before .before .before .before .before .before .before .before .pre .1) (c .behind .ensures) (omega arith) (omega arith)
+binding-widen-requires t c κs = room-widens (c .before .before .before .before .before .before .before .before .before .before .before .before .before .before .before .before .before .before .pre .1) (c .behind .ensures) (omega arith) (omega arith)
 
 binding-expr-requires-2 : (t : ℕ) → binding-lts.Need-expr-requires-2 (
   expr-below t,
@@ -1968,7 +1619,7 @@ binding-expr-requires-2 : (t : ℕ) → binding-lts.Need-expr-requires-2 (
   with-let-reads.Asked,
   with-let-reads.Learnt,
 ) (binding-at t) binding.Post
-binding-expr-requires-2 t c κs = (load-wide _ 900 (c .before .before .before .before .before .before .before .before .before .before .before .before .before .before .before .before .before .before .before .before .before .before .before .before .before .before .before .before .before .before .pre .0) _ _ 1 0 0 (c .before .before .before .before .before .behind .ensures) (c .before .before .before .before .widen .ensures) (grows-to (c .before .before .before .before .before .before .before .before .before .before .before .before .before .before .before .before .before .before .before .before .before .expr .ensures .grows) (c .before .before .before .before .before .before .before .before .before .before .before .before .before .x .given .1)) (omega arith), room-wide (c .before .before .before .before .before .before .before .before .before .before .before .before .before .before .before .before .before .before .before .before .before .before .before .before .before .before .before .before .before .before .pre .1) (c .before .before .before .before .before .behind .ensures) (c .before .before .before .before .widen .ensures) ((c .before .before .before .before .before .before .before .before .put .kept .0) ∙ (c .before .before .before .before .before .before .before .before .before .before .before .before .before .before .before .before .before .before .before .before .before .expr .kept .1 .1 .1 .1 .0)) ((c .before .before .before .before .before .before .before .before .before .before .before .before .before .before .before .before .before .before .before .before .before .expr .kept .1 .1 .1 .1 .1 .0)) (omega arith) (omega arith))
+binding-expr-requires-2 t c κs = (load-wide _ 900 (c .before .before .before .before .before .before .before .before .before .before .before .before .before .before .before .before .before .before .before .before .before .before .before .pre .0) _ _ 1 0 0 (c .before .before .before .before .before .behind .ensures) (c .before .before .before .before .widen .ensures) (grows-to (c .before .before .before .before .before .before .before .before .before .before .before .before .before .before .before .expr .ensures .grows) (c .before .before .before .before .before .before .before .before .before .before .before .x .given .1)) (omega arith), room-wide (c .before .before .before .before .before .before .before .before .before .before .before .before .before .before .before .before .before .before .before .before .before .before .before .pre .1) (c .before .before .before .before .before .behind .ensures) (c .before .before .before .before .widen .ensures) (omega arith) (omega arith))
 
 binding-enum-known-y : (t : ℕ) → binding-lts.Need-enum-known-y (
   expr-below t,
@@ -2002,7 +1653,7 @@ binding-enum-told-2 : (t : ℕ) → binding-lts.Need-enum-told-2 (
 ) (binding-at t) binding.Post
 binding-enum-told-2 t c = (c .match2 .keys2)
 
-binding-same-length-4 : (t : ℕ) → binding-lts.Need-same-length-4 (
+binding-same-length-2 : (t : ℕ) → binding-lts.Need-same-length-2 (
   expr-below t,
   expr.Post,
   type-word-reads.Asked,
@@ -2016,39 +1667,7 @@ binding-same-length-4 : (t : ℕ) → binding-lts.Need-same-length-4 (
   with-let-reads.Asked,
   with-let-reads.Learnt,
 ) (binding-at t) binding.Post
-binding-same-length-4 t c = (c .before .before .before .before .before .before .before .before .expr2 .kept .1 .1 .0) ∙ (c .before .before .before .before .before .before .before .before .before .before .before .before .before .before .before .before .before .before .before .before .before .before .before .before .before .before .before .before .before .before .expr .kept .1 .1 .0)
-
-binding-same-length-5 : (t : ℕ) → binding-lts.Need-same-length-5 (
-  expr-below t,
-  expr.Post,
-  type-word-reads.Asked,
-  type-word-reads.Learnt,
-  put-reads.Asked,
-  put-reads.Learnt,
-  behind-reads.Asked,
-  behind-reads.Learnt,
-  widen-reads.Asked,
-  widen-reads.Learnt,
-  with-let-reads.Asked,
-  with-let-reads.Learnt,
-) (binding-at t) binding.Post
-binding-same-length-5 t c = (c .before .before .before .before .before .before .before .before .expr2 .kept .1 .1 .1 .1 .0) ∙ (c .before .before .before .before .before .before .before .before .before .before .before .before .before .before .before .before .before .put .kept .0) ∙ (c .before .before .before .before .before .before .before .before .before .before .before .before .before .before .before .before .before .before .before .before .before .before .before .before .before .before .before .before .before .before .expr .kept .1 .1 .1 .1 .0)
-
-binding-same-length-6 : (t : ℕ) → binding-lts.Need-same-length-6 (
-  expr-below t,
-  expr.Post,
-  type-word-reads.Asked,
-  type-word-reads.Learnt,
-  put-reads.Asked,
-  put-reads.Learnt,
-  behind-reads.Asked,
-  behind-reads.Learnt,
-  widen-reads.Asked,
-  widen-reads.Learnt,
-  with-let-reads.Asked,
-  with-let-reads.Learnt,
-) (binding-at t) binding.Post
-binding-same-length-6 t c = (c .before .before .before .before .before .before .before .before .expr2 .kept .1 .1 .1 .1 .1 .0) ∙ (c .before .before .before .before .before .before .before .before .before .before .before .before .before .before .before .before .before .before .before .before .before .before .before .before .before .before .before .before .before .before .expr .kept .1 .1 .1 .1 .1 .0)
+binding-same-length-2 t c = (c .before .before .before .before .expr2 .kept .1 .1 .0) ∙ (c .before .before .before .before .before .before .before .before .before .before .before .before .before .before .before .before .before .before .before .before .expr .kept .1 .1 .0)
 
 binding-returns-2 : (t : ℕ) → binding-lts.Need-returns-2 (
   expr-below t,
@@ -2064,7 +1683,7 @@ binding-returns-2 : (t : ℕ) → binding-lts.Need-returns-2 (
   with-let-reads.Asked,
   with-let-reads.Learnt,
 ) (binding-at t) binding.Post
-binding-returns-2 t c = let-second (c .before .before .before .before .before .before .before .before .before .before .before .before .before .before .before .before .before .before .before .before .before .before .before .before .before .before .before .before .before .before .expr .ensures) (scope-long (c .before .before .before .before .before .before .before .before .before .before .before .before .before .before .before .before .before .before .before .before .before .before .before .before .before .before .before .before .before .before .before .before .before .before .before .before .before .before .before .pre .1) ((c .before .before .before .before .before .before .before .before .before .before .before .before .before .before .before .before .before .before .before .before .before .before .before .before .before .before .before .before .before .before .expr .kept .1 .1 .1 .1 .0))) (c .before .before .before .before .before .before .before .before .before .before .before .before .before .before .before .before .before .before .before .before .before .before .x .given .1) (c .before .before .before .before .before .before .before .before .before .before .before .before .before .before .before .before .before .before .type-word .ensures .is) (c .before .before .before .before .before .before .before .before .before .before .before .before .before .before .behind .ensures) (c .before .before .before .before .before .before .before .before .before .before .before .before .before .widen .ensures) (put-is (c .before .before .before .before .before .before .before .before .before .before .before .before .before .before .before .before .before .put .ensures) (c .before .before .before .before .before .before .before .before .expr2 .ensures)) (c .enum-told2 .given .1)
+binding-returns-2 t c = let-second (c .before .before .before .before .before .before .before .before .before .before .before .before .before .before .before .before .before .before .before .before .expr .ensures) (omega (arith, (c .before .before .before .before .before .before .before .before .before .before .before .before .before .before .put-arg .given .0 .1))) (c .before .before .before .before .before .before .before .before .before .before .before .before .before .before .before .before .x .given .1) (c .before .before .before .before .before .before .before .before .before .before .before .before .type-word .ensures .is) (c .before .before .before .before .before .before .before .before .before .before .behind .ensures) (c .before .before .before .before .before .before .before .before .before .widen .ensures) (put-is (c .before .before .before .before .before .before .before .before .before .before .before .put .ensures) (c .before .before .before .before .expr2 .ensures)) (c .enum-told2 .given .1)
 
 binding-with-let-requires : (t : ℕ) → binding-lts.Need-with-let-requires (
   expr-below t,
@@ -2082,7 +1701,7 @@ binding-with-let-requires : (t : ℕ) → binding-lts.Need-with-let-requires (
 ) (binding-at t) binding.Post
 binding-with-let-requires t c κs = tt
 
-binding-same-length-7 : (t : ℕ) → binding-lts.Need-same-length-7 (
+binding-same-length-3 : (t : ℕ) → binding-lts.Need-same-length-3 (
   expr-below t,
   expr.Post,
   type-word-reads.Asked,
@@ -2096,39 +1715,7 @@ binding-same-length-7 : (t : ℕ) → binding-lts.Need-same-length-7 (
   with-let-reads.Asked,
   with-let-reads.Learnt,
 ) (binding-at t) binding.Post
-binding-same-length-7 t c = (c .before .before .before .before .before .before .before .before .before .before .expr2 .kept .1 .1 .0) ∙ (c .before .before .before .before .before .before .before .before .before .before .before .before .before .before .before .before .before .before .before .before .before .before .before .before .before .before .before .before .before .before .before .before .expr .kept .1 .1 .0)
-
-binding-same-length-8 : (t : ℕ) → binding-lts.Need-same-length-8 (
-  expr-below t,
-  expr.Post,
-  type-word-reads.Asked,
-  type-word-reads.Learnt,
-  put-reads.Asked,
-  put-reads.Learnt,
-  behind-reads.Asked,
-  behind-reads.Learnt,
-  widen-reads.Asked,
-  widen-reads.Learnt,
-  with-let-reads.Asked,
-  with-let-reads.Learnt,
-) (binding-at t) binding.Post
-binding-same-length-8 t c = (c .before .before .before .before .before .before .before .before .before .before .expr2 .kept .1 .1 .1 .1 .0) ∙ (c .before .before .before .before .before .before .before .before .before .before .before .before .before .before .before .before .before .before .before .put .kept .0) ∙ (c .before .before .before .before .before .before .before .before .before .before .before .before .before .before .before .before .before .before .before .before .before .before .before .before .before .before .before .before .before .before .before .before .expr .kept .1 .1 .1 .1 .0)
-
-binding-same-length-9 : (t : ℕ) → binding-lts.Need-same-length-9 (
-  expr-below t,
-  expr.Post,
-  type-word-reads.Asked,
-  type-word-reads.Learnt,
-  put-reads.Asked,
-  put-reads.Learnt,
-  behind-reads.Asked,
-  behind-reads.Learnt,
-  widen-reads.Asked,
-  widen-reads.Learnt,
-  with-let-reads.Asked,
-  with-let-reads.Learnt,
-) (binding-at t) binding.Post
-binding-same-length-9 t c = (c .before .before .before .before .before .before .before .before .before .before .expr2 .kept .1 .1 .1 .1 .1 .0) ∙ (c .before .before .before .before .before .before .before .before .before .before .before .before .before .before .before .before .before .before .before .before .before .before .before .before .before .before .before .before .before .before .before .before .expr .kept .1 .1 .1 .1 .1 .0)
+binding-same-length-3 t c = (c .before .before .before .before .before .before .expr2 .kept .1 .1 .0) ∙ (c .before .before .before .before .before .before .before .before .before .before .before .before .before .before .before .before .before .before .before .before .before .before .expr .kept .1 .1 .0)
 
 binding-returns-3 : (t : ℕ) → binding-lts.Need-returns-3 (
   expr-below t,
@@ -2144,63 +1731,63 @@ binding-returns-3 : (t : ℕ) → binding-lts.Need-returns-3 (
   with-let-reads.Asked,
   with-let-reads.Learnt,
 ) (binding-at t) binding.Post
-binding-returns-3 t c = let-done (c .before .before .before .before .before .before .before .before .before .before .before .before .before .before .before .before .before .before .before .before .before .before .before .before .before .before .before .before .before .before .before .before .expr .ensures) (scope-long (c .before .before .before .before .before .before .before .before .before .before .before .before .before .before .before .before .before .before .before .before .before .before .before .before .before .before .before .before .before .before .before .before .before .before .before .before .before .before .before .before .before .pre .1) ((c .before .before .before .before .before .before .before .before .before .before .before .before .before .before .before .before .before .before .before .before .before .before .before .before .before .before .before .before .before .before .before .before .expr .kept .1 .1 .1 .1 .0))) (c .before .before .before .before .before .before .before .before .before .before .before .before .before .before .before .before .before .before .before .before .before .before .before .before .x .given .1) (c .before .before .before .before .before .before .before .before .before .before .before .before .before .before .before .before .before .before .before .before .type-word .ensures .is) (c .before .before .before .before .before .before .before .before .before .before .before .before .before .before .before .before .behind .ensures) (c .before .before .before .before .before .before .before .before .before .before .before .before .before .before .before .widen .ensures) (put-is (c .before .before .before .before .before .before .before .before .before .before .before .before .before .before .before .before .before .before .before .put .ensures) (c .before .before .before .before .before .before .before .before .before .before .expr2 .ensures)) (c .before .before .y .given .1) (c .with-let .ensures .held) (c .with-let .ensures .all) (c .with-let .ensures .is)
+binding-returns-3 t c = let-done (c .before .before .before .before .before .before .before .before .before .before .before .before .before .before .before .before .before .before .before .before .before .before .expr .ensures) (omega (arith, (c .before .before .before .before .before .before .before .before .before .before .before .before .before .before .before .before .put-arg .given .0 .1))) (c .before .before .before .before .before .before .before .before .before .before .before .before .before .before .before .before .before .before .x .given .1) (c .before .before .before .before .before .before .before .before .before .before .before .before .before .before .type-word .ensures .is) (c .before .before .before .before .before .before .before .before .before .before .before .before .behind .ensures) (c .before .before .before .before .before .before .before .before .before .before .before .widen .ensures) (put-is (c .before .before .before .before .before .before .before .before .before .before .before .before .before .put .ensures) (c .before .before .before .before .before .before .expr2 .ensures)) (c .before .before .y .given .1) (c .with-let .ensures .held) (c .with-let .ensures .all) (c .with-let .ensures .is)
 
 body-cast-if1 : (t : ℕ) → body-lts.Need-cast-if1 (
   word-of-reads.Asked,
   word-of-reads.Learnt,
   add-reads.Asked,
   add-reads.Learnt,
-  body-place-reads.Asked,
-  body-place-reads.Learnt,
+  body-site-reads.Asked,
+  body-site-reads.Learnt,
   expr-below t,
   expr.Post,
   is-type-reads.Asked,
   is-type-reads.Learnt,
   finish-reads.Asked,
   finish-reads.Learnt,
-  moved-reads.Asked,
-  moved-reads.Learnt,
+  moved-on-reads.Asked,
+  moved-on-reads.Learnt,
   leaf-reads.Asked,
   leaf-reads.Learnt,
 ) (body-at t) body.Post
 body-cast-if1 t c = omega arith
 
-body-add-t17 : (t : ℕ) → body-lts.Need-add-t17 (
+body-add-t19 : (t : ℕ) → body-lts.Need-add-t19 (
   word-of-reads.Asked,
   word-of-reads.Learnt,
   add-reads.Asked,
   add-reads.Learnt,
-  body-place-reads.Asked,
-  body-place-reads.Learnt,
+  body-site-reads.Asked,
+  body-site-reads.Learnt,
   expr-below t,
   expr.Post,
   is-type-reads.Asked,
   is-type-reads.Learnt,
   finish-reads.Asked,
   finish-reads.Learnt,
-  moved-reads.Asked,
-  moved-reads.Learnt,
+  moved-on-reads.Asked,
+  moved-on-reads.Learnt,
   leaf-reads.Asked,
   leaf-reads.Learnt,
 ) (body-at t) body.Post
-body-add-t17 t c = omega (arith, (c .before .before .before .before .before .before .before .pre .1 .0 .line))
+body-add-t19 t c = omega (arith, (c .before .before .before .before .before .before .pre .1 .0 .line))
 
 body-returns : (t : ℕ) → body-lts.Need-returns (
   word-of-reads.Asked,
   word-of-reads.Learnt,
   add-reads.Asked,
   add-reads.Learnt,
-  body-place-reads.Asked,
-  body-place-reads.Learnt,
+  body-site-reads.Asked,
+  body-site-reads.Learnt,
   expr-below t,
   expr.Post,
   is-type-reads.Asked,
   is-type-reads.Learnt,
   finish-reads.Asked,
   finish-reads.Learnt,
-  moved-reads.Asked,
-  moved-reads.Learnt,
+  moved-on-reads.Asked,
+  moved-on-reads.Learnt,
   leaf-reads.Asked,
   leaf-reads.Learnt,
 ) (body-at t) body.Post
@@ -2211,16 +1798,16 @@ body-word-of-requires : (t : ℕ) → body-lts.Need-word-of-requires (
   word-of-reads.Learnt,
   add-reads.Asked,
   add-reads.Learnt,
-  body-place-reads.Asked,
-  body-place-reads.Learnt,
+  body-site-reads.Asked,
+  body-site-reads.Learnt,
   expr-below t,
   expr.Post,
   is-type-reads.Asked,
   is-type-reads.Learnt,
   finish-reads.Asked,
   finish-reads.Learnt,
-  moved-reads.Asked,
-  moved-reads.Learnt,
+  moved-on-reads.Asked,
+  moved-on-reads.Learnt,
   leaf-reads.Asked,
   leaf-reads.Learnt,
 ) (body-at t) body.Post
@@ -2231,76 +1818,76 @@ body-add-requires : (t : ℕ) → body-lts.Need-add-requires (
   word-of-reads.Learnt,
   add-reads.Asked,
   add-reads.Learnt,
-  body-place-reads.Asked,
-  body-place-reads.Learnt,
+  body-site-reads.Asked,
+  body-site-reads.Learnt,
   expr-below t,
   expr.Post,
   is-type-reads.Asked,
   is-type-reads.Learnt,
   finish-reads.Asked,
   finish-reads.Learnt,
-  moved-reads.Asked,
-  moved-reads.Learnt,
+  moved-on-reads.Asked,
+  moved-on-reads.Learnt,
   leaf-reads.Asked,
   leaf-reads.Learnt,
 ) (body-at t) body.Post
 body-add-requires t c κs = tt
 
-body-body-place-requires : (t : ℕ) → body-lts.Need-body-place-requires (
+body-body-site-requires : (t : ℕ) → body-lts.Need-body-site-requires (
   word-of-reads.Asked,
   word-of-reads.Learnt,
   add-reads.Asked,
   add-reads.Learnt,
-  body-place-reads.Asked,
-  body-place-reads.Learnt,
+  body-site-reads.Asked,
+  body-site-reads.Learnt,
   expr-below t,
   expr.Post,
   is-type-reads.Asked,
   is-type-reads.Learnt,
   finish-reads.Asked,
   finish-reads.Learnt,
-  moved-reads.Asked,
-  moved-reads.Learnt,
+  moved-on-reads.Asked,
+  moved-on-reads.Learnt,
   leaf-reads.Asked,
   leaf-reads.Learnt,
 ) (body-at t) body.Post
-body-body-place-requires t c κs = ((c .before .before .before .before .before .before .before .before .before .before .before .before .before .pre .1 .0 .types), (omega (arith, (c .before .before .before .before .before .before .before .if1 .left)), (c .before .before .before .before .before .before .before .before .before .before .before .before .before .pre .1 .1 .function)))
+body-body-site-requires t c κs = omega (arith, (c .before .before .before .before .before .before .before .before .if1 .left))
 
 body-expr-requires : (t : ℕ) → body-lts.Need-expr-requires (
   word-of-reads.Asked,
   word-of-reads.Learnt,
   add-reads.Asked,
   add-reads.Learnt,
-  body-place-reads.Asked,
-  body-place-reads.Learnt,
+  body-site-reads.Asked,
+  body-site-reads.Learnt,
   expr-below t,
   expr.Post,
   is-type-reads.Asked,
   is-type-reads.Learnt,
   finish-reads.Asked,
   finish-reads.Learnt,
-  moved-reads.Asked,
-  moved-reads.Learnt,
+  moved-on-reads.Asked,
+  moved-on-reads.Learnt,
   leaf-reads.Asked,
   leaf-reads.Learnt,
 ) (body-at t) body.Post
-body-expr-requires t c κs = (load-body _ 80 (c .before .before .before .before .before .before .before .before .before .before .before .before .before .before .before .before .before .before .pre .0) (now (c .before .before .before .before .before .before .before .before .before .before .before .before .before .before .before .before .before .before .args .index)) (c .before .before .before .before .before .before .before .before .before .before .before .before .before .before .before .before .before .before .args .e) _ (c .before .before .before .before .body-place .ensures) (omega (arith, (c .before .before .before .before .before .before .before .before .before .before .before .before .if1 .left))), room-body (now (c .before .before .before .before .before .before .before .before .before .before .before .before .before .before .before .before .before .before .args .index)) (c .before .before .before .before .before .before .before .before .before .before .before .before .before .before .before .before .before .before .pre .1 .0) (c .before .before .before .before .before .before .before .before .before .before .before .before .before .before .before .before .before .before .pre .1 .1) (c .before .before .before .before .body-place .ensures))
+body-expr-requires t c κs = (load-body _ 80 (c .before .before .before .before .before .before .before .before .before .before .before .before .before .before .before .before .before .before .pre .0) (now (c .before .before .before .before .before .before .before .before .before .before .before .before .before .before .before .before .before .before .args .index)) (c .before .before .before .before .before .before .before .before .before .before .before .before .before .before .before .before .before .before .args .e) _ (c .before .before .before .before .body-site .ensures) (omega (arith, (c .before .before .before .before .before .before .before .before .before .before .before .before .before .if1 .left))), room-body (c .before .before .before .before .before .before .before .before .before .before .before .before .before .before .before .before .before .before .args .p) (now (c .before .before .before .before .before .before .before .before .before .before .before .before .before .before .before .before .before .before .args .index)) (c .before .before .before .before .before .before .before .before .before .before .before .before .before .before .before .before .before .before .pre .1 .1) (c .before .before .before .before .body-site .ensures))
 
 body-enum-known-x : (t : ℕ) → body-lts.Need-enum-known-x (
   word-of-reads.Asked,
   word-of-reads.Learnt,
   add-reads.Asked,
   add-reads.Learnt,
-  body-place-reads.Asked,
-  body-place-reads.Learnt,
+  body-site-reads.Asked,
+  body-site-reads.Learnt,
   expr-below t,
   expr.Post,
   is-type-reads.Asked,
   is-type-reads.Learnt,
   finish-reads.Asked,
   finish-reads.Learnt,
-  moved-reads.Asked,
-  moved-reads.Learnt,
+  moved-on-reads.Asked,
+  moved-on-reads.Learnt,
   leaf-reads.Asked,
   leaf-reads.Learnt,
 ) (body-at t) body.Post
@@ -2311,16 +1898,16 @@ body-enum-told : (t : ℕ) → body-lts.Need-enum-told (
   word-of-reads.Learnt,
   add-reads.Asked,
   add-reads.Learnt,
-  body-place-reads.Asked,
-  body-place-reads.Learnt,
+  body-site-reads.Asked,
+  body-site-reads.Learnt,
   expr-below t,
   expr.Post,
   is-type-reads.Asked,
   is-type-reads.Learnt,
   finish-reads.Asked,
   finish-reads.Learnt,
-  moved-reads.Asked,
-  moved-reads.Learnt,
+  moved-on-reads.Asked,
+  moved-on-reads.Learnt,
   leaf-reads.Asked,
   leaf-reads.Learnt,
 ) (body-at t) body.Post
@@ -2331,96 +1918,56 @@ body-same-length : (t : ℕ) → body-lts.Need-same-length (
   word-of-reads.Learnt,
   add-reads.Asked,
   add-reads.Learnt,
-  body-place-reads.Asked,
-  body-place-reads.Learnt,
+  body-site-reads.Asked,
+  body-site-reads.Learnt,
   expr-below t,
   expr.Post,
   is-type-reads.Asked,
   is-type-reads.Learnt,
   finish-reads.Asked,
   finish-reads.Learnt,
-  moved-reads.Asked,
-  moved-reads.Learnt,
+  moved-on-reads.Asked,
+  moved-on-reads.Learnt,
   leaf-reads.Asked,
   leaf-reads.Learnt,
 ) (body-at t) body.Post
-body-same-length t c = (c .before .before .before .before .before .before .before .before .expr .kept .1 .1 .0) ∙ (c .before .before .before .before .before .before .before .before .before .before .before .before .before .before .before .before .add .kept .0)
-
-body-same-length-2 : (t : ℕ) → body-lts.Need-same-length-2 (
-  word-of-reads.Asked,
-  word-of-reads.Learnt,
-  add-reads.Asked,
-  add-reads.Learnt,
-  body-place-reads.Asked,
-  body-place-reads.Learnt,
-  expr-below t,
-  expr.Post,
-  is-type-reads.Asked,
-  is-type-reads.Learnt,
-  finish-reads.Asked,
-  finish-reads.Learnt,
-  moved-reads.Asked,
-  moved-reads.Learnt,
-  leaf-reads.Asked,
-  leaf-reads.Learnt,
-) (body-at t) body.Post
-body-same-length-2 t c = (c .before .before .before .before .before .before .before .before .expr .kept .1 .1 .1 .1 .0)
-
-body-same-length-3 : (t : ℕ) → body-lts.Need-same-length-3 (
-  word-of-reads.Asked,
-  word-of-reads.Learnt,
-  add-reads.Asked,
-  add-reads.Learnt,
-  body-place-reads.Asked,
-  body-place-reads.Learnt,
-  expr-below t,
-  expr.Post,
-  is-type-reads.Asked,
-  is-type-reads.Learnt,
-  finish-reads.Asked,
-  finish-reads.Learnt,
-  moved-reads.Asked,
-  moved-reads.Learnt,
-  leaf-reads.Asked,
-  leaf-reads.Learnt,
-) (body-at t) body.Post
-body-same-length-3 t c = (c .before .before .before .before .before .before .before .before .expr .kept .1 .1 .1 .1 .1 .0)
+body-same-length t c = (c .before .before .before .before .expr .kept .1 .1 .0) ∙ (c .before .before .before .before .before .before .before .before .before .before .before .before .add .kept .0)
 
 body-returns-2 : (t : ℕ) → body-lts.Need-returns-2 (
   word-of-reads.Asked,
   word-of-reads.Learnt,
   add-reads.Asked,
   add-reads.Learnt,
-  body-place-reads.Asked,
-  body-place-reads.Learnt,
+  body-site-reads.Asked,
+  body-site-reads.Learnt,
   expr-below t,
   expr.Post,
   is-type-reads.Asked,
   is-type-reads.Learnt,
   finish-reads.Asked,
   finish-reads.Learnt,
-  moved-reads.Asked,
-  moved-reads.Learnt,
+  moved-on-reads.Asked,
+  moved-on-reads.Learnt,
   leaf-reads.Asked,
   leaf-reads.Learnt,
 ) (body-at t) body.Post
-body-returns-2 t c = body-refused _ _ (omega (arith, (c .before .before .before .before .before .before .before .before .before .before .before .before .before .before .before .before .before .before .before .before .before .if1 .left))) (c .before .before .before .before .before .before .before .before .before .before .before .before .before .before .before .before .before .word-of .ensures .is) (c .before .before .before .before .before .before .before .before .before .before .before .before .before .before .before .before .add .ensures) (c .before .before .before .before .before .before .before .before .before .before .before .before .before .body-place .ensures) (c .before .before .before .before .before .before .before .before .expr .ensures) (c .enum-told .given .1)
+body-returns-2 t c = body-refused _ _ (omega (arith, (c .before .before .before .before .before .before .before .before .before .before .before .before .before .before .before .before .before .before .if1 .left))) (c .before .before .before .before .before .before .before .before .before .before .before .before .before .word-of .ensures .is) (c .before .before .before .before .before .before .before .before .before .before .before .before .add .ensures) (c .before .before .before .before .before .before .before .before .before .body-site .ensures) (c .before .before .before .before .expr .ensures) (c .enum-told .given .1)
 
 body-is-type-requires : (t : ℕ) → body-lts.Need-is-type-requires (
   word-of-reads.Asked,
   word-of-reads.Learnt,
   add-reads.Asked,
   add-reads.Learnt,
-  body-place-reads.Asked,
-  body-place-reads.Learnt,
+  body-site-reads.Asked,
+  body-site-reads.Learnt,
   expr-below t,
   expr.Post,
   is-type-reads.Asked,
   is-type-reads.Learnt,
   finish-reads.Asked,
   finish-reads.Learnt,
-  moved-reads.Asked,
-  moved-reads.Learnt,
+  moved-on-reads.Asked,
+  moved-on-reads.Learnt,
   leaf-reads.Asked,
   leaf-reads.Learnt,
 ) (body-at t) body.Post
@@ -2431,240 +1978,160 @@ body-add-t33 : (t : ℕ) → body-lts.Need-add-t33 (
   word-of-reads.Learnt,
   add-reads.Asked,
   add-reads.Learnt,
-  body-place-reads.Asked,
-  body-place-reads.Learnt,
+  body-site-reads.Asked,
+  body-site-reads.Learnt,
   expr-below t,
   expr.Post,
   is-type-reads.Asked,
   is-type-reads.Learnt,
   finish-reads.Asked,
   finish-reads.Learnt,
-  moved-reads.Asked,
-  moved-reads.Learnt,
+  moved-on-reads.Asked,
+  moved-on-reads.Learnt,
   leaf-reads.Asked,
   leaf-reads.Learnt,
 ) (body-at t) body.Post
-body-add-t33 t c = omega (arith, ap (λ z. z .line) (c .before .before .before .before .before .before .before .before .before .before .before .before .before .before .before .before .before .body-place .ensures), (c .before .before .before .before .before .before .before .before .before .before .before .before .before .before .before .before .before .before .before .before .before .before .before .before .before .before .before .before .before .before .before .pre .1 .0 .types), (c .before .before .before .before .before .before .before .before .before .before .before .before .before .before .before .before .before .before .before .before .before .before .before .before .before .before .before .before .before .before .before .pre .1 .1 .function))
+body-add-t33 t c = omega (arith, ap (λ z. z .place .line) (c .before .before .before .before .before .before .before .before .before .before .before .before .before .before .body-site .ensures))
 
-body-same-length-4 : (t : ℕ) → body-lts.Need-same-length-4 (
+body-same-length-2 : (t : ℕ) → body-lts.Need-same-length-2 (
   word-of-reads.Asked,
   word-of-reads.Learnt,
   add-reads.Asked,
   add-reads.Learnt,
-  body-place-reads.Asked,
-  body-place-reads.Learnt,
+  body-site-reads.Asked,
+  body-site-reads.Learnt,
   expr-below t,
   expr.Post,
   is-type-reads.Asked,
   is-type-reads.Learnt,
   finish-reads.Asked,
   finish-reads.Learnt,
-  moved-reads.Asked,
-  moved-reads.Learnt,
+  moved-on-reads.Asked,
+  moved-on-reads.Learnt,
   leaf-reads.Asked,
   leaf-reads.Learnt,
 ) (body-at t) body.Post
-body-same-length-4 t c = (c .before .before .before .before .before .before .before .before .before .before .before .before .expr .kept .1 .1 .0) ∙ (c .before .before .before .before .before .before .before .before .before .before .before .before .before .before .before .before .before .before .before .before .add .kept .0)
-
-body-same-length-5 : (t : ℕ) → body-lts.Need-same-length-5 (
-  word-of-reads.Asked,
-  word-of-reads.Learnt,
-  add-reads.Asked,
-  add-reads.Learnt,
-  body-place-reads.Asked,
-  body-place-reads.Learnt,
-  expr-below t,
-  expr.Post,
-  is-type-reads.Asked,
-  is-type-reads.Learnt,
-  finish-reads.Asked,
-  finish-reads.Learnt,
-  moved-reads.Asked,
-  moved-reads.Learnt,
-  leaf-reads.Asked,
-  leaf-reads.Learnt,
-) (body-at t) body.Post
-body-same-length-5 t c = (c .before .before .before .before .before .before .before .before .before .before .before .before .expr .kept .1 .1 .1 .1 .0)
-
-body-same-length-6 : (t : ℕ) → body-lts.Need-same-length-6 (
-  word-of-reads.Asked,
-  word-of-reads.Learnt,
-  add-reads.Asked,
-  add-reads.Learnt,
-  body-place-reads.Asked,
-  body-place-reads.Learnt,
-  expr-below t,
-  expr.Post,
-  is-type-reads.Asked,
-  is-type-reads.Learnt,
-  finish-reads.Asked,
-  finish-reads.Learnt,
-  moved-reads.Asked,
-  moved-reads.Learnt,
-  leaf-reads.Asked,
-  leaf-reads.Learnt,
-) (body-at t) body.Post
-body-same-length-6 t c = (c .before .before .before .before .before .before .before .before .before .before .before .before .expr .kept .1 .1 .1 .1 .1 .0)
+body-same-length-2 t c = (c .before .before .before .before .before .before .before .before .before .expr .kept .1 .1 .0) ∙ (c .before .before .before .before .before .before .before .before .before .before .before .before .before .before .before .before .before .add .kept .0)
 
 body-returns-3 : (t : ℕ) → body-lts.Need-returns-3 (
   word-of-reads.Asked,
   word-of-reads.Learnt,
   add-reads.Asked,
   add-reads.Learnt,
-  body-place-reads.Asked,
-  body-place-reads.Learnt,
+  body-site-reads.Asked,
+  body-site-reads.Learnt,
   expr-below t,
   expr.Post,
   is-type-reads.Asked,
   is-type-reads.Learnt,
   finish-reads.Asked,
   finish-reads.Learnt,
-  moved-reads.Asked,
-  moved-reads.Learnt,
+  moved-on-reads.Asked,
+  moved-on-reads.Learnt,
   leaf-reads.Asked,
   leaf-reads.Learnt,
 ) (body-at t) body.Post
-body-returns-3 t c = body-differs _ _ (omega (arith, (c .before .before .before .before .before .before .before .before .before .before .before .before .before .before .before .before .before .before .before .before .before .before .before .before .before .if1 .left))) (c .before .before .before .before .before .before .before .before .before .before .before .before .before .before .before .before .before .before .before .before .before .word-of .ensures .is) (c .before .before .before .before .before .before .before .before .before .before .before .before .before .before .before .before .before .before .before .before .add .ensures) (c .before .before .before .before .before .before .before .before .before .before .before .before .before .before .before .before .before .body-place .ensures) (c .before .before .before .before .before .before .before .before .before .before .before .before .expr .ensures) (c .before .before .before .before .x .given .1) (c .before .before .is-type .ensures) (not-true _ (c .before .if2 .taken))
+body-returns-3 t c = body-differs _ _ (omega (arith, (c .before .before .before .before .before .before .before .before .before .before .before .before .before .before .before .before .before .before .before .before .before .before .before .if1 .left))) (c .before .before .before .before .before .before .before .before .before .before .before .before .before .before .before .before .before .before .word-of .ensures .is) (c .before .before .before .before .before .before .before .before .before .before .before .before .before .before .before .before .before .add .ensures) (c .before .before .before .before .before .before .before .before .before .before .before .before .before .before .body-site .ensures) (c .before .before .before .before .before .before .before .before .before .expr .ensures) (c .before .before .before .before .before .x .given .1) (c .before .before .before .is-type .ensures) (not-true _ (c .before .before .if2 .taken))
 
 body-finish-requires : (t : ℕ) → body-lts.Need-finish-requires (
   word-of-reads.Asked,
   word-of-reads.Learnt,
   add-reads.Asked,
   add-reads.Learnt,
-  body-place-reads.Asked,
-  body-place-reads.Learnt,
+  body-site-reads.Asked,
+  body-site-reads.Learnt,
   expr-below t,
   expr.Post,
   is-type-reads.Asked,
   is-type-reads.Learnt,
   finish-reads.Asked,
   finish-reads.Learnt,
-  moved-reads.Asked,
-  moved-reads.Learnt,
+  moved-on-reads.Asked,
+  moved-on-reads.Learnt,
   leaf-reads.Asked,
   leaf-reads.Learnt,
 ) (body-at t) body.Post
 body-finish-requires t c κs = tt
 
-body-moved-requires : (t : ℕ) → body-lts.Need-moved-requires (
+body-moved-on-requires : (t : ℕ) → body-lts.Need-moved-on-requires (
   word-of-reads.Asked,
   word-of-reads.Learnt,
   add-reads.Asked,
   add-reads.Learnt,
-  body-place-reads.Asked,
-  body-place-reads.Learnt,
+  body-site-reads.Asked,
+  body-site-reads.Learnt,
   expr-below t,
   expr.Post,
   is-type-reads.Asked,
   is-type-reads.Learnt,
   finish-reads.Asked,
   finish-reads.Learnt,
-  moved-reads.Asked,
-  moved-reads.Learnt,
+  moved-on-reads.Asked,
+  moved-on-reads.Learnt,
   leaf-reads.Asked,
   leaf-reads.Learnt,
 ) (body-at t) body.Post
-body-moved-requires t c κs = tt
+body-moved-on-requires t c κs = tt
 
 body-leaf-requires : (t : ℕ) → body-lts.Need-leaf-requires (
   word-of-reads.Asked,
   word-of-reads.Learnt,
   add-reads.Asked,
   add-reads.Learnt,
-  body-place-reads.Asked,
-  body-place-reads.Learnt,
+  body-site-reads.Asked,
+  body-site-reads.Learnt,
   expr-below t,
   expr.Post,
   is-type-reads.Asked,
   is-type-reads.Learnt,
   finish-reads.Asked,
   finish-reads.Learnt,
-  moved-reads.Asked,
-  moved-reads.Learnt,
+  moved-on-reads.Asked,
+  moved-on-reads.Learnt,
   leaf-reads.Asked,
   leaf-reads.Learnt,
 ) (body-at t) body.Post
 body-leaf-requires t c κs = tt
 
-body-same-length-7 : (t : ℕ) → body-lts.Need-same-length-7 (
+body-same-length-3 : (t : ℕ) → body-lts.Need-same-length-3 (
   word-of-reads.Asked,
   word-of-reads.Learnt,
   add-reads.Asked,
   add-reads.Learnt,
-  body-place-reads.Asked,
-  body-place-reads.Learnt,
+  body-site-reads.Asked,
+  body-site-reads.Learnt,
   expr-below t,
   expr.Post,
   is-type-reads.Asked,
   is-type-reads.Learnt,
   finish-reads.Asked,
   finish-reads.Learnt,
-  moved-reads.Asked,
-  moved-reads.Learnt,
+  moved-on-reads.Asked,
+  moved-on-reads.Learnt,
   leaf-reads.Asked,
   leaf-reads.Learnt,
 ) (body-at t) body.Post
-body-same-length-7 t c = (c .before .before .before .before .before .finish .kept .0) ∙ (c .before .before .before .before .before .before .before .before .before .before .before .before .before .before .before .before .before .before .before .expr .kept .1 .1 .0) ∙ (c .before .before .before .before .before .before .before .before .before .before .before .before .before .before .before .before .before .before .before .before .before .before .before .before .before .before .before .add .kept .0)
-
-body-same-length-8 : (t : ℕ) → body-lts.Need-same-length-8 (
-  word-of-reads.Asked,
-  word-of-reads.Learnt,
-  add-reads.Asked,
-  add-reads.Learnt,
-  body-place-reads.Asked,
-  body-place-reads.Learnt,
-  expr-below t,
-  expr.Post,
-  is-type-reads.Asked,
-  is-type-reads.Learnt,
-  finish-reads.Asked,
-  finish-reads.Learnt,
-  moved-reads.Asked,
-  moved-reads.Learnt,
-  leaf-reads.Asked,
-  leaf-reads.Learnt,
-) (body-at t) body.Post
-body-same-length-8 t c = (c .before .before .before .before .before .before .before .before .before .before .before .before .before .before .before .before .before .before .before .expr .kept .1 .1 .1 .1 .0)
-
-body-same-length-9 : (t : ℕ) → body-lts.Need-same-length-9 (
-  word-of-reads.Asked,
-  word-of-reads.Learnt,
-  add-reads.Asked,
-  add-reads.Learnt,
-  body-place-reads.Asked,
-  body-place-reads.Learnt,
-  expr-below t,
-  expr.Post,
-  is-type-reads.Asked,
-  is-type-reads.Learnt,
-  finish-reads.Asked,
-  finish-reads.Learnt,
-  moved-reads.Asked,
-  moved-reads.Learnt,
-  leaf-reads.Asked,
-  leaf-reads.Learnt,
-) (body-at t) body.Post
-body-same-length-9 t c = (c .before .before .before .before .before .before .before .before .before .before .before .before .before .before .before .before .before .before .before .expr .kept .1 .1 .1 .1 .1 .0)
+body-same-length-3 t c = (c .before .before .before .before .before .finish .kept .0) ∙ (c .before .before .before .before .before .before .before .before .before .before .before .before .before .before .before .expr .kept .1 .1 .0) ∙ (c .before .before .before .before .before .before .before .before .before .before .before .before .before .before .before .before .before .before .before .before .before .before .before .add .kept .0)
 
 body-returns-4 : (t : ℕ) → body-lts.Need-returns-4 (
   word-of-reads.Asked,
   word-of-reads.Learnt,
   add-reads.Asked,
   add-reads.Learnt,
-  body-place-reads.Asked,
-  body-place-reads.Learnt,
+  body-site-reads.Asked,
+  body-site-reads.Learnt,
   expr-below t,
   expr.Post,
   is-type-reads.Asked,
   is-type-reads.Learnt,
   finish-reads.Asked,
   finish-reads.Learnt,
-  moved-reads.Asked,
-  moved-reads.Learnt,
+  moved-on-reads.Asked,
+  moved-on-reads.Learnt,
   leaf-reads.Asked,
   leaf-reads.Learnt,
 ) (body-at t) body.Post
-body-returns-4 t c = body-done _ _ (omega (arith, (c .before .before .before .before .before .before .before .before .before .before .before .before .before .before .before .before .before .before .before .before .before .before .before .before .before .before .before .before .before .before .before .before .if1 .left))) (c .before .before .before .before .before .before .before .before .before .before .before .before .before .before .before .before .before .before .before .before .before .before .before .before .before .before .before .before .word-of .ensures .is) (c .before .before .before .before .before .before .before .before .before .before .before .before .before .before .before .before .before .before .before .before .before .before .before .before .before .before .before .add .ensures) (c .before .before .before .before .before .before .before .before .before .before .before .before .before .before .before .before .before .before .before .before .before .before .before .before .body-place .ensures) (c .before .before .before .before .before .before .before .before .before .before .before .before .before .before .before .before .before .before .before .expr .ensures) (c .before .before .before .before .before .before .before .before .before .before .before .x .given .1) (c .before .before .before .before .before .before .before .before .before .is-type .ensures) (not-false _ (c .before .before .before .before .before .before .before .before .if2 .left)) (c .before .before .before .before .before .finish .ensures) (c .before .moved .ensures) (c .leaf .ensures)
+body-returns-4 t c = body-done _ _ (omega (arith, (c .before .before .before .before .before .before .before .before .before .before .before .before .before .before .before .before .before .before .before .before .before .before .before .before .before .before .before .before .before .if1 .left))) (c .before .before .before .before .before .before .before .before .before .before .before .before .before .before .before .before .before .before .before .before .before .before .before .before .word-of .ensures .is) (c .before .before .before .before .before .before .before .before .before .before .before .before .before .before .before .before .before .before .before .before .before .before .before .add .ensures) (c .before .before .before .before .before .before .before .before .before .before .before .before .before .before .before .before .before .before .before .before .body-site .ensures) (c .before .before .before .before .before .before .before .before .before .before .before .before .before .before .before .expr .ensures) (c .before .before .before .before .before .before .before .before .before .before .before .x .given .1) (c .before .before .before .before .before .before .before .before .before .is-type .ensures) (not-false _ (c .before .before .before .before .before .before .before .before .if2 .left)) (c .before .before .before .before .before .finish .ensures) (c .before .moved-on .ensures) (c .leaf .ensures)
 
 branch-own-fields-requires : (t : ℕ) → branch-lts.Need-own-fields-requires (
   own-fields-reads.Asked,
@@ -2675,8 +2142,8 @@ branch-own-fields-requires : (t : ℕ) → branch-lts.Need-own-fields-requires (
   skip-reads.Learnt,
   nothing-reads.Asked,
   nothing-reads.Learnt,
-  moved-reads.Asked,
-  moved-reads.Learnt,
+  moved-on-reads.Asked,
+  moved-on-reads.Learnt,
   leaf-reads.Asked,
   leaf-reads.Learnt,
   first-split-reads.Asked,
@@ -2695,8 +2162,8 @@ branch-cast-if1 : (t : ℕ) → branch-lts.Need-cast-if1 (
   skip-reads.Learnt,
   nothing-reads.Asked,
   nothing-reads.Learnt,
-  moved-reads.Asked,
-  moved-reads.Learnt,
+  moved-on-reads.Asked,
+  moved-on-reads.Learnt,
   leaf-reads.Asked,
   leaf-reads.Learnt,
   first-split-reads.Asked,
@@ -2715,8 +2182,8 @@ branch-frame-line-requires : (t : ℕ) → branch-lts.Need-frame-line-requires (
   skip-reads.Learnt,
   nothing-reads.Asked,
   nothing-reads.Learnt,
-  moved-reads.Asked,
-  moved-reads.Learnt,
+  moved-on-reads.Asked,
+  moved-on-reads.Learnt,
   leaf-reads.Asked,
   leaf-reads.Learnt,
   first-split-reads.Asked,
@@ -2735,8 +2202,8 @@ branch-skip-requires : (t : ℕ) → branch-lts.Need-skip-requires (
   skip-reads.Learnt,
   nothing-reads.Asked,
   nothing-reads.Learnt,
-  moved-reads.Asked,
-  moved-reads.Learnt,
+  moved-on-reads.Asked,
+  moved-on-reads.Learnt,
   leaf-reads.Asked,
   leaf-reads.Learnt,
   first-split-reads.Asked,
@@ -2755,8 +2222,8 @@ branch-nothing-requires : (t : ℕ) → branch-lts.Need-nothing-requires (
   skip-reads.Learnt,
   nothing-reads.Asked,
   nothing-reads.Learnt,
-  moved-reads.Asked,
-  moved-reads.Learnt,
+  moved-on-reads.Asked,
+  moved-on-reads.Learnt,
   leaf-reads.Asked,
   leaf-reads.Learnt,
   first-split-reads.Asked,
@@ -2766,7 +2233,7 @@ branch-nothing-requires : (t : ℕ) → branch-lts.Need-nothing-requires (
 ) (branch-at t) branch.Post
 branch-nothing-requires t c κs = tt
 
-branch-moved-requires : (t : ℕ) → branch-lts.Need-moved-requires (
+branch-moved-on-requires : (t : ℕ) → branch-lts.Need-moved-on-requires (
   own-fields-reads.Asked,
   own-fields-reads.Learnt,
   frame-line-reads.Asked,
@@ -2775,8 +2242,8 @@ branch-moved-requires : (t : ℕ) → branch-lts.Need-moved-requires (
   skip-reads.Learnt,
   nothing-reads.Asked,
   nothing-reads.Learnt,
-  moved-reads.Asked,
-  moved-reads.Learnt,
+  moved-on-reads.Asked,
+  moved-on-reads.Learnt,
   leaf-reads.Asked,
   leaf-reads.Learnt,
   first-split-reads.Asked,
@@ -2784,7 +2251,7 @@ branch-moved-requires : (t : ℕ) → branch-lts.Need-moved-requires (
   at-splits-below t,
   at-splits.Post,
 ) (branch-at t) branch.Post
-branch-moved-requires t c κs = tt
+branch-moved-on-requires t c κs = tt
 
 branch-leaf-requires : (t : ℕ) → branch-lts.Need-leaf-requires (
   own-fields-reads.Asked,
@@ -2795,8 +2262,8 @@ branch-leaf-requires : (t : ℕ) → branch-lts.Need-leaf-requires (
   skip-reads.Learnt,
   nothing-reads.Asked,
   nothing-reads.Learnt,
-  moved-reads.Asked,
-  moved-reads.Learnt,
+  moved-on-reads.Asked,
+  moved-on-reads.Learnt,
   leaf-reads.Asked,
   leaf-reads.Learnt,
   first-split-reads.Asked,
@@ -2815,8 +2282,8 @@ branch-returns : (t : ℕ) → branch-lts.Need-returns (
   skip-reads.Learnt,
   nothing-reads.Asked,
   nothing-reads.Learnt,
-  moved-reads.Asked,
-  moved-reads.Learnt,
+  moved-on-reads.Asked,
+  moved-on-reads.Learnt,
   leaf-reads.Asked,
   leaf-reads.Learnt,
   first-split-reads.Asked,
@@ -2824,7 +2291,7 @@ branch-returns : (t : ℕ) → branch-lts.Need-returns (
   at-splits-below t,
   at-splits.Post,
 ) (branch-at t) branch.Post
-branch-returns t c = branch-skipped (c .before .before .before .before .before .before .before .own-fields .ensures) (omega (arith, (c .before .before .before .before .before .before .if1 .taken))) (c .before .before .before .before .frame-line .ensures) (c .before .before .before .skip .ensures) (c .before .moved .ensures) (c .before .before .nothing .ensures) (c .leaf .ensures)
+branch-returns t c = branch-skipped (c .before .before .before .before .before .before .before .own-fields .ensures) (omega (arith, (c .before .before .before .before .before .before .if1 .taken))) (c .before .before .before .before .frame-line .ensures) (c .before .before .before .skip .ensures) (c .before .moved-on .ensures) (c .before .before .nothing .ensures) (c .leaf .ensures)
 
 branch-cast-first-split : (t : ℕ) → branch-lts.Need-cast-first-split (
   own-fields-reads.Asked,
@@ -2835,8 +2302,8 @@ branch-cast-first-split : (t : ℕ) → branch-lts.Need-cast-first-split (
   skip-reads.Learnt,
   nothing-reads.Asked,
   nothing-reads.Learnt,
-  moved-reads.Asked,
-  moved-reads.Learnt,
+  moved-on-reads.Asked,
+  moved-on-reads.Learnt,
   leaf-reads.Asked,
   leaf-reads.Learnt,
   first-split-reads.Asked,
@@ -2855,8 +2322,8 @@ branch-sub-first-split : (t : ℕ) → branch-lts.Need-sub-first-split (
   skip-reads.Learnt,
   nothing-reads.Asked,
   nothing-reads.Learnt,
-  moved-reads.Asked,
-  moved-reads.Learnt,
+  moved-on-reads.Asked,
+  moved-on-reads.Learnt,
   leaf-reads.Asked,
   leaf-reads.Learnt,
   first-split-reads.Asked,
@@ -2875,8 +2342,8 @@ branch-first-split-requires : (t : ℕ) → branch-lts.Need-first-split-requires
   skip-reads.Learnt,
   nothing-reads.Asked,
   nothing-reads.Learnt,
-  moved-reads.Asked,
-  moved-reads.Learnt,
+  moved-on-reads.Asked,
+  moved-on-reads.Learnt,
   leaf-reads.Asked,
   leaf-reads.Learnt,
   first-split-reads.Asked,
@@ -2895,8 +2362,8 @@ branch-at-splits-requires : (t : ℕ) → branch-lts.Need-at-splits-requires (
   skip-reads.Learnt,
   nothing-reads.Asked,
   nothing-reads.Learnt,
-  moved-reads.Asked,
-  moved-reads.Learnt,
+  moved-on-reads.Asked,
+  moved-on-reads.Learnt,
   leaf-reads.Asked,
   leaf-reads.Learnt,
   first-split-reads.Asked,
@@ -2904,7 +2371,7 @@ branch-at-splits-requires : (t : ℕ) → branch-lts.Need-at-splits-requires (
   at-splits-below t,
   at-splits.Post,
 ) (branch-at t) branch.Post
-branch-at-splits-requires t c κs = (load-same _ 200 (c .before .before .before .before .before .before .before .before .before .before .before .before .before .before .before .pre .0) 100 (omega arith), (room-kept (c .before .before .before .before .before .before .before .before .before .before .before .before .before .before .before .pre .1 .0) (refl) ((c .before .before .before .before .before .before .first-split .kept .0)), (c .before .before .before .before .before .before .before .before .before .before .before .before .before .before .before .pre .1 .1)))
+branch-at-splits-requires t c κs = (load-same _ 200 (c .before .before .before .before .before .before .before .before .before .before .before .before .pre .0) 100 (omega arith), ((c .before .before .before .before .before .before .before .before .before .before .before .before .pre .1 .0), (c .before .before .before .before .before .before .before .before .before .before .before .before .pre .1 .1)))
 
 branch-same-length : (t : ℕ) → branch-lts.Need-same-length (
   own-fields-reads.Asked,
@@ -2915,8 +2382,8 @@ branch-same-length : (t : ℕ) → branch-lts.Need-same-length (
   skip-reads.Learnt,
   nothing-reads.Asked,
   nothing-reads.Learnt,
-  moved-reads.Asked,
-  moved-reads.Learnt,
+  moved-on-reads.Asked,
+  moved-on-reads.Learnt,
   leaf-reads.Asked,
   leaf-reads.Learnt,
   first-split-reads.Asked,
@@ -2924,47 +2391,7 @@ branch-same-length : (t : ℕ) → branch-lts.Need-same-length (
   at-splits-below t,
   at-splits.Post,
 ) (branch-at t) branch.Post
-branch-same-length t c = (c .before .before .before .before .before .before .at-splits .kept .1 .1 .0)
-
-branch-same-length-2 : (t : ℕ) → branch-lts.Need-same-length-2 (
-  own-fields-reads.Asked,
-  own-fields-reads.Learnt,
-  frame-line-reads.Asked,
-  frame-line-reads.Learnt,
-  skip-reads.Asked,
-  skip-reads.Learnt,
-  nothing-reads.Asked,
-  nothing-reads.Learnt,
-  moved-reads.Asked,
-  moved-reads.Learnt,
-  leaf-reads.Asked,
-  leaf-reads.Learnt,
-  first-split-reads.Asked,
-  first-split-reads.Learnt,
-  at-splits-below t,
-  at-splits.Post,
-) (branch-at t) branch.Post
-branch-same-length-2 t c = (c .before .before .before .before .before .before .at-splits .kept .1 .1 .1 .1 .0)
-
-branch-same-length-3 : (t : ℕ) → branch-lts.Need-same-length-3 (
-  own-fields-reads.Asked,
-  own-fields-reads.Learnt,
-  frame-line-reads.Asked,
-  frame-line-reads.Learnt,
-  skip-reads.Asked,
-  skip-reads.Learnt,
-  nothing-reads.Asked,
-  nothing-reads.Learnt,
-  moved-reads.Asked,
-  moved-reads.Learnt,
-  leaf-reads.Asked,
-  leaf-reads.Learnt,
-  first-split-reads.Asked,
-  first-split-reads.Learnt,
-  at-splits-below t,
-  at-splits.Post,
-) (branch-at t) branch.Post
-branch-same-length-3 t c = (c .before .before .before .before .before .before .at-splits .kept .1 .1 .1 .1 .1 .0) ∙ (c .before .before .before .before .before .before .before .before .before .before .before .before .before .first-split .kept .0)
+branch-same-length t c = (c .before .before .at-splits .kept .1 .1 .0)
 
 branch-returns-2 : (t : ℕ) → branch-lts.Need-returns-2 (
   own-fields-reads.Asked,
@@ -2975,8 +2402,8 @@ branch-returns-2 : (t : ℕ) → branch-lts.Need-returns-2 (
   skip-reads.Learnt,
   nothing-reads.Asked,
   nothing-reads.Learnt,
-  moved-reads.Asked,
-  moved-reads.Learnt,
+  moved-on-reads.Asked,
+  moved-on-reads.Learnt,
   leaf-reads.Asked,
   leaf-reads.Learnt,
   first-split-reads.Asked,
@@ -2984,7 +2411,7 @@ branch-returns-2 : (t : ℕ) → branch-lts.Need-returns-2 (
   at-splits-below t,
   at-splits.Post,
 ) (branch-at t) branch.Post
-branch-returns-2 t c = branch-split (c .before .before .before .before .before .before .before .before .before .before .before .before .before .before .before .before .before .own-fields .ensures) (c .before .before .before .before .before .before .before .before .before .before .before .before .before .before .before .before .if1 .left) (sizes-long (c .before .before .before .before .before .before .before .before .before .before .before .before .before .before .before .before .before .before .before .before .before .before .pre .1 .0) refl) (c .before .before .before .before .before .before .before .before .before .before .before .before .before .first-split .ensures) (c .before .before .before .before .before .before .at-splits .ensures)
+branch-returns-2 t c = branch-split (c .before .before .before .before .before .before .before .before .before .before .before .own-fields .ensures) (c .before .before .before .before .before .before .before .before .before .before .if1 .left) (omega (arith, (c .before .before .before .before .before .before .before .before .before .first-split-arg .given .0 .1))) (c .before .before .before .before .before .before .before .first-split .ensures) (c .before .before .at-splits .ensures)
 
 branches-constructors-requires : (t : ℕ) → branches-lts.Need-constructors-requires (
   constructors-reads.Asked,
@@ -3074,7 +2501,7 @@ branches-branch-requires : (t : ℕ) → branches-lts.Need-branch-requires (
   branched-reads.Asked,
   branched-reads.Learnt,
 ) (branches-at t) branches.Post
-branches-branch-requires t c κs = (load-same _ _ (c .before .before .before .before .before .before .before .before .before .before .pre .0) 200 (omega arith), ((c .before .before .before .before .before .before .before .before .before .before .pre .1 .0), ((c .before .before .before .before .before .before .before .before .before .before .pre .1 .1 .0), omega (arith, (c .before .before .before .before .if1 .left), (c .before .before .before .before .before .constructors .ensures .1)))))
+branches-branch-requires t c κs = (load-same _ _ (c .before .before .before .before .before .before .before .before .pre .0) 200 (omega arith), ((c .before .before .before .before .before .before .before .before .pre .1 .0), ((c .before .before .before .before .before .before .before .before .pre .1 .1 .0), omega (arith, (c .before .before .before .before .if1 .left), (c .before .before .before .before .before .constructors .ensures .1)))))
 
 branches-enum-known-x : (t : ℕ) → branches-lts.Need-enum-known-x (
   constructors-reads.Asked,
@@ -3128,43 +2555,7 @@ branches-same-length : (t : ℕ) → branches-lts.Need-same-length (
   branched-reads.Asked,
   branched-reads.Learnt,
 ) (branches-at t) branches.Post
-branches-same-length t c = (c .before .before .before .before .before .before .before .before .branch .kept .1 .1 .0)
-
-branches-same-length-2 : (t : ℕ) → branches-lts.Need-same-length-2 (
-  constructors-reads.Asked,
-  constructors-reads.Learnt,
-  nothing-reads.Asked,
-  nothing-reads.Learnt,
-  leaf-reads.Asked,
-  leaf-reads.Learnt,
-  branch-below t,
-  branch.Post,
-  behind-reads.Asked,
-  behind-reads.Learnt,
-  branches-below t,
-  branches.Post,
-  branched-reads.Asked,
-  branched-reads.Learnt,
-) (branches-at t) branches.Post
-branches-same-length-2 t c = (c .before .before .before .before .before .before .before .before .branch .kept .1 .1 .1 .1 .0)
-
-branches-same-length-3 : (t : ℕ) → branches-lts.Need-same-length-3 (
-  constructors-reads.Asked,
-  constructors-reads.Learnt,
-  nothing-reads.Asked,
-  nothing-reads.Learnt,
-  leaf-reads.Asked,
-  leaf-reads.Learnt,
-  branch-below t,
-  branch.Post,
-  behind-reads.Asked,
-  behind-reads.Learnt,
-  branches-below t,
-  branches.Post,
-  branched-reads.Asked,
-  branched-reads.Learnt,
-) (branches-at t) branches.Post
-branches-same-length-3 t c = (c .before .before .before .before .before .before .before .before .branch .kept .1 .1 .1 .1 .1 .0)
+branches-same-length t c = (c .before .before .before .before .branch .kept .1 .1 .0)
 
 branches-returns-2 : (t : ℕ) → branches-lts.Need-returns-2 (
   constructors-reads.Asked,
@@ -3182,7 +2573,7 @@ branches-returns-2 : (t : ℕ) → branches-lts.Need-returns-2 (
   branched-reads.Asked,
   branched-reads.Learnt,
 ) (branches-at t) branches.Post
-branches-returns-2 t c = branches-first (c .before .before .before .before .before .before .before .before .before .before .before .before .before .before .constructors .ensures) (c .before .before .before .before .before .before .before .before .before .before .before .before .before .if1 .left) (c .before .before .before .before .before .before .before .before .branch .ensures) (c .enum-told .given .1)
+branches-returns-2 t c = branches-first (c .before .before .before .before .before .before .before .before .before .before .constructors .ensures) (c .before .before .before .before .before .before .before .before .before .if1 .left) (c .before .before .before .before .branch .ensures) (c .enum-told .given .1)
 
 branches-behind-requires : (t : ℕ) → branches-lts.Need-behind-requires (
   constructors-reads.Asked,
@@ -3218,7 +2609,7 @@ branches-add-j : (t : ℕ) → branches-lts.Need-add-j (
   branched-reads.Asked,
   branched-reads.Learnt,
 ) (branches-at t) branches.Post
-branches-add-j t c = omega (arith, (c .before .before .before .before .before .before .before .before .before .before .before .before .before .before .before .if1 .left), (c .before .before .before .before .before .before .before .before .before .before .before .before .before .before .before .before .constructors .ensures .1))
+branches-add-j t c = omega (arith, (c .before .before .before .before .before .before .before .before .before .before .before .if1 .left), (c .before .before .before .before .before .before .before .before .before .before .before .before .constructors .ensures .1))
 
 branches-branches-requires : (t : ℕ) → branches-lts.Need-branches-requires (
   constructors-reads.Asked,
@@ -3236,7 +2627,7 @@ branches-branches-requires : (t : ℕ) → branches-lts.Need-branches-requires (
   branched-reads.Asked,
   branched-reads.Learnt,
 ) (branches-at t) branches.Post
-branches-branches-requires t c κs = (load-moved _ _ (c .before .before .before .before .before .before .before .before .before .before .before .before .before .before .before .before .before .before .before .before .before .before .before .before .before .pre .0) _ _ (c .before .before .before .before .behind .ensures) (grows-to (c .before .before .before .before .before .before .before .before .before .before .before .before .before .before .branch .ensures .grows) (c .before .before .before .before .before .before .x .given .1)) (omega (arith, (c .before .before .before .before .before .before .before .before .before .before .before .before .before .before .before .before .before .before .before .if1 .left), (c .before .before .before .before .before .before .before .before .before .before .before .before .before .before .before .before .before .before .before .before .constructors .ensures .1))), (room-rest (c .before .before .before .before .before .before .before .before .before .before .before .before .before .before .before .before .before .before .before .before .before .before .before .before .before .pre .1 .0) (c .before .before .before .before .behind .ensures) ((c .before .before .before .before .before .before .before .before .before .before .before .before .before .before .branch .kept .1 .1 .1 .1 .0)) ((c .before .before .before .before .before .before .before .before .before .before .before .before .before .before .branch .kept .1 .1 .1 .1 .1 .0)), ((c .before .before .before .before .before .before .before .before .before .before .before .before .before .before .before .before .before .before .before .before .before .before .before .before .before .pre .1 .1 .0), omega (arith, (c .before .before .before .before .before .before .before .before .before .before .before .before .before .before .before .before .before .before .before .if1 .left), (c .before .before .before .before .before .before .before .before .before .before .before .before .before .before .before .before .before .before .before .before .constructors .ensures .1)))))
+branches-branches-requires t c κs = (load-moved _ _ (c .before .before .before .before .before .before .before .before .before .before .before .before .before .before .before .before .before .before .before .pre .0) _ _ (c .before .before .before .before .behind .ensures) (grows-to (c .before .before .before .before .before .before .before .before .before .before .branch .ensures .grows) (c .before .before .before .before .before .before .x .given .1)) (omega (arith, (c .before .before .before .before .before .before .before .before .before .before .before .before .before .before .before .if1 .left), (c .before .before .before .before .before .before .before .before .before .before .before .before .before .before .before .before .constructors .ensures .1))), (room-rest (c .before .before .before .before .before .before .before .before .before .before .before .before .before .before .before .before .before .before .before .pre .1 .0) (c .before .before .before .before .behind .ensures), ((c .before .before .before .before .before .before .before .before .before .before .before .before .before .before .before .before .before .before .before .pre .1 .1 .0), omega (arith, (c .before .before .before .before .before .before .before .before .before .before .before .before .before .before .before .if1 .left), (c .before .before .before .before .before .before .before .before .before .before .before .before .before .before .before .before .constructors .ensures .1)))))
 
 branches-enum-known-y : (t : ℕ) → branches-lts.Need-enum-known-y (
   constructors-reads.Asked,
@@ -3274,7 +2665,7 @@ branches-enum-told-2 : (t : ℕ) → branches-lts.Need-enum-told-2 (
 ) (branches-at t) branches.Post
 branches-enum-told-2 t c = (c .match2 .keys2)
 
-branches-same-length-4 : (t : ℕ) → branches-lts.Need-same-length-4 (
+branches-same-length-2 : (t : ℕ) → branches-lts.Need-same-length-2 (
   constructors-reads.Asked,
   constructors-reads.Learnt,
   nothing-reads.Asked,
@@ -3290,43 +2681,7 @@ branches-same-length-4 : (t : ℕ) → branches-lts.Need-same-length-4 (
   branched-reads.Asked,
   branched-reads.Learnt,
 ) (branches-at t) branches.Post
-branches-same-length-4 t c = (c .before .before .before .before .before .before .before .before .branches .kept .1 .1 .0) ∙ (c .before .before .before .before .before .before .before .before .before .before .before .before .before .before .before .before .before .before .before .before .before .before .before .branch .kept .1 .1 .0)
-
-branches-same-length-5 : (t : ℕ) → branches-lts.Need-same-length-5 (
-  constructors-reads.Asked,
-  constructors-reads.Learnt,
-  nothing-reads.Asked,
-  nothing-reads.Learnt,
-  leaf-reads.Asked,
-  leaf-reads.Learnt,
-  branch-below t,
-  branch.Post,
-  behind-reads.Asked,
-  behind-reads.Learnt,
-  branches-below t,
-  branches.Post,
-  branched-reads.Asked,
-  branched-reads.Learnt,
-) (branches-at t) branches.Post
-branches-same-length-5 t c = (c .before .before .before .before .before .before .before .before .branches .kept .1 .1 .1 .1 .0) ∙ (c .before .before .before .before .before .before .before .before .before .before .before .before .before .before .before .before .before .before .before .before .before .before .before .branch .kept .1 .1 .1 .1 .0)
-
-branches-same-length-6 : (t : ℕ) → branches-lts.Need-same-length-6 (
-  constructors-reads.Asked,
-  constructors-reads.Learnt,
-  nothing-reads.Asked,
-  nothing-reads.Learnt,
-  leaf-reads.Asked,
-  leaf-reads.Learnt,
-  branch-below t,
-  branch.Post,
-  behind-reads.Asked,
-  behind-reads.Learnt,
-  branches-below t,
-  branches.Post,
-  branched-reads.Asked,
-  branched-reads.Learnt,
-) (branches-at t) branches.Post
-branches-same-length-6 t c = (c .before .before .before .before .before .before .before .before .branches .kept .1 .1 .1 .1 .1 .0) ∙ (c .before .before .before .before .before .before .before .before .before .before .before .before .before .before .before .before .before .before .before .before .before .before .before .branch .kept .1 .1 .1 .1 .1 .0)
+branches-same-length-2 t c = (c .before .before .before .before .branches .kept .1 .1 .0) ∙ (c .before .before .before .before .before .before .before .before .before .before .before .before .before .before .before .branch .kept .1 .1 .0)
 
 branches-returns-3 : (t : ℕ) → branches-lts.Need-returns-3 (
   constructors-reads.Asked,
@@ -3344,7 +2699,7 @@ branches-returns-3 : (t : ℕ) → branches-lts.Need-returns-3 (
   branched-reads.Asked,
   branched-reads.Learnt,
 ) (branches-at t) branches.Post
-branches-returns-3 t c = branches-rest (c .before .before .before .before .before .before .before .before .before .before .before .before .before .before .before .before .before .before .before .before .before .before .before .before .before .before .before .before .before .constructors .ensures) (c .before .before .before .before .before .before .before .before .before .before .before .before .before .before .before .before .before .before .before .before .before .before .before .before .before .before .before .before .if1 .left) (c .before .before .before .before .before .before .before .before .before .before .before .before .before .before .before .before .before .before .before .before .before .before .before .branch .ensures) (c .before .before .before .before .before .before .before .before .before .before .before .before .before .before .before .x .given .1) (c .before .before .before .before .before .before .before .before .before .before .before .before .before .behind .ensures) (c .before .before .before .before .before .before .before .before .branches .ensures) (c .enum-told2 .given .1)
+branches-returns-3 t c = branches-rest (c .before .before .before .before .before .before .before .before .before .before .before .before .before .before .before .before .before .before .before .before .before .constructors .ensures) (c .before .before .before .before .before .before .before .before .before .before .before .before .before .before .before .before .before .before .before .before .if1 .left) (c .before .before .before .before .before .before .before .before .before .before .before .before .before .before .before .branch .ensures) (c .before .before .before .before .before .before .before .before .before .before .before .x .given .1) (c .before .before .before .before .before .before .before .before .before .behind .ensures) (c .before .before .before .before .branches .ensures) (c .enum-told2 .given .1)
 
 branches-branched-requires : (t : ℕ) → branches-lts.Need-branched-requires (
   constructors-reads.Asked,
@@ -3364,7 +2719,7 @@ branches-branched-requires : (t : ℕ) → branches-lts.Need-branched-requires (
 ) (branches-at t) branches.Post
 branches-branched-requires t c κs = tt
 
-branches-same-length-7 : (t : ℕ) → branches-lts.Need-same-length-7 (
+branches-same-length-3 : (t : ℕ) → branches-lts.Need-same-length-3 (
   constructors-reads.Asked,
   constructors-reads.Learnt,
   nothing-reads.Asked,
@@ -3380,43 +2735,7 @@ branches-same-length-7 : (t : ℕ) → branches-lts.Need-same-length-7 (
   branched-reads.Asked,
   branched-reads.Learnt,
 ) (branches-at t) branches.Post
-branches-same-length-7 t c = (c .before .before .before .before .before .before .before .before .before .before .branches .kept .1 .1 .0) ∙ (c .before .before .before .before .before .before .before .before .before .before .before .before .before .before .before .before .before .before .before .before .before .before .before .before .before .branch .kept .1 .1 .0)
-
-branches-same-length-8 : (t : ℕ) → branches-lts.Need-same-length-8 (
-  constructors-reads.Asked,
-  constructors-reads.Learnt,
-  nothing-reads.Asked,
-  nothing-reads.Learnt,
-  leaf-reads.Asked,
-  leaf-reads.Learnt,
-  branch-below t,
-  branch.Post,
-  behind-reads.Asked,
-  behind-reads.Learnt,
-  branches-below t,
-  branches.Post,
-  branched-reads.Asked,
-  branched-reads.Learnt,
-) (branches-at t) branches.Post
-branches-same-length-8 t c = (c .before .before .before .before .before .before .before .before .before .before .branches .kept .1 .1 .1 .1 .0) ∙ (c .before .before .before .before .before .before .before .before .before .before .before .before .before .before .before .before .before .before .before .before .before .before .before .before .before .branch .kept .1 .1 .1 .1 .0)
-
-branches-same-length-9 : (t : ℕ) → branches-lts.Need-same-length-9 (
-  constructors-reads.Asked,
-  constructors-reads.Learnt,
-  nothing-reads.Asked,
-  nothing-reads.Learnt,
-  leaf-reads.Asked,
-  leaf-reads.Learnt,
-  branch-below t,
-  branch.Post,
-  behind-reads.Asked,
-  behind-reads.Learnt,
-  branches-below t,
-  branches.Post,
-  branched-reads.Asked,
-  branched-reads.Learnt,
-) (branches-at t) branches.Post
-branches-same-length-9 t c = (c .before .before .before .before .before .before .before .before .before .before .branches .kept .1 .1 .1 .1 .1 .0) ∙ (c .before .before .before .before .before .before .before .before .before .before .before .before .before .before .before .before .before .before .before .before .before .before .before .before .before .branch .kept .1 .1 .1 .1 .1 .0)
+branches-same-length-3 t c = (c .before .before .before .before .before .before .branches .kept .1 .1 .0) ∙ (c .before .before .before .before .before .before .before .before .before .before .before .before .before .before .before .before .before .branch .kept .1 .1 .0)
 
 branches-returns-4 : (t : ℕ) → branches-lts.Need-returns-4 (
   constructors-reads.Asked,
@@ -3434,7 +2753,7 @@ branches-returns-4 : (t : ℕ) → branches-lts.Need-returns-4 (
   branched-reads.Asked,
   branched-reads.Learnt,
 ) (branches-at t) branches.Post
-branches-returns-4 t c = branches-done (c .before .before .before .before .before .before .before .before .before .before .before .before .before .before .before .before .before .before .before .before .before .before .before .before .before .before .before .before .before .before .before .constructors .ensures) (c .before .before .before .before .before .before .before .before .before .before .before .before .before .before .before .before .before .before .before .before .before .before .before .before .before .before .before .before .before .before .if1 .left) (c .before .before .before .before .before .before .before .before .before .before .before .before .before .before .before .before .before .before .before .before .before .before .before .before .before .branch .ensures) (c .before .before .before .before .before .before .before .before .before .before .before .before .before .before .before .before .before .x .given .1) (c .before .before .before .before .before .before .before .before .before .before .before .before .before .before .before .behind .ensures) (c .before .before .before .before .before .before .before .before .before .before .branches .ensures) (c .before .before .y .given .1) (c .branched .ensures .all) (c .branched .ensures .is)
+branches-returns-4 t c = branches-done (c .before .before .before .before .before .before .before .before .before .before .before .before .before .before .before .before .before .before .before .before .before .before .before .constructors .ensures) (c .before .before .before .before .before .before .before .before .before .before .before .before .before .before .before .before .before .before .before .before .before .before .if1 .left) (c .before .before .before .before .before .before .before .before .before .before .before .before .before .before .before .before .before .branch .ensures) (c .before .before .before .before .before .before .before .before .before .before .before .before .before .x .given .1) (c .before .before .before .before .before .before .before .before .before .before .before .behind .ensures) (c .before .before .before .before .before .before .branches .ensures) (c .before .before .y .given .1) (c .branched .ensures .all) (c .branched .ensures .is)
 
 call-arity-requires : (t : ℕ) → call-lts.Need-arity-requires (
   arity-reads.Asked,
@@ -3470,7 +2789,7 @@ call-several-requires : (t : ℕ) → call-lts.Need-several-requires (
   apply-below t,
   apply.Post,
 ) (call-at t) call.Post
-call-several-requires t c κs = (load-same _ 900 (c .before .before .before .before .before .before .before .before .before .before .pre .0) 300 (omega arith), ((c .before .before .before .before .before .before .before .before .before .before .pre .1 .0), (c .before .before .before .before .before .arity .ensures .1)))
+call-several-requires t c κs = (load-same _ 900 (c .before .before .before .before .before .before .before .before .pre .0) 300 (omega arith), ((c .before .before .before .before .before .before .before .before .pre .1 .0), (c .before .before .before .before .before .arity .ensures .1)))
 
 call-enum-known-x : (t : ℕ) → call-lts.Need-enum-known-x (
   arity-reads.Asked,
@@ -3518,31 +2837,7 @@ call-same-length : (t : ℕ) → call-lts.Need-same-length (
   apply-below t,
   apply.Post,
 ) (call-at t) call.Post
-call-same-length t c = (c .before .before .before .before .before .before .before .before .before .before .several .kept .1 .1 .0)
-
-call-same-length-2 : (t : ℕ) → call-lts.Need-same-length-2 (
-  arity-reads.Asked,
-  arity-reads.Learnt,
-  several-below t,
-  several.Post,
-  refused-reads.Asked,
-  refused-reads.Learnt,
-  apply-below t,
-  apply.Post,
-) (call-at t) call.Post
-call-same-length-2 t c = (c .before .before .before .before .before .before .before .before .before .before .several .kept .1 .1 .1 .1 .0)
-
-call-same-length-3 : (t : ℕ) → call-lts.Need-same-length-3 (
-  arity-reads.Asked,
-  arity-reads.Learnt,
-  several-below t,
-  several.Post,
-  refused-reads.Asked,
-  refused-reads.Learnt,
-  apply-below t,
-  apply.Post,
-) (call-at t) call.Post
-call-same-length-3 t c = (c .before .before .before .before .before .before .before .before .before .before .several .kept .1 .1 .1 .1 .1 .0)
+call-same-length t c = (c .before .before .before .before .before .before .several .kept .1 .1 .0)
 
 call-returns : (t : ℕ) → call-lts.Need-returns (
   arity-reads.Asked,
@@ -3554,19 +2849,7 @@ call-returns : (t : ℕ) → call-lts.Need-returns (
   apply-below t,
   apply.Post,
 ) (call-at t) call.Post
-call-returns t c = call-arguments (c .before .before .before .before .before .before .before .before .before .before .before .before .before .before .before .before .arity .ensures) (omega arith) (c .before .before .before .before .before .before .before .before .before .before .several .ensures) (c .before .enum-told .given .1) (c .refused .ensures)
-
-call-slice-aggregate-apply : (t : ℕ) → call-lts.Need-slice-aggregate-apply (
-  arity-reads.Asked,
-  arity-reads.Learnt,
-  several-below t,
-  several.Post,
-  refused-reads.Asked,
-  refused-reads.Learnt,
-  apply-below t,
-  apply.Post,
-) (call-at t) call.Post
-call-slice-aggregate-apply t c = search needs
+call-returns t c = call-arguments (c .before .before .before .before .before .before .before .before .before .before .before .before .arity .ensures) (omega arith) (c .before .before .before .before .before .before .several .ensures) (c .before .enum-told .given .1) (c .refused .ensures)
 
 call-apply-requires : (t : ℕ) → call-lts.Need-apply-requires (
   arity-reads.Asked,
@@ -3578,9 +2861,9 @@ call-apply-requires : (t : ℕ) → call-lts.Need-apply-requires (
   apply-below t,
   apply.Post,
 ) (call-at t) call.Post
-call-apply-requires t c κs = (load-same _ 900 (c .before .before .before .before .before .before .before .before .before .before .before .before .before .before .before .before .before .before .before .before .before .before .before .before .pre .0) 800 (omega arith), (room-row (c .before .before .before .before .before .before .before .before .before .before .before .before .before .before .before .before .before .before .before .before .before .before .before .before .pre .1 .0) (omega (arith, (c .before .before .before .before .before .before .before .before .before .before .before .before .before .several .kept .1 .1 .1 .1 .1 .1 .1 .0))), (grows-all-to (c .before .before .before .before .before .before .before .before .before .before .before .before .before .several .ensures .grows) (c .before .before .before .before .x .given .1), ((c .before .before .before .before .before .before .before .before .before .before .before .before .before .before .before .before .before .before .before .before .before .before .before .before .pre .1 .1), (c .before .before .before .before .before .before .before .before .before .before .before .before .before .before .before .before .before .before .before .arity .ensures .1)))))
+call-apply-requires t c κs = (load-same _ 900 (c .before .before .before .before .before .before .before .before .before .before .before .before .before .before .before .before .before .before .pre .0) 800 (omega arith), ((c .before .before .before .before .before .before .before .before .before .before .before .before .before .before .before .before .before .before .pre .1 .0), (grows-all-to (c .before .before .before .before .before .before .before .before .before .several .ensures .grows) (c .before .before .before .before .x .given .1), ((c .before .before .before .before .before .before .before .before .before .before .before .before .before .before .before .before .before .before .pre .1 .1), (c .before .before .before .before .before .before .before .before .before .before .before .before .before .before .before .arity .ensures .1)))))
 
-call-same-length-4 : (t : ℕ) → call-lts.Need-same-length-4 (
+call-same-length-2 : (t : ℕ) → call-lts.Need-same-length-2 (
   arity-reads.Asked,
   arity-reads.Learnt,
   several-below t,
@@ -3590,31 +2873,7 @@ call-same-length-4 : (t : ℕ) → call-lts.Need-same-length-4 (
   apply-below t,
   apply.Post,
 ) (call-at t) call.Post
-call-same-length-4 t c = (c .before .before .before .apply .kept .1 .1 .0) ∙ (c .before .before .before .before .before .before .before .before .before .before .before .before .before .before .before .before .before .several .kept .1 .1 .0)
-
-call-same-length-5 : (t : ℕ) → call-lts.Need-same-length-5 (
-  arity-reads.Asked,
-  arity-reads.Learnt,
-  several-below t,
-  several.Post,
-  refused-reads.Asked,
-  refused-reads.Learnt,
-  apply-below t,
-  apply.Post,
-) (call-at t) call.Post
-call-same-length-5 t c = (c .before .before .before .before .before .before .before .before .before .before .before .before .before .before .before .before .before .several .kept .1 .1 .1 .1 .0)
-
-call-same-length-6 : (t : ℕ) → call-lts.Need-same-length-6 (
-  arity-reads.Asked,
-  arity-reads.Learnt,
-  several-below t,
-  several.Post,
-  refused-reads.Asked,
-  refused-reads.Learnt,
-  apply-below t,
-  apply.Post,
-) (call-at t) call.Post
-call-same-length-6 t c = (c .before .before .before .before .before .before .before .before .before .before .before .before .before .before .before .before .before .several .kept .1 .1 .1 .1 .1 .0)
+call-same-length-2 t c = (c .before .before .apply .kept .1 .1 .0) ∙ (c .before .before .before .before .before .before .before .before .before .before .before .before .several .kept .1 .1 .0)
 
 call-returns-2 : (t : ℕ) → call-lts.Need-returns-2 (
   arity-reads.Asked,
@@ -3626,7 +2885,7 @@ call-returns-2 : (t : ℕ) → call-lts.Need-returns-2 (
   apply-below t,
   apply.Post,
 ) (call-at t) call.Post
-call-returns-2 t c = call-applied (c .before .before .before .before .before .before .before .before .before .before .before .before .before .before .before .before .before .before .before .before .before .before .before .arity .ensures) (omega arith) (c .before .before .before .before .before .before .before .before .before .before .before .before .before .before .before .before .before .several .ensures) (c .before .before .before .before .before .before .before .before .x .given .1) (c .before .before .before .apply .ensures)
+call-returns-2 t c = call-applied (c .before .before .before .before .before .before .before .before .before .before .before .before .before .before .before .before .before .before .arity .ensures) (omega arith) (c .before .before .before .before .before .before .before .before .before .before .before .before .several .ensures) (c .before .before .before .before .before .before .before .x .given .1) (c .before .before .apply .ensures)
 
 case-of-expr-requires : (t : ℕ) → case-of-lts.Need-expr-requires (
   expr-below t,
@@ -3637,14 +2896,14 @@ case-of-expr-requires : (t : ℕ) → case-of-lts.Need-expr-requires (
   type-at-reads.Learnt,
   subject-reads.Asked,
   subject-reads.Learnt,
-  moved-reads.Asked,
-  moved-reads.Learnt,
+  moved-on-reads.Asked,
+  moved-on-reads.Learnt,
   branches-below t,
   branches.Post,
   cased-reads.Asked,
   cased-reads.Learnt,
 ) (case-of-at t) case-of.Post
-case-of-expr-requires t c κs = (load-same _ 900 (c .before .before .before .before .before .before .before .before .pre .0) 0 (omega arith), room-same (c .before .before .before .before .before .before .before .before .pre .1 .0) (omega arith))
+case-of-expr-requires t c κs = (load-same _ 900 (c .before .before .before .before .before .before .before .pre .0) 0 (omega arith), room-same (c .before .before .before .before .before .before .before .pre .1 .0) (omega arith))
 
 case-of-enum-known-x : (t : ℕ) → case-of-lts.Need-enum-known-x (
   expr-below t,
@@ -3655,8 +2914,8 @@ case-of-enum-known-x : (t : ℕ) → case-of-lts.Need-enum-known-x (
   type-at-reads.Learnt,
   subject-reads.Asked,
   subject-reads.Learnt,
-  moved-reads.Asked,
-  moved-reads.Learnt,
+  moved-on-reads.Asked,
+  moved-on-reads.Learnt,
   branches-below t,
   branches.Post,
   cased-reads.Asked,
@@ -3673,8 +2932,8 @@ case-of-enum-told : (t : ℕ) → case-of-lts.Need-enum-told (
   type-at-reads.Learnt,
   subject-reads.Asked,
   subject-reads.Learnt,
-  moved-reads.Asked,
-  moved-reads.Learnt,
+  moved-on-reads.Asked,
+  moved-on-reads.Learnt,
   branches-below t,
   branches.Post,
   cased-reads.Asked,
@@ -3691,50 +2950,14 @@ case-of-same-length : (t : ℕ) → case-of-lts.Need-same-length (
   type-at-reads.Learnt,
   subject-reads.Asked,
   subject-reads.Learnt,
-  moved-reads.Asked,
-  moved-reads.Learnt,
+  moved-on-reads.Asked,
+  moved-on-reads.Learnt,
   branches-below t,
   branches.Post,
   cased-reads.Asked,
   cased-reads.Learnt,
 ) (case-of-at t) case-of.Post
-case-of-same-length t c = (c .before .before .before .before .before .before .before .before .expr .kept .1 .1 .0)
-
-case-of-same-length-2 : (t : ℕ) → case-of-lts.Need-same-length-2 (
-  expr-below t,
-  expr.Post,
-  frame-line-reads.Asked,
-  frame-line-reads.Learnt,
-  type-at-reads.Asked,
-  type-at-reads.Learnt,
-  subject-reads.Asked,
-  subject-reads.Learnt,
-  moved-reads.Asked,
-  moved-reads.Learnt,
-  branches-below t,
-  branches.Post,
-  cased-reads.Asked,
-  cased-reads.Learnt,
-) (case-of-at t) case-of.Post
-case-of-same-length-2 t c = (c .before .before .before .before .before .before .before .before .expr .kept .1 .1 .1 .1 .0)
-
-case-of-same-length-3 : (t : ℕ) → case-of-lts.Need-same-length-3 (
-  expr-below t,
-  expr.Post,
-  frame-line-reads.Asked,
-  frame-line-reads.Learnt,
-  type-at-reads.Asked,
-  type-at-reads.Learnt,
-  subject-reads.Asked,
-  subject-reads.Learnt,
-  moved-reads.Asked,
-  moved-reads.Learnt,
-  branches-below t,
-  branches.Post,
-  cased-reads.Asked,
-  cased-reads.Learnt,
-) (case-of-at t) case-of.Post
-case-of-same-length-3 t c = (c .before .before .before .before .before .before .before .before .expr .kept .1 .1 .1 .1 .1 .0)
+case-of-same-length t c = (c .before .before .before .before .expr .kept .1 .1 .0)
 
 case-of-returns : (t : ℕ) → case-of-lts.Need-returns (
   expr-below t,
@@ -3745,14 +2968,14 @@ case-of-returns : (t : ℕ) → case-of-lts.Need-returns (
   type-at-reads.Learnt,
   subject-reads.Asked,
   subject-reads.Learnt,
-  moved-reads.Asked,
-  moved-reads.Learnt,
+  moved-on-reads.Asked,
+  moved-on-reads.Learnt,
   branches-below t,
   branches.Post,
   cased-reads.Asked,
   cased-reads.Learnt,
 ) (case-of-at t) case-of.Post
-case-of-returns t c = case-first (c .before .before .before .before .before .before .before .before .expr .ensures) (c .enum-told .given .1)
+case-of-returns t c = case-first (c .before .before .before .before .expr .ensures) (c .enum-told .given .1)
 
 case-of-enum-known-ty : (t : ℕ) → case-of-lts.Need-enum-known-ty (
   expr-below t,
@@ -3763,8 +2986,8 @@ case-of-enum-known-ty : (t : ℕ) → case-of-lts.Need-enum-known-ty (
   type-at-reads.Learnt,
   subject-reads.Asked,
   subject-reads.Learnt,
-  moved-reads.Asked,
-  moved-reads.Learnt,
+  moved-on-reads.Asked,
+  moved-on-reads.Learnt,
   branches-below t,
   branches.Post,
   cased-reads.Asked,
@@ -3772,7 +2995,7 @@ case-of-enum-known-ty : (t : ℕ) → case-of-lts.Need-enum-known-ty (
 ) (case-of-at t) case-of.Post
 case-of-enum-known-ty t c = (c .match2 .keys1)
 
-case-of-add-t29 : (t : ℕ) → case-of-lts.Need-add-t29 (
+case-of-add-t28 : (t : ℕ) → case-of-lts.Need-add-t28 (
   expr-below t,
   expr.Post,
   frame-line-reads.Asked,
@@ -3781,16 +3004,16 @@ case-of-add-t29 : (t : ℕ) → case-of-lts.Need-add-t29 (
   type-at-reads.Learnt,
   subject-reads.Asked,
   subject-reads.Learnt,
-  moved-reads.Asked,
-  moved-reads.Learnt,
+  moved-on-reads.Asked,
+  moved-on-reads.Learnt,
   branches-below t,
   branches.Post,
   cased-reads.Asked,
   cased-reads.Learnt,
 ) (case-of-at t) case-of.Post
-case-of-add-t29 t c = omega (arith, (c .before .before .before .before .before .before .before .before .before .before .before .before .before .before .before .before .before .before .before .before .pre .1 .0 .line))
+case-of-add-t28 t c = omega (arith, (c .before .before .before .before .before .before .before .before .before .before .before .before .before .before .before .pre .1 .0 .line))
 
-case-of-same-length-4 : (t : ℕ) → case-of-lts.Need-same-length-4 (
+case-of-same-length-2 : (t : ℕ) → case-of-lts.Need-same-length-2 (
   expr-below t,
   expr.Post,
   frame-line-reads.Asked,
@@ -3799,50 +3022,14 @@ case-of-same-length-4 : (t : ℕ) → case-of-lts.Need-same-length-4 (
   type-at-reads.Learnt,
   subject-reads.Asked,
   subject-reads.Learnt,
-  moved-reads.Asked,
-  moved-reads.Learnt,
+  moved-on-reads.Asked,
+  moved-on-reads.Learnt,
   branches-below t,
   branches.Post,
   cased-reads.Asked,
   cased-reads.Learnt,
 ) (case-of-at t) case-of.Post
-case-of-same-length-4 t c = (c .before .before .before .before .before .before .before .before .before .before .before .expr .kept .1 .1 .0)
-
-case-of-same-length-5 : (t : ℕ) → case-of-lts.Need-same-length-5 (
-  expr-below t,
-  expr.Post,
-  frame-line-reads.Asked,
-  frame-line-reads.Learnt,
-  type-at-reads.Asked,
-  type-at-reads.Learnt,
-  subject-reads.Asked,
-  subject-reads.Learnt,
-  moved-reads.Asked,
-  moved-reads.Learnt,
-  branches-below t,
-  branches.Post,
-  cased-reads.Asked,
-  cased-reads.Learnt,
-) (case-of-at t) case-of.Post
-case-of-same-length-5 t c = (c .before .before .before .before .before .before .before .before .before .before .before .expr .kept .1 .1 .1 .1 .0)
-
-case-of-same-length-6 : (t : ℕ) → case-of-lts.Need-same-length-6 (
-  expr-below t,
-  expr.Post,
-  frame-line-reads.Asked,
-  frame-line-reads.Learnt,
-  type-at-reads.Asked,
-  type-at-reads.Learnt,
-  subject-reads.Asked,
-  subject-reads.Learnt,
-  moved-reads.Asked,
-  moved-reads.Learnt,
-  branches-below t,
-  branches.Post,
-  cased-reads.Asked,
-  cased-reads.Learnt,
-) (case-of-at t) case-of.Post
-case-of-same-length-6 t c = (c .before .before .before .before .before .before .before .before .before .before .before .expr .kept .1 .1 .1 .1 .1 .0)
+case-of-same-length-2 t c = (c .before .before .before .before .before .before .before .expr .kept .1 .1 .0)
 
 case-of-returns-2 : (t : ℕ) → case-of-lts.Need-returns-2 (
   expr-below t,
@@ -3853,14 +3040,14 @@ case-of-returns-2 : (t : ℕ) → case-of-lts.Need-returns-2 (
   type-at-reads.Learnt,
   subject-reads.Asked,
   subject-reads.Learnt,
-  moved-reads.Asked,
-  moved-reads.Learnt,
+  moved-on-reads.Asked,
+  moved-on-reads.Learnt,
   branches-below t,
   branches.Post,
   cased-reads.Asked,
   cased-reads.Learnt,
 ) (case-of-at t) case-of.Post
-case-of-returns-2 t c = case-plain (c .before .before .before .before .before .before .before .before .before .before .before .expr .ensures) (c .before .before .before .x .given .1) (not-named _ (c .before .match2 .keys2))
+case-of-returns-2 t c = case-plain (c .before .before .before .before .before .before .before .expr .ensures) (c .before .before .before .x .given .1) (not-named _ (c .before .match2 .keys2))
 
 case-of-frame-line-requires : (t : ℕ) → case-of-lts.Need-frame-line-requires (
   expr-below t,
@@ -3871,8 +3058,8 @@ case-of-frame-line-requires : (t : ℕ) → case-of-lts.Need-frame-line-requires
   type-at-reads.Learnt,
   subject-reads.Asked,
   subject-reads.Learnt,
-  moved-reads.Asked,
-  moved-reads.Learnt,
+  moved-on-reads.Asked,
+  moved-on-reads.Learnt,
   branches-below t,
   branches.Post,
   cased-reads.Asked,
@@ -3889,8 +3076,8 @@ case-of-type-at-requires : (t : ℕ) → case-of-lts.Need-type-at-requires (
   type-at-reads.Learnt,
   subject-reads.Asked,
   subject-reads.Learnt,
-  moved-reads.Asked,
-  moved-reads.Learnt,
+  moved-on-reads.Asked,
+  moved-on-reads.Learnt,
   branches-below t,
   branches.Post,
   cased-reads.Asked,
@@ -3907,8 +3094,8 @@ case-of-enum-known-y : (t : ℕ) → case-of-lts.Need-enum-known-y (
   type-at-reads.Learnt,
   subject-reads.Asked,
   subject-reads.Learnt,
-  moved-reads.Asked,
-  moved-reads.Learnt,
+  moved-on-reads.Asked,
+  moved-on-reads.Learnt,
   branches-below t,
   branches.Post,
   cased-reads.Asked,
@@ -3925,8 +3112,8 @@ case-of-enum-told-2 : (t : ℕ) → case-of-lts.Need-enum-told-2 (
   type-at-reads.Learnt,
   subject-reads.Asked,
   subject-reads.Learnt,
-  moved-reads.Asked,
-  moved-reads.Learnt,
+  moved-on-reads.Asked,
+  moved-on-reads.Learnt,
   branches-below t,
   branches.Post,
   cased-reads.Asked,
@@ -3934,7 +3121,7 @@ case-of-enum-told-2 : (t : ℕ) → case-of-lts.Need-enum-told-2 (
 ) (case-of-at t) case-of.Post
 case-of-enum-told-2 t c = (c .match3 .keys2)
 
-case-of-add-t32 : (t : ℕ) → case-of-lts.Need-add-t32 (
+case-of-add-t31 : (t : ℕ) → case-of-lts.Need-add-t31 (
   expr-below t,
   expr.Post,
   frame-line-reads.Asked,
@@ -3943,16 +3130,16 @@ case-of-add-t32 : (t : ℕ) → case-of-lts.Need-add-t32 (
   type-at-reads.Learnt,
   subject-reads.Asked,
   subject-reads.Learnt,
-  moved-reads.Asked,
-  moved-reads.Learnt,
+  moved-on-reads.Asked,
+  moved-on-reads.Learnt,
   branches-below t,
   branches.Post,
   cased-reads.Asked,
   cased-reads.Learnt,
 ) (case-of-at t) case-of.Post
-case-of-add-t32 t c = omega (arith, (c .before .before .before .before .before .before .before .before .before .before .before .before .before .before .before .before .before .before .before .before .before .before .before .before .before .before .before .before .pre .1 .0 .line))
+case-of-add-t31 t c = omega (arith, (c .before .before .before .before .before .before .before .before .before .before .before .before .before .before .before .before .before .before .before .before .before .before .before .before .pre .1 .0 .line))
 
-case-of-same-length-7 : (t : ℕ) → case-of-lts.Need-same-length-7 (
+case-of-same-length-3 : (t : ℕ) → case-of-lts.Need-same-length-3 (
   expr-below t,
   expr.Post,
   frame-line-reads.Asked,
@@ -3961,50 +3148,14 @@ case-of-same-length-7 : (t : ℕ) → case-of-lts.Need-same-length-7 (
   type-at-reads.Learnt,
   subject-reads.Asked,
   subject-reads.Learnt,
-  moved-reads.Asked,
-  moved-reads.Learnt,
+  moved-on-reads.Asked,
+  moved-on-reads.Learnt,
   branches-below t,
   branches.Post,
   cased-reads.Asked,
   cased-reads.Learnt,
 ) (case-of-at t) case-of.Post
-case-of-same-length-7 t c = (c .before .before .before .before .before .before .before .before .before .before .before .before .before .before .before .before .before .before .before .expr .kept .1 .1 .0)
-
-case-of-same-length-8 : (t : ℕ) → case-of-lts.Need-same-length-8 (
-  expr-below t,
-  expr.Post,
-  frame-line-reads.Asked,
-  frame-line-reads.Learnt,
-  type-at-reads.Asked,
-  type-at-reads.Learnt,
-  subject-reads.Asked,
-  subject-reads.Learnt,
-  moved-reads.Asked,
-  moved-reads.Learnt,
-  branches-below t,
-  branches.Post,
-  cased-reads.Asked,
-  cased-reads.Learnt,
-) (case-of-at t) case-of.Post
-case-of-same-length-8 t c = (c .before .before .before .before .before .before .before .before .before .before .before .before .before .before .before .before .before .before .before .expr .kept .1 .1 .1 .1 .0)
-
-case-of-same-length-9 : (t : ℕ) → case-of-lts.Need-same-length-9 (
-  expr-below t,
-  expr.Post,
-  frame-line-reads.Asked,
-  frame-line-reads.Learnt,
-  type-at-reads.Asked,
-  type-at-reads.Learnt,
-  subject-reads.Asked,
-  subject-reads.Learnt,
-  moved-reads.Asked,
-  moved-reads.Learnt,
-  branches-below t,
-  branches.Post,
-  cased-reads.Asked,
-  cased-reads.Learnt,
-) (case-of-at t) case-of.Post
-case-of-same-length-9 t c = (c .before .before .before .before .before .before .before .before .before .before .before .before .before .before .before .before .before .before .before .expr .kept .1 .1 .1 .1 .1 .0)
+case-of-same-length-3 t c = (c .before .before .before .before .before .before .before .before .before .before .before .before .before .before .before .before .expr .kept .1 .1 .0)
 
 case-of-returns-3 : (t : ℕ) → case-of-lts.Need-returns-3 (
   expr-below t,
@@ -4015,14 +3166,14 @@ case-of-returns-3 : (t : ℕ) → case-of-lts.Need-returns-3 (
   type-at-reads.Learnt,
   subject-reads.Asked,
   subject-reads.Learnt,
-  moved-reads.Asked,
-  moved-reads.Learnt,
+  moved-on-reads.Asked,
+  moved-on-reads.Learnt,
   branches-below t,
   branches.Post,
   cased-reads.Asked,
   cased-reads.Learnt,
 ) (case-of-at t) case-of.Post
-case-of-returns-3 t c = case-outside (c .before .before .before .before .before .before .before .before .before .before .before .before .before .before .before .before .before .before .before .expr .ensures) (c .before .before .before .before .before .before .before .before .before .before .before .x .given .1) (c .before .before .before .before .before .before .before .before .ty .given .1) (c .before .before .before .before .before .frame-line .ensures) (c .before .before .before .type-at .ensures) (c .before .enum-told2 .given .1)
+case-of-returns-3 t c = case-outside (c .before .before .before .before .before .before .before .before .before .before .before .before .before .before .before .before .expr .ensures) (c .before .before .before .before .before .before .before .before .before .before .before .before .x .given .1) (c .before .before .before .before .before .before .before .before .before .ty .given .1) (c .before .before .before .before .before .before .frame-line .ensures) (c .before .before .before .type-at .ensures) (c .before .enum-told2 .given .1)
 
 case-of-subject-requires : (t : ℕ) → case-of-lts.Need-subject-requires (
   expr-below t,
@@ -4033,8 +3184,8 @@ case-of-subject-requires : (t : ℕ) → case-of-lts.Need-subject-requires (
   type-at-reads.Learnt,
   subject-reads.Asked,
   subject-reads.Learnt,
-  moved-reads.Asked,
-  moved-reads.Learnt,
+  moved-on-reads.Asked,
+  moved-on-reads.Learnt,
   branches-below t,
   branches.Post,
   cased-reads.Asked,
@@ -4042,7 +3193,7 @@ case-of-subject-requires : (t : ℕ) → case-of-lts.Need-subject-requires (
 ) (case-of-at t) case-of.Post
 case-of-subject-requires t c κs = tt
 
-case-of-moved-requires : (t : ℕ) → case-of-lts.Need-moved-requires (
+case-of-moved-on-requires : (t : ℕ) → case-of-lts.Need-moved-on-requires (
   expr-below t,
   expr.Post,
   frame-line-reads.Asked,
@@ -4051,14 +3202,14 @@ case-of-moved-requires : (t : ℕ) → case-of-lts.Need-moved-requires (
   type-at-reads.Learnt,
   subject-reads.Asked,
   subject-reads.Learnt,
-  moved-reads.Asked,
-  moved-reads.Learnt,
+  moved-on-reads.Asked,
+  moved-on-reads.Learnt,
   branches-below t,
   branches.Post,
   cased-reads.Asked,
   cased-reads.Learnt,
 ) (case-of-at t) case-of.Post
-case-of-moved-requires t c κs = tt
+case-of-moved-on-requires t c κs = tt
 
 case-of-branches-requires : (t : ℕ) → case-of-lts.Need-branches-requires (
   expr-below t,
@@ -4069,14 +3220,14 @@ case-of-branches-requires : (t : ℕ) → case-of-lts.Need-branches-requires (
   type-at-reads.Learnt,
   subject-reads.Asked,
   subject-reads.Learnt,
-  moved-reads.Asked,
-  moved-reads.Learnt,
+  moved-on-reads.Asked,
+  moved-on-reads.Learnt,
   branches-below t,
   branches.Post,
   cased-reads.Asked,
   cased-reads.Learnt,
 ) (case-of-at t) case-of.Post
-case-of-branches-requires t c κs = (load-moved _ 900 (c .before .before .before .before .before .before .before .before .before .before .before .before .before .before .before .before .before .before .before .before .before .before .before .before .before .before .before .before .before .before .before .before .before .before .pre .0) _ _ (c .before .before .before .before .moved .ensures) (grows-to (c .before .before .before .before .before .before .before .before .before .before .before .before .before .before .before .before .before .before .before .before .before .before .before .before .before .expr .ensures .grows) (c .before .before .before .before .before .before .before .before .before .before .before .before .before .before .before .before .before .x .given .1)) (omega arith), (room-rest (c .before .before .before .before .before .before .before .before .before .before .before .before .before .before .before .before .before .before .before .before .before .before .before .before .before .before .before .before .before .before .before .before .before .before .pre .1 .0) (c .before .before .before .before .moved .ensures) ((c .before .before .before .before .before .before .before .before .before .before .before .before .before .before .before .before .before .before .before .before .before .before .before .before .before .expr .kept .1 .1 .1 .1 .0)) ((c .before .before .before .before .before .before .before .before .before .before .before .before .before .before .before .before .before .before .before .before .before .before .before .before .before .expr .kept .1 .1 .1 .1 .1 .0)), (omega (arith, ap (λ z. z .of) (c .before .before .before .before .before .subject .ensures), (c .before .before .before .before .before .before .before .before .before .before .before .before .before .before .before .before .before .before .before .before .before .before .before .before .before .before .before .before .before .before .before .before .before .before .pre .1 .1)), omega arith)))
+case-of-branches-requires t c κs = (load-moved _ 900 (c .before .before .before .before .before .before .before .before .before .before .before .before .before .before .before .before .before .before .before .before .before .before .before .before .before .before .before .before .before .before .pre .0) _ _ (c .before .before .before .before .moved-on .ensures) (grows-to (c .before .before .before .before .before .before .before .before .before .before .before .before .before .before .before .before .before .before .before .before .before .before .expr .ensures .grows) (c .before .before .before .before .before .before .before .before .before .before .before .before .before .before .before .before .before .before .x .given .1)) (omega arith), (room-rest (c .before .before .before .before .before .before .before .before .before .before .before .before .before .before .before .before .before .before .before .before .before .before .before .before .before .before .before .before .before .before .pre .1 .0) (c .before .before .before .before .moved-on .ensures), (omega (arith, ap (λ z. z .of) (c .before .before .before .before .before .subject .ensures), (c .before .before .before .before .before .before .before .before .before .before .before .before .before .before .before .before .before .before .before .before .before .before .before .before .before .before .before .before .before .before .pre .1 .1)), omega arith)))
 
 case-of-enum-known-z : (t : ℕ) → case-of-lts.Need-enum-known-z (
   expr-below t,
@@ -4087,8 +3238,8 @@ case-of-enum-known-z : (t : ℕ) → case-of-lts.Need-enum-known-z (
   type-at-reads.Learnt,
   subject-reads.Asked,
   subject-reads.Learnt,
-  moved-reads.Asked,
-  moved-reads.Learnt,
+  moved-on-reads.Asked,
+  moved-on-reads.Learnt,
   branches-below t,
   branches.Post,
   cased-reads.Asked,
@@ -4105,8 +3256,8 @@ case-of-enum-told-3 : (t : ℕ) → case-of-lts.Need-enum-told-3 (
   type-at-reads.Learnt,
   subject-reads.Asked,
   subject-reads.Learnt,
-  moved-reads.Asked,
-  moved-reads.Learnt,
+  moved-on-reads.Asked,
+  moved-on-reads.Learnt,
   branches-below t,
   branches.Post,
   cased-reads.Asked,
@@ -4114,7 +3265,7 @@ case-of-enum-told-3 : (t : ℕ) → case-of-lts.Need-enum-told-3 (
 ) (case-of-at t) case-of.Post
 case-of-enum-told-3 t c = (c .match4 .keys2)
 
-case-of-same-length-10 : (t : ℕ) → case-of-lts.Need-same-length-10 (
+case-of-same-length-4 : (t : ℕ) → case-of-lts.Need-same-length-4 (
   expr-below t,
   expr.Post,
   frame-line-reads.Asked,
@@ -4123,50 +3274,14 @@ case-of-same-length-10 : (t : ℕ) → case-of-lts.Need-same-length-10 (
   type-at-reads.Learnt,
   subject-reads.Asked,
   subject-reads.Learnt,
-  moved-reads.Asked,
-  moved-reads.Learnt,
+  moved-on-reads.Asked,
+  moved-on-reads.Learnt,
   branches-below t,
   branches.Post,
   cased-reads.Asked,
   cased-reads.Learnt,
 ) (case-of-at t) case-of.Post
-case-of-same-length-10 t c = (c .before .before .before .before .before .before .before .before .branches .kept .1 .1 .0) ∙ (c .before .before .before .before .before .before .before .before .before .before .before .before .before .before .before .before .before .before .before .before .before .before .before .before .before .before .before .before .before .before .before .before .before .before .expr .kept .1 .1 .0)
-
-case-of-same-length-11 : (t : ℕ) → case-of-lts.Need-same-length-11 (
-  expr-below t,
-  expr.Post,
-  frame-line-reads.Asked,
-  frame-line-reads.Learnt,
-  type-at-reads.Asked,
-  type-at-reads.Learnt,
-  subject-reads.Asked,
-  subject-reads.Learnt,
-  moved-reads.Asked,
-  moved-reads.Learnt,
-  branches-below t,
-  branches.Post,
-  cased-reads.Asked,
-  cased-reads.Learnt,
-) (case-of-at t) case-of.Post
-case-of-same-length-11 t c = (c .before .before .before .before .before .before .before .before .branches .kept .1 .1 .1 .1 .0) ∙ (c .before .before .before .before .before .before .before .before .before .before .before .before .before .before .before .before .before .before .before .before .before .before .before .before .before .before .before .before .before .before .before .before .before .before .expr .kept .1 .1 .1 .1 .0)
-
-case-of-same-length-12 : (t : ℕ) → case-of-lts.Need-same-length-12 (
-  expr-below t,
-  expr.Post,
-  frame-line-reads.Asked,
-  frame-line-reads.Learnt,
-  type-at-reads.Asked,
-  type-at-reads.Learnt,
-  subject-reads.Asked,
-  subject-reads.Learnt,
-  moved-reads.Asked,
-  moved-reads.Learnt,
-  branches-below t,
-  branches.Post,
-  cased-reads.Asked,
-  cased-reads.Learnt,
-) (case-of-at t) case-of.Post
-case-of-same-length-12 t c = (c .before .before .before .before .before .before .before .before .branches .kept .1 .1 .1 .1 .1 .0) ∙ (c .before .before .before .before .before .before .before .before .before .before .before .before .before .before .before .before .before .before .before .before .before .before .before .before .before .before .before .before .before .before .before .before .before .before .expr .kept .1 .1 .1 .1 .1 .0)
+case-of-same-length-4 t c = (c .before .before .before .before .branches .kept .1 .1 .0) ∙ (c .before .before .before .before .before .before .before .before .before .before .before .before .before .before .before .before .before .before .before .before .before .before .before .before .before .before .before .expr .kept .1 .1 .0)
 
 case-of-returns-4 : (t : ℕ) → case-of-lts.Need-returns-4 (
   expr-below t,
@@ -4177,14 +3292,14 @@ case-of-returns-4 : (t : ℕ) → case-of-lts.Need-returns-4 (
   type-at-reads.Learnt,
   subject-reads.Asked,
   subject-reads.Learnt,
-  moved-reads.Asked,
-  moved-reads.Learnt,
+  moved-on-reads.Asked,
+  moved-on-reads.Learnt,
   branches-below t,
   branches.Post,
   cased-reads.Asked,
   cased-reads.Learnt,
 ) (case-of-at t) case-of.Post
-case-of-returns-4 t c = case-branches (c .before .before .before .before .before .before .before .before .before .before .before .before .before .before .before .before .before .before .before .before .before .before .before .before .before .before .before .before .before .before .before .before .before .before .expr .ensures) (c .before .before .before .before .before .before .before .before .before .before .before .before .before .before .before .before .before .before .before .before .before .before .before .before .before .before .x .given .1) (c .before .before .before .before .before .before .before .before .before .before .before .before .before .before .before .before .before .before .before .before .before .before .before .ty .given .1) (c .before .before .before .before .before .before .before .before .before .before .before .before .before .before .before .before .before .before .before .before .frame-line .ensures) (c .before .before .before .before .before .before .before .before .before .before .before .before .before .before .before .before .before .before .type-at .ensures) (c .before .before .before .before .before .before .before .before .before .before .before .before .before .before .before .before .y .given .1) (c .before .before .before .before .before .before .before .before .before .before .before .before .before .moved .ensures) (c .before .before .before .before .before .before .before .before .before .before .before .before .before .before .subject .ensures) (c .before .before .before .before .before .before .before .before .branches .ensures) (c .enum-told3 .given .1)
+case-of-returns-4 t c = case-branches (c .before .before .before .before .before .before .before .before .before .before .before .before .before .before .before .before .before .before .before .before .before .before .before .before .before .before .before .expr .ensures) (c .before .before .before .before .before .before .before .before .before .before .before .before .before .before .before .before .before .before .before .before .before .before .before .x .given .1) (c .before .before .before .before .before .before .before .before .before .before .before .before .before .before .before .before .before .before .before .before .ty .given .1) (c .before .before .before .before .before .before .before .before .before .before .before .before .before .before .before .before .before .frame-line .ensures) (c .before .before .before .before .before .before .before .before .before .before .before .before .before .before .type-at .ensures) (c .before .before .before .before .before .before .before .before .before .before .before .before .y .given .1) (c .before .before .before .before .before .before .before .before .before .moved-on .ensures) (c .before .before .before .before .before .before .before .before .before .before .subject .ensures) (c .before .before .before .before .branches .ensures) (c .enum-told3 .given .1)
 
 case-of-cased-requires : (t : ℕ) → case-of-lts.Need-cased-requires (
   expr-below t,
@@ -4195,8 +3310,8 @@ case-of-cased-requires : (t : ℕ) → case-of-lts.Need-cased-requires (
   type-at-reads.Learnt,
   subject-reads.Asked,
   subject-reads.Learnt,
-  moved-reads.Asked,
-  moved-reads.Learnt,
+  moved-on-reads.Asked,
+  moved-on-reads.Learnt,
   branches-below t,
   branches.Post,
   cased-reads.Asked,
@@ -4204,7 +3319,7 @@ case-of-cased-requires : (t : ℕ) → case-of-lts.Need-cased-requires (
 ) (case-of-at t) case-of.Post
 case-of-cased-requires t c κs = tt
 
-case-of-same-length-13 : (t : ℕ) → case-of-lts.Need-same-length-13 (
+case-of-same-length-5 : (t : ℕ) → case-of-lts.Need-same-length-5 (
   expr-below t,
   expr.Post,
   frame-line-reads.Asked,
@@ -4213,50 +3328,14 @@ case-of-same-length-13 : (t : ℕ) → case-of-lts.Need-same-length-13 (
   type-at-reads.Learnt,
   subject-reads.Asked,
   subject-reads.Learnt,
-  moved-reads.Asked,
-  moved-reads.Learnt,
+  moved-on-reads.Asked,
+  moved-on-reads.Learnt,
   branches-below t,
   branches.Post,
   cased-reads.Asked,
   cased-reads.Learnt,
 ) (case-of-at t) case-of.Post
-case-of-same-length-13 t c = (c .before .before .before .before .before .before .before .before .before .before .branches .kept .1 .1 .0) ∙ (c .before .before .before .before .before .before .before .before .before .before .before .before .before .before .before .before .before .before .before .before .before .before .before .before .before .before .before .before .before .before .before .before .before .before .before .before .expr .kept .1 .1 .0)
-
-case-of-same-length-14 : (t : ℕ) → case-of-lts.Need-same-length-14 (
-  expr-below t,
-  expr.Post,
-  frame-line-reads.Asked,
-  frame-line-reads.Learnt,
-  type-at-reads.Asked,
-  type-at-reads.Learnt,
-  subject-reads.Asked,
-  subject-reads.Learnt,
-  moved-reads.Asked,
-  moved-reads.Learnt,
-  branches-below t,
-  branches.Post,
-  cased-reads.Asked,
-  cased-reads.Learnt,
-) (case-of-at t) case-of.Post
-case-of-same-length-14 t c = (c .before .before .before .before .before .before .before .before .before .before .branches .kept .1 .1 .1 .1 .0) ∙ (c .before .before .before .before .before .before .before .before .before .before .before .before .before .before .before .before .before .before .before .before .before .before .before .before .before .before .before .before .before .before .before .before .before .before .before .before .expr .kept .1 .1 .1 .1 .0)
-
-case-of-same-length-15 : (t : ℕ) → case-of-lts.Need-same-length-15 (
-  expr-below t,
-  expr.Post,
-  frame-line-reads.Asked,
-  frame-line-reads.Learnt,
-  type-at-reads.Asked,
-  type-at-reads.Learnt,
-  subject-reads.Asked,
-  subject-reads.Learnt,
-  moved-reads.Asked,
-  moved-reads.Learnt,
-  branches-below t,
-  branches.Post,
-  cased-reads.Asked,
-  cased-reads.Learnt,
-) (case-of-at t) case-of.Post
-case-of-same-length-15 t c = (c .before .before .before .before .before .before .before .before .before .before .branches .kept .1 .1 .1 .1 .1 .0) ∙ (c .before .before .before .before .before .before .before .before .before .before .before .before .before .before .before .before .before .before .before .before .before .before .before .before .before .before .before .before .before .before .before .before .before .before .before .before .expr .kept .1 .1 .1 .1 .1 .0)
+case-of-same-length-5 t c = (c .before .before .before .before .before .before .branches .kept .1 .1 .0) ∙ (c .before .before .before .before .before .before .before .before .before .before .before .before .before .before .before .before .before .before .before .before .before .before .before .before .before .before .before .before .before .expr .kept .1 .1 .0)
 
 case-of-returns-5 : (t : ℕ) → case-of-lts.Need-returns-5 (
   expr-below t,
@@ -4267,14 +3346,14 @@ case-of-returns-5 : (t : ℕ) → case-of-lts.Need-returns-5 (
   type-at-reads.Learnt,
   subject-reads.Asked,
   subject-reads.Learnt,
-  moved-reads.Asked,
-  moved-reads.Learnt,
+  moved-on-reads.Asked,
+  moved-on-reads.Learnt,
   branches-below t,
   branches.Post,
   cased-reads.Asked,
   cased-reads.Learnt,
 ) (case-of-at t) case-of.Post
-case-of-returns-5 t c = case-done (c .before .before .before .before .before .before .before .before .before .before .before .before .before .before .before .before .before .before .before .before .before .before .before .before .before .before .before .before .before .before .before .before .before .before .before .before .expr .ensures) (c .before .before .before .before .before .before .before .before .before .before .before .before .before .before .before .before .before .before .before .before .before .before .before .before .before .before .before .before .x .given .1) (c .before .before .before .before .before .before .before .before .before .before .before .before .before .before .before .before .before .before .before .before .before .before .before .before .before .ty .given .1) (c .before .before .before .before .before .before .before .before .before .before .before .before .before .before .before .before .before .before .before .before .before .before .frame-line .ensures) (c .before .before .before .before .before .before .before .before .before .before .before .before .before .before .before .before .before .before .before .before .type-at .ensures) (c .before .before .before .before .before .before .before .before .before .before .before .before .before .before .before .before .before .before .y .given .1) (c .before .before .before .before .before .before .before .before .before .before .before .before .before .before .before .moved .ensures) (c .before .before .before .before .before .before .before .before .before .before .before .before .before .before .before .before .subject .ensures) (c .before .before .before .before .before .before .before .before .before .before .branches .ensures) (c .before .before .z .given .1) (c .cased .ensures .all) (c .cased .ensures .is)
+case-of-returns-5 t c = case-done (c .before .before .before .before .before .before .before .before .before .before .before .before .before .before .before .before .before .before .before .before .before .before .before .before .before .before .before .before .before .expr .ensures) (c .before .before .before .before .before .before .before .before .before .before .before .before .before .before .before .before .before .before .before .before .before .before .before .before .before .x .given .1) (c .before .before .before .before .before .before .before .before .before .before .before .before .before .before .before .before .before .before .before .before .before .before .ty .given .1) (c .before .before .before .before .before .before .before .before .before .before .before .before .before .before .before .before .before .before .before .frame-line .ensures) (c .before .before .before .before .before .before .before .before .before .before .before .before .before .before .before .before .type-at .ensures) (c .before .before .before .before .before .before .before .before .before .before .before .before .before .before .y .given .1) (c .before .before .before .before .before .before .before .before .before .before .before .moved-on .ensures) (c .before .before .before .before .before .before .before .before .before .before .before .before .subject .ensures) (c .before .before .before .before .before .before .branches .ensures) (c .before .before .z .given .1) (c .cased .ensures .all) (c .cased .ensures .is)
 
 choice-expr-requires : (t : ℕ) → choice-lts.Need-expr-requires (
   expr-below t,
@@ -4286,7 +3365,7 @@ choice-expr-requires : (t : ℕ) → choice-lts.Need-expr-requires (
   chosen-reads.Asked,
   chosen-reads.Learnt,
 ) (choice-at t) choice.Post
-choice-expr-requires t c κs = (load-same _ 900 (c .before .before .before .before .before .before .before .before .pre .0) 0 (omega arith), room-same (c .before .before .before .before .before .before .before .before .pre .1) (omega arith))
+choice-expr-requires t c κs = (load-same _ 900 (c .before .before .before .before .before .before .before .pre .0) 0 (omega arith), room-same (c .before .before .before .before .before .before .before .pre .1) (omega arith))
 
 choice-enum-known-x : (t : ℕ) → choice-lts.Need-enum-known-x (
   expr-below t,
@@ -4322,31 +3401,7 @@ choice-same-length : (t : ℕ) → choice-lts.Need-same-length (
   chosen-reads.Asked,
   chosen-reads.Learnt,
 ) (choice-at t) choice.Post
-choice-same-length t c = (c .before .before .before .before .before .before .before .before .expr .kept .1 .1 .0)
-
-choice-same-length-2 : (t : ℕ) → choice-lts.Need-same-length-2 (
-  expr-below t,
-  expr.Post,
-  behind-reads.Asked,
-  behind-reads.Learnt,
-  agree-reads.Asked,
-  agree-reads.Learnt,
-  chosen-reads.Asked,
-  chosen-reads.Learnt,
-) (choice-at t) choice.Post
-choice-same-length-2 t c = (c .before .before .before .before .before .before .before .before .expr .kept .1 .1 .1 .1 .0)
-
-choice-same-length-3 : (t : ℕ) → choice-lts.Need-same-length-3 (
-  expr-below t,
-  expr.Post,
-  behind-reads.Asked,
-  behind-reads.Learnt,
-  agree-reads.Asked,
-  agree-reads.Learnt,
-  chosen-reads.Asked,
-  chosen-reads.Learnt,
-) (choice-at t) choice.Post
-choice-same-length-3 t c = (c .before .before .before .before .before .before .before .before .expr .kept .1 .1 .1 .1 .1 .0)
+choice-same-length t c = (c .before .before .before .before .expr .kept .1 .1 .0)
 
 choice-returns : (t : ℕ) → choice-lts.Need-returns (
   expr-below t,
@@ -4358,7 +3413,7 @@ choice-returns : (t : ℕ) → choice-lts.Need-returns (
   chosen-reads.Asked,
   chosen-reads.Learnt,
 ) (choice-at t) choice.Post
-choice-returns t c = if-first (c .before .before .before .before .before .before .before .before .expr .ensures) (c .enum-told .given .1)
+choice-returns t c = if-first (c .before .before .before .before .expr .ensures) (c .enum-told .given .1)
 
 choice-behind-requires : (t : ℕ) → choice-lts.Need-behind-requires (
   expr-below t,
@@ -4382,7 +3437,7 @@ choice-expr-requires-2 : (t : ℕ) → choice-lts.Need-expr-requires-2 (
   chosen-reads.Asked,
   chosen-reads.Learnt,
 ) (choice-at t) choice.Post
-choice-expr-requires-2 t c κs = (load-moved _ 900 (c .before .before .before .before .before .before .before .before .before .before .before .before .before .before .before .before .before .before .before .before .before .before .before .pre .0) _ 0 (c .before .before .before .before .behind .ensures) (grows-to (c .before .before .before .before .before .before .before .before .before .before .before .before .before .before .expr .ensures .grows) (c .before .before .before .before .before .before .x .given .1)) (omega arith), room-behind (c .before .before .before .before .before .before .before .before .before .before .before .before .before .before .before .before .before .before .before .before .before .before .before .pre .1) (c .before .before .before .before .behind .ensures) ((c .before .before .before .before .before .before .before .before .before .before .before .before .before .before .expr .kept .1 .1 .1 .1 .0)) ((c .before .before .before .before .before .before .before .before .before .before .before .before .before .before .expr .kept .1 .1 .1 .1 .1 .0)))
+choice-expr-requires-2 t c κs = (load-moved _ 900 (c .before .before .before .before .before .before .before .before .before .before .before .before .before .before .before .before .before .before .pre .0) _ 0 (c .before .before .before .before .behind .ensures) (grows-to (c .before .before .before .before .before .before .before .before .before .before .expr .ensures .grows) (c .before .before .before .before .before .before .x .given .1)) (omega arith), room-behind (c .before .before .before .before .before .before .before .before .before .before .before .before .before .before .before .before .before .before .pre .1) (c .before .before .before .before .behind .ensures))
 
 choice-enum-known-y : (t : ℕ) → choice-lts.Need-enum-known-y (
   expr-below t,
@@ -4408,7 +3463,7 @@ choice-enum-told-2 : (t : ℕ) → choice-lts.Need-enum-told-2 (
 ) (choice-at t) choice.Post
 choice-enum-told-2 t c = (c .match2 .keys2)
 
-choice-same-length-4 : (t : ℕ) → choice-lts.Need-same-length-4 (
+choice-same-length-2 : (t : ℕ) → choice-lts.Need-same-length-2 (
   expr-below t,
   expr.Post,
   behind-reads.Asked,
@@ -4418,31 +3473,7 @@ choice-same-length-4 : (t : ℕ) → choice-lts.Need-same-length-4 (
   chosen-reads.Asked,
   chosen-reads.Learnt,
 ) (choice-at t) choice.Post
-choice-same-length-4 t c = (c .before .before .before .before .before .before .before .before .expr2 .kept .1 .1 .0) ∙ (c .before .before .before .before .before .before .before .before .before .before .before .before .before .before .before .before .before .before .before .before .before .before .before .expr .kept .1 .1 .0)
-
-choice-same-length-5 : (t : ℕ) → choice-lts.Need-same-length-5 (
-  expr-below t,
-  expr.Post,
-  behind-reads.Asked,
-  behind-reads.Learnt,
-  agree-reads.Asked,
-  agree-reads.Learnt,
-  chosen-reads.Asked,
-  chosen-reads.Learnt,
-) (choice-at t) choice.Post
-choice-same-length-5 t c = (c .before .before .before .before .before .before .before .before .expr2 .kept .1 .1 .1 .1 .0) ∙ (c .before .before .before .before .before .before .before .before .before .before .before .before .before .before .before .before .before .before .before .before .before .before .before .expr .kept .1 .1 .1 .1 .0)
-
-choice-same-length-6 : (t : ℕ) → choice-lts.Need-same-length-6 (
-  expr-below t,
-  expr.Post,
-  behind-reads.Asked,
-  behind-reads.Learnt,
-  agree-reads.Asked,
-  agree-reads.Learnt,
-  chosen-reads.Asked,
-  chosen-reads.Learnt,
-) (choice-at t) choice.Post
-choice-same-length-6 t c = (c .before .before .before .before .before .before .before .before .expr2 .kept .1 .1 .1 .1 .1 .0) ∙ (c .before .before .before .before .before .before .before .before .before .before .before .before .before .before .before .before .before .before .before .before .before .before .before .expr .kept .1 .1 .1 .1 .1 .0)
+choice-same-length-2 t c = (c .before .before .before .before .expr2 .kept .1 .1 .0) ∙ (c .before .before .before .before .before .before .before .before .before .before .before .before .before .before .before .expr .kept .1 .1 .0)
 
 choice-returns-2 : (t : ℕ) → choice-lts.Need-returns-2 (
   expr-below t,
@@ -4454,7 +3485,7 @@ choice-returns-2 : (t : ℕ) → choice-lts.Need-returns-2 (
   chosen-reads.Asked,
   chosen-reads.Learnt,
 ) (choice-at t) choice.Post
-choice-returns-2 t c = if-second (c .before .before .before .before .before .before .before .before .before .before .before .before .before .before .before .before .before .before .before .before .before .before .before .expr .ensures) (c .before .before .before .before .before .before .before .before .before .before .before .before .before .before .before .x .given .1) (c .before .before .before .before .before .before .before .before .before .before .before .before .before .behind .ensures) (c .before .before .before .before .before .before .before .before .expr2 .ensures) (c .enum-told2 .given .1)
+choice-returns-2 t c = if-second (c .before .before .before .before .before .before .before .before .before .before .before .before .before .before .before .expr .ensures) (c .before .before .before .before .before .before .before .before .before .before .before .x .given .1) (c .before .before .before .before .before .before .before .before .before .behind .ensures) (c .before .before .before .before .expr2 .ensures) (c .enum-told2 .given .1)
 
 choice-behind-requires-2 : (t : ℕ) → choice-lts.Need-behind-requires-2 (
   expr-below t,
@@ -4478,7 +3509,7 @@ choice-expr-requires-3 : (t : ℕ) → choice-lts.Need-expr-requires-3 (
   chosen-reads.Asked,
   chosen-reads.Learnt,
 ) (choice-at t) choice.Post
-choice-expr-requires-3 t c κs = (load-moved _ 900 (c .before .before .before .before .before .before .before .before .before .before .before .before .before .before .before .before .before .before .before .before .before .before .before .before .before .before .before .before .before .before .before .before .before .before .before .before .before .before .pre .0) _ 0 (c .before .before .before .before .behind2 .ensures) (grows-behind (c .before .before .before .before .before .before .before .before .before .before .before .before .before .before .before .before .before .before .before .before .before .before .before .before .before .before .before .before .before .before .before .before .before .before .before .before .before .before .args .p) (grows-to (c .before .before .before .before .before .before .before .before .before .before .before .before .before .before .before .before .before .before .before .before .before .before .before .before .before .before .before .before .before .expr .ensures .grows) (c .before .before .before .before .before .before .before .before .before .before .before .before .before .before .before .before .before .before .before .before .before .x .given .1)) (c .before .before .before .before .before .before .before .before .before .before .before .before .before .before .before .before .before .before .before .behind .ensures) (c .before .before .before .before .before .before .before .before .before .before .before .before .before .before .expr2 .ensures .grows) (c .before .before .before .before .before .before .y .given .1)) (omega arith), room-behind (c .before .before .before .before .before .before .before .before .before .before .before .before .before .before .before .before .before .before .before .before .before .before .before .before .before .before .before .before .before .before .before .before .before .before .before .before .before .before .pre .1) (c .before .before .before .before .behind2 .ensures) ((c .before .before .before .before .before .before .before .before .before .before .before .before .before .before .expr2 .kept .1 .1 .1 .1 .0) ∙ (c .before .before .before .before .before .before .before .before .before .before .before .before .before .before .before .before .before .before .before .before .before .before .before .before .before .before .before .before .before .expr .kept .1 .1 .1 .1 .0)) ((c .before .before .before .before .before .before .before .before .before .before .before .before .before .before .expr2 .kept .1 .1 .1 .1 .1 .0) ∙ (c .before .before .before .before .before .before .before .before .before .before .before .before .before .before .before .before .before .before .before .before .before .before .before .before .before .before .before .before .before .expr .kept .1 .1 .1 .1 .1 .0)))
+choice-expr-requires-3 t c κs = (load-moved _ 900 (c .before .before .before .before .before .before .before .before .before .before .before .before .before .before .before .before .before .before .before .before .before .before .before .before .before .before .before .before .before .pre .0) _ 0 (c .before .before .before .before .behind2 .ensures) (grows-behind (c .before .before .before .before .before .before .before .before .before .before .before .before .before .before .before .before .before .before .before .before .before .before .before .before .before .before .before .before .before .args .p) (grows-to (c .before .before .before .before .before .before .before .before .before .before .before .before .before .before .before .before .before .before .before .before .before .expr .ensures .grows) (c .before .before .before .before .before .before .before .before .before .before .before .before .before .before .before .before .before .x .given .1)) (c .before .before .before .before .before .before .before .before .before .before .before .before .before .before .before .behind .ensures) (c .before .before .before .before .before .before .before .before .before .before .expr2 .ensures .grows) (c .before .before .before .before .before .before .y .given .1)) (omega arith), room-behind (c .before .before .before .before .before .before .before .before .before .before .before .before .before .before .before .before .before .before .before .before .before .before .before .before .before .before .before .before .before .pre .1) (c .before .before .before .before .behind2 .ensures))
 
 choice-enum-known-z : (t : ℕ) → choice-lts.Need-enum-known-z (
   expr-below t,
@@ -4504,7 +3535,7 @@ choice-enum-told-3 : (t : ℕ) → choice-lts.Need-enum-told-3 (
 ) (choice-at t) choice.Post
 choice-enum-told-3 t c = (c .match3 .keys2)
 
-choice-same-length-7 : (t : ℕ) → choice-lts.Need-same-length-7 (
+choice-same-length-3 : (t : ℕ) → choice-lts.Need-same-length-3 (
   expr-below t,
   expr.Post,
   behind-reads.Asked,
@@ -4514,31 +3545,7 @@ choice-same-length-7 : (t : ℕ) → choice-lts.Need-same-length-7 (
   chosen-reads.Asked,
   chosen-reads.Learnt,
 ) (choice-at t) choice.Post
-choice-same-length-7 t c = (c .before .before .before .before .before .before .before .before .expr3 .kept .1 .1 .0) ∙ (c .before .before .before .before .before .before .before .before .before .before .before .before .before .before .before .before .before .before .before .before .before .before .before .expr2 .kept .1 .1 .0) ∙ (c .before .before .before .before .before .before .before .before .before .before .before .before .before .before .before .before .before .before .before .before .before .before .before .before .before .before .before .before .before .before .before .before .before .before .before .before .before .before .expr .kept .1 .1 .0)
-
-choice-same-length-8 : (t : ℕ) → choice-lts.Need-same-length-8 (
-  expr-below t,
-  expr.Post,
-  behind-reads.Asked,
-  behind-reads.Learnt,
-  agree-reads.Asked,
-  agree-reads.Learnt,
-  chosen-reads.Asked,
-  chosen-reads.Learnt,
-) (choice-at t) choice.Post
-choice-same-length-8 t c = (c .before .before .before .before .before .before .before .before .expr3 .kept .1 .1 .1 .1 .0) ∙ (c .before .before .before .before .before .before .before .before .before .before .before .before .before .before .before .before .before .before .before .before .before .before .before .expr2 .kept .1 .1 .1 .1 .0) ∙ (c .before .before .before .before .before .before .before .before .before .before .before .before .before .before .before .before .before .before .before .before .before .before .before .before .before .before .before .before .before .before .before .before .before .before .before .before .before .before .expr .kept .1 .1 .1 .1 .0)
-
-choice-same-length-9 : (t : ℕ) → choice-lts.Need-same-length-9 (
-  expr-below t,
-  expr.Post,
-  behind-reads.Asked,
-  behind-reads.Learnt,
-  agree-reads.Asked,
-  agree-reads.Learnt,
-  chosen-reads.Asked,
-  chosen-reads.Learnt,
-) (choice-at t) choice.Post
-choice-same-length-9 t c = (c .before .before .before .before .before .before .before .before .expr3 .kept .1 .1 .1 .1 .1 .0) ∙ (c .before .before .before .before .before .before .before .before .before .before .before .before .before .before .before .before .before .before .before .before .before .before .before .expr2 .kept .1 .1 .1 .1 .1 .0) ∙ (c .before .before .before .before .before .before .before .before .before .before .before .before .before .before .before .before .before .before .before .before .before .before .before .before .before .before .before .before .before .before .before .before .before .before .before .before .before .before .expr .kept .1 .1 .1 .1 .1 .0)
+choice-same-length-3 t c = (c .before .before .before .before .expr3 .kept .1 .1 .0) ∙ (c .before .before .before .before .before .before .before .before .before .before .before .before .before .before .before .expr2 .kept .1 .1 .0) ∙ (c .before .before .before .before .before .before .before .before .before .before .before .before .before .before .before .before .before .before .before .before .before .before .before .before .before .before .expr .kept .1 .1 .0)
 
 choice-returns-3 : (t : ℕ) → choice-lts.Need-returns-3 (
   expr-below t,
@@ -4550,7 +3557,7 @@ choice-returns-3 : (t : ℕ) → choice-lts.Need-returns-3 (
   chosen-reads.Asked,
   chosen-reads.Learnt,
 ) (choice-at t) choice.Post
-choice-returns-3 t c = if-third (c .before .before .before .before .before .before .before .before .before .before .before .before .before .before .before .before .before .before .before .before .before .before .before .before .before .before .before .before .before .before .before .before .before .before .before .before .before .before .expr .ensures) (c .before .before .before .before .before .before .before .before .before .before .before .before .before .before .before .before .before .before .before .before .before .before .before .before .before .before .before .before .before .before .x .given .1) (c .before .before .before .before .before .before .before .before .before .before .before .before .before .before .before .before .before .before .before .before .before .before .before .before .before .before .before .before .behind .ensures) (c .before .before .before .before .before .before .before .before .before .before .before .before .before .before .before .before .before .before .before .before .before .before .before .expr2 .ensures) (c .before .before .before .before .before .before .before .before .before .before .before .before .before .before .before .y .given .1) (c .before .before .before .before .before .before .before .before .before .before .before .before .before .behind2 .ensures) (c .before .before .before .before .before .before .before .before .expr3 .ensures) (c .enum-told3 .given .1)
+choice-returns-3 t c = if-third (c .before .before .before .before .before .before .before .before .before .before .before .before .before .before .before .before .before .before .before .before .before .before .before .before .before .before .expr .ensures) (c .before .before .before .before .before .before .before .before .before .before .before .before .before .before .before .before .before .before .before .before .before .before .x .given .1) (c .before .before .before .before .before .before .before .before .before .before .before .before .before .before .before .before .before .before .before .before .behind .ensures) (c .before .before .before .before .before .before .before .before .before .before .before .before .before .before .before .expr2 .ensures) (c .before .before .before .before .before .before .before .before .before .before .before .y .given .1) (c .before .before .before .before .before .before .before .before .before .behind2 .ensures) (c .before .before .before .before .expr3 .ensures) (c .enum-told3 .given .1)
 
 choice-agree-requires : (t : ℕ) → choice-lts.Need-agree-requires (
   expr-below t,
@@ -4564,7 +3571,7 @@ choice-agree-requires : (t : ℕ) → choice-lts.Need-agree-requires (
 ) (choice-at t) choice.Post
 choice-agree-requires t c κs = tt
 
-choice-add-t39 : (t : ℕ) → choice-lts.Need-add-t39 (
+choice-add-t34 : (t : ℕ) → choice-lts.Need-add-t34 (
   expr-below t,
   expr.Post,
   behind-reads.Asked,
@@ -4574,9 +3581,9 @@ choice-add-t39 : (t : ℕ) → choice-lts.Need-add-t39 (
   chosen-reads.Asked,
   chosen-reads.Learnt,
 ) (choice-at t) choice.Post
-choice-add-t39 t c = omega (arith, (c .before .before .before .before .before .before .before .before .before .before .before .before .before .before .before .before .before .before .before .before .before .before .before .before .before .before .before .before .before .before .before .before .before .before .before .before .before .before .before .before .before .before .before .before .before .before .before .before .before .before .before .pre .1 .line))
+choice-add-t34 t c = omega (arith, (c .before .before .before .before .before .before .before .before .before .before .before .before .before .before .before .before .before .before .before .before .before .before .before .before .before .before .before .before .before .before .before .before .before .before .before .before .before .before .pre .1 .line))
 
-choice-same-length-10 : (t : ℕ) → choice-lts.Need-same-length-10 (
+choice-same-length-4 : (t : ℕ) → choice-lts.Need-same-length-4 (
   expr-below t,
   expr.Post,
   behind-reads.Asked,
@@ -4586,31 +3593,7 @@ choice-same-length-10 : (t : ℕ) → choice-lts.Need-same-length-10 (
   chosen-reads.Asked,
   chosen-reads.Learnt,
 ) (choice-at t) choice.Post
-choice-same-length-10 t c = (c .before .before .before .before .before .before .before .before .before .before .before .before .expr3 .kept .1 .1 .0) ∙ (c .before .before .before .before .before .before .before .before .before .before .before .before .before .before .before .before .before .before .before .before .before .before .before .before .before .before .before .expr2 .kept .1 .1 .0) ∙ (c .before .before .before .before .before .before .before .before .before .before .before .before .before .before .before .before .before .before .before .before .before .before .before .before .before .before .before .before .before .before .before .before .before .before .before .before .before .before .before .before .before .before .expr .kept .1 .1 .0)
-
-choice-same-length-11 : (t : ℕ) → choice-lts.Need-same-length-11 (
-  expr-below t,
-  expr.Post,
-  behind-reads.Asked,
-  behind-reads.Learnt,
-  agree-reads.Asked,
-  agree-reads.Learnt,
-  chosen-reads.Asked,
-  chosen-reads.Learnt,
-) (choice-at t) choice.Post
-choice-same-length-11 t c = (c .before .before .before .before .before .before .before .before .before .before .before .before .expr3 .kept .1 .1 .1 .1 .0) ∙ (c .before .before .before .before .before .before .before .before .before .before .before .before .before .before .before .before .before .before .before .before .before .before .before .before .before .before .before .expr2 .kept .1 .1 .1 .1 .0) ∙ (c .before .before .before .before .before .before .before .before .before .before .before .before .before .before .before .before .before .before .before .before .before .before .before .before .before .before .before .before .before .before .before .before .before .before .before .before .before .before .before .before .before .before .expr .kept .1 .1 .1 .1 .0)
-
-choice-same-length-12 : (t : ℕ) → choice-lts.Need-same-length-12 (
-  expr-below t,
-  expr.Post,
-  behind-reads.Asked,
-  behind-reads.Learnt,
-  agree-reads.Asked,
-  agree-reads.Learnt,
-  chosen-reads.Asked,
-  chosen-reads.Learnt,
-) (choice-at t) choice.Post
-choice-same-length-12 t c = (c .before .before .before .before .before .before .before .before .before .before .before .before .expr3 .kept .1 .1 .1 .1 .1 .0) ∙ (c .before .before .before .before .before .before .before .before .before .before .before .before .before .before .before .before .before .before .before .before .before .before .before .before .before .before .before .expr2 .kept .1 .1 .1 .1 .1 .0) ∙ (c .before .before .before .before .before .before .before .before .before .before .before .before .before .before .before .before .before .before .before .before .before .before .before .before .before .before .before .before .before .before .before .before .before .before .before .before .before .before .before .before .before .before .expr .kept .1 .1 .1 .1 .1 .0)
+choice-same-length-4 t c = (c .before .before .before .before .before .before .before .before .expr3 .kept .1 .1 .0) ∙ (c .before .before .before .before .before .before .before .before .before .before .before .before .before .before .before .before .before .before .before .expr2 .kept .1 .1 .0) ∙ (c .before .before .before .before .before .before .before .before .before .before .before .before .before .before .before .before .before .before .before .before .before .before .before .before .before .before .before .before .before .before .expr .kept .1 .1 .0)
 
 choice-returns-4 : (t : ℕ) → choice-lts.Need-returns-4 (
   expr-below t,
@@ -4622,7 +3605,7 @@ choice-returns-4 : (t : ℕ) → choice-lts.Need-returns-4 (
   chosen-reads.Asked,
   chosen-reads.Learnt,
 ) (choice-at t) choice.Post
-choice-returns-4 t c = if-differ (c .before .before .before .before .before .before .before .before .before .before .before .before .before .before .before .before .before .before .before .before .before .before .before .before .before .before .before .before .before .before .before .before .before .before .before .before .before .before .before .before .before .before .expr .ensures) (c .before .before .before .before .before .before .before .before .before .before .before .before .before .before .before .before .before .before .before .before .before .before .before .before .before .before .before .before .before .before .before .before .before .before .x .given .1) (c .before .before .before .before .before .before .before .before .before .before .before .before .before .before .before .before .before .before .before .before .before .before .before .before .before .before .before .before .before .before .before .before .behind .ensures) (c .before .before .before .before .before .before .before .before .before .before .before .before .before .before .before .before .before .before .before .before .before .before .before .before .before .before .before .expr2 .ensures) (c .before .before .before .before .before .before .before .before .before .before .before .before .before .before .before .before .before .before .before .y .given .1) (c .before .before .before .before .before .before .before .before .before .before .before .before .before .before .before .before .before .behind2 .ensures) (c .before .before .before .before .before .before .before .before .before .before .before .before .expr3 .ensures) (c .before .before .before .before .z .given .1) (c .before .before .agree .ensures) (not-true _ (c .before .if1 .taken))
+choice-returns-4 t c = if-differ (c .before .before .before .before .before .before .before .before .before .before .before .before .before .before .before .before .before .before .before .before .before .before .before .before .before .before .before .before .before .before .expr .ensures) (c .before .before .before .before .before .before .before .before .before .before .before .before .before .before .before .before .before .before .before .before .before .before .before .before .before .before .x .given .1) (c .before .before .before .before .before .before .before .before .before .before .before .before .before .before .before .before .before .before .before .before .before .before .before .before .behind .ensures) (c .before .before .before .before .before .before .before .before .before .before .before .before .before .before .before .before .before .before .before .expr2 .ensures) (c .before .before .before .before .before .before .before .before .before .before .before .before .before .before .before .y .given .1) (c .before .before .before .before .before .before .before .before .before .before .before .before .before .behind2 .ensures) (c .before .before .before .before .before .before .before .before .expr3 .ensures) (c .before .before .before .before .z .given .1) (c .before .before .agree .ensures) (not-true _ (c .before .if1 .taken))
 
 choice-chosen-requires : (t : ℕ) → choice-lts.Need-chosen-requires (
   expr-below t,
@@ -4636,7 +3619,7 @@ choice-chosen-requires : (t : ℕ) → choice-lts.Need-chosen-requires (
 ) (choice-at t) choice.Post
 choice-chosen-requires t c κs = tt
 
-choice-same-length-13 : (t : ℕ) → choice-lts.Need-same-length-13 (
+choice-same-length-5 : (t : ℕ) → choice-lts.Need-same-length-5 (
   expr-below t,
   expr.Post,
   behind-reads.Asked,
@@ -4646,31 +3629,7 @@ choice-same-length-13 : (t : ℕ) → choice-lts.Need-same-length-13 (
   chosen-reads.Asked,
   chosen-reads.Learnt,
 ) (choice-at t) choice.Post
-choice-same-length-13 t c = (c .before .before .before .before .before .before .before .before .before .before .before .before .expr3 .kept .1 .1 .0) ∙ (c .before .before .before .before .before .before .before .before .before .before .before .before .before .before .before .before .before .before .before .before .before .before .before .before .before .before .before .expr2 .kept .1 .1 .0) ∙ (c .before .before .before .before .before .before .before .before .before .before .before .before .before .before .before .before .before .before .before .before .before .before .before .before .before .before .before .before .before .before .before .before .before .before .before .before .before .before .before .before .before .before .expr .kept .1 .1 .0)
-
-choice-same-length-14 : (t : ℕ) → choice-lts.Need-same-length-14 (
-  expr-below t,
-  expr.Post,
-  behind-reads.Asked,
-  behind-reads.Learnt,
-  agree-reads.Asked,
-  agree-reads.Learnt,
-  chosen-reads.Asked,
-  chosen-reads.Learnt,
-) (choice-at t) choice.Post
-choice-same-length-14 t c = (c .before .before .before .before .before .before .before .before .before .before .before .before .expr3 .kept .1 .1 .1 .1 .0) ∙ (c .before .before .before .before .before .before .before .before .before .before .before .before .before .before .before .before .before .before .before .before .before .before .before .before .before .before .before .expr2 .kept .1 .1 .1 .1 .0) ∙ (c .before .before .before .before .before .before .before .before .before .before .before .before .before .before .before .before .before .before .before .before .before .before .before .before .before .before .before .before .before .before .before .before .before .before .before .before .before .before .before .before .before .before .expr .kept .1 .1 .1 .1 .0)
-
-choice-same-length-15 : (t : ℕ) → choice-lts.Need-same-length-15 (
-  expr-below t,
-  expr.Post,
-  behind-reads.Asked,
-  behind-reads.Learnt,
-  agree-reads.Asked,
-  agree-reads.Learnt,
-  chosen-reads.Asked,
-  chosen-reads.Learnt,
-) (choice-at t) choice.Post
-choice-same-length-15 t c = (c .before .before .before .before .before .before .before .before .before .before .before .before .expr3 .kept .1 .1 .1 .1 .1 .0) ∙ (c .before .before .before .before .before .before .before .before .before .before .before .before .before .before .before .before .before .before .before .before .before .before .before .before .before .before .before .expr2 .kept .1 .1 .1 .1 .1 .0) ∙ (c .before .before .before .before .before .before .before .before .before .before .before .before .before .before .before .before .before .before .before .before .before .before .before .before .before .before .before .before .before .before .before .before .before .before .before .before .before .before .before .before .before .before .expr .kept .1 .1 .1 .1 .1 .0)
+choice-same-length-5 t c = (c .before .before .before .before .before .before .before .before .expr3 .kept .1 .1 .0) ∙ (c .before .before .before .before .before .before .before .before .before .before .before .before .before .before .before .before .before .before .before .expr2 .kept .1 .1 .0) ∙ (c .before .before .before .before .before .before .before .before .before .before .before .before .before .before .before .before .before .before .before .before .before .before .before .before .before .before .before .before .before .before .expr .kept .1 .1 .0)
 
 choice-returns-5 : (t : ℕ) → choice-lts.Need-returns-5 (
   expr-below t,
@@ -4682,7 +3641,7 @@ choice-returns-5 : (t : ℕ) → choice-lts.Need-returns-5 (
   chosen-reads.Asked,
   chosen-reads.Learnt,
 ) (choice-at t) choice.Post
-choice-returns-5 t c = if-done (c .before .before .before .before .before .before .before .before .before .before .before .before .before .before .before .before .before .before .before .before .before .before .before .before .before .before .before .before .before .before .before .before .before .before .before .before .before .before .before .before .before .before .expr .ensures) (c .before .before .before .before .before .before .before .before .before .before .before .before .before .before .before .before .before .before .before .before .before .before .before .before .before .before .before .before .before .before .before .before .before .before .x .given .1) (c .before .before .before .before .before .before .before .before .before .before .before .before .before .before .before .before .before .before .before .before .before .before .before .before .before .before .before .before .before .before .before .before .behind .ensures) (c .before .before .before .before .before .before .before .before .before .before .before .before .before .before .before .before .before .before .before .before .before .before .before .before .before .before .before .expr2 .ensures) (c .before .before .before .before .before .before .before .before .before .before .before .before .before .before .before .before .before .before .before .y .given .1) (c .before .before .before .before .before .before .before .before .before .before .before .before .before .before .before .before .before .behind2 .ensures) (c .before .before .before .before .before .before .before .before .before .before .before .before .expr3 .ensures) (c .before .before .before .before .z .given .1) (c .before .before .agree .ensures) (not-false _ (c .before .if1 .left)) (c .chosen .ensures .both) (c .chosen .ensures .all) (c .chosen .ensures .is)
+choice-returns-5 t c = if-done (c .before .before .before .before .before .before .before .before .before .before .before .before .before .before .before .before .before .before .before .before .before .before .before .before .before .before .before .before .before .before .expr .ensures) (c .before .before .before .before .before .before .before .before .before .before .before .before .before .before .before .before .before .before .before .before .before .before .before .before .before .before .x .given .1) (c .before .before .before .before .before .before .before .before .before .before .before .before .before .before .before .before .before .before .before .before .before .before .before .before .behind .ensures) (c .before .before .before .before .before .before .before .before .before .before .before .before .before .before .before .before .before .before .before .expr2 .ensures) (c .before .before .before .before .before .before .before .before .before .before .before .before .before .before .before .y .given .1) (c .before .before .before .before .before .before .before .before .before .before .before .before .before .behind2 .ensures) (c .before .before .before .before .before .before .before .before .expr3 .ensures) (c .before .before .before .before .z .given .1) (c .before .before .agree .ensures) (not-false _ (c .before .if1 .left)) (c .chosen .ensures .both) (c .chosen .ensures .all) (c .chosen .ensures .is)
 
 compound-enum-told : (t : ℕ) → compound-lts.Need-enum-told (
   binding-below t,
@@ -4722,7 +3681,7 @@ compound-binding-requires : (t : ℕ) → compound-lts.Need-binding-requires (
   fit-below t,
   fit.Post,
 ) (compound-at t) compound.Post
-compound-binding-requires t c κs = (load-same _ 1000 (c .before .before .before .before .before .before .before .before .before .before .pre .0) 900 (omega arith), (c .before .before .before .before .before .before .before .before .before .before .pre .1 .0))
+compound-binding-requires t c κs = (load-same _ 1000 (c .before .before .before .before .before .before .before .before .before .pre .0) 900 (omega arith), (c .before .before .before .before .before .before .before .before .before .pre .1 .0))
 
 compound-enum-told-2 : (t : ℕ) → compound-lts.Need-enum-told-2 (
   binding-below t,
@@ -4762,7 +3721,7 @@ compound-choice-requires : (t : ℕ) → compound-lts.Need-choice-requires (
   fit-below t,
   fit.Post,
 ) (compound-at t) compound.Post
-compound-choice-requires t c κs = (load-same _ 1000 (c .before .before .before .before .before .before .before .before .before .before .pre .0) 900 (omega arith), (c .before .before .before .before .before .before .before .before .before .before .pre .1 .0))
+compound-choice-requires t c κs = (load-same _ 1000 (c .before .before .before .before .before .before .before .before .before .pre .0) 900 (omega arith), (c .before .before .before .before .before .before .before .before .before .pre .1 .0))
 
 compound-enum-known-form : (t : ℕ) → compound-lts.Need-enum-known-form (
   binding-below t,
@@ -4802,7 +3761,7 @@ compound-operation-requires : (t : ℕ) → compound-lts.Need-operation-requires
   fit-below t,
   fit.Post,
 ) (compound-at t) compound.Post
-compound-operation-requires t c κs = (load-same _ 1000 (c .before .before .before .before .before .before .before .before .before .before .before .pre .0) 900 (omega arith), (c .before .before .before .before .before .before .before .before .before .before .before .pre .1 .0))
+compound-operation-requires t c κs = (load-same _ 1000 (c .before .before .before .before .before .before .before .before .before .before .pre .0) 900 (omega arith), (c .before .before .before .before .before .before .before .before .before .before .pre .1 .0))
 
 compound-enum-known-form-2 : (t : ℕ) → compound-lts.Need-enum-known-form-2 (
   binding-below t,
@@ -4842,7 +3801,7 @@ compound-call-requires : (t : ℕ) → compound-lts.Need-call-requires (
   fit-below t,
   fit.Post,
 ) (compound-at t) compound.Post
-compound-call-requires t c κs = (load-same _ 1000 (c .before .before .before .before .before .before .before .before .before .before .before .pre .0) 900 (omega arith), ((c .before .before .before .before .before .before .before .before .before .before .before .pre .1 .0), subst Operands (c .before .before .before .before .before .form2 .given .1) (c .before .before .before .before .before .before .before .before .before .before .before .pre .1 .1)))
+compound-call-requires t c κs = (load-same _ 1000 (c .before .before .before .before .before .before .before .before .before .before .pre .0) 900 (omega arith), ((c .before .before .before .before .before .before .before .before .before .before .pre .1 .0), subst Operands (c .before .before .before .before .before .form2 .given .1) (c .before .before .before .before .before .before .before .before .before .before .pre .1 .1)))
 
 compound-enum-known-form-3 : (t : ℕ) → compound-lts.Need-enum-known-form-3 (
   binding-below t,
@@ -4882,7 +3841,7 @@ compound-construct-requires : (t : ℕ) → compound-lts.Need-construct-requires
   fit-below t,
   fit.Post,
 ) (compound-at t) compound.Post
-compound-construct-requires t c κs = (load-same _ 1000 (c .before .before .before .before .before .before .before .before .before .before .before .pre .0) 900 (omega arith), ((c .before .before .before .before .before .before .before .before .before .before .before .pre .1 .0), subst Operands (c .before .before .before .before .before .form3 .given .1) (c .before .before .before .before .before .before .before .before .before .before .before .pre .1 .1)))
+compound-construct-requires t c κs = (load-same _ 1000 (c .before .before .before .before .before .before .before .before .before .before .pre .0) 900 (omega arith), ((c .before .before .before .before .before .before .before .before .before .before .pre .1 .0), subst Operands (c .before .before .before .before .before .form3 .given .1) (c .before .before .before .before .before .before .before .before .before .before .pre .1 .1)))
 
 compound-enum-known-form-4 : (t : ℕ) → compound-lts.Need-enum-known-form-4 (
   binding-below t,
@@ -4922,7 +3881,7 @@ compound-case-of-requires : (t : ℕ) → compound-lts.Need-case-of-requires (
   fit-below t,
   fit.Post,
 ) (compound-at t) compound.Post
-compound-case-of-requires t c κs = (load-same _ 1000 (c .before .before .before .before .before .before .before .before .before .before .before .pre .0) 900 (omega arith), ((c .before .before .before .before .before .before .before .before .before .before .before .pre .1 .0), subst Operands (c .before .before .before .before .before .form4 .given .1) (c .before .before .before .before .before .before .before .before .before .before .before .pre .1 .1)))
+compound-case-of-requires t c κs = (load-same _ 1000 (c .before .before .before .before .before .before .before .before .before .before .pre .0) 900 (omega arith), ((c .before .before .before .before .before .before .before .before .before .before .pre .1 .0), subst Operands (c .before .before .before .before .before .form4 .given .1) (c .before .before .before .before .before .before .before .before .before .before .pre .1 .1)))
 
 compound-enum-told-3 : (t : ℕ) → compound-lts.Need-enum-told-3 (
   binding-below t,
@@ -4962,7 +3921,7 @@ compound-adjust-requires : (t : ℕ) → compound-lts.Need-adjust-requires (
   fit-below t,
   fit.Post,
 ) (compound-at t) compound.Post
-compound-adjust-requires t c κs = (load-same _ 1000 (c .before .before .before .before .before .before .before .before .before .before .pre .0) 900 (omega arith), (c .before .before .before .before .before .before .before .before .before .before .pre .1 .0))
+compound-adjust-requires t c κs = (load-same _ 1000 (c .before .before .before .before .before .before .before .before .before .pre .0) 900 (omega arith), (c .before .before .before .before .before .before .before .before .before .pre .1 .0))
 
 compound-enum-known-form-5 : (t : ℕ) → compound-lts.Need-enum-known-form-5 (
   binding-below t,
@@ -5002,9 +3961,9 @@ compound-fit-requires : (t : ℕ) → compound-lts.Need-fit-requires (
   fit-below t,
   fit.Post,
 ) (compound-at t) compound.Post
-compound-fit-requires t c κs = (load-same _ 1000 (c .before .before .before .before .before .before .before .before .before .before .before .pre .0) 900 (omega arith), ((c .before .before .before .before .before .before .before .before .before .before .before .pre .1 .0), subst Operands (c .before .before .before .before .before .form5 .given .1) (c .before .before .before .before .before .before .before .before .before .before .before .pre .1 .1)))
+compound-fit-requires t c κs = (load-same _ 1000 (c .before .before .before .before .before .before .before .before .before .before .pre .0) 900 (omega arith), ((c .before .before .before .before .before .before .before .before .before .before .pre .1 .0), subst Operands (c .before .before .before .before .before .form5 .given .1) (c .before .before .before .before .before .before .before .before .before .before .pre .1 .1)))
 
-compound-add-t72 : (t : ℕ) → compound-lts.Need-add-t72 (
+compound-add-t57 : (t : ℕ) → compound-lts.Need-add-t57 (
   binding-below t,
   binding.Post,
   choice-below t,
@@ -5022,7 +3981,7 @@ compound-add-t72 : (t : ℕ) → compound-lts.Need-add-t72 (
   fit-below t,
   fit.Post,
 ) (compound-at t) compound.Post
-compound-add-t72 t c = omega (arith, (c .before .before .before .before .before .before .pre .1 .0 .line))
+compound-add-t57 t c = omega (arith, (c .before .before .before .before .before .pre .1 .0 .line))
 
 compound-same-length : (t : ℕ) → compound-lts.Need-same-length (
   binding-below t,
@@ -5042,47 +4001,7 @@ compound-same-length : (t : ℕ) → compound-lts.Need-same-length (
   fit-below t,
   fit.Post,
 ) (compound-at t) compound.Post
-compound-same-length t c = (c .before .before .before .before .before .before .binding .kept .1 .1 .0)
-
-compound-same-length-2 : (t : ℕ) → compound-lts.Need-same-length-2 (
-  binding-below t,
-  binding.Post,
-  choice-below t,
-  choice.Post,
-  operation-below t,
-  operation.Post,
-  call-below t,
-  call.Post,
-  construct-below t,
-  construct.Post,
-  case-of-below t,
-  case-of.Post,
-  adjust-below t,
-  adjust.Post,
-  fit-below t,
-  fit.Post,
-) (compound-at t) compound.Post
-compound-same-length-2 t c = (c .before .before .before .before .before .before .binding .kept .1 .1 .1 .1 .0)
-
-compound-same-length-3 : (t : ℕ) → compound-lts.Need-same-length-3 (
-  binding-below t,
-  binding.Post,
-  choice-below t,
-  choice.Post,
-  operation-below t,
-  operation.Post,
-  call-below t,
-  call.Post,
-  construct-below t,
-  construct.Post,
-  case-of-below t,
-  case-of.Post,
-  adjust-below t,
-  adjust.Post,
-  fit-below t,
-  fit.Post,
-) (compound-at t) compound.Post
-compound-same-length-3 t c = (c .before .before .before .before .before .before .binding .kept .1 .1 .1 .1 .1 .0)
+compound-same-length t c = (c .before .before .binding .kept .1 .1 .0)
 
 compound-returns : (t : ℕ) → compound-lts.Need-returns (
   binding-below t,
@@ -5102,9 +4021,9 @@ compound-returns : (t : ℕ) → compound-lts.Need-returns (
   fit-below t,
   fit.Post,
 ) (compound-at t) compound.Post
-compound-returns t c = compound-is (c .before .before .before .before .before .before .before .before .before .before .before .enum-told .given .1) (c .before .before .before .before .before .before .binding .ensures)
+compound-returns t c = compound-is (c .before .before .before .before .before .before .before .enum-told .given .1) (c .before .before .binding .ensures)
 
-compound-same-length-4 : (t : ℕ) → compound-lts.Need-same-length-4 (
+compound-same-length-2 : (t : ℕ) → compound-lts.Need-same-length-2 (
   binding-below t,
   binding.Post,
   choice-below t,
@@ -5122,47 +4041,7 @@ compound-same-length-4 : (t : ℕ) → compound-lts.Need-same-length-4 (
   fit-below t,
   fit.Post,
 ) (compound-at t) compound.Post
-compound-same-length-4 t c = (c .before .before .before .before .before .before .choice .kept .1 .1 .0)
-
-compound-same-length-5 : (t : ℕ) → compound-lts.Need-same-length-5 (
-  binding-below t,
-  binding.Post,
-  choice-below t,
-  choice.Post,
-  operation-below t,
-  operation.Post,
-  call-below t,
-  call.Post,
-  construct-below t,
-  construct.Post,
-  case-of-below t,
-  case-of.Post,
-  adjust-below t,
-  adjust.Post,
-  fit-below t,
-  fit.Post,
-) (compound-at t) compound.Post
-compound-same-length-5 t c = (c .before .before .before .before .before .before .choice .kept .1 .1 .1 .1 .0)
-
-compound-same-length-6 : (t : ℕ) → compound-lts.Need-same-length-6 (
-  binding-below t,
-  binding.Post,
-  choice-below t,
-  choice.Post,
-  operation-below t,
-  operation.Post,
-  call-below t,
-  call.Post,
-  construct-below t,
-  construct.Post,
-  case-of-below t,
-  case-of.Post,
-  adjust-below t,
-  adjust.Post,
-  fit-below t,
-  fit.Post,
-) (compound-at t) compound.Post
-compound-same-length-6 t c = (c .before .before .before .before .before .before .choice .kept .1 .1 .1 .1 .1 .0)
+compound-same-length-2 t c = (c .before .before .choice .kept .1 .1 .0)
 
 compound-returns-2 : (t : ℕ) → compound-lts.Need-returns-2 (
   binding-below t,
@@ -5182,9 +4061,9 @@ compound-returns-2 : (t : ℕ) → compound-lts.Need-returns-2 (
   fit-below t,
   fit.Post,
 ) (compound-at t) compound.Post
-compound-returns-2 t c = compound-is (c .before .before .before .before .before .before .before .before .before .before .before .enum-told2 .given .1) (c .before .before .before .before .before .before .choice .ensures)
+compound-returns-2 t c = compound-is (c .before .before .before .before .before .before .before .enum-told2 .given .1) (c .before .before .choice .ensures)
 
-compound-same-length-7 : (t : ℕ) → compound-lts.Need-same-length-7 (
+compound-same-length-3 : (t : ℕ) → compound-lts.Need-same-length-3 (
   binding-below t,
   binding.Post,
   choice-below t,
@@ -5202,47 +4081,7 @@ compound-same-length-7 : (t : ℕ) → compound-lts.Need-same-length-7 (
   fit-below t,
   fit.Post,
 ) (compound-at t) compound.Post
-compound-same-length-7 t c = (c .before .before .before .before .before .before .operation .kept .1 .1 .0)
-
-compound-same-length-8 : (t : ℕ) → compound-lts.Need-same-length-8 (
-  binding-below t,
-  binding.Post,
-  choice-below t,
-  choice.Post,
-  operation-below t,
-  operation.Post,
-  call-below t,
-  call.Post,
-  construct-below t,
-  construct.Post,
-  case-of-below t,
-  case-of.Post,
-  adjust-below t,
-  adjust.Post,
-  fit-below t,
-  fit.Post,
-) (compound-at t) compound.Post
-compound-same-length-8 t c = (c .before .before .before .before .before .before .operation .kept .1 .1 .1 .1 .0)
-
-compound-same-length-9 : (t : ℕ) → compound-lts.Need-same-length-9 (
-  binding-below t,
-  binding.Post,
-  choice-below t,
-  choice.Post,
-  operation-below t,
-  operation.Post,
-  call-below t,
-  call.Post,
-  construct-below t,
-  construct.Post,
-  case-of-below t,
-  case-of.Post,
-  adjust-below t,
-  adjust.Post,
-  fit-below t,
-  fit.Post,
-) (compound-at t) compound.Post
-compound-same-length-9 t c = (c .before .before .before .before .before .before .operation .kept .1 .1 .1 .1 .1 .0)
+compound-same-length-3 t c = (c .before .before .operation .kept .1 .1 .0)
 
 compound-returns-3 : (t : ℕ) → compound-lts.Need-returns-3 (
   binding-below t,
@@ -5262,9 +4101,9 @@ compound-returns-3 : (t : ℕ) → compound-lts.Need-returns-3 (
   fit-below t,
   fit.Post,
 ) (compound-at t) compound.Post
-compound-returns-3 t c = compound-is (c .before .before .before .before .before .before .before .before .before .before .before .before .form .given .1) (c .before .before .before .before .before .before .operation .ensures)
+compound-returns-3 t c = compound-is (c .before .before .before .before .before .before .before .before .form .given .1) (c .before .before .operation .ensures)
 
-compound-same-length-10 : (t : ℕ) → compound-lts.Need-same-length-10 (
+compound-same-length-4 : (t : ℕ) → compound-lts.Need-same-length-4 (
   binding-below t,
   binding.Post,
   choice-below t,
@@ -5282,47 +4121,7 @@ compound-same-length-10 : (t : ℕ) → compound-lts.Need-same-length-10 (
   fit-below t,
   fit.Post,
 ) (compound-at t) compound.Post
-compound-same-length-10 t c = (c .before .before .before .before .before .before .call .kept .1 .1 .0)
-
-compound-same-length-11 : (t : ℕ) → compound-lts.Need-same-length-11 (
-  binding-below t,
-  binding.Post,
-  choice-below t,
-  choice.Post,
-  operation-below t,
-  operation.Post,
-  call-below t,
-  call.Post,
-  construct-below t,
-  construct.Post,
-  case-of-below t,
-  case-of.Post,
-  adjust-below t,
-  adjust.Post,
-  fit-below t,
-  fit.Post,
-) (compound-at t) compound.Post
-compound-same-length-11 t c = (c .before .before .before .before .before .before .call .kept .1 .1 .1 .1 .0)
-
-compound-same-length-12 : (t : ℕ) → compound-lts.Need-same-length-12 (
-  binding-below t,
-  binding.Post,
-  choice-below t,
-  choice.Post,
-  operation-below t,
-  operation.Post,
-  call-below t,
-  call.Post,
-  construct-below t,
-  construct.Post,
-  case-of-below t,
-  case-of.Post,
-  adjust-below t,
-  adjust.Post,
-  fit-below t,
-  fit.Post,
-) (compound-at t) compound.Post
-compound-same-length-12 t c = (c .before .before .before .before .before .before .call .kept .1 .1 .1 .1 .1 .0)
+compound-same-length-4 t c = (c .before .before .call .kept .1 .1 .0)
 
 compound-returns-4 : (t : ℕ) → compound-lts.Need-returns-4 (
   binding-below t,
@@ -5342,9 +4141,9 @@ compound-returns-4 : (t : ℕ) → compound-lts.Need-returns-4 (
   fit-below t,
   fit.Post,
 ) (compound-at t) compound.Post
-compound-returns-4 t c = compound-is (c .before .before .before .before .before .before .before .before .before .before .before .before .form2 .given .1) (c .before .before .before .before .before .before .call .ensures)
+compound-returns-4 t c = compound-is (c .before .before .before .before .before .before .before .before .form2 .given .1) (c .before .before .call .ensures)
 
-compound-same-length-13 : (t : ℕ) → compound-lts.Need-same-length-13 (
+compound-same-length-5 : (t : ℕ) → compound-lts.Need-same-length-5 (
   binding-below t,
   binding.Post,
   choice-below t,
@@ -5362,47 +4161,7 @@ compound-same-length-13 : (t : ℕ) → compound-lts.Need-same-length-13 (
   fit-below t,
   fit.Post,
 ) (compound-at t) compound.Post
-compound-same-length-13 t c = (c .before .before .before .before .before .before .construct .kept .1 .1 .0)
-
-compound-same-length-14 : (t : ℕ) → compound-lts.Need-same-length-14 (
-  binding-below t,
-  binding.Post,
-  choice-below t,
-  choice.Post,
-  operation-below t,
-  operation.Post,
-  call-below t,
-  call.Post,
-  construct-below t,
-  construct.Post,
-  case-of-below t,
-  case-of.Post,
-  adjust-below t,
-  adjust.Post,
-  fit-below t,
-  fit.Post,
-) (compound-at t) compound.Post
-compound-same-length-14 t c = (c .before .before .before .before .before .before .construct .kept .1 .1 .1 .1 .0)
-
-compound-same-length-15 : (t : ℕ) → compound-lts.Need-same-length-15 (
-  binding-below t,
-  binding.Post,
-  choice-below t,
-  choice.Post,
-  operation-below t,
-  operation.Post,
-  call-below t,
-  call.Post,
-  construct-below t,
-  construct.Post,
-  case-of-below t,
-  case-of.Post,
-  adjust-below t,
-  adjust.Post,
-  fit-below t,
-  fit.Post,
-) (compound-at t) compound.Post
-compound-same-length-15 t c = (c .before .before .before .before .before .before .construct .kept .1 .1 .1 .1 .1 .0)
+compound-same-length-5 t c = (c .before .before .construct .kept .1 .1 .0)
 
 compound-returns-5 : (t : ℕ) → compound-lts.Need-returns-5 (
   binding-below t,
@@ -5422,9 +4181,9 @@ compound-returns-5 : (t : ℕ) → compound-lts.Need-returns-5 (
   fit-below t,
   fit.Post,
 ) (compound-at t) compound.Post
-compound-returns-5 t c = compound-is (c .before .before .before .before .before .before .before .before .before .before .before .before .form3 .given .1) (c .before .before .before .before .before .before .construct .ensures)
+compound-returns-5 t c = compound-is (c .before .before .before .before .before .before .before .before .form3 .given .1) (c .before .before .construct .ensures)
 
-compound-same-length-16 : (t : ℕ) → compound-lts.Need-same-length-16 (
+compound-same-length-6 : (t : ℕ) → compound-lts.Need-same-length-6 (
   binding-below t,
   binding.Post,
   choice-below t,
@@ -5442,47 +4201,7 @@ compound-same-length-16 : (t : ℕ) → compound-lts.Need-same-length-16 (
   fit-below t,
   fit.Post,
 ) (compound-at t) compound.Post
-compound-same-length-16 t c = (c .before .before .before .before .before .before .case-of .kept .1 .1 .0)
-
-compound-same-length-17 : (t : ℕ) → compound-lts.Need-same-length-17 (
-  binding-below t,
-  binding.Post,
-  choice-below t,
-  choice.Post,
-  operation-below t,
-  operation.Post,
-  call-below t,
-  call.Post,
-  construct-below t,
-  construct.Post,
-  case-of-below t,
-  case-of.Post,
-  adjust-below t,
-  adjust.Post,
-  fit-below t,
-  fit.Post,
-) (compound-at t) compound.Post
-compound-same-length-17 t c = (c .before .before .before .before .before .before .case-of .kept .1 .1 .1 .1 .0)
-
-compound-same-length-18 : (t : ℕ) → compound-lts.Need-same-length-18 (
-  binding-below t,
-  binding.Post,
-  choice-below t,
-  choice.Post,
-  operation-below t,
-  operation.Post,
-  call-below t,
-  call.Post,
-  construct-below t,
-  construct.Post,
-  case-of-below t,
-  case-of.Post,
-  adjust-below t,
-  adjust.Post,
-  fit-below t,
-  fit.Post,
-) (compound-at t) compound.Post
-compound-same-length-18 t c = (c .before .before .before .before .before .before .case-of .kept .1 .1 .1 .1 .1 .0)
+compound-same-length-6 t c = (c .before .before .case-of .kept .1 .1 .0)
 
 compound-returns-6 : (t : ℕ) → compound-lts.Need-returns-6 (
   binding-below t,
@@ -5502,9 +4221,9 @@ compound-returns-6 : (t : ℕ) → compound-lts.Need-returns-6 (
   fit-below t,
   fit.Post,
 ) (compound-at t) compound.Post
-compound-returns-6 t c = compound-is (c .before .before .before .before .before .before .before .before .before .before .before .before .form4 .given .1) (c .before .before .before .before .before .before .case-of .ensures)
+compound-returns-6 t c = compound-is (c .before .before .before .before .before .before .before .before .form4 .given .1) (c .before .before .case-of .ensures)
 
-compound-same-length-19 : (t : ℕ) → compound-lts.Need-same-length-19 (
+compound-same-length-7 : (t : ℕ) → compound-lts.Need-same-length-7 (
   binding-below t,
   binding.Post,
   choice-below t,
@@ -5522,47 +4241,7 @@ compound-same-length-19 : (t : ℕ) → compound-lts.Need-same-length-19 (
   fit-below t,
   fit.Post,
 ) (compound-at t) compound.Post
-compound-same-length-19 t c = (c .before .before .before .before .before .before .adjust .kept .1 .1 .0)
-
-compound-same-length-20 : (t : ℕ) → compound-lts.Need-same-length-20 (
-  binding-below t,
-  binding.Post,
-  choice-below t,
-  choice.Post,
-  operation-below t,
-  operation.Post,
-  call-below t,
-  call.Post,
-  construct-below t,
-  construct.Post,
-  case-of-below t,
-  case-of.Post,
-  adjust-below t,
-  adjust.Post,
-  fit-below t,
-  fit.Post,
-) (compound-at t) compound.Post
-compound-same-length-20 t c = (c .before .before .before .before .before .before .adjust .kept .1 .1 .1 .1 .0)
-
-compound-same-length-21 : (t : ℕ) → compound-lts.Need-same-length-21 (
-  binding-below t,
-  binding.Post,
-  choice-below t,
-  choice.Post,
-  operation-below t,
-  operation.Post,
-  call-below t,
-  call.Post,
-  construct-below t,
-  construct.Post,
-  case-of-below t,
-  case-of.Post,
-  adjust-below t,
-  adjust.Post,
-  fit-below t,
-  fit.Post,
-) (compound-at t) compound.Post
-compound-same-length-21 t c = (c .before .before .before .before .before .before .adjust .kept .1 .1 .1 .1 .1 .0)
+compound-same-length-7 t c = (c .before .before .adjust .kept .1 .1 .0)
 
 compound-returns-7 : (t : ℕ) → compound-lts.Need-returns-7 (
   binding-below t,
@@ -5582,9 +4261,9 @@ compound-returns-7 : (t : ℕ) → compound-lts.Need-returns-7 (
   fit-below t,
   fit.Post,
 ) (compound-at t) compound.Post
-compound-returns-7 t c = compound-is (c .before .before .before .before .before .before .before .before .before .before .before .enum-told3 .given .1) (c .before .before .before .before .before .before .adjust .ensures)
+compound-returns-7 t c = compound-is (c .before .before .before .before .before .before .before .enum-told3 .given .1) (c .before .before .adjust .ensures)
 
-compound-same-length-22 : (t : ℕ) → compound-lts.Need-same-length-22 (
+compound-same-length-8 : (t : ℕ) → compound-lts.Need-same-length-8 (
   binding-below t,
   binding.Post,
   choice-below t,
@@ -5602,47 +4281,7 @@ compound-same-length-22 : (t : ℕ) → compound-lts.Need-same-length-22 (
   fit-below t,
   fit.Post,
 ) (compound-at t) compound.Post
-compound-same-length-22 t c = (c .before .before .before .before .before .before .fit .kept .1 .1 .0)
-
-compound-same-length-23 : (t : ℕ) → compound-lts.Need-same-length-23 (
-  binding-below t,
-  binding.Post,
-  choice-below t,
-  choice.Post,
-  operation-below t,
-  operation.Post,
-  call-below t,
-  call.Post,
-  construct-below t,
-  construct.Post,
-  case-of-below t,
-  case-of.Post,
-  adjust-below t,
-  adjust.Post,
-  fit-below t,
-  fit.Post,
-) (compound-at t) compound.Post
-compound-same-length-23 t c = (c .before .before .before .before .before .before .fit .kept .1 .1 .1 .1 .0)
-
-compound-same-length-24 : (t : ℕ) → compound-lts.Need-same-length-24 (
-  binding-below t,
-  binding.Post,
-  choice-below t,
-  choice.Post,
-  operation-below t,
-  operation.Post,
-  call-below t,
-  call.Post,
-  construct-below t,
-  construct.Post,
-  case-of-below t,
-  case-of.Post,
-  adjust-below t,
-  adjust.Post,
-  fit-below t,
-  fit.Post,
-) (compound-at t) compound.Post
-compound-same-length-24 t c = (c .before .before .before .before .before .before .fit .kept .1 .1 .1 .1 .1 .0)
+compound-same-length-8 t c = (c .before .before .fit .kept .1 .1 .0)
 
 compound-returns-8 : (t : ℕ) → compound-lts.Need-returns-8 (
   binding-below t,
@@ -5662,7 +4301,7 @@ compound-returns-8 : (t : ℕ) → compound-lts.Need-returns-8 (
   fit-below t,
   fit.Post,
 ) (compound-at t) compound.Post
-compound-returns-8 t c = compound-is (c .before .before .before .before .before .before .before .before .before .before .before .before .form5 .given .1) (c .before .before .before .before .before .before .fit .ensures)
+compound-returns-8 t c = compound-is (c .before .before .before .before .before .before .before .before .form5 .given .1) (c .before .before .fit .ensures)
 
 compound-returns-9 : (t : ℕ) → compound-lts.Need-returns-9 (
   binding-below t,
@@ -5682,7 +4321,7 @@ compound-returns-9 : (t : ℕ) → compound-lts.Need-returns-9 (
   fit-below t,
   fit.Post,
 ) (compound-at t) compound.Post
-compound-returns-9 t c = compound-none (c .before .before .before .before .before .before .args .form) (no-parts (c .before .before .before .before .before .before .args .form) (leaf-or-missing _ (c .before .match .keys9)))
+compound-returns-9 t c = compound-none (c .before .before .before .before .before .args .form) (no-parts (c .before .before .before .before .before .args .form) (leaf-or-missing _ (c .before .match .keys9)))
 
 construct-fields-requires : (t : ℕ) → construct-lts.Need-fields-requires (
   fields-reads.Asked,
@@ -5718,7 +4357,7 @@ construct-several-requires : (t : ℕ) → construct-lts.Need-several-requires (
   made-reads.Asked,
   made-reads.Learnt,
 ) (construct-at t) construct.Post
-construct-several-requires t c κs = (load-same _ 900 (c .before .before .before .before .before .before .before .before .before .before .pre .0) 300 (omega arith), ((c .before .before .before .before .before .before .before .before .before .before .pre .1 .0), (c .before .before .before .before .before .fields .ensures .1)))
+construct-several-requires t c κs = (load-same _ 900 (c .before .before .before .before .before .before .before .before .pre .0) 300 (omega arith), ((c .before .before .before .before .before .before .before .before .pre .1 .0), (c .before .before .before .before .before .fields .ensures .1)))
 
 construct-enum-known-x : (t : ℕ) → construct-lts.Need-enum-known-x (
   fields-reads.Asked,
@@ -5766,31 +4405,7 @@ construct-same-length : (t : ℕ) → construct-lts.Need-same-length (
   made-reads.Asked,
   made-reads.Learnt,
 ) (construct-at t) construct.Post
-construct-same-length t c = (c .before .before .before .before .before .before .before .before .before .before .several .kept .1 .1 .0)
-
-construct-same-length-2 : (t : ℕ) → construct-lts.Need-same-length-2 (
-  fields-reads.Asked,
-  fields-reads.Learnt,
-  several-below t,
-  several.Post,
-  refused-reads.Asked,
-  refused-reads.Learnt,
-  made-reads.Asked,
-  made-reads.Learnt,
-) (construct-at t) construct.Post
-construct-same-length-2 t c = (c .before .before .before .before .before .before .before .before .before .before .several .kept .1 .1 .1 .1 .0)
-
-construct-same-length-3 : (t : ℕ) → construct-lts.Need-same-length-3 (
-  fields-reads.Asked,
-  fields-reads.Learnt,
-  several-below t,
-  several.Post,
-  refused-reads.Asked,
-  refused-reads.Learnt,
-  made-reads.Asked,
-  made-reads.Learnt,
-) (construct-at t) construct.Post
-construct-same-length-3 t c = (c .before .before .before .before .before .before .before .before .before .before .several .kept .1 .1 .1 .1 .1 .0)
+construct-same-length t c = (c .before .before .before .before .before .before .several .kept .1 .1 .0)
 
 construct-returns : (t : ℕ) → construct-lts.Need-returns (
   fields-reads.Asked,
@@ -5802,7 +4417,7 @@ construct-returns : (t : ℕ) → construct-lts.Need-returns (
   made-reads.Asked,
   made-reads.Learnt,
 ) (construct-at t) construct.Post
-construct-returns t c = con-fields (c .before .before .before .before .before .before .before .before .before .before .before .before .before .before .before .before .fields .ensures) (omega arith) (c .before .before .before .before .before .before .before .before .before .before .several .ensures) (c .before .enum-told .given .1) (c .refused .ensures)
+construct-returns t c = con-fields (c .before .before .before .before .before .before .before .before .before .before .before .before .fields .ensures) (omega arith) (c .before .before .before .before .before .before .several .ensures) (c .before .enum-told .given .1) (c .refused .ensures)
 
 construct-slice-aggregate-made : (t : ℕ) → construct-lts.Need-slice-aggregate-made (
   fields-reads.Asked,
@@ -5826,9 +4441,9 @@ construct-made-requires : (t : ℕ) → construct-lts.Need-made-requires (
   made-reads.Asked,
   made-reads.Learnt,
 ) (construct-at t) construct.Post
-construct-made-requires t c κs = ((c .before .before .before .before .before .before .before .before .before .before .before .before .before .before .before .before .before .before .before .before .before .before .pre .1 .0 .line), (c .before .before .before .before .before .before .before .before .before .before .before .before .before .before .before .before .before .before .before .before .before .before .pre .1 .1 .0))
+construct-made-requires t c κs = ((c .before .before .before .before .before .before .before .before .before .before .before .before .before .before .before .before .pre .1 .0 .line), (c .before .before .before .before .before .before .before .before .before .before .before .before .before .before .before .before .pre .1 .1 .0))
 
-construct-same-length-4 : (t : ℕ) → construct-lts.Need-same-length-4 (
+construct-same-length-2 : (t : ℕ) → construct-lts.Need-same-length-2 (
   fields-reads.Asked,
   fields-reads.Learnt,
   several-below t,
@@ -5838,31 +4453,7 @@ construct-same-length-4 : (t : ℕ) → construct-lts.Need-same-length-4 (
   made-reads.Asked,
   made-reads.Learnt,
 ) (construct-at t) construct.Post
-construct-same-length-4 t c = (c .before .before .before .before .before .before .before .before .before .before .before .before .several .kept .1 .1 .0)
-
-construct-same-length-5 : (t : ℕ) → construct-lts.Need-same-length-5 (
-  fields-reads.Asked,
-  fields-reads.Learnt,
-  several-below t,
-  several.Post,
-  refused-reads.Asked,
-  refused-reads.Learnt,
-  made-reads.Asked,
-  made-reads.Learnt,
-) (construct-at t) construct.Post
-construct-same-length-5 t c = (c .before .before .before .before .before .before .before .before .before .before .before .before .several .kept .1 .1 .1 .1 .0)
-
-construct-same-length-6 : (t : ℕ) → construct-lts.Need-same-length-6 (
-  fields-reads.Asked,
-  fields-reads.Learnt,
-  several-below t,
-  several.Post,
-  refused-reads.Asked,
-  refused-reads.Learnt,
-  made-reads.Asked,
-  made-reads.Learnt,
-) (construct-at t) construct.Post
-construct-same-length-6 t c = (c .before .before .before .before .before .before .before .before .before .before .before .before .several .kept .1 .1 .1 .1 .1 .0)
+construct-same-length-2 t c = (c .before .before .before .before .before .before .before .before .several .kept .1 .1 .0)
 
 construct-returns-2 : (t : ℕ) → construct-lts.Need-returns-2 (
   fields-reads.Asked,
@@ -5874,7 +4465,7 @@ construct-returns-2 : (t : ℕ) → construct-lts.Need-returns-2 (
   made-reads.Asked,
   made-reads.Learnt,
 ) (construct-at t) construct.Post
-construct-returns-2 t c = con-made (c .before .before .before .before .before .before .before .before .before .before .before .before .before .before .before .before .before .before .fields .ensures) (omega arith) (c .before .before .before .before .before .before .before .before .before .before .before .before .several .ensures) (c .before .before .before .x .given .1) (c .made .ensures)
+construct-returns-2 t c = con-made (c .before .before .before .before .before .before .before .before .before .before .before .before .before .before .fields .ensures) (omega arith) (c .before .before .before .before .before .before .before .before .several .ensures) (c .before .before .before .x .given .1) (c .made .ensures)
 
 enter-find-requires : (t : ℕ) → enter-lts.Need-find-requires (
   find-reads.Asked,
@@ -5914,7 +4505,7 @@ enter-enter-new-requires : (t : ℕ) → enter-lts.Need-enter-new-requires (
   again-reads.Asked,
   again-reads.Learnt,
 ) (enter-at t) enter.Post
-enter-enter-new-requires t c κs = (load-same _ 90 (c .before .before .before .before .before .before .before .before .before .before .before .before .before .before .pre .0) 85 (omega arith), ((c .before .before .before .before .before .before .before .before .before .before .before .before .before .before .pre .1 .0), (c .before .before .before .before .before .before .before .before .before .before .before .before .before .before .pre .1 .1)))
+enter-enter-new-requires t c κs = (load-same _ 90 (c .before .before .before .before .before .before .before .before .before .before .before .before .before .pre .0) 85 (omega arith), ((c .before .before .before .before .before .before .before .before .before .before .before .before .before .pre .1 .0), (c .before .before .before .before .before .before .before .before .before .before .before .before .before .pre .1 .1)))
 
 enter-same-length : (t : ℕ) → enter-lts.Need-same-length (
   find-reads.Asked,
@@ -5924,27 +4515,7 @@ enter-same-length : (t : ℕ) → enter-lts.Need-same-length (
   again-reads.Asked,
   again-reads.Learnt,
 ) (enter-at t) enter.Post
-enter-same-length t c = (c .before .before .before .before .before .before .enter-new .kept .1 .1 .0)
-
-enter-same-length-2 : (t : ℕ) → enter-lts.Need-same-length-2 (
-  find-reads.Asked,
-  find-reads.Learnt,
-  enter-new-below t,
-  enter-new.Post,
-  again-reads.Asked,
-  again-reads.Learnt,
-) (enter-at t) enter.Post
-enter-same-length-2 t c = (c .before .before .before .before .before .before .enter-new .kept .1 .1 .1 .1 .0)
-
-enter-same-length-3 : (t : ℕ) → enter-lts.Need-same-length-3 (
-  find-reads.Asked,
-  find-reads.Learnt,
-  enter-new-below t,
-  enter-new.Post,
-  again-reads.Asked,
-  again-reads.Learnt,
-) (enter-at t) enter.Post
-enter-same-length-3 t c = (c .before .before .before .before .before .before .enter-new .kept .1 .1 .1 .1 .1 .0)
+enter-same-length t c = (c .before .before .enter-new .kept .1 .1 .0)
 
 enter-returns : (t : ℕ) → enter-lts.Need-returns (
   find-reads.Asked,
@@ -5954,7 +4525,7 @@ enter-returns : (t : ℕ) → enter-lts.Need-returns (
   again-reads.Asked,
   again-reads.Learnt,
 ) (enter-at t) enter.Post
-enter-returns t c = enter-absent (c .before .before .before .before .before .before .before .before .before .before .before .before .before .find .ensures) (c .before .before .before .before .before .before .before .before .before .before .before .enum-told .given .1) (c .before .before .before .before .before .before .enter-new .ensures)
+enter-returns t c = enter-absent (c .before .before .before .before .before .before .before .before .before .find .ensures) (c .before .before .before .before .before .before .before .enum-told .given .1) (c .before .before .enter-new .ensures)
 
 enter-again-requires : (t : ℕ) → enter-lts.Need-again-requires (
   find-reads.Asked,
@@ -5964,9 +4535,9 @@ enter-again-requires : (t : ℕ) → enter-lts.Need-again-requires (
   again-reads.Asked,
   again-reads.Learnt,
 ) (enter-at t) enter.Post
-enter-again-requires t c κs = ((c .before .before .before .before .before .before .before .before .before .before .before .before .before .before .pre .1 .0 .types), ((c .before .before .before .before .before .before .before .before .before .before .before .before .before .before .pre .1 .0 .line), (c .before .before .before .before .before .before .before .before .before .before .before .before .before .before .pre .1 .1 .0)))
+enter-again-requires t c κs = (c .before .before .before .before .before .before .before .before .before .before .before .before .before .pre .1 .0 .line)
 
-enter-same-length-4 : (t : ℕ) → enter-lts.Need-same-length-4 (
+enter-same-length-2 : (t : ℕ) → enter-lts.Need-same-length-2 (
   find-reads.Asked,
   find-reads.Learnt,
   enter-new-below t,
@@ -5974,17 +4545,7 @@ enter-same-length-4 : (t : ℕ) → enter-lts.Need-same-length-4 (
   again-reads.Asked,
   again-reads.Learnt,
 ) (enter-at t) enter.Post
-enter-same-length-4 t c = refl
-
-enter-same-length-5 : (t : ℕ) → enter-lts.Need-same-length-5 (
-  find-reads.Asked,
-  find-reads.Learnt,
-  enter-new-below t,
-  enter-new.Post,
-  again-reads.Asked,
-  again-reads.Learnt,
-) (enter-at t) enter.Post
-enter-same-length-5 t c = refl
+enter-same-length-2 t c = refl
 
 enter-returns-2 : (t : ℕ) → enter-lts.Need-returns-2 (
   find-reads.Asked,
@@ -6004,7 +4565,7 @@ enter-new-prepare-requires : (t : ℕ) → enter-new-lts.Need-prepare-requires (
   body-below t,
   body.Post,
 ) (enter-new-at t) enter-new.Post
-enter-new-prepare-requires t c κs = ((c .before .before .before .before .before .pre .1 .0 .types), ((c .before .before .before .before .before .pre .1 .0 .line), (c .before .before .before .before .before .pre .1 .1 .0)))
+enter-new-prepare-requires t c κs = (c .before .before .before .pre .1 .0 .line)
 
 enter-new-enum-known-y : (t : ℕ) → enter-new-lts.Need-enum-known-y (
   prepare-reads.Asked,
@@ -6036,16 +4597,6 @@ enter-new-not-entered-requires : (t : ℕ) → enter-new-lts.Need-not-entered-re
 ) (enter-new-at t) enter-new.Post
 enter-new-not-entered-requires t c κs = tt
 
-enter-new-same-length : (t : ℕ) → enter-new-lts.Need-same-length (
-  prepare-reads.Asked,
-  prepare-reads.Learnt,
-  not-entered-reads.Asked,
-  not-entered-reads.Learnt,
-  body-below t,
-  body.Post,
-) (enter-new-at t) enter-new.Post
-enter-new-same-length t c = refl
-
 enter-new-returns : (t : ℕ) → enter-new-lts.Need-returns (
   prepare-reads.Asked,
   prepare-reads.Learnt,
@@ -6064,9 +4615,9 @@ enter-new-body-requires : (t : ℕ) → enter-new-lts.Need-body-requires (
   body-below t,
   body.Post,
 ) (enter-new-at t) enter-new.Post
-enter-new-body-requires t c κs = (load-same _ 85 (c .before .before .before .before .before .before .before .before .before .before .before .before .before .pre .0) 80 (omega arith), ((c .before .before .before .before .before .before .before .before .before .before .before .before .before .pre .1 .0), entry-numbers (c .before .before .before .before .before .before .before .prepare .ensures .of) (c .before .before .before .before .before .y .given .1) (c .before .before .before .before .before .before .before .before .before .before .before .before .before .pre .1 .1 .0) (c .before .before .before .before .before .before .before .before .before .before .before .before .before .pre .1 .1 .1 .0) (c .before .before .before .before .before .before .before .before .before .before .before .before .before .pre .1 .1 .1 .1)))
+enter-new-body-requires t c κs = (load-same _ 85 (c .before .before .before .before .before .before .before .before .before .before .before .pre .0) 80 (omega arith), ((c .before .before .before .before .before .before .before .before .before .before .before .pre .1 .0), entry-numbers (c .before .before .before .before .before .before .before .prepare .ensures .of) (c .before .before .before .before .before .y .given .1) (c .before .before .before .before .before .before .before .before .before .before .before .pre .1 .1 .0) (c .before .before .before .before .before .before .before .before .before .before .before .pre .1 .1 .1 .0) (c .before .before .before .before .before .before .before .before .before .before .before .pre .1 .1 .1 .1)))
 
-enter-new-same-length-2 : (t : ℕ) → enter-new-lts.Need-same-length-2 (
+enter-new-same-length : (t : ℕ) → enter-new-lts.Need-same-length (
   prepare-reads.Asked,
   prepare-reads.Learnt,
   not-entered-reads.Asked,
@@ -6074,27 +4625,7 @@ enter-new-same-length-2 : (t : ℕ) → enter-new-lts.Need-same-length-2 (
   body-below t,
   body.Post,
 ) (enter-new-at t) enter-new.Post
-enter-new-same-length-2 t c = (c .before .before .before .before .before .before .body .kept .1 .1 .0)
-
-enter-new-same-length-3 : (t : ℕ) → enter-new-lts.Need-same-length-3 (
-  prepare-reads.Asked,
-  prepare-reads.Learnt,
-  not-entered-reads.Asked,
-  not-entered-reads.Learnt,
-  body-below t,
-  body.Post,
-) (enter-new-at t) enter-new.Post
-enter-new-same-length-3 t c = (c .before .before .before .before .before .before .body .kept .1 .1 .1 .1 .0)
-
-enter-new-same-length-4 : (t : ℕ) → enter-new-lts.Need-same-length-4 (
-  prepare-reads.Asked,
-  prepare-reads.Learnt,
-  not-entered-reads.Asked,
-  not-entered-reads.Learnt,
-  body-below t,
-  body.Post,
-) (enter-new-at t) enter-new.Post
-enter-new-same-length-4 t c = (c .before .before .before .before .before .before .body .kept .1 .1 .1 .1 .1 .0)
+enter-new-same-length t c = (c .before .before .body .kept .1 .1 .0)
 
 enter-new-returns-2 : (t : ℕ) → enter-new-lts.Need-returns-2 (
   prepare-reads.Asked,
@@ -6104,9 +4635,9 @@ enter-new-returns-2 : (t : ℕ) → enter-new-lts.Need-returns-2 (
   body-below t,
   body.Post,
 ) (enter-new-at t) enter-new.Post
-enter-new-returns-2 t c = new-entered (c .before .before .before .before .before .before .before .before .before .before .before .before .before .before .prepare .ensures) (c .before .before .before .before .before .before .before .before .before .before .before .before .y .given .1) (c .before .before .before .before .before .before .body .ensures)
+enter-new-returns-2 t c = new-entered (c .before .before .before .before .before .before .before .before .before .before .prepare .ensures) (c .before .before .before .before .before .before .before .before .y .given .1) (c .before .before .body .ensures)
 
-expr-add-t18 : (t : ℕ) → expr-lts.Need-add-t18 (
+expr-add-t19 : (t : ℕ) → expr-lts.Need-add-t19 (
   frame-line-reads.Asked,
   frame-line-reads.Learnt,
   head-at-reads.Asked,
@@ -6126,7 +4657,7 @@ expr-add-t18 : (t : ℕ) → expr-lts.Need-add-t18 (
   compound-below t,
   compound.Post,
 ) (expr-at t) expr.Post
-expr-add-t18 t c = omega (arith, (c .before .before .before .before .before .before .before .pre .1 .line))
+expr-add-t19 t c = omega (arith, (c .before .before .before .before .before .before .pre .1 .line))
 
 expr-returns : (t : ℕ) → expr-lts.Need-returns (
   frame-line-reads.Asked,
@@ -6654,7 +5185,7 @@ expr-compound-requires : (t : ℕ) → expr-lts.Need-compound-requires (
   compound-below t,
   compound.Post,
 ) (expr-at t) expr.Post
-expr-compound-requires t c κs = (load-down _ 0 (c .before .before .before .before .before .before .before .before .before .before .before .before .before .before .before .before .pre .0) _ 1000 (c .before .before .before .before .before .down .ensures) (omega (arith, (c .before .before .before .before .before .before .before .before .before .before .if1 .left))) (omega arith), (room-down (c .before .before .before .before .before .before .before .before .before .before .before .before .before .before .before .before .pre .1) (c .before .before .before .before .before .down .ensures) (omega (arith, (c .before .before .before .before .before .before .before .before .before .before .if1 .left))) refl, operands-of (c .before .before .before .before .before .before .before .head-at .ensures) _ refl))
+expr-compound-requires t c κs = (load-down _ 0 (c .before .before .before .before .before .before .before .before .before .before .before .before .before .before .before .pre .0) _ 1000 (c .before .before .before .before .before .down .ensures) (omega (arith, (c .before .before .before .before .before .before .before .before .before .before .if1 .left))) (omega arith), (room-down (c .before .before .before .before .before .before .before .before .before .before .before .before .before .before .before .pre .1) (c .before .before .before .before .before .down .ensures) (omega (arith, (c .before .before .before .before .before .before .before .before .before .before .if1 .left))) refl, operands-of (c .before .before .before .before .before .before .before .head-at .ensures) _ refl))
 
 expr-returns-2 : (t : ℕ) → expr-lts.Need-returns-2 (
   frame-line-reads.Asked,
@@ -6700,28 +5231,6 @@ expr-returns-3 : (t : ℕ) → expr-lts.Need-returns-3 (
 ) (expr-at t) expr.Post
 expr-returns-3 t c = expr-int (c .before .before .before .before .before .before .before .frame-line .ensures) (c .before .before .before .before .before .before .head-at .ensures) (c .before .before .before .before .down .ensures) (c .before .before .enum-told2 .given .1) (c .leaf2 .ensures) (c .before .one-cell2 .ensures)
 
-expr-same-length : (t : ℕ) → expr-lts.Need-same-length (
-  frame-line-reads.Asked,
-  frame-line-reads.Learnt,
-  head-at-reads.Asked,
-  head-at-reads.Learnt,
-  down-reads.Asked,
-  down-reads.Learnt,
-  one-cell-reads.Asked,
-  one-cell-reads.Learnt,
-  leaf-reads.Asked,
-  leaf-reads.Learnt,
-  type-in-reads.Asked,
-  type-in-reads.Learnt,
-  nothing-reads.Asked,
-  nothing-reads.Learnt,
-  channel-type-reads.Asked,
-  channel-type-reads.Learnt,
-  compound-below t,
-  compound.Post,
-) (expr-at t) expr.Post
-expr-same-length t c = refl
-
 expr-returns-4 : (t : ℕ) → expr-lts.Need-returns-4 (
   frame-line-reads.Asked,
   frame-line-reads.Learnt,
@@ -6742,7 +5251,7 @@ expr-returns-4 : (t : ℕ) → expr-lts.Need-returns-4 (
   compound-below t,
   compound.Post,
 ) (expr-at t) expr.Post
-expr-returns-4 t c = expr-variable (c .before .before .before .before .before .before .before .before .before .before .frame-line .ensures) (c .before .before .before .before .before .before .before .before .before .head-at .ensures) (c .before .before .before .before .before .before .before .down .ensures) (c .before .before .before .before .before .form .given .1) (c .before .before .type-in .ensures) (c .leaf3 .ensures) (c .before .nothing .ensures)
+expr-returns-4 t c = expr-variable (c .before .before .before .before .before .before .before .before .before .before .before .frame-line .ensures) (c .before .before .before .before .before .before .before .before .before .before .head-at .ensures) (c .before .before .before .before .before .before .before .before .down .ensures) (c .before .before .before .before .before .before .form .given .1) (c .before .before .type-in .ensures) (c .leaf3 .ensures) (c .before .nothing .ensures)
 
 expr-returns-5 : (t : ℕ) → expr-lts.Need-returns-5 (
   frame-line-reads.Asked,
@@ -6788,7 +5297,7 @@ expr-returns-6 : (t : ℕ) → expr-lts.Need-returns-6 (
 ) (expr-at t) expr.Post
 expr-returns-6 t c = expr-last (c .before .before .before .before .before .before .before .before .before .frame-line .ensures) (c .before .before .before .before .before .before .before .before .head-at .ensures) (c .before .before .before .before .before .before .down .ensures) (c .before .before .before .before .form3 .given .1) (c .before .before .channel-type2 .ensures) (c .leaf5 .ensures) (c .before .nothing3 .ensures)
 
-expr-same-length-2 : (t : ℕ) → expr-lts.Need-same-length-2 (
+expr-same-length : (t : ℕ) → expr-lts.Need-same-length (
   frame-line-reads.Asked,
   frame-line-reads.Learnt,
   head-at-reads.Asked,
@@ -6808,51 +5317,7 @@ expr-same-length-2 : (t : ℕ) → expr-lts.Need-same-length-2 (
   compound-below t,
   compound.Post,
 ) (expr-at t) expr.Post
-expr-same-length-2 t c = (c .before .before .before .before .before .before .compound .kept .1 .1 .0)
-
-expr-same-length-3 : (t : ℕ) → expr-lts.Need-same-length-3 (
-  frame-line-reads.Asked,
-  frame-line-reads.Learnt,
-  head-at-reads.Asked,
-  head-at-reads.Learnt,
-  down-reads.Asked,
-  down-reads.Learnt,
-  one-cell-reads.Asked,
-  one-cell-reads.Learnt,
-  leaf-reads.Asked,
-  leaf-reads.Learnt,
-  type-in-reads.Asked,
-  type-in-reads.Learnt,
-  nothing-reads.Asked,
-  nothing-reads.Learnt,
-  channel-type-reads.Asked,
-  channel-type-reads.Learnt,
-  compound-below t,
-  compound.Post,
-) (expr-at t) expr.Post
-expr-same-length-3 t c = (c .before .before .before .before .before .before .compound .kept .1 .1 .1 .1 .0)
-
-expr-same-length-4 : (t : ℕ) → expr-lts.Need-same-length-4 (
-  frame-line-reads.Asked,
-  frame-line-reads.Learnt,
-  head-at-reads.Asked,
-  head-at-reads.Learnt,
-  down-reads.Asked,
-  down-reads.Learnt,
-  one-cell-reads.Asked,
-  one-cell-reads.Learnt,
-  leaf-reads.Asked,
-  leaf-reads.Learnt,
-  type-in-reads.Asked,
-  type-in-reads.Learnt,
-  nothing-reads.Asked,
-  nothing-reads.Learnt,
-  channel-type-reads.Asked,
-  channel-type-reads.Learnt,
-  compound-below t,
-  compound.Post,
-) (expr-at t) expr.Post
-expr-same-length-4 t c = (c .before .before .before .before .before .before .compound .kept .1 .1 .1 .1 .1 .0)
+expr-same-length t c = (c .before .before .compound .kept .1 .1 .0)
 
 expr-returns-7 : (t : ℕ) → expr-lts.Need-returns-7 (
   frame-line-reads.Asked,
@@ -6874,7 +5339,7 @@ expr-returns-7 : (t : ℕ) → expr-lts.Need-returns-7 (
   compound-below t,
   compound.Post,
 ) (expr-at t) expr.Post
-expr-returns-7 t c = expr-compound (c .before .before .before .before .before .before .before .before .before .before .before .before .before .before .before .frame-line .ensures) (c .before .before .before .before .before .before .before .before .before .before .before .before .before .before .head-at .ensures) (c .before .before .before .before .before .before .before .before .before .before .before .before .down .ensures) (c .before .before .before .before .before .before .before .before .before .before .before .before .before .before .head-at .result .form) refl (no-leaf (c .before .before .before .before .before .before .before .before .before .before .before .before .before .before .head-at .result .form) (behind-leaves _ (c .before .before .before .before .before .before .before .before .before .before .before .match .keys6))) (c .before .before .before .before .before .before .compound .ensures)
+expr-returns-7 t c = expr-compound (c .before .before .before .before .before .before .before .before .before .before .before .frame-line .ensures) (c .before .before .before .before .before .before .before .before .before .before .head-at .ensures) (c .before .before .before .before .before .before .before .before .down .ensures) (c .before .before .before .before .before .before .before .before .before .before .head-at .result .form) refl (no-leaf (c .before .before .before .before .before .before .before .before .before .before .head-at .result .form) (behind-leaves _ (c .before .before .before .before .before .before .before .match .keys6))) (c .before .before .compound .ensures)
 
 fit-expr-requires : (t : ℕ) → fit-lts.Need-expr-requires (
   expr-below t,
@@ -6892,7 +5357,7 @@ fit-expr-requires : (t : ℕ) → fit-lts.Need-expr-requires (
   fitted-reads.Asked,
   fitted-reads.Learnt,
 ) (fit-at t) fit.Post
-fit-expr-requires t c κs = (load-same _ 900 (c .before .before .before .before .before .before .before .before .pre .0) 0 (omega arith), room-same (c .before .before .before .before .before .before .before .before .pre .1 .0) (omega arith))
+fit-expr-requires t c κs = (load-same _ 900 (c .before .before .before .before .before .before .before .pre .0) 0 (omega arith), room-same (c .before .before .before .before .before .before .before .pre .1 .0) (omega arith))
 
 fit-enum-known-x : (t : ℕ) → fit-lts.Need-enum-known-x (
   expr-below t,
@@ -6946,43 +5411,7 @@ fit-same-length : (t : ℕ) → fit-lts.Need-same-length (
   fitted-reads.Asked,
   fitted-reads.Learnt,
 ) (fit-at t) fit.Post
-fit-same-length t c = (c .before .before .before .before .before .before .before .before .expr .kept .1 .1 .0)
-
-fit-same-length-2 : (t : ℕ) → fit-lts.Need-same-length-2 (
-  expr-below t,
-  expr.Post,
-  word-of-reads.Asked,
-  word-of-reads.Learnt,
-  put-reads.Asked,
-  put-reads.Learnt,
-  behind-reads.Asked,
-  behind-reads.Learnt,
-  widen-reads.Asked,
-  widen-reads.Learnt,
-  agree-reads.Asked,
-  agree-reads.Learnt,
-  fitted-reads.Asked,
-  fitted-reads.Learnt,
-) (fit-at t) fit.Post
-fit-same-length-2 t c = (c .before .before .before .before .before .before .before .before .expr .kept .1 .1 .1 .1 .0)
-
-fit-same-length-3 : (t : ℕ) → fit-lts.Need-same-length-3 (
-  expr-below t,
-  expr.Post,
-  word-of-reads.Asked,
-  word-of-reads.Learnt,
-  put-reads.Asked,
-  put-reads.Learnt,
-  behind-reads.Asked,
-  behind-reads.Learnt,
-  widen-reads.Asked,
-  widen-reads.Learnt,
-  agree-reads.Asked,
-  agree-reads.Learnt,
-  fitted-reads.Asked,
-  fitted-reads.Learnt,
-) (fit-at t) fit.Post
-fit-same-length-3 t c = (c .before .before .before .before .before .before .before .before .expr .kept .1 .1 .1 .1 .1 .0)
+fit-same-length t c = (c .before .before .before .before .expr .kept .1 .1 .0)
 
 fit-returns : (t : ℕ) → fit-lts.Need-returns (
   expr-below t,
@@ -7000,7 +5429,7 @@ fit-returns : (t : ℕ) → fit-lts.Need-returns (
   fitted-reads.Asked,
   fitted-reads.Learnt,
 ) (fit-at t) fit.Post
-fit-returns t c = fit-subject _ (c .before .before .before .before .before .before .before .before .expr .ensures) (c .enum-told .given .1)
+fit-returns t c = fit-subject _ (c .before .before .before .before .expr .ensures) (c .enum-told .given .1)
 
 fit-enum-known-ty : (t : ℕ) → fit-lts.Need-enum-known-ty (
   expr-below t,
@@ -7020,7 +5449,7 @@ fit-enum-known-ty : (t : ℕ) → fit-lts.Need-enum-known-ty (
 ) (fit-at t) fit.Post
 fit-enum-known-ty t c = (c .match2 .keys1)
 
-fit-add-t27 : (t : ℕ) → fit-lts.Need-add-t27 (
+fit-add-t26 : (t : ℕ) → fit-lts.Need-add-t26 (
   expr-below t,
   expr.Post,
   word-of-reads.Asked,
@@ -7036,9 +5465,9 @@ fit-add-t27 : (t : ℕ) → fit-lts.Need-add-t27 (
   fitted-reads.Asked,
   fitted-reads.Learnt,
 ) (fit-at t) fit.Post
-fit-add-t27 t c = omega (arith, (c .before .before .before .before .before .before .before .before .before .before .before .before .before .before .before .before .before .before .before .before .pre .1 .0 .line))
+fit-add-t26 t c = omega (arith, (c .before .before .before .before .before .before .before .before .before .before .before .before .before .before .before .pre .1 .0 .line))
 
-fit-same-length-4 : (t : ℕ) → fit-lts.Need-same-length-4 (
+fit-same-length-2 : (t : ℕ) → fit-lts.Need-same-length-2 (
   expr-below t,
   expr.Post,
   word-of-reads.Asked,
@@ -7054,43 +5483,7 @@ fit-same-length-4 : (t : ℕ) → fit-lts.Need-same-length-4 (
   fitted-reads.Asked,
   fitted-reads.Learnt,
 ) (fit-at t) fit.Post
-fit-same-length-4 t c = (c .before .before .before .before .before .before .before .before .before .before .before .expr .kept .1 .1 .0)
-
-fit-same-length-5 : (t : ℕ) → fit-lts.Need-same-length-5 (
-  expr-below t,
-  expr.Post,
-  word-of-reads.Asked,
-  word-of-reads.Learnt,
-  put-reads.Asked,
-  put-reads.Learnt,
-  behind-reads.Asked,
-  behind-reads.Learnt,
-  widen-reads.Asked,
-  widen-reads.Learnt,
-  agree-reads.Asked,
-  agree-reads.Learnt,
-  fitted-reads.Asked,
-  fitted-reads.Learnt,
-) (fit-at t) fit.Post
-fit-same-length-5 t c = (c .before .before .before .before .before .before .before .before .before .before .before .expr .kept .1 .1 .1 .1 .0)
-
-fit-same-length-6 : (t : ℕ) → fit-lts.Need-same-length-6 (
-  expr-below t,
-  expr.Post,
-  word-of-reads.Asked,
-  word-of-reads.Learnt,
-  put-reads.Asked,
-  put-reads.Learnt,
-  behind-reads.Asked,
-  behind-reads.Learnt,
-  widen-reads.Asked,
-  widen-reads.Learnt,
-  agree-reads.Asked,
-  agree-reads.Learnt,
-  fitted-reads.Asked,
-  fitted-reads.Learnt,
-) (fit-at t) fit.Post
-fit-same-length-6 t c = (c .before .before .before .before .before .before .before .before .before .before .before .expr .kept .1 .1 .1 .1 .1 .0)
+fit-same-length-2 t c = (c .before .before .before .before .before .before .before .expr .kept .1 .1 .0)
 
 fit-returns-2 : (t : ℕ) → fit-lts.Need-returns-2 (
   expr-below t,
@@ -7108,9 +5501,9 @@ fit-returns-2 : (t : ℕ) → fit-lts.Need-returns-2 (
   fitted-reads.Asked,
   fitted-reads.Learnt,
 ) (fit-at t) fit.Post
-fit-returns-2 t c = fit-plain _ (c .before .before .before .before .before .before .before .before .before .before .before .expr .ensures) (c .before .before .before .x .given .1) (not-named _ (c .before .match2 .keys2))
+fit-returns-2 t c = fit-plain _ (c .before .before .before .before .before .before .before .expr .ensures) (c .before .before .before .x .given .1) (not-named _ (c .before .match2 .keys2))
 
-fit-cast-t28 : (t : ℕ) → fit-lts.Need-cast-t28 (
+fit-cast-t27 : (t : ℕ) → fit-lts.Need-cast-t27 (
   expr-below t,
   expr.Post,
   word-of-reads.Asked,
@@ -7126,7 +5519,7 @@ fit-cast-t28 : (t : ℕ) → fit-lts.Need-cast-t28 (
   fitted-reads.Asked,
   fitted-reads.Learnt,
 ) (fit-at t) fit.Post
-fit-cast-t28 t c = omega (arith, (c .before .before .before .before .before .before .before .before .before .before .before .before .before .before .before .before .before .before .before .before .before .pre .1 .1))
+fit-cast-t27 t c = omega (arith, (c .before .before .before .before .before .before .before .before .before .before .before .before .before .before .before .before .pre .1 .1))
 
 fit-word-of-requires : (t : ℕ) → fit-lts.Need-word-of-requires (
   expr-below t,
@@ -7216,7 +5609,7 @@ fit-widen-requires : (t : ℕ) → fit-lts.Need-widen-requires (
   fitted-reads.Asked,
   fitted-reads.Learnt,
 ) (fit-at t) fit.Post
-fit-widen-requires t c κs = room-widens (c .before .before .before .before .before .before .before .before .before .before .before .before .before .before .before .before .before .before .before .before .before .before .before .before .before .before .before .before .pre .1 .0) (c .behind .ensures) (omega arith) (omega arith)
+fit-widen-requires t c κs = room-widens (c .before .before .before .before .before .before .before .before .before .before .before .before .before .before .before .before .before .before .before .before .before .pre .1 .0) (c .behind .ensures) (omega arith) (omega arith)
 
 fit-expr-requires-2 : (t : ℕ) → fit-lts.Need-expr-requires-2 (
   expr-below t,
@@ -7234,7 +5627,7 @@ fit-expr-requires-2 : (t : ℕ) → fit-lts.Need-expr-requires-2 (
   fitted-reads.Asked,
   fitted-reads.Learnt,
 ) (fit-at t) fit.Post
-fit-expr-requires-2 t c κs = (load-wide _ 900 (c .before .before .before .before .before .before .before .before .before .before .before .before .before .before .before .before .before .before .before .before .before .before .before .before .before .before .before .before .before .before .before .before .before .pre .0) _ _ 1 0 0 (c .before .before .before .before .before .behind .ensures) (c .before .before .before .before .widen .ensures) (grows-to (c .before .before .before .before .before .before .before .before .before .before .before .before .before .before .before .before .before .before .before .before .before .before .before .before .expr .ensures .grows) (c .before .before .before .before .before .before .before .before .before .before .before .before .before .before .before .before .x .given .1)) (omega arith), room-wide (c .before .before .before .before .before .before .before .before .before .before .before .before .before .before .before .before .before .before .before .before .before .before .before .before .before .before .before .before .before .before .before .before .before .pre .1 .0) (c .before .before .before .before .before .behind .ensures) (c .before .before .before .before .widen .ensures) ((c .before .before .before .before .before .before .before .before .put .kept .0) ∙ (c .before .before .before .before .before .before .before .before .before .before .before .before .before .before .before .before .before .before .before .before .before .before .before .before .expr .kept .1 .1 .1 .1 .0)) ((c .before .before .before .before .before .before .before .before .before .before .before .before .before .before .before .before .before .before .before .before .before .before .before .before .expr .kept .1 .1 .1 .1 .1 .0)) (omega arith) (omega arith))
+fit-expr-requires-2 t c κs = (load-wide _ 900 (c .before .before .before .before .before .before .before .before .before .before .before .before .before .before .before .before .before .before .before .before .before .before .before .before .before .before .pre .0) _ _ 1 0 0 (c .before .before .before .before .before .behind .ensures) (c .before .before .before .before .widen .ensures) (grows-to (c .before .before .before .before .before .before .before .before .before .before .before .before .before .before .before .before .before .before .expr .ensures .grows) (c .before .before .before .before .before .before .before .before .before .before .before .before .before .before .x .given .1)) (omega arith), room-wide (c .before .before .before .before .before .before .before .before .before .before .before .before .before .before .before .before .before .before .before .before .before .before .before .before .before .before .pre .1 .0) (c .before .before .before .before .before .behind .ensures) (c .before .before .before .before .widen .ensures) (omega arith) (omega arith))
 
 fit-enum-known-y : (t : ℕ) → fit-lts.Need-enum-known-y (
   expr-below t,
@@ -7272,7 +5665,7 @@ fit-enum-told-2 : (t : ℕ) → fit-lts.Need-enum-told-2 (
 ) (fit-at t) fit.Post
 fit-enum-told-2 t c = (c .match3 .keys2)
 
-fit-same-length-7 : (t : ℕ) → fit-lts.Need-same-length-7 (
+fit-same-length-3 : (t : ℕ) → fit-lts.Need-same-length-3 (
   expr-below t,
   expr.Post,
   word-of-reads.Asked,
@@ -7288,43 +5681,7 @@ fit-same-length-7 : (t : ℕ) → fit-lts.Need-same-length-7 (
   fitted-reads.Asked,
   fitted-reads.Learnt,
 ) (fit-at t) fit.Post
-fit-same-length-7 t c = (c .before .before .before .before .before .before .before .before .expr2 .kept .1 .1 .0) ∙ (c .before .before .before .before .before .before .before .before .before .before .before .before .before .before .before .before .before .before .before .before .before .before .before .before .before .before .before .before .before .before .before .before .before .expr .kept .1 .1 .0)
-
-fit-same-length-8 : (t : ℕ) → fit-lts.Need-same-length-8 (
-  expr-below t,
-  expr.Post,
-  word-of-reads.Asked,
-  word-of-reads.Learnt,
-  put-reads.Asked,
-  put-reads.Learnt,
-  behind-reads.Asked,
-  behind-reads.Learnt,
-  widen-reads.Asked,
-  widen-reads.Learnt,
-  agree-reads.Asked,
-  agree-reads.Learnt,
-  fitted-reads.Asked,
-  fitted-reads.Learnt,
-) (fit-at t) fit.Post
-fit-same-length-8 t c = (c .before .before .before .before .before .before .before .before .expr2 .kept .1 .1 .1 .1 .0) ∙ (c .before .before .before .before .before .before .before .before .before .before .before .before .before .before .before .before .before .put .kept .0) ∙ (c .before .before .before .before .before .before .before .before .before .before .before .before .before .before .before .before .before .before .before .before .before .before .before .before .before .before .before .before .before .before .before .before .before .expr .kept .1 .1 .1 .1 .0)
-
-fit-same-length-9 : (t : ℕ) → fit-lts.Need-same-length-9 (
-  expr-below t,
-  expr.Post,
-  word-of-reads.Asked,
-  word-of-reads.Learnt,
-  put-reads.Asked,
-  put-reads.Learnt,
-  behind-reads.Asked,
-  behind-reads.Learnt,
-  widen-reads.Asked,
-  widen-reads.Learnt,
-  agree-reads.Asked,
-  agree-reads.Learnt,
-  fitted-reads.Asked,
-  fitted-reads.Learnt,
-) (fit-at t) fit.Post
-fit-same-length-9 t c = (c .before .before .before .before .before .before .before .before .expr2 .kept .1 .1 .1 .1 .1 .0) ∙ (c .before .before .before .before .before .before .before .before .before .before .before .before .before .before .before .before .before .before .before .before .before .before .before .before .before .before .before .before .before .before .before .before .before .expr .kept .1 .1 .1 .1 .1 .0)
+fit-same-length-3 t c = (c .before .before .before .before .expr2 .kept .1 .1 .0) ∙ (c .before .before .before .before .before .before .before .before .before .before .before .before .before .before .before .before .before .before .before .before .before .before .before .expr .kept .1 .1 .0)
 
 fit-returns-3 : (t : ℕ) → fit-lts.Need-returns-3 (
   expr-below t,
@@ -7342,7 +5699,7 @@ fit-returns-3 : (t : ℕ) → fit-lts.Need-returns-3 (
   fitted-reads.Asked,
   fitted-reads.Learnt,
 ) (fit-at t) fit.Post
-fit-returns-3 t c = fit-first _ (c .before .before .before .before .before .before .before .before .before .before .before .before .before .before .before .before .before .before .before .before .before .before .before .before .before .before .before .before .before .before .before .before .before .expr .ensures) (scope-long (c .before .before .before .before .before .before .before .before .before .before .before .before .before .before .before .before .before .before .before .before .before .before .before .before .before .before .before .before .before .before .before .before .before .before .before .before .before .before .before .before .before .before .pre .1 .0) ((c .before .before .before .before .before .before .before .before .before .before .before .before .before .before .before .before .before .before .before .before .before .before .before .before .before .before .before .before .before .before .before .before .before .expr .kept .1 .1 .1 .1 .0))) (c .before .before .before .before .before .before .before .before .before .before .before .before .before .before .before .before .before .before .before .before .before .before .before .before .before .x .given .1) (c .before .before .before .before .before .before .before .before .before .before .before .before .before .before .before .before .before .before .before .before .before .before .ty .given .1) (c .before .before .before .before .before .before .before .before .before .before .before .before .before .before .before .before .before .before .before .before .word-of .ensures .is) (c .before .before .before .before .before .before .before .before .before .before .before .before .before .before .behind .ensures) (c .before .before .before .before .before .before .before .before .before .before .before .before .before .widen .ensures) (put-is (c .before .before .before .before .before .before .before .before .before .before .before .before .before .before .before .before .before .put .ensures) (c .before .before .before .before .before .before .before .before .expr2 .ensures)) (c .enum-told2 .given .1)
+fit-returns-3 t c = fit-first _ (c .before .before .before .before .before .before .before .before .before .before .before .before .before .before .before .before .before .before .before .before .before .before .before .expr .ensures) (omega (arith, (c .before .before .before .before .before .before .before .before .before .before .before .before .before .put-arg .given .0 .1))) (c .before .before .before .before .before .before .before .before .before .before .before .before .before .before .before .before .before .before .before .x .given .1) (c .before .before .before .before .before .before .before .before .before .before .before .before .before .before .before .before .ty .given .1) (c .before .before .before .before .before .before .before .before .before .before .before .before .before .before .word-of .ensures .is) (c .before .before .before .before .before .before .before .before .before .before .behind .ensures) (c .before .before .before .before .before .before .before .before .before .widen .ensures) (put-is (c .before .before .before .before .before .before .before .before .before .before .before .put .ensures) (c .before .before .before .before .expr2 .ensures)) (c .enum-told2 .given .1)
 
 fit-behind-requires-2 : (t : ℕ) → fit-lts.Need-behind-requires-2 (
   expr-below t,
@@ -7378,7 +5735,7 @@ fit-expr-requires-3 : (t : ℕ) → fit-lts.Need-expr-requires-3 (
   fitted-reads.Asked,
   fitted-reads.Learnt,
 ) (fit-at t) fit.Post
-fit-expr-requires-3 t c κs = (load-moved _ 900 (c .before .before .before .before .before .before .before .before .before .before .before .before .before .before .before .before .before .before .before .before .before .before .before .before .before .before .before .before .before .before .before .before .before .before .before .before .before .before .before .before .before .before .before .before .before .before .before .before .pre .0) _ 0 (c .before .before .before .before .behind2 .ensures) (grows-wide (c .before .before .before .before .before .before .before .before .before .before .before .before .before .before .before .before .before .before .before .before .before .before .before .before .before .before .before .before .before .before .before .before .before .before .before .before .before .before .before .before .before .before .before .before .before .before .before .before .args .p) 1 0 (grows-to (c .before .before .before .before .before .before .before .before .before .before .before .before .before .before .before .before .before .before .before .before .before .before .before .before .before .before .before .before .before .before .before .before .before .before .before .before .before .before .before .expr .ensures .grows) (c .before .before .before .before .before .before .before .before .before .before .before .before .before .before .before .before .before .before .before .before .before .before .before .before .before .before .before .before .before .before .before .x .given .1)) (c .before .before .before .before .before .before .before .before .before .before .before .before .before .before .before .before .before .before .before .before .behind .ensures) (c .before .before .before .before .before .before .before .before .before .before .before .before .before .before .before .before .before .before .before .widen .ensures) (c .before .before .before .before .before .before .before .before .before .before .before .before .before .before .expr2 .ensures .grows) (c .before .before .before .before .before .before .y .given .1)) (omega arith), room-behind (c .before .before .before .before .before .before .before .before .before .before .before .before .before .before .before .before .before .before .before .before .before .before .before .before .before .before .before .before .before .before .before .before .before .before .before .before .before .before .before .before .before .before .before .before .before .before .before .before .pre .1 .0) (c .before .before .before .before .behind2 .ensures) ((c .before .before .before .before .before .before .before .before .before .before .before .before .before .before .expr2 .kept .1 .1 .1 .1 .0) ∙ (c .before .before .before .before .before .before .before .before .before .before .before .before .before .before .before .before .before .before .before .before .before .before .before .put .kept .0) ∙ (c .before .before .before .before .before .before .before .before .before .before .before .before .before .before .before .before .before .before .before .before .before .before .before .before .before .before .before .before .before .before .before .before .before .before .before .before .before .before .before .expr .kept .1 .1 .1 .1 .0)) ((c .before .before .before .before .before .before .before .before .before .before .before .before .before .before .expr2 .kept .1 .1 .1 .1 .1 .0) ∙ (c .before .before .before .before .before .before .before .before .before .before .before .before .before .before .before .before .before .before .before .before .before .before .before .before .before .before .before .before .before .before .before .before .before .before .before .before .before .before .before .expr .kept .1 .1 .1 .1 .1 .0)))
+fit-expr-requires-3 t c κs = (load-moved _ 900 (c .before .before .before .before .before .before .before .before .before .before .before .before .before .before .before .before .before .before .before .before .before .before .before .before .before .before .before .before .before .before .before .before .before .before .before .before .before .pre .0) _ 0 (c .before .before .before .before .behind2 .ensures) (grows-wide (c .before .before .before .before .before .before .before .before .before .before .before .before .before .before .before .before .before .before .before .before .before .before .before .before .before .before .before .before .before .before .before .before .before .before .before .before .before .args .p) 1 0 (grows-to (c .before .before .before .before .before .before .before .before .before .before .before .before .before .before .before .before .before .before .before .before .before .before .before .before .before .before .before .before .before .expr .ensures .grows) (c .before .before .before .before .before .before .before .before .before .before .before .before .before .before .before .before .before .before .before .before .before .before .before .before .before .x .given .1)) (c .before .before .before .before .before .before .before .before .before .before .before .before .before .before .before .before .behind .ensures) (c .before .before .before .before .before .before .before .before .before .before .before .before .before .before .before .widen .ensures) (c .before .before .before .before .before .before .before .before .before .before .expr2 .ensures .grows) (c .before .before .before .before .before .before .y .given .1)) (omega arith), room-behind (c .before .before .before .before .before .before .before .before .before .before .before .before .before .before .before .before .before .before .before .before .before .before .before .before .before .before .before .before .before .before .before .before .before .before .before .before .before .pre .1 .0) (c .before .before .before .before .behind2 .ensures))
 
 fit-enum-known-z : (t : ℕ) → fit-lts.Need-enum-known-z (
   expr-below t,
@@ -7416,7 +5773,7 @@ fit-enum-told-3 : (t : ℕ) → fit-lts.Need-enum-told-3 (
 ) (fit-at t) fit.Post
 fit-enum-told-3 t c = (c .match4 .keys2)
 
-fit-same-length-10 : (t : ℕ) → fit-lts.Need-same-length-10 (
+fit-same-length-4 : (t : ℕ) → fit-lts.Need-same-length-4 (
   expr-below t,
   expr.Post,
   word-of-reads.Asked,
@@ -7432,43 +5789,7 @@ fit-same-length-10 : (t : ℕ) → fit-lts.Need-same-length-10 (
   fitted-reads.Asked,
   fitted-reads.Learnt,
 ) (fit-at t) fit.Post
-fit-same-length-10 t c = (c .before .before .before .before .before .before .before .before .expr3 .kept .1 .1 .0) ∙ (c .before .before .before .before .before .before .before .before .before .before .before .before .before .before .before .before .before .before .before .before .before .before .before .expr2 .kept .1 .1 .0) ∙ (c .before .before .before .before .before .before .before .before .before .before .before .before .before .before .before .before .before .before .before .before .before .before .before .before .before .before .before .before .before .before .before .before .before .before .before .before .before .before .before .before .before .before .before .before .before .before .before .before .expr .kept .1 .1 .0)
-
-fit-same-length-11 : (t : ℕ) → fit-lts.Need-same-length-11 (
-  expr-below t,
-  expr.Post,
-  word-of-reads.Asked,
-  word-of-reads.Learnt,
-  put-reads.Asked,
-  put-reads.Learnt,
-  behind-reads.Asked,
-  behind-reads.Learnt,
-  widen-reads.Asked,
-  widen-reads.Learnt,
-  agree-reads.Asked,
-  agree-reads.Learnt,
-  fitted-reads.Asked,
-  fitted-reads.Learnt,
-) (fit-at t) fit.Post
-fit-same-length-11 t c = (c .before .before .before .before .before .before .before .before .expr3 .kept .1 .1 .1 .1 .0) ∙ (c .before .before .before .before .before .before .before .before .before .before .before .before .before .before .before .before .before .before .before .before .before .before .before .expr2 .kept .1 .1 .1 .1 .0) ∙ (c .before .before .before .before .before .before .before .before .before .before .before .before .before .before .before .before .before .before .before .before .before .before .before .before .before .before .before .before .before .before .before .before .put .kept .0) ∙ (c .before .before .before .before .before .before .before .before .before .before .before .before .before .before .before .before .before .before .before .before .before .before .before .before .before .before .before .before .before .before .before .before .before .before .before .before .before .before .before .before .before .before .before .before .before .before .before .before .expr .kept .1 .1 .1 .1 .0)
-
-fit-same-length-12 : (t : ℕ) → fit-lts.Need-same-length-12 (
-  expr-below t,
-  expr.Post,
-  word-of-reads.Asked,
-  word-of-reads.Learnt,
-  put-reads.Asked,
-  put-reads.Learnt,
-  behind-reads.Asked,
-  behind-reads.Learnt,
-  widen-reads.Asked,
-  widen-reads.Learnt,
-  agree-reads.Asked,
-  agree-reads.Learnt,
-  fitted-reads.Asked,
-  fitted-reads.Learnt,
-) (fit-at t) fit.Post
-fit-same-length-12 t c = (c .before .before .before .before .before .before .before .before .expr3 .kept .1 .1 .1 .1 .1 .0) ∙ (c .before .before .before .before .before .before .before .before .before .before .before .before .before .before .before .before .before .before .before .before .before .before .before .expr2 .kept .1 .1 .1 .1 .1 .0) ∙ (c .before .before .before .before .before .before .before .before .before .before .before .before .before .before .before .before .before .before .before .before .before .before .before .before .before .before .before .before .before .before .before .before .before .before .before .before .before .before .before .before .before .before .before .before .before .before .before .before .expr .kept .1 .1 .1 .1 .1 .0)
+fit-same-length-4 t c = (c .before .before .before .before .expr3 .kept .1 .1 .0) ∙ (c .before .before .before .before .before .before .before .before .before .before .before .before .before .before .before .expr2 .kept .1 .1 .0) ∙ (c .before .before .before .before .before .before .before .before .before .before .before .before .before .before .before .before .before .before .before .before .before .before .before .before .before .before .before .before .before .before .before .before .before .before .expr .kept .1 .1 .0)
 
 fit-returns-4 : (t : ℕ) → fit-lts.Need-returns-4 (
   expr-below t,
@@ -7486,7 +5807,7 @@ fit-returns-4 : (t : ℕ) → fit-lts.Need-returns-4 (
   fitted-reads.Asked,
   fitted-reads.Learnt,
 ) (fit-at t) fit.Post
-fit-returns-4 t c = fit-other _ (c .before .before .before .before .before .before .before .before .before .before .before .before .before .before .before .before .before .before .before .before .before .before .before .before .before .before .before .before .before .before .before .before .before .before .before .before .before .before .before .before .before .before .before .before .before .before .before .before .expr .ensures) (scope-long (c .before .before .before .before .before .before .before .before .before .before .before .before .before .before .before .before .before .before .before .before .before .before .before .before .before .before .before .before .before .before .before .before .before .before .before .before .before .before .before .before .before .before .before .before .before .before .before .before .before .before .before .before .before .before .before .before .before .pre .1 .0) ((c .before .before .before .before .before .before .before .before .before .before .before .before .before .before .before .before .before .before .before .before .before .before .before .before .before .before .before .before .before .before .before .before .before .before .before .before .before .before .before .before .before .before .before .before .before .before .before .before .expr .kept .1 .1 .1 .1 .0))) (c .before .before .before .before .before .before .before .before .before .before .before .before .before .before .before .before .before .before .before .before .before .before .before .before .before .before .before .before .before .before .before .before .before .before .before .before .before .before .before .before .x .given .1) (c .before .before .before .before .before .before .before .before .before .before .before .before .before .before .before .before .before .before .before .before .before .before .before .before .before .before .before .before .before .before .before .before .before .before .before .before .before .ty .given .1) (c .before .before .before .before .before .before .before .before .before .before .before .before .before .before .before .before .before .before .before .before .before .before .before .before .before .before .before .before .before .before .before .before .before .before .before .word-of .ensures .is) (c .before .before .before .before .before .before .before .before .before .before .before .before .before .before .before .before .before .before .before .before .before .before .before .before .before .before .before .before .before .behind .ensures) (c .before .before .before .before .before .before .before .before .before .before .before .before .before .before .before .before .before .before .before .before .before .before .before .before .before .before .before .before .widen .ensures) (put-is (c .before .before .before .before .before .before .before .before .before .before .before .before .before .before .before .before .before .before .before .before .before .before .before .before .before .before .before .before .before .before .before .before .put .ensures) (c .before .before .before .before .before .before .before .before .before .before .before .before .before .before .before .before .before .before .before .before .before .before .before .expr2 .ensures)) (c .before .before .before .before .before .before .before .before .before .before .before .before .before .before .before .y .given .1) (c .before .before .before .before .before .before .before .before .before .before .before .before .before .behind2 .ensures) (c .before .before .before .before .before .before .before .before .expr3 .ensures) (c .enum-told3 .given .1)
+fit-returns-4 t c = fit-other _ (c .before .before .before .before .before .before .before .before .before .before .before .before .before .before .before .before .before .before .before .before .before .before .before .before .before .before .before .before .before .before .before .before .before .before .expr .ensures) (omega (arith, (c .before .before .before .before .before .before .before .before .before .before .before .before .before .before .before .before .before .before .before .before .before .before .before .before .put-arg .given .0 .1))) (c .before .before .before .before .before .before .before .before .before .before .before .before .before .before .before .before .before .before .before .before .before .before .before .before .before .before .before .before .before .before .x .given .1) (c .before .before .before .before .before .before .before .before .before .before .before .before .before .before .before .before .before .before .before .before .before .before .before .before .before .before .before .ty .given .1) (c .before .before .before .before .before .before .before .before .before .before .before .before .before .before .before .before .before .before .before .before .before .before .before .before .before .word-of .ensures .is) (c .before .before .before .before .before .before .before .before .before .before .before .before .before .before .before .before .before .before .before .before .before .behind .ensures) (c .before .before .before .before .before .before .before .before .before .before .before .before .before .before .before .before .before .before .before .before .widen .ensures) (put-is (c .before .before .before .before .before .before .before .before .before .before .before .before .before .before .before .before .before .before .before .before .before .before .put .ensures) (c .before .before .before .before .before .before .before .before .before .before .before .before .before .before .before .expr2 .ensures)) (c .before .before .before .before .before .before .before .before .before .before .before .y .given .1) (c .before .before .before .before .before .before .before .before .before .behind2 .ensures) (c .before .before .before .before .expr3 .ensures) (c .enum-told3 .given .1)
 
 fit-agree-requires : (t : ℕ) → fit-lts.Need-agree-requires (
   expr-below t,
@@ -7506,7 +5827,7 @@ fit-agree-requires : (t : ℕ) → fit-lts.Need-agree-requires (
 ) (fit-at t) fit.Post
 fit-agree-requires t c κs = tt
 
-fit-add-t51 : (t : ℕ) → fit-lts.Need-add-t51 (
+fit-add-t46 : (t : ℕ) → fit-lts.Need-add-t46 (
   expr-below t,
   expr.Post,
   word-of-reads.Asked,
@@ -7522,9 +5843,9 @@ fit-add-t51 : (t : ℕ) → fit-lts.Need-add-t51 (
   fitted-reads.Asked,
   fitted-reads.Learnt,
 ) (fit-at t) fit.Post
-fit-add-t51 t c = omega (arith, (c .before .before .before .before .before .before .before .before .before .before .before .before .before .before .before .before .before .before .before .before .before .before .before .before .before .before .before .before .before .before .before .before .before .before .before .before .before .before .before .before .before .before .before .before .before .before .before .before .before .before .before .before .before .before .before .before .before .before .before .before .before .pre .1 .0 .line))
+fit-add-t46 t c = omega (arith, (c .before .before .before .before .before .before .before .before .before .before .before .before .before .before .before .before .before .before .before .before .before .before .before .before .before .before .before .before .before .before .before .before .before .before .before .before .before .before .before .before .before .before .before .before .before .before .pre .1 .0 .line))
 
-fit-same-length-13 : (t : ℕ) → fit-lts.Need-same-length-13 (
+fit-same-length-5 : (t : ℕ) → fit-lts.Need-same-length-5 (
   expr-below t,
   expr.Post,
   word-of-reads.Asked,
@@ -7540,43 +5861,7 @@ fit-same-length-13 : (t : ℕ) → fit-lts.Need-same-length-13 (
   fitted-reads.Asked,
   fitted-reads.Learnt,
 ) (fit-at t) fit.Post
-fit-same-length-13 t c = (c .before .before .before .before .before .before .before .before .before .before .before .before .expr3 .kept .1 .1 .0) ∙ (c .before .before .before .before .before .before .before .before .before .before .before .before .before .before .before .before .before .before .before .before .before .before .before .before .before .before .before .expr2 .kept .1 .1 .0) ∙ (c .before .before .before .before .before .before .before .before .before .before .before .before .before .before .before .before .before .before .before .before .before .before .before .before .before .before .before .before .before .before .before .before .before .before .before .before .before .before .before .before .before .before .before .before .before .before .before .before .before .before .before .before .expr .kept .1 .1 .0)
-
-fit-same-length-14 : (t : ℕ) → fit-lts.Need-same-length-14 (
-  expr-below t,
-  expr.Post,
-  word-of-reads.Asked,
-  word-of-reads.Learnt,
-  put-reads.Asked,
-  put-reads.Learnt,
-  behind-reads.Asked,
-  behind-reads.Learnt,
-  widen-reads.Asked,
-  widen-reads.Learnt,
-  agree-reads.Asked,
-  agree-reads.Learnt,
-  fitted-reads.Asked,
-  fitted-reads.Learnt,
-) (fit-at t) fit.Post
-fit-same-length-14 t c = (c .before .before .before .before .before .before .before .before .before .before .before .before .expr3 .kept .1 .1 .1 .1 .0) ∙ (c .before .before .before .before .before .before .before .before .before .before .before .before .before .before .before .before .before .before .before .before .before .before .before .before .before .before .before .expr2 .kept .1 .1 .1 .1 .0) ∙ (c .before .before .before .before .before .before .before .before .before .before .before .before .before .before .before .before .before .before .before .before .before .before .before .before .before .before .before .before .before .before .before .before .before .before .before .before .put .kept .0) ∙ (c .before .before .before .before .before .before .before .before .before .before .before .before .before .before .before .before .before .before .before .before .before .before .before .before .before .before .before .before .before .before .before .before .before .before .before .before .before .before .before .before .before .before .before .before .before .before .before .before .before .before .before .before .expr .kept .1 .1 .1 .1 .0)
-
-fit-same-length-15 : (t : ℕ) → fit-lts.Need-same-length-15 (
-  expr-below t,
-  expr.Post,
-  word-of-reads.Asked,
-  word-of-reads.Learnt,
-  put-reads.Asked,
-  put-reads.Learnt,
-  behind-reads.Asked,
-  behind-reads.Learnt,
-  widen-reads.Asked,
-  widen-reads.Learnt,
-  agree-reads.Asked,
-  agree-reads.Learnt,
-  fitted-reads.Asked,
-  fitted-reads.Learnt,
-) (fit-at t) fit.Post
-fit-same-length-15 t c = (c .before .before .before .before .before .before .before .before .before .before .before .before .expr3 .kept .1 .1 .1 .1 .1 .0) ∙ (c .before .before .before .before .before .before .before .before .before .before .before .before .before .before .before .before .before .before .before .before .before .before .before .before .before .before .before .expr2 .kept .1 .1 .1 .1 .1 .0) ∙ (c .before .before .before .before .before .before .before .before .before .before .before .before .before .before .before .before .before .before .before .before .before .before .before .before .before .before .before .before .before .before .before .before .before .before .before .before .before .before .before .before .before .before .before .before .before .before .before .before .before .before .before .before .expr .kept .1 .1 .1 .1 .1 .0)
+fit-same-length-5 t c = (c .before .before .before .before .before .before .before .before .expr3 .kept .1 .1 .0) ∙ (c .before .before .before .before .before .before .before .before .before .before .before .before .before .before .before .before .before .before .before .expr2 .kept .1 .1 .0) ∙ (c .before .before .before .before .before .before .before .before .before .before .before .before .before .before .before .before .before .before .before .before .before .before .before .before .before .before .before .before .before .before .before .before .before .before .before .before .before .before .expr .kept .1 .1 .0)
 
 fit-returns-5 : (t : ℕ) → fit-lts.Need-returns-5 (
   expr-below t,
@@ -7594,7 +5879,7 @@ fit-returns-5 : (t : ℕ) → fit-lts.Need-returns-5 (
   fitted-reads.Asked,
   fitted-reads.Learnt,
 ) (fit-at t) fit.Post
-fit-returns-5 t c = fit-differ _ (c .before .before .before .before .before .before .before .before .before .before .before .before .before .before .before .before .before .before .before .before .before .before .before .before .before .before .before .before .before .before .before .before .before .before .before .before .before .before .before .before .before .before .before .before .before .before .before .before .before .before .before .before .expr .ensures) (scope-long (c .before .before .before .before .before .before .before .before .before .before .before .before .before .before .before .before .before .before .before .before .before .before .before .before .before .before .before .before .before .before .before .before .before .before .before .before .before .before .before .before .before .before .before .before .before .before .before .before .before .before .before .before .before .before .before .before .before .before .before .before .before .pre .1 .0) ((c .before .before .before .before .before .before .before .before .before .before .before .before .before .before .before .before .before .before .before .before .before .before .before .before .before .before .before .before .before .before .before .before .before .before .before .before .before .before .before .before .before .before .before .before .before .before .before .before .before .before .before .before .expr .kept .1 .1 .1 .1 .0))) (c .before .before .before .before .before .before .before .before .before .before .before .before .before .before .before .before .before .before .before .before .before .before .before .before .before .before .before .before .before .before .before .before .before .before .before .before .before .before .before .before .before .before .before .before .x .given .1) (c .before .before .before .before .before .before .before .before .before .before .before .before .before .before .before .before .before .before .before .before .before .before .before .before .before .before .before .before .before .before .before .before .before .before .before .before .before .before .before .before .before .ty .given .1) (c .before .before .before .before .before .before .before .before .before .before .before .before .before .before .before .before .before .before .before .before .before .before .before .before .before .before .before .before .before .before .before .before .before .before .before .before .before .before .before .word-of .ensures .is) (c .before .before .before .before .before .before .before .before .before .before .before .before .before .before .before .before .before .before .before .before .before .before .before .before .before .before .before .before .before .before .before .before .before .behind .ensures) (c .before .before .before .before .before .before .before .before .before .before .before .before .before .before .before .before .before .before .before .before .before .before .before .before .before .before .before .before .before .before .before .before .widen .ensures) (put-is (c .before .before .before .before .before .before .before .before .before .before .before .before .before .before .before .before .before .before .before .before .before .before .before .before .before .before .before .before .before .before .before .before .before .before .before .before .put .ensures) (c .before .before .before .before .before .before .before .before .before .before .before .before .before .before .before .before .before .before .before .before .before .before .before .before .before .before .before .expr2 .ensures)) (c .before .before .before .before .before .before .before .before .before .before .before .before .before .before .before .before .before .before .before .y .given .1) (c .before .before .before .before .before .before .before .before .before .before .before .before .before .before .before .before .before .behind2 .ensures) (c .before .before .before .before .before .before .before .before .before .before .before .before .expr3 .ensures) (c .before .before .before .before .z .given .1) (c .before .before .agree .ensures) (not-true _ (c .before .if1 .taken))
+fit-returns-5 t c = fit-differ _ (c .before .before .before .before .before .before .before .before .before .before .before .before .before .before .before .before .before .before .before .before .before .before .before .before .before .before .before .before .before .before .before .before .before .before .before .before .before .before .expr .ensures) (omega (arith, (c .before .before .before .before .before .before .before .before .before .before .before .before .before .before .before .before .before .before .before .before .before .before .before .before .before .before .before .before .put-arg .given .0 .1))) (c .before .before .before .before .before .before .before .before .before .before .before .before .before .before .before .before .before .before .before .before .before .before .before .before .before .before .before .before .before .before .before .before .before .before .x .given .1) (c .before .before .before .before .before .before .before .before .before .before .before .before .before .before .before .before .before .before .before .before .before .before .before .before .before .before .before .before .before .before .before .ty .given .1) (c .before .before .before .before .before .before .before .before .before .before .before .before .before .before .before .before .before .before .before .before .before .before .before .before .before .before .before .before .before .word-of .ensures .is) (c .before .before .before .before .before .before .before .before .before .before .before .before .before .before .before .before .before .before .before .before .before .before .before .before .before .behind .ensures) (c .before .before .before .before .before .before .before .before .before .before .before .before .before .before .before .before .before .before .before .before .before .before .before .before .widen .ensures) (put-is (c .before .before .before .before .before .before .before .before .before .before .before .before .before .before .before .before .before .before .before .before .before .before .before .before .before .before .put .ensures) (c .before .before .before .before .before .before .before .before .before .before .before .before .before .before .before .before .before .before .before .expr2 .ensures)) (c .before .before .before .before .before .before .before .before .before .before .before .before .before .before .before .y .given .1) (c .before .before .before .before .before .before .before .before .before .before .before .before .before .behind2 .ensures) (c .before .before .before .before .before .before .before .before .expr3 .ensures) (c .before .before .before .before .z .given .1) (c .before .before .agree .ensures) (not-true _ (c .before .if1 .taken))
 
 fit-fitted-requires : (t : ℕ) → fit-lts.Need-fitted-requires (
   expr-below t,
@@ -7614,7 +5899,7 @@ fit-fitted-requires : (t : ℕ) → fit-lts.Need-fitted-requires (
 ) (fit-at t) fit.Post
 fit-fitted-requires t c κs = tt
 
-fit-same-length-16 : (t : ℕ) → fit-lts.Need-same-length-16 (
+fit-same-length-6 : (t : ℕ) → fit-lts.Need-same-length-6 (
   expr-below t,
   expr.Post,
   word-of-reads.Asked,
@@ -7630,43 +5915,7 @@ fit-same-length-16 : (t : ℕ) → fit-lts.Need-same-length-16 (
   fitted-reads.Asked,
   fitted-reads.Learnt,
 ) (fit-at t) fit.Post
-fit-same-length-16 t c = (c .before .before .before .before .before .before .before .before .before .before .before .before .expr3 .kept .1 .1 .0) ∙ (c .before .before .before .before .before .before .before .before .before .before .before .before .before .before .before .before .before .before .before .before .before .before .before .before .before .before .before .expr2 .kept .1 .1 .0) ∙ (c .before .before .before .before .before .before .before .before .before .before .before .before .before .before .before .before .before .before .before .before .before .before .before .before .before .before .before .before .before .before .before .before .before .before .before .before .before .before .before .before .before .before .before .before .before .before .before .before .before .before .before .before .expr .kept .1 .1 .0)
-
-fit-same-length-17 : (t : ℕ) → fit-lts.Need-same-length-17 (
-  expr-below t,
-  expr.Post,
-  word-of-reads.Asked,
-  word-of-reads.Learnt,
-  put-reads.Asked,
-  put-reads.Learnt,
-  behind-reads.Asked,
-  behind-reads.Learnt,
-  widen-reads.Asked,
-  widen-reads.Learnt,
-  agree-reads.Asked,
-  agree-reads.Learnt,
-  fitted-reads.Asked,
-  fitted-reads.Learnt,
-) (fit-at t) fit.Post
-fit-same-length-17 t c = (c .before .before .before .before .before .before .before .before .before .before .before .before .expr3 .kept .1 .1 .1 .1 .0) ∙ (c .before .before .before .before .before .before .before .before .before .before .before .before .before .before .before .before .before .before .before .before .before .before .before .before .before .before .before .expr2 .kept .1 .1 .1 .1 .0) ∙ (c .before .before .before .before .before .before .before .before .before .before .before .before .before .before .before .before .before .before .before .before .before .before .before .before .before .before .before .before .before .before .before .before .before .before .before .before .put .kept .0) ∙ (c .before .before .before .before .before .before .before .before .before .before .before .before .before .before .before .before .before .before .before .before .before .before .before .before .before .before .before .before .before .before .before .before .before .before .before .before .before .before .before .before .before .before .before .before .before .before .before .before .before .before .before .before .expr .kept .1 .1 .1 .1 .0)
-
-fit-same-length-18 : (t : ℕ) → fit-lts.Need-same-length-18 (
-  expr-below t,
-  expr.Post,
-  word-of-reads.Asked,
-  word-of-reads.Learnt,
-  put-reads.Asked,
-  put-reads.Learnt,
-  behind-reads.Asked,
-  behind-reads.Learnt,
-  widen-reads.Asked,
-  widen-reads.Learnt,
-  agree-reads.Asked,
-  agree-reads.Learnt,
-  fitted-reads.Asked,
-  fitted-reads.Learnt,
-) (fit-at t) fit.Post
-fit-same-length-18 t c = (c .before .before .before .before .before .before .before .before .before .before .before .before .expr3 .kept .1 .1 .1 .1 .1 .0) ∙ (c .before .before .before .before .before .before .before .before .before .before .before .before .before .before .before .before .before .before .before .before .before .before .before .before .before .before .before .expr2 .kept .1 .1 .1 .1 .1 .0) ∙ (c .before .before .before .before .before .before .before .before .before .before .before .before .before .before .before .before .before .before .before .before .before .before .before .before .before .before .before .before .before .before .before .before .before .before .before .before .before .before .before .before .before .before .before .before .before .before .before .before .before .before .before .before .expr .kept .1 .1 .1 .1 .1 .0)
+fit-same-length-6 t c = (c .before .before .before .before .before .before .before .before .expr3 .kept .1 .1 .0) ∙ (c .before .before .before .before .before .before .before .before .before .before .before .before .before .before .before .before .before .before .before .expr2 .kept .1 .1 .0) ∙ (c .before .before .before .before .before .before .before .before .before .before .before .before .before .before .before .before .before .before .before .before .before .before .before .before .before .before .before .before .before .before .before .before .before .before .before .before .before .before .expr .kept .1 .1 .0)
 
 fit-returns-6 : (t : ℕ) → fit-lts.Need-returns-6 (
   expr-below t,
@@ -7684,7 +5933,7 @@ fit-returns-6 : (t : ℕ) → fit-lts.Need-returns-6 (
   fitted-reads.Asked,
   fitted-reads.Learnt,
 ) (fit-at t) fit.Post
-fit-returns-6 t c = fit-done _ (c .before .before .before .before .before .before .before .before .before .before .before .before .before .before .before .before .before .before .before .before .before .before .before .before .before .before .before .before .before .before .before .before .before .before .before .before .before .before .before .before .before .before .before .before .before .before .before .before .before .before .before .before .expr .ensures) (scope-long (c .before .before .before .before .before .before .before .before .before .before .before .before .before .before .before .before .before .before .before .before .before .before .before .before .before .before .before .before .before .before .before .before .before .before .before .before .before .before .before .before .before .before .before .before .before .before .before .before .before .before .before .before .before .before .before .before .before .before .before .before .before .pre .1 .0) ((c .before .before .before .before .before .before .before .before .before .before .before .before .before .before .before .before .before .before .before .before .before .before .before .before .before .before .before .before .before .before .before .before .before .before .before .before .before .before .before .before .before .before .before .before .before .before .before .before .before .before .before .before .expr .kept .1 .1 .1 .1 .0))) (c .before .before .before .before .before .before .before .before .before .before .before .before .before .before .before .before .before .before .before .before .before .before .before .before .before .before .before .before .before .before .before .before .before .before .before .before .before .before .before .before .before .before .before .before .x .given .1) (c .before .before .before .before .before .before .before .before .before .before .before .before .before .before .before .before .before .before .before .before .before .before .before .before .before .before .before .before .before .before .before .before .before .before .before .before .before .before .before .before .before .ty .given .1) (c .before .before .before .before .before .before .before .before .before .before .before .before .before .before .before .before .before .before .before .before .before .before .before .before .before .before .before .before .before .before .before .before .before .before .before .before .before .before .before .word-of .ensures .is) (c .before .before .before .before .before .before .before .before .before .before .before .before .before .before .before .before .before .before .before .before .before .before .before .before .before .before .before .before .before .before .before .before .before .behind .ensures) (c .before .before .before .before .before .before .before .before .before .before .before .before .before .before .before .before .before .before .before .before .before .before .before .before .before .before .before .before .before .before .before .before .widen .ensures) (put-is (c .before .before .before .before .before .before .before .before .before .before .before .before .before .before .before .before .before .before .before .before .before .before .before .before .before .before .before .before .before .before .before .before .before .before .before .before .put .ensures) (c .before .before .before .before .before .before .before .before .before .before .before .before .before .before .before .before .before .before .before .before .before .before .before .before .before .before .before .expr2 .ensures)) (c .before .before .before .before .before .before .before .before .before .before .before .before .before .before .before .before .before .before .before .y .given .1) (c .before .before .before .before .before .before .before .before .before .before .before .before .before .before .before .before .before .behind2 .ensures) (c .before .before .before .before .before .before .before .before .before .before .before .before .expr3 .ensures) (c .before .before .before .before .z .given .1) (c .before .before .agree .ensures) (not-false _ (c .before .if1 .left)) (c .fitted .ensures .held) (c .fitted .ensures .both) (c .fitted .ensures .all) (c .fitted .ensures .is)
+fit-returns-6 t c = fit-done _ (c .before .before .before .before .before .before .before .before .before .before .before .before .before .before .before .before .before .before .before .before .before .before .before .before .before .before .before .before .before .before .before .before .before .before .before .before .before .before .expr .ensures) (omega (arith, (c .before .before .before .before .before .before .before .before .before .before .before .before .before .before .before .before .before .before .before .before .before .before .before .before .before .before .before .before .put-arg .given .0 .1))) (c .before .before .before .before .before .before .before .before .before .before .before .before .before .before .before .before .before .before .before .before .before .before .before .before .before .before .before .before .before .before .before .before .before .before .x .given .1) (c .before .before .before .before .before .before .before .before .before .before .before .before .before .before .before .before .before .before .before .before .before .before .before .before .before .before .before .before .before .before .before .ty .given .1) (c .before .before .before .before .before .before .before .before .before .before .before .before .before .before .before .before .before .before .before .before .before .before .before .before .before .before .before .before .before .word-of .ensures .is) (c .before .before .before .before .before .before .before .before .before .before .before .before .before .before .before .before .before .before .before .before .before .before .before .before .before .behind .ensures) (c .before .before .before .before .before .before .before .before .before .before .before .before .before .before .before .before .before .before .before .before .before .before .before .before .widen .ensures) (put-is (c .before .before .before .before .before .before .before .before .before .before .before .before .before .before .before .before .before .before .before .before .before .before .before .before .before .before .put .ensures) (c .before .before .before .before .before .before .before .before .before .before .before .before .before .before .before .before .before .before .before .expr2 .ensures)) (c .before .before .before .before .before .before .before .before .before .before .before .before .before .before .before .y .given .1) (c .before .before .before .before .before .before .before .before .before .before .before .before .before .behind2 .ensures) (c .before .before .before .before .before .before .before .before .expr3 .ensures) (c .before .before .before .before .z .given .1) (c .before .before .agree .ensures) (not-false _ (c .before .if1 .left)) (c .fitted .ensures .held) (c .fitted .ensures .both) (c .fitted .ensures .all) (c .fitted .ensures .is)
 
 operation-expr-requires : (t : ℕ) → operation-lts.Need-expr-requires (
   expr-below t,
@@ -7694,7 +5943,7 @@ operation-expr-requires : (t : ℕ) → operation-lts.Need-expr-requires (
   operated-reads.Asked,
   operated-reads.Learnt,
 ) (operation-at t) operation.Post
-operation-expr-requires t c κs = (load-same _ 900 (c .before .before .before .before .before .before .before .before .pre .0) 0 (omega arith), room-same (c .before .before .before .before .before .before .before .before .pre .1) (omega arith))
+operation-expr-requires t c κs = (load-same _ 900 (c .before .before .before .before .before .before .pre .0) 0 (omega arith), room-same (c .before .before .before .before .before .before .pre .1) (omega arith))
 
 operation-enum-known-x : (t : ℕ) → operation-lts.Need-enum-known-x (
   expr-below t,
@@ -7724,27 +5973,7 @@ operation-same-length : (t : ℕ) → operation-lts.Need-same-length (
   operated-reads.Asked,
   operated-reads.Learnt,
 ) (operation-at t) operation.Post
-operation-same-length t c = (c .before .before .before .before .before .before .before .before .expr .kept .1 .1 .0)
-
-operation-same-length-2 : (t : ℕ) → operation-lts.Need-same-length-2 (
-  expr-below t,
-  expr.Post,
-  behind-reads.Asked,
-  behind-reads.Learnt,
-  operated-reads.Asked,
-  operated-reads.Learnt,
-) (operation-at t) operation.Post
-operation-same-length-2 t c = (c .before .before .before .before .before .before .before .before .expr .kept .1 .1 .1 .1 .0)
-
-operation-same-length-3 : (t : ℕ) → operation-lts.Need-same-length-3 (
-  expr-below t,
-  expr.Post,
-  behind-reads.Asked,
-  behind-reads.Learnt,
-  operated-reads.Asked,
-  operated-reads.Learnt,
-) (operation-at t) operation.Post
-operation-same-length-3 t c = (c .before .before .before .before .before .before .before .before .expr .kept .1 .1 .1 .1 .1 .0)
+operation-same-length t c = (c .before .before .before .before .expr .kept .1 .1 .0)
 
 operation-returns : (t : ℕ) → operation-lts.Need-returns (
   expr-below t,
@@ -7754,7 +5983,7 @@ operation-returns : (t : ℕ) → operation-lts.Need-returns (
   operated-reads.Asked,
   operated-reads.Learnt,
 ) (operation-at t) operation.Post
-operation-returns t c = op-first (c .before .before .before .before .before .before .before .before .expr .ensures) (c .enum-told .given .1)
+operation-returns t c = op-first (c .before .before .before .before .expr .ensures) (c .enum-told .given .1)
 
 operation-behind-requires : (t : ℕ) → operation-lts.Need-behind-requires (
   expr-below t,
@@ -7774,7 +6003,7 @@ operation-expr-requires-2 : (t : ℕ) → operation-lts.Need-expr-requires-2 (
   operated-reads.Asked,
   operated-reads.Learnt,
 ) (operation-at t) operation.Post
-operation-expr-requires-2 t c κs = (load-moved _ 900 (c .before .before .before .before .before .before .before .before .before .before .before .before .before .before .before .before .before .before .before .before .before .before .before .pre .0) _ 0 (c .before .before .before .before .behind .ensures) (grows-to (c .before .before .before .before .before .before .before .before .before .before .before .before .before .before .expr .ensures .grows) (c .before .before .before .before .before .before .x .given .1)) (omega arith), room-behind (c .before .before .before .before .before .before .before .before .before .before .before .before .before .before .before .before .before .before .before .before .before .before .before .pre .1) (c .before .before .before .before .behind .ensures) ((c .before .before .before .before .before .before .before .before .before .before .before .before .before .before .expr .kept .1 .1 .1 .1 .0)) ((c .before .before .before .before .before .before .before .before .before .before .before .before .before .before .expr .kept .1 .1 .1 .1 .1 .0)))
+operation-expr-requires-2 t c κs = (load-moved _ 900 (c .before .before .before .before .before .before .before .before .before .before .before .before .before .before .before .before .before .pre .0) _ 0 (c .before .before .before .before .behind .ensures) (grows-to (c .before .before .before .before .before .before .before .before .before .before .expr .ensures .grows) (c .before .before .before .before .before .before .x .given .1)) (omega arith), room-behind (c .before .before .before .before .before .before .before .before .before .before .before .before .before .before .before .before .before .pre .1) (c .before .before .before .before .behind .ensures))
 
 operation-enum-known-y : (t : ℕ) → operation-lts.Need-enum-known-y (
   expr-below t,
@@ -7796,7 +6025,7 @@ operation-enum-told-2 : (t : ℕ) → operation-lts.Need-enum-told-2 (
 ) (operation-at t) operation.Post
 operation-enum-told-2 t c = (c .match2 .keys2)
 
-operation-same-length-4 : (t : ℕ) → operation-lts.Need-same-length-4 (
+operation-same-length-2 : (t : ℕ) → operation-lts.Need-same-length-2 (
   expr-below t,
   expr.Post,
   behind-reads.Asked,
@@ -7804,27 +6033,7 @@ operation-same-length-4 : (t : ℕ) → operation-lts.Need-same-length-4 (
   operated-reads.Asked,
   operated-reads.Learnt,
 ) (operation-at t) operation.Post
-operation-same-length-4 t c = (c .before .before .before .before .before .before .before .before .expr2 .kept .1 .1 .0) ∙ (c .before .before .before .before .before .before .before .before .before .before .before .before .before .before .before .before .before .before .before .before .before .before .before .expr .kept .1 .1 .0)
-
-operation-same-length-5 : (t : ℕ) → operation-lts.Need-same-length-5 (
-  expr-below t,
-  expr.Post,
-  behind-reads.Asked,
-  behind-reads.Learnt,
-  operated-reads.Asked,
-  operated-reads.Learnt,
-) (operation-at t) operation.Post
-operation-same-length-5 t c = (c .before .before .before .before .before .before .before .before .expr2 .kept .1 .1 .1 .1 .0) ∙ (c .before .before .before .before .before .before .before .before .before .before .before .before .before .before .before .before .before .before .before .before .before .before .before .expr .kept .1 .1 .1 .1 .0)
-
-operation-same-length-6 : (t : ℕ) → operation-lts.Need-same-length-6 (
-  expr-below t,
-  expr.Post,
-  behind-reads.Asked,
-  behind-reads.Learnt,
-  operated-reads.Asked,
-  operated-reads.Learnt,
-) (operation-at t) operation.Post
-operation-same-length-6 t c = (c .before .before .before .before .before .before .before .before .expr2 .kept .1 .1 .1 .1 .1 .0) ∙ (c .before .before .before .before .before .before .before .before .before .before .before .before .before .before .before .before .before .before .before .before .before .before .before .expr .kept .1 .1 .1 .1 .1 .0)
+operation-same-length-2 t c = (c .before .before .before .before .expr2 .kept .1 .1 .0) ∙ (c .before .before .before .before .before .before .before .before .before .before .before .before .before .before .before .expr .kept .1 .1 .0)
 
 operation-returns-2 : (t : ℕ) → operation-lts.Need-returns-2 (
   expr-below t,
@@ -7834,7 +6043,7 @@ operation-returns-2 : (t : ℕ) → operation-lts.Need-returns-2 (
   operated-reads.Asked,
   operated-reads.Learnt,
 ) (operation-at t) operation.Post
-operation-returns-2 t c = op-second (c .before .before .before .before .before .before .before .before .before .before .before .before .before .before .before .before .before .before .before .before .before .before .before .expr .ensures) (c .before .before .before .before .before .before .before .before .before .before .before .before .before .before .before .x .given .1) (c .before .before .before .before .before .before .before .before .before .before .before .before .before .behind .ensures) (c .before .before .before .before .before .before .before .before .expr2 .ensures) (c .enum-told2 .given .1)
+operation-returns-2 t c = op-second (c .before .before .before .before .before .before .before .before .before .before .before .before .before .before .before .expr .ensures) (c .before .before .before .before .before .before .before .before .before .before .before .x .given .1) (c .before .before .before .before .before .before .before .before .before .behind .ensures) (c .before .before .before .before .expr2 .ensures) (c .enum-told2 .given .1)
 
 operation-operated-requires : (t : ℕ) → operation-lts.Need-operated-requires (
   expr-below t,
@@ -7846,7 +6055,7 @@ operation-operated-requires : (t : ℕ) → operation-lts.Need-operated-requires
 ) (operation-at t) operation.Post
 operation-operated-requires t c κs = tt
 
-operation-same-length-7 : (t : ℕ) → operation-lts.Need-same-length-7 (
+operation-same-length-3 : (t : ℕ) → operation-lts.Need-same-length-3 (
   expr-below t,
   expr.Post,
   behind-reads.Asked,
@@ -7854,27 +6063,7 @@ operation-same-length-7 : (t : ℕ) → operation-lts.Need-same-length-7 (
   operated-reads.Asked,
   operated-reads.Learnt,
 ) (operation-at t) operation.Post
-operation-same-length-7 t c = (c .before .before .before .before .before .before .before .before .before .before .expr2 .kept .1 .1 .0) ∙ (c .before .before .before .before .before .before .before .before .before .before .before .before .before .before .before .before .before .before .before .before .before .before .before .before .before .expr .kept .1 .1 .0)
-
-operation-same-length-8 : (t : ℕ) → operation-lts.Need-same-length-8 (
-  expr-below t,
-  expr.Post,
-  behind-reads.Asked,
-  behind-reads.Learnt,
-  operated-reads.Asked,
-  operated-reads.Learnt,
-) (operation-at t) operation.Post
-operation-same-length-8 t c = (c .before .before .before .before .before .before .before .before .before .before .expr2 .kept .1 .1 .1 .1 .0) ∙ (c .before .before .before .before .before .before .before .before .before .before .before .before .before .before .before .before .before .before .before .before .before .before .before .before .before .expr .kept .1 .1 .1 .1 .0)
-
-operation-same-length-9 : (t : ℕ) → operation-lts.Need-same-length-9 (
-  expr-below t,
-  expr.Post,
-  behind-reads.Asked,
-  behind-reads.Learnt,
-  operated-reads.Asked,
-  operated-reads.Learnt,
-) (operation-at t) operation.Post
-operation-same-length-9 t c = (c .before .before .before .before .before .before .before .before .before .before .expr2 .kept .1 .1 .1 .1 .1 .0) ∙ (c .before .before .before .before .before .before .before .before .before .before .before .before .before .before .before .before .before .before .before .before .before .before .before .before .before .expr .kept .1 .1 .1 .1 .1 .0)
+operation-same-length-3 t c = (c .before .before .before .before .before .before .expr2 .kept .1 .1 .0) ∙ (c .before .before .before .before .before .before .before .before .before .before .before .before .before .before .before .before .before .expr .kept .1 .1 .0)
 
 operation-returns-3 : (t : ℕ) → operation-lts.Need-returns-3 (
   expr-below t,
@@ -7884,7 +6073,7 @@ operation-returns-3 : (t : ℕ) → operation-lts.Need-returns-3 (
   operated-reads.Asked,
   operated-reads.Learnt,
 ) (operation-at t) operation.Post
-operation-returns-3 t c = op-done (c .before .before .before .before .before .before .before .before .before .before .before .before .before .before .before .before .before .before .before .before .before .before .before .before .before .expr .ensures) (c .before .before .before .before .before .before .before .before .before .before .before .before .before .before .before .before .before .x .given .1) (c .before .before .before .before .before .before .before .before .before .before .before .before .before .before .before .behind .ensures) (c .before .before .before .before .before .before .before .before .before .before .expr2 .ensures) (c .before .before .y .given .1) (c .operated .ensures .typed) (c .operated .ensures .both) (c .operated .ensures .one) (c .operated .ensures .all) (c .operated .ensures .is)
+operation-returns-3 t c = op-done (c .before .before .before .before .before .before .before .before .before .before .before .before .before .before .before .before .before .expr .ensures) (c .before .before .before .before .before .before .before .before .before .before .before .before .before .x .given .1) (c .before .before .before .before .before .before .before .before .before .before .before .behind .ensures) (c .before .before .before .before .before .before .expr2 .ensures) (c .before .before .y .given .1) (c .operated .ensures .typed) (c .operated .ensures .both) (c .operated .ensures .one) (c .operated .ensures .all) (c .operated .ensures .is)
 
 abbrev several-Inv-loop : several-lts.InvT-loop
 several-Inv-loop text index list₀ memo₀ scope₀ sizes₀ p row₀ n line all₀ i₀ list memo scope sizes row all i =
@@ -7897,8 +6086,8 @@ several-μ-loop text index list₀ memo₀ scope₀ sizes₀ p row₀ n line all
 several-frame-line-requires : (t : ℕ) → several-lts.Need-frame-line-requires (
   frame-line-reads.Asked,
   frame-line-reads.Learnt,
-  none-reads.Asked,
-  none-reads.Learnt,
+  none-at-reads.Asked,
+  none-at-reads.Learnt,
   variable-at-reads.Asked,
   variable-at-reads.Learnt,
   word-at-reads.Asked,
@@ -7907,8 +6096,8 @@ several-frame-line-requires : (t : ℕ) → several-lts.Need-frame-line-requires
   put-reads.Learnt,
   passed-reads.Asked,
   passed-reads.Learnt,
-  moved-reads.Asked,
-  moved-reads.Learnt,
+  moved-on-reads.Asked,
+  moved-on-reads.Learnt,
   expr-below t,
   expr.Post,
   refused-all-reads.Asked,
@@ -7920,11 +6109,11 @@ several-frame-line-requires : (t : ℕ) → several-lts.Need-frame-line-requires
 ) (several-at t) several.Post several-Inv-loop several-μ-loop
 several-frame-line-requires t c κs = tt
 
-several-none-requires : (t : ℕ) → several-lts.Need-none-requires (
+several-none-at-requires : (t : ℕ) → several-lts.Need-none-at-requires (
   frame-line-reads.Asked,
   frame-line-reads.Learnt,
-  none-reads.Asked,
-  none-reads.Learnt,
+  none-at-reads.Asked,
+  none-at-reads.Learnt,
   variable-at-reads.Asked,
   variable-at-reads.Learnt,
   word-at-reads.Asked,
@@ -7933,8 +6122,8 @@ several-none-requires : (t : ℕ) → several-lts.Need-none-requires (
   put-reads.Learnt,
   passed-reads.Asked,
   passed-reads.Learnt,
-  moved-reads.Asked,
-  moved-reads.Learnt,
+  moved-on-reads.Asked,
+  moved-on-reads.Learnt,
   expr-below t,
   expr.Post,
   refused-all-reads.Asked,
@@ -7944,13 +6133,13 @@ several-none-requires : (t : ℕ) → several-lts.Need-none-requires (
   joined-reads.Asked,
   joined-reads.Learnt,
 ) (several-at t) several.Post several-Inv-loop several-μ-loop
-several-none-requires t c κs = tt
+several-none-at-requires t c κs = tt
 
 several-loop-holds : (t : ℕ) → several-lts.Need-loop-holds (
   frame-line-reads.Asked,
   frame-line-reads.Learnt,
-  none-reads.Asked,
-  none-reads.Learnt,
+  none-at-reads.Asked,
+  none-at-reads.Learnt,
   variable-at-reads.Asked,
   variable-at-reads.Learnt,
   word-at-reads.Asked,
@@ -7959,8 +6148,8 @@ several-loop-holds : (t : ℕ) → several-lts.Need-loop-holds (
   put-reads.Learnt,
   passed-reads.Asked,
   passed-reads.Learnt,
-  moved-reads.Asked,
-  moved-reads.Learnt,
+  moved-on-reads.Asked,
+  moved-on-reads.Learnt,
   expr-below t,
   expr.Post,
   refused-all-reads.Asked,
@@ -7970,13 +6159,13 @@ several-loop-holds : (t : ℕ) → several-lts.Need-loop-holds (
   joined-reads.Asked,
   joined-reads.Learnt,
 ) (several-at t) several.Post several-Inv-loop several-μ-loop
-several-loop-holds t c = turned-start (c .none .ensures)
+several-loop-holds t c = turned-start (c .none-at .ensures)
 
 several-variable-at-requires : (t : ℕ) → several-lts.Need-variable-at-requires (
   frame-line-reads.Asked,
   frame-line-reads.Learnt,
-  none-reads.Asked,
-  none-reads.Learnt,
+  none-at-reads.Asked,
+  none-at-reads.Learnt,
   variable-at-reads.Asked,
   variable-at-reads.Learnt,
   word-at-reads.Asked,
@@ -7985,8 +6174,8 @@ several-variable-at-requires : (t : ℕ) → several-lts.Need-variable-at-requir
   put-reads.Learnt,
   passed-reads.Asked,
   passed-reads.Learnt,
-  moved-reads.Asked,
-  moved-reads.Learnt,
+  moved-on-reads.Asked,
+  moved-on-reads.Learnt,
   expr-below t,
   expr.Post,
   refused-all-reads.Asked,
@@ -8001,8 +6190,8 @@ several-variable-at-requires t c κs = tt
 several-enum-known-v : (t : ℕ) → several-lts.Need-enum-known-v (
   frame-line-reads.Asked,
   frame-line-reads.Learnt,
-  none-reads.Asked,
-  none-reads.Learnt,
+  none-at-reads.Asked,
+  none-at-reads.Learnt,
   variable-at-reads.Asked,
   variable-at-reads.Learnt,
   word-at-reads.Asked,
@@ -8011,8 +6200,8 @@ several-enum-known-v : (t : ℕ) → several-lts.Need-enum-known-v (
   put-reads.Learnt,
   passed-reads.Asked,
   passed-reads.Learnt,
-  moved-reads.Asked,
-  moved-reads.Learnt,
+  moved-on-reads.Asked,
+  moved-on-reads.Learnt,
   expr-below t,
   expr.Post,
   refused-all-reads.Asked,
@@ -8027,8 +6216,8 @@ several-enum-known-v t c = (c .match .keys1)
 several-cast-put : (t : ℕ) → several-lts.Need-cast-put (
   frame-line-reads.Asked,
   frame-line-reads.Learnt,
-  none-reads.Asked,
-  none-reads.Learnt,
+  none-at-reads.Asked,
+  none-at-reads.Learnt,
   variable-at-reads.Asked,
   variable-at-reads.Learnt,
   word-at-reads.Asked,
@@ -8037,8 +6226,8 @@ several-cast-put : (t : ℕ) → several-lts.Need-cast-put (
   put-reads.Learnt,
   passed-reads.Asked,
   passed-reads.Learnt,
-  moved-reads.Asked,
-  moved-reads.Learnt,
+  moved-on-reads.Asked,
+  moved-on-reads.Learnt,
   expr-below t,
   expr.Post,
   refused-all-reads.Asked,
@@ -8053,8 +6242,8 @@ several-cast-put t c = omega arith
 several-cast-word-at : (t : ℕ) → several-lts.Need-cast-word-at (
   frame-line-reads.Asked,
   frame-line-reads.Learnt,
-  none-reads.Asked,
-  none-reads.Learnt,
+  none-at-reads.Asked,
+  none-at-reads.Learnt,
   variable-at-reads.Asked,
   variable-at-reads.Learnt,
   word-at-reads.Asked,
@@ -8063,8 +6252,8 @@ several-cast-word-at : (t : ℕ) → several-lts.Need-cast-word-at (
   put-reads.Learnt,
   passed-reads.Asked,
   passed-reads.Learnt,
-  moved-reads.Asked,
-  moved-reads.Learnt,
+  moved-on-reads.Asked,
+  moved-on-reads.Learnt,
   expr-below t,
   expr.Post,
   refused-all-reads.Asked,
@@ -8079,8 +6268,8 @@ several-cast-word-at t c = omega arith
 several-word-at-requires : (t : ℕ) → several-lts.Need-word-at-requires (
   frame-line-reads.Asked,
   frame-line-reads.Learnt,
-  none-reads.Asked,
-  none-reads.Learnt,
+  none-at-reads.Asked,
+  none-at-reads.Learnt,
   variable-at-reads.Asked,
   variable-at-reads.Learnt,
   word-at-reads.Asked,
@@ -8089,8 +6278,8 @@ several-word-at-requires : (t : ℕ) → several-lts.Need-word-at-requires (
   put-reads.Learnt,
   passed-reads.Asked,
   passed-reads.Learnt,
-  moved-reads.Asked,
-  moved-reads.Learnt,
+  moved-on-reads.Asked,
+  moved-on-reads.Learnt,
   expr-below t,
   expr.Post,
   refused-all-reads.Asked,
@@ -8105,8 +6294,8 @@ several-word-at-requires t c κs = tt
 several-put-requires : (t : ℕ) → several-lts.Need-put-requires (
   frame-line-reads.Asked,
   frame-line-reads.Learnt,
-  none-reads.Asked,
-  none-reads.Learnt,
+  none-at-reads.Asked,
+  none-at-reads.Learnt,
   variable-at-reads.Asked,
   variable-at-reads.Learnt,
   word-at-reads.Asked,
@@ -8115,8 +6304,8 @@ several-put-requires : (t : ℕ) → several-lts.Need-put-requires (
   put-reads.Learnt,
   passed-reads.Asked,
   passed-reads.Learnt,
-  moved-reads.Asked,
-  moved-reads.Learnt,
+  moved-on-reads.Asked,
+  moved-on-reads.Learnt,
   expr-below t,
   expr.Post,
   refused-all-reads.Asked,
@@ -8131,8 +6320,8 @@ several-put-requires t c κs = tt
 several-passed-requires : (t : ℕ) → several-lts.Need-passed-requires (
   frame-line-reads.Asked,
   frame-line-reads.Learnt,
-  none-reads.Asked,
-  none-reads.Learnt,
+  none-at-reads.Asked,
+  none-at-reads.Learnt,
   variable-at-reads.Asked,
   variable-at-reads.Learnt,
   word-at-reads.Asked,
@@ -8141,8 +6330,8 @@ several-passed-requires : (t : ℕ) → several-lts.Need-passed-requires (
   put-reads.Learnt,
   passed-reads.Asked,
   passed-reads.Learnt,
-  moved-reads.Asked,
-  moved-reads.Learnt,
+  moved-on-reads.Asked,
+  moved-on-reads.Learnt,
   expr-below t,
   expr.Post,
   refused-all-reads.Asked,
@@ -8157,8 +6346,8 @@ several-passed-requires t c κs = tt
 several-enum-told : (t : ℕ) → several-lts.Need-enum-told (
   frame-line-reads.Asked,
   frame-line-reads.Learnt,
-  none-reads.Asked,
-  none-reads.Learnt,
+  none-at-reads.Asked,
+  none-at-reads.Learnt,
   variable-at-reads.Asked,
   variable-at-reads.Learnt,
   word-at-reads.Asked,
@@ -8167,8 +6356,8 @@ several-enum-told : (t : ℕ) → several-lts.Need-enum-told (
   put-reads.Learnt,
   passed-reads.Asked,
   passed-reads.Learnt,
-  moved-reads.Asked,
-  moved-reads.Learnt,
+  moved-on-reads.Asked,
+  moved-on-reads.Learnt,
   expr-below t,
   expr.Post,
   refused-all-reads.Asked,
@@ -8180,11 +6369,11 @@ several-enum-told : (t : ℕ) → several-lts.Need-enum-told (
 ) (several-at t) several.Post several-Inv-loop several-μ-loop
 several-enum-told t c = (c .match .keys2)
 
-several-moved-requires : (t : ℕ) → several-lts.Need-moved-requires (
+several-moved-on-requires : (t : ℕ) → several-lts.Need-moved-on-requires (
   frame-line-reads.Asked,
   frame-line-reads.Learnt,
-  none-reads.Asked,
-  none-reads.Learnt,
+  none-at-reads.Asked,
+  none-at-reads.Learnt,
   variable-at-reads.Asked,
   variable-at-reads.Learnt,
   word-at-reads.Asked,
@@ -8193,8 +6382,8 @@ several-moved-requires : (t : ℕ) → several-lts.Need-moved-requires (
   put-reads.Learnt,
   passed-reads.Asked,
   passed-reads.Learnt,
-  moved-reads.Asked,
-  moved-reads.Learnt,
+  moved-on-reads.Asked,
+  moved-on-reads.Learnt,
   expr-below t,
   expr.Post,
   refused-all-reads.Asked,
@@ -8204,13 +6393,13 @@ several-moved-requires : (t : ℕ) → several-lts.Need-moved-requires (
   joined-reads.Asked,
   joined-reads.Learnt,
 ) (several-at t) several.Post several-Inv-loop several-μ-loop
-several-moved-requires t c κs = tt
+several-moved-on-requires t c κs = tt
 
 several-expr-requires : (t : ℕ) → several-lts.Need-expr-requires (
   frame-line-reads.Asked,
   frame-line-reads.Learnt,
-  none-reads.Asked,
-  none-reads.Learnt,
+  none-at-reads.Asked,
+  none-at-reads.Learnt,
   variable-at-reads.Asked,
   variable-at-reads.Learnt,
   word-at-reads.Asked,
@@ -8219,8 +6408,8 @@ several-expr-requires : (t : ℕ) → several-lts.Need-expr-requires (
   put-reads.Learnt,
   passed-reads.Asked,
   passed-reads.Learnt,
-  moved-reads.Asked,
-  moved-reads.Learnt,
+  moved-on-reads.Asked,
+  moved-on-reads.Learnt,
   expr-below t,
   expr.Post,
   refused-all-reads.Asked,
@@ -8230,13 +6419,13 @@ several-expr-requires : (t : ℕ) → several-lts.Need-expr-requires (
   joined-reads.Asked,
   joined-reads.Learnt,
 ) (several-at t) several.Post several-Inv-loop several-μ-loop
-several-expr-requires t c κs = (load-moved _ 300 (c .before .before .before .before .before .before .before .before .before .before .before .before .before .before .before .before .before .before .pre .0) _ 0 (c .before .before .before .before .moved .ensures) (c .before .before .before .before .before .before .before .before .before .before .loop .inv .gathers .grown) (omega arith), room-behind (c .before .before .before .before .before .before .before .before .before .before .before .before .before .before .before .before .before .before .pre .1 .0) (c .before .before .before .before .moved .ensures) (c .before .before .before .before .before .before .before .before .before .before .loop .inv .scope-long) (c .before .before .before .before .before .before .before .before .before .before .loop .inv .sizes-long))
+several-expr-requires t c κs = (load-moved _ 300 (c .before .before .before .before .before .before .before .before .before .before .before .before .before .before .before .before .before .pre .0) _ 0 (c .before .before .before .before .moved-on .ensures) (c .before .before .before .before .before .before .before .before .before .before .loop .inv .gathers .grown) (omega arith), room-behind (c .before .before .before .before .before .before .before .before .before .before .before .before .before .before .before .before .before .pre .1 .0) (c .before .before .before .before .moved-on .ensures))
 
 several-enum-known-x : (t : ℕ) → several-lts.Need-enum-known-x (
   frame-line-reads.Asked,
   frame-line-reads.Learnt,
-  none-reads.Asked,
-  none-reads.Learnt,
+  none-at-reads.Asked,
+  none-at-reads.Learnt,
   variable-at-reads.Asked,
   variable-at-reads.Learnt,
   word-at-reads.Asked,
@@ -8245,8 +6434,8 @@ several-enum-known-x : (t : ℕ) → several-lts.Need-enum-known-x (
   put-reads.Learnt,
   passed-reads.Asked,
   passed-reads.Learnt,
-  moved-reads.Asked,
-  moved-reads.Learnt,
+  moved-on-reads.Asked,
+  moved-on-reads.Learnt,
   expr-below t,
   expr.Post,
   refused-all-reads.Asked,
@@ -8261,8 +6450,8 @@ several-enum-known-x t c = (c .match2 .keys1)
 several-enum-told-2 : (t : ℕ) → several-lts.Need-enum-told-2 (
   frame-line-reads.Asked,
   frame-line-reads.Learnt,
-  none-reads.Asked,
-  none-reads.Learnt,
+  none-at-reads.Asked,
+  none-at-reads.Learnt,
   variable-at-reads.Asked,
   variable-at-reads.Learnt,
   word-at-reads.Asked,
@@ -8271,8 +6460,8 @@ several-enum-told-2 : (t : ℕ) → several-lts.Need-enum-told-2 (
   put-reads.Learnt,
   passed-reads.Asked,
   passed-reads.Learnt,
-  moved-reads.Asked,
-  moved-reads.Learnt,
+  moved-on-reads.Asked,
+  moved-on-reads.Learnt,
   expr-below t,
   expr.Post,
   refused-all-reads.Asked,
@@ -8287,8 +6476,8 @@ several-enum-told-2 t c = (c .match2 .keys2)
 several-refused-all-requires : (t : ℕ) → several-lts.Need-refused-all-requires (
   frame-line-reads.Asked,
   frame-line-reads.Learnt,
-  none-reads.Asked,
-  none-reads.Learnt,
+  none-at-reads.Asked,
+  none-at-reads.Learnt,
   variable-at-reads.Asked,
   variable-at-reads.Learnt,
   word-at-reads.Asked,
@@ -8297,8 +6486,8 @@ several-refused-all-requires : (t : ℕ) → several-lts.Need-refused-all-requir
   put-reads.Learnt,
   passed-reads.Asked,
   passed-reads.Learnt,
-  moved-reads.Asked,
-  moved-reads.Learnt,
+  moved-on-reads.Asked,
+  moved-on-reads.Learnt,
   expr-below t,
   expr.Post,
   refused-all-reads.Asked,
@@ -8313,8 +6502,8 @@ several-refused-all-requires t c κs = tt
 several-same-length : (t : ℕ) → several-lts.Need-same-length (
   frame-line-reads.Asked,
   frame-line-reads.Learnt,
-  none-reads.Asked,
-  none-reads.Learnt,
+  none-at-reads.Asked,
+  none-at-reads.Learnt,
   variable-at-reads.Asked,
   variable-at-reads.Learnt,
   word-at-reads.Asked,
@@ -8323,8 +6512,8 @@ several-same-length : (t : ℕ) → several-lts.Need-same-length (
   put-reads.Learnt,
   passed-reads.Asked,
   passed-reads.Learnt,
-  moved-reads.Asked,
-  moved-reads.Learnt,
+  moved-on-reads.Asked,
+  moved-on-reads.Learnt,
   expr-below t,
   expr.Post,
   refused-all-reads.Asked,
@@ -8334,13 +6523,13 @@ several-same-length : (t : ℕ) → several-lts.Need-same-length (
   joined-reads.Asked,
   joined-reads.Learnt,
 ) (several-at t) several.Post several-Inv-loop several-μ-loop
-several-same-length t c = (c .before .before .before .before .before .before .before .before .before .expr .kept .1 .1 .0) ∙ (c .before .before .before .before .before .before .before .before .before .before .before .before .before .before .before .before .before .before .before .before .loop .inv .list-long)
+several-same-length t c = (c .before .before .before .before .before .expr .kept .1 .1 .0) ∙ (c .before .before .before .before .before .before .before .before .before .before .before .before .before .before .before .before .loop .inv .list-long)
 
 several-same-length-2 : (t : ℕ) → several-lts.Need-same-length-2 (
   frame-line-reads.Asked,
   frame-line-reads.Learnt,
-  none-reads.Asked,
-  none-reads.Learnt,
+  none-at-reads.Asked,
+  none-at-reads.Learnt,
   variable-at-reads.Asked,
   variable-at-reads.Learnt,
   word-at-reads.Asked,
@@ -8349,8 +6538,8 @@ several-same-length-2 : (t : ℕ) → several-lts.Need-same-length-2 (
   put-reads.Learnt,
   passed-reads.Asked,
   passed-reads.Learnt,
-  moved-reads.Asked,
-  moved-reads.Learnt,
+  moved-on-reads.Asked,
+  moved-on-reads.Learnt,
   expr-below t,
   expr.Post,
   refused-all-reads.Asked,
@@ -8360,65 +6549,13 @@ several-same-length-2 : (t : ℕ) → several-lts.Need-same-length-2 (
   joined-reads.Asked,
   joined-reads.Learnt,
 ) (several-at t) several.Post several-Inv-loop several-μ-loop
-several-same-length-2 t c = (c .before .before .before .before .before .before .before .before .before .expr .kept .1 .1 .1 .1 .0) ∙ (c .before .before .before .before .before .before .before .before .before .before .before .before .before .before .before .before .before .before .before .before .loop .inv .scope-long)
-
-several-same-length-3 : (t : ℕ) → several-lts.Need-same-length-3 (
-  frame-line-reads.Asked,
-  frame-line-reads.Learnt,
-  none-reads.Asked,
-  none-reads.Learnt,
-  variable-at-reads.Asked,
-  variable-at-reads.Learnt,
-  word-at-reads.Asked,
-  word-at-reads.Learnt,
-  put-reads.Asked,
-  put-reads.Learnt,
-  passed-reads.Asked,
-  passed-reads.Learnt,
-  moved-reads.Asked,
-  moved-reads.Learnt,
-  expr-below t,
-  expr.Post,
-  refused-all-reads.Asked,
-  refused-all-reads.Learnt,
-  type-word-reads.Asked,
-  type-word-reads.Learnt,
-  joined-reads.Asked,
-  joined-reads.Learnt,
-) (several-at t) several.Post several-Inv-loop several-μ-loop
-several-same-length-3 t c = (c .before .before .before .before .before .before .before .before .before .expr .kept .1 .1 .1 .1 .1 .0) ∙ (c .before .before .before .before .before .before .before .before .before .before .before .before .before .before .before .before .before .before .before .before .loop .inv .sizes-long)
-
-several-same-length-4 : (t : ℕ) → several-lts.Need-same-length-4 (
-  frame-line-reads.Asked,
-  frame-line-reads.Learnt,
-  none-reads.Asked,
-  none-reads.Learnt,
-  variable-at-reads.Asked,
-  variable-at-reads.Learnt,
-  word-at-reads.Asked,
-  word-at-reads.Learnt,
-  put-reads.Asked,
-  put-reads.Learnt,
-  passed-reads.Asked,
-  passed-reads.Learnt,
-  moved-reads.Asked,
-  moved-reads.Learnt,
-  expr-below t,
-  expr.Post,
-  refused-all-reads.Asked,
-  refused-all-reads.Learnt,
-  type-word-reads.Asked,
-  type-word-reads.Learnt,
-  joined-reads.Asked,
-  joined-reads.Learnt,
-) (several-at t) several.Post several-Inv-loop several-μ-loop
-several-same-length-4 t c = (c .before .before .before .before .before .before .before .before .before .before .before .before .before .before .before .before .before .before .before .before .loop .inv .gathers .long)
+several-same-length-2 t c = (c .before .before .before .before .before .before .before .before .before .before .before .before .before .before .before .before .loop .inv .gathers .long)
 
 several-returns : (t : ℕ) → several-lts.Need-returns (
   frame-line-reads.Asked,
   frame-line-reads.Learnt,
-  none-reads.Asked,
-  none-reads.Learnt,
+  none-at-reads.Asked,
+  none-at-reads.Learnt,
   variable-at-reads.Asked,
   variable-at-reads.Learnt,
   word-at-reads.Asked,
@@ -8427,8 +6564,8 @@ several-returns : (t : ℕ) → several-lts.Need-returns (
   put-reads.Learnt,
   passed-reads.Asked,
   passed-reads.Learnt,
-  moved-reads.Asked,
-  moved-reads.Learnt,
+  moved-on-reads.Asked,
+  moved-on-reads.Learnt,
   expr-below t,
   expr.Post,
   refused-all-reads.Asked,
@@ -8438,13 +6575,13 @@ several-returns : (t : ℕ) → several-lts.Need-returns (
   joined-reads.Asked,
   joined-reads.Learnt,
 ) (several-at t) several.Post several-Inv-loop several-μ-loop
-several-returns t c = several-part (c .before .before .before .before .before .before .before .before .before .before .before .before .before .before .before .before .before .before .before .before .loop .inv .gathers) (c .before .before .before .before .before .before .before .before .before .before .before .before .before .before .before .before .before .before .before .loop-test .taken) (c .before .before .before .before .before .before .before .before .before .before .before .before .before .before .moved .ensures) (c .before .before .before .before .before .before .before .before .before .expr .ensures) (c .before .enum-told2 .given .1) (c .refused-all .ensures)
+several-returns t c = several-part (c .before .before .before .before .before .before .before .before .before .before .before .before .before .before .before .before .loop .inv .gathers) (c .before .before .before .before .before .before .before .before .before .before .before .before .before .before .before .loop-test .taken) (c .before .before .before .before .before .before .before .before .before .before .moved-on .ensures) (c .before .before .before .before .before .expr .ensures) (c .before .enum-told2 .given .1) (c .refused-all .ensures)
 
 several-cast-put-2 : (t : ℕ) → several-lts.Need-cast-put-2 (
   frame-line-reads.Asked,
   frame-line-reads.Learnt,
-  none-reads.Asked,
-  none-reads.Learnt,
+  none-at-reads.Asked,
+  none-at-reads.Learnt,
   variable-at-reads.Asked,
   variable-at-reads.Learnt,
   word-at-reads.Asked,
@@ -8453,8 +6590,8 @@ several-cast-put-2 : (t : ℕ) → several-lts.Need-cast-put-2 (
   put-reads.Learnt,
   passed-reads.Asked,
   passed-reads.Learnt,
-  moved-reads.Asked,
-  moved-reads.Learnt,
+  moved-on-reads.Asked,
+  moved-on-reads.Learnt,
   expr-below t,
   expr.Post,
   refused-all-reads.Asked,
@@ -8464,13 +6601,13 @@ several-cast-put-2 : (t : ℕ) → several-lts.Need-cast-put-2 (
   joined-reads.Asked,
   joined-reads.Learnt,
 ) (several-at t) several.Post several-Inv-loop several-μ-loop
-several-cast-put-2 t c = omega (arith, (c .before .before .before .before .before .before .before .before .before .before .before .before .before .before .before .before .before .before .before .before .loop-test .taken), (c .before .before .before .before .before .before .before .before .before .before .before .before .before .before .before .before .before .before .before .before .before .before .before .before .before .before .before .before .before .pre .1 .1))
+several-cast-put-2 t c = omega (arith, (c .before .before .before .before .before .before .before .before .before .before .before .before .before .before .before .before .loop-test .taken), (c .before .before .before .before .before .before .before .before .before .before .before .before .before .before .before .before .before .before .before .before .before .before .before .before .pre .1 .1))
 
 several-type-word-requires : (t : ℕ) → several-lts.Need-type-word-requires (
   frame-line-reads.Asked,
   frame-line-reads.Learnt,
-  none-reads.Asked,
-  none-reads.Learnt,
+  none-at-reads.Asked,
+  none-at-reads.Learnt,
   variable-at-reads.Asked,
   variable-at-reads.Learnt,
   word-at-reads.Asked,
@@ -8479,8 +6616,8 @@ several-type-word-requires : (t : ℕ) → several-lts.Need-type-word-requires (
   put-reads.Learnt,
   passed-reads.Asked,
   passed-reads.Learnt,
-  moved-reads.Asked,
-  moved-reads.Learnt,
+  moved-on-reads.Asked,
+  moved-on-reads.Learnt,
   expr-below t,
   expr.Post,
   refused-all-reads.Asked,
@@ -8495,8 +6632,8 @@ several-type-word-requires t c κs = tt
 several-put-requires-2 : (t : ℕ) → several-lts.Need-put-requires-2 (
   frame-line-reads.Asked,
   frame-line-reads.Learnt,
-  none-reads.Asked,
-  none-reads.Learnt,
+  none-at-reads.Asked,
+  none-at-reads.Learnt,
   variable-at-reads.Asked,
   variable-at-reads.Learnt,
   word-at-reads.Asked,
@@ -8505,8 +6642,8 @@ several-put-requires-2 : (t : ℕ) → several-lts.Need-put-requires-2 (
   put-reads.Learnt,
   passed-reads.Asked,
   passed-reads.Learnt,
-  moved-reads.Asked,
-  moved-reads.Learnt,
+  moved-on-reads.Asked,
+  moved-on-reads.Learnt,
   expr-below t,
   expr.Post,
   refused-all-reads.Asked,
@@ -8521,8 +6658,8 @@ several-put-requires-2 t c κs = tt
 several-joined-requires : (t : ℕ) → several-lts.Need-joined-requires (
   frame-line-reads.Asked,
   frame-line-reads.Learnt,
-  none-reads.Asked,
-  none-reads.Learnt,
+  none-at-reads.Asked,
+  none-at-reads.Learnt,
   variable-at-reads.Asked,
   variable-at-reads.Learnt,
   word-at-reads.Asked,
@@ -8531,8 +6668,8 @@ several-joined-requires : (t : ℕ) → several-lts.Need-joined-requires (
   put-reads.Learnt,
   passed-reads.Asked,
   passed-reads.Learnt,
-  moved-reads.Asked,
-  moved-reads.Learnt,
+  moved-on-reads.Asked,
+  moved-on-reads.Learnt,
   expr-below t,
   expr.Post,
   refused-all-reads.Asked,
@@ -8547,8 +6684,8 @@ several-joined-requires t c κs = tt
 several-add-i : (t : ℕ) → several-lts.Need-add-i (
   frame-line-reads.Asked,
   frame-line-reads.Learnt,
-  none-reads.Asked,
-  none-reads.Learnt,
+  none-at-reads.Asked,
+  none-at-reads.Learnt,
   variable-at-reads.Asked,
   variable-at-reads.Learnt,
   word-at-reads.Asked,
@@ -8557,8 +6694,8 @@ several-add-i : (t : ℕ) → several-lts.Need-add-i (
   put-reads.Learnt,
   passed-reads.Asked,
   passed-reads.Learnt,
-  moved-reads.Asked,
-  moved-reads.Learnt,
+  moved-on-reads.Asked,
+  moved-on-reads.Learnt,
   expr-below t,
   expr.Post,
   refused-all-reads.Asked,
@@ -8568,13 +6705,13 @@ several-add-i : (t : ℕ) → several-lts.Need-add-i (
   joined-reads.Asked,
   joined-reads.Learnt,
 ) (several-at t) several.Post several-Inv-loop several-μ-loop
-several-add-i t c = omega (arith, (c .before .before .before .loop-test .taken), (c .before .before .before .before .before .before .before .before .before .before .before .before .pre .1 .1))
+several-add-i t c = omega (arith, (c .before .before .before .loop-test .taken), (c .before .before .before .before .before .before .before .before .before .before .before .pre .1 .1))
 
 several-loop-less : (t : ℕ) → several-lts.Need-loop-less (
   frame-line-reads.Asked,
   frame-line-reads.Learnt,
-  none-reads.Asked,
-  none-reads.Learnt,
+  none-at-reads.Asked,
+  none-at-reads.Learnt,
   variable-at-reads.Asked,
   variable-at-reads.Learnt,
   word-at-reads.Asked,
@@ -8583,8 +6720,8 @@ several-loop-less : (t : ℕ) → several-lts.Need-loop-less (
   put-reads.Learnt,
   passed-reads.Asked,
   passed-reads.Learnt,
-  moved-reads.Asked,
-  moved-reads.Learnt,
+  moved-on-reads.Asked,
+  moved-on-reads.Learnt,
   expr-below t,
   expr.Post,
   refused-all-reads.Asked,
@@ -8599,8 +6736,8 @@ several-loop-less t c = omega (arith, (c .before .before .before .loop-test .tak
 several-loop-again : (t : ℕ) → several-lts.Need-loop-again (
   frame-line-reads.Asked,
   frame-line-reads.Learnt,
-  none-reads.Asked,
-  none-reads.Learnt,
+  none-at-reads.Asked,
+  none-at-reads.Learnt,
   variable-at-reads.Asked,
   variable-at-reads.Learnt,
   word-at-reads.Asked,
@@ -8609,8 +6746,8 @@ several-loop-again : (t : ℕ) → several-lts.Need-loop-again (
   put-reads.Learnt,
   passed-reads.Asked,
   passed-reads.Learnt,
-  moved-reads.Asked,
-  moved-reads.Learnt,
+  moved-on-reads.Asked,
+  moved-on-reads.Learnt,
   expr-below t,
   expr.Post,
   refused-all-reads.Asked,
@@ -8621,15 +6758,15 @@ several-loop-again : (t : ℕ) → several-lts.Need-loop-again (
   joined-reads.Learnt,
 ) (several-at t) several.Post several-Inv-loop several-μ-loop
 several-loop-again t c = ⊎-elim
-    (λ way. turned-variable (c .before .before .before .before .loop .inv) (c .before .before .before .loop-test .taken) (c .before .before .before .before .before .before .frame-line .ensures) (c .before .variable-at .ensures) (way .1 .given .1) _ (way .5 .ensures) (way .6 .ensures) (way .9 .ensures) (way .10) (way .11) (way .12) (way .13) (way .14) (way .15))
-    (λ way. turned-expr (c .before .before .before .before .loop .inv) (c .before .before .before .loop-test .taken) (way .2 .ensures) (way .7 .ensures) (way .7 .kept .1 .1 .0) (way .7 .kept .1 .1 .1 .1 .0) (way .7 .kept .1 .1 .1 .1 .1 .0) (way .15 .given .1) _ (way .18 .ensures .is) (way .19 .ensures) (way .22 .ensures) (way .23) (way .24) (way .25) (way .26) (way .27) (way .28))
+    (λ way. turned-variable (c .before .before .before .before .loop .inv) (c .before .before .before .loop-test .taken) (c .before .before .before .before .before .before .frame-line .ensures) (c .before .variable-at .ensures) (way .1 .given .1) _ (way .6 .ensures) (way .7 .ensures) (way .10 .ensures) (way .11) (way .12) (way .13) (way .14) (way .15) (way .16))
+    (λ way. turned-expr (c .before .before .before .before .loop .inv) (c .before .before .before .loop-test .taken) (way .2 .ensures) (way .7 .ensures) (way .7 .kept .1 .1 .0) (way .11 .given .1) _ (way .14 .ensures .is) (way .15 .ensures) (way .18 .ensures) (way .19) (way .20) (way .21) (way .22) (way .23) (way .24))
     (c .match .came)
 
-several-same-length-5 : (t : ℕ) → several-lts.Need-same-length-5 (
+several-same-length-3 : (t : ℕ) → several-lts.Need-same-length-3 (
   frame-line-reads.Asked,
   frame-line-reads.Learnt,
-  none-reads.Asked,
-  none-reads.Learnt,
+  none-at-reads.Asked,
+  none-at-reads.Learnt,
   variable-at-reads.Asked,
   variable-at-reads.Learnt,
   word-at-reads.Asked,
@@ -8638,8 +6775,8 @@ several-same-length-5 : (t : ℕ) → several-lts.Need-same-length-5 (
   put-reads.Learnt,
   passed-reads.Asked,
   passed-reads.Learnt,
-  moved-reads.Asked,
-  moved-reads.Learnt,
+  moved-on-reads.Asked,
+  moved-on-reads.Learnt,
   expr-below t,
   expr.Post,
   refused-all-reads.Asked,
@@ -8649,13 +6786,13 @@ several-same-length-5 : (t : ℕ) → several-lts.Need-same-length-5 (
   joined-reads.Asked,
   joined-reads.Learnt,
 ) (several-at t) several.Post several-Inv-loop several-μ-loop
-several-same-length-5 t c = (c .before .loop .inv .list-long)
+several-same-length-3 t c = (c .before .loop .inv .list-long)
 
-several-same-length-6 : (t : ℕ) → several-lts.Need-same-length-6 (
+several-same-length-4 : (t : ℕ) → several-lts.Need-same-length-4 (
   frame-line-reads.Asked,
   frame-line-reads.Learnt,
-  none-reads.Asked,
-  none-reads.Learnt,
+  none-at-reads.Asked,
+  none-at-reads.Learnt,
   variable-at-reads.Asked,
   variable-at-reads.Learnt,
   word-at-reads.Asked,
@@ -8664,8 +6801,8 @@ several-same-length-6 : (t : ℕ) → several-lts.Need-same-length-6 (
   put-reads.Learnt,
   passed-reads.Asked,
   passed-reads.Learnt,
-  moved-reads.Asked,
-  moved-reads.Learnt,
+  moved-on-reads.Asked,
+  moved-on-reads.Learnt,
   expr-below t,
   expr.Post,
   refused-all-reads.Asked,
@@ -8675,65 +6812,13 @@ several-same-length-6 : (t : ℕ) → several-lts.Need-same-length-6 (
   joined-reads.Asked,
   joined-reads.Learnt,
 ) (several-at t) several.Post several-Inv-loop several-μ-loop
-several-same-length-6 t c = (c .before .loop .inv .scope-long)
-
-several-same-length-7 : (t : ℕ) → several-lts.Need-same-length-7 (
-  frame-line-reads.Asked,
-  frame-line-reads.Learnt,
-  none-reads.Asked,
-  none-reads.Learnt,
-  variable-at-reads.Asked,
-  variable-at-reads.Learnt,
-  word-at-reads.Asked,
-  word-at-reads.Learnt,
-  put-reads.Asked,
-  put-reads.Learnt,
-  passed-reads.Asked,
-  passed-reads.Learnt,
-  moved-reads.Asked,
-  moved-reads.Learnt,
-  expr-below t,
-  expr.Post,
-  refused-all-reads.Asked,
-  refused-all-reads.Learnt,
-  type-word-reads.Asked,
-  type-word-reads.Learnt,
-  joined-reads.Asked,
-  joined-reads.Learnt,
-) (several-at t) several.Post several-Inv-loop several-μ-loop
-several-same-length-7 t c = (c .before .loop .inv .sizes-long)
-
-several-same-length-8 : (t : ℕ) → several-lts.Need-same-length-8 (
-  frame-line-reads.Asked,
-  frame-line-reads.Learnt,
-  none-reads.Asked,
-  none-reads.Learnt,
-  variable-at-reads.Asked,
-  variable-at-reads.Learnt,
-  word-at-reads.Asked,
-  word-at-reads.Learnt,
-  put-reads.Asked,
-  put-reads.Learnt,
-  passed-reads.Asked,
-  passed-reads.Learnt,
-  moved-reads.Asked,
-  moved-reads.Learnt,
-  expr-below t,
-  expr.Post,
-  refused-all-reads.Asked,
-  refused-all-reads.Learnt,
-  type-word-reads.Asked,
-  type-word-reads.Learnt,
-  joined-reads.Asked,
-  joined-reads.Learnt,
-) (several-at t) several.Post several-Inv-loop several-μ-loop
-several-same-length-8 t c = (c .before .loop .inv .gathers .long)
+several-same-length-4 t c = (c .before .loop .inv .gathers .long)
 
 several-returns-2 : (t : ℕ) → several-lts.Need-returns-2 (
   frame-line-reads.Asked,
   frame-line-reads.Learnt,
-  none-reads.Asked,
-  none-reads.Learnt,
+  none-at-reads.Asked,
+  none-at-reads.Learnt,
   variable-at-reads.Asked,
   variable-at-reads.Learnt,
   word-at-reads.Asked,
@@ -8742,8 +6827,8 @@ several-returns-2 : (t : ℕ) → several-lts.Need-returns-2 (
   put-reads.Learnt,
   passed-reads.Asked,
   passed-reads.Learnt,
-  moved-reads.Asked,
-  moved-reads.Learnt,
+  moved-on-reads.Asked,
+  moved-on-reads.Learnt,
   expr-below t,
   expr.Post,
   refused-all-reads.Asked,
@@ -8782,8 +6867,8 @@ pub +adjust+apply+at-splits+binding+body+branch+branches+call+case-of+choice+com
       frame-line-reads.Learnt,
       size-at-reads.Asked,
       size-at-reads.Learnt,
-      moved-reads.Asked,
-      moved-reads.Learnt,
+      moved-on-reads.Asked,
+      moved-on-reads.Learnt,
       expr-below t,
       expr.Post,
       adjusted-reads.Asked,
@@ -8795,38 +6880,29 @@ pub +adjust+apply+at-splits+binding+body+branch+branches+call+case-of+choice+com
     (adjust-size-at-requires t)
     (adjust-enum-known-s t)
     (adjust-enum-told t)
-    (adjust-add-t21 t)
-    (adjust-same-length t)
+    (adjust-add-t22 t)
     (adjust-returns t)
-    (adjust-moved-requires t)
+    (adjust-moved-on-requires t)
     (adjust-expr-requires t)
     (adjust-enum-known-x t)
     (adjust-enum-told-2 t)
-    (adjust-same-length-2 t)
-    (adjust-same-length-3 t)
-    (adjust-same-length-4 t)
+    (adjust-same-length t)
     (adjust-returns-2 t)
     (adjust-enum-known-ty t)
-    (adjust-add-t29 t)
-    (adjust-same-length-5 t)
-    (adjust-same-length-6 t)
-    (adjust-same-length-7 t)
+    (adjust-add-t28 t)
+    (adjust-same-length-2 t)
     (adjust-returns-3 t)
-    (adjust-add-t31 t)
-    (adjust-same-length-8 t)
-    (adjust-same-length-9 t)
-    (adjust-same-length-10 t)
+    (adjust-add-t30 t)
+    (adjust-same-length-3 t)
     (adjust-returns-4 t)
     (adjust-adjusted-requires t)
-    (adjust-same-length-11 t)
-    (adjust-same-length-12 t)
-    (adjust-same-length-13 t)
+    (adjust-same-length-4 t)
     (adjust-returns-5 t))
     (λ t. apply-lts.spec (
       named-sizes-reads.Asked,
       named-sizes-reads.Learnt,
-      moved-reads.Asked,
-      moved-reads.Learnt,
+      moved-on-reads.Asked,
+      moved-on-reads.Learnt,
       enter-below t,
       enter.Post,
       called-reads.Asked,
@@ -8836,17 +6912,14 @@ pub +adjust+apply+at-splits+binding+body+branch+branches+call+case-of+choice+com
     apply.Post
     (apply-slice-aggregate-named-sizes t)
     (apply-named-sizes-requires t)
-    (apply-moved-requires t)
-    (apply-slice-aggregate-enter t)
+    (apply-moved-on-requires t)
     (apply-enter-requires t)
     (apply-enum-known-z t)
     (apply-enum-told t)
     (apply-same-length t)
-    (apply-same-length-2 t)
     (apply-returns t)
     (apply-called-requires t)
-    (apply-same-length-3 t)
-    (apply-same-length-4 t)
+    (apply-same-length-2 t)
     (apply-returns-2 t))
     (λ t. at-splits-lts.spec (
       fields-reads.Asked,
@@ -8857,8 +6930,8 @@ pub +adjust+apply+at-splits+binding+body+branch+branches+call+case-of+choice+com
       nothing-yet-reads.Learnt,
       bind-fields-reads.Asked,
       bind-fields-reads.Learnt,
-      moved-reads.Asked,
-      moved-reads.Learnt,
+      moved-on-reads.Asked,
+      moved-on-reads.Learnt,
       widen-reads.Asked,
       widen-reads.Learnt,
       expr-below t,
@@ -8881,20 +6954,16 @@ pub +adjust+apply+at-splits+binding+body+branch+branches+call+case-of+choice+com
     (at-splits-nothing-yet-requires t)
     (at-splits-loop-holds t)
     (at-splits-bind-fields-requires t)
-    (at-splits-moved-requires t)
+    (at-splits-moved-on-requires t)
     (at-splits-widen-requires t)
     (at-splits-expr-requires t)
     (at-splits-enum-known-x t)
     (at-splits-enum-told t)
     (at-splits-same-length t)
-    (at-splits-same-length-2 t)
-    (at-splits-same-length-3 t)
     (at-splits-returns t)
     (at-splits-is-type-requires t)
-    (at-splits-add-t34 t)
-    (at-splits-same-length-4 t)
-    (at-splits-same-length-5 t)
-    (at-splits-same-length-6 t)
+    (at-splits-add-t33 t)
+    (at-splits-same-length-2 t)
     (at-splits-returns-2 t)
     (at-splits-larger-requires t)
     (at-splits-cast-next-split t)
@@ -8902,9 +6971,7 @@ pub +adjust+apply+at-splits+binding+body+branch+branches+call+case-of+choice+com
     (at-splits-loop-less t)
     (at-splits-loop-again t)
     (at-splits-slotted-requires t)
-    (at-splits-same-length-7 t)
-    (at-splits-same-length-8 t)
-    (at-splits-same-length-9 t)
+    (at-splits-same-length-3 t)
     (at-splits-returns-3 t))
     (λ t. binding-lts.spec (
       expr-below t,
@@ -8926,8 +6993,6 @@ pub +adjust+apply+at-splits+binding+body+branch+branches+call+case-of+choice+com
     (binding-enum-known-x t)
     (binding-enum-told t)
     (binding-same-length t)
-    (binding-same-length-2 t)
-    (binding-same-length-3 t)
     (binding-returns t)
     (binding-cast-put t)
     (binding-type-word-requires t)
@@ -8937,60 +7002,50 @@ pub +adjust+apply+at-splits+binding+body+branch+branches+call+case-of+choice+com
     (binding-expr-requires-2 t)
     (binding-enum-known-y t)
     (binding-enum-told-2 t)
-    (binding-same-length-4 t)
-    (binding-same-length-5 t)
-    (binding-same-length-6 t)
+    (binding-same-length-2 t)
     (binding-returns-2 t)
     (binding-with-let-requires t)
-    (binding-same-length-7 t)
-    (binding-same-length-8 t)
-    (binding-same-length-9 t)
+    (binding-same-length-3 t)
     (binding-returns-3 t))
     (λ t. body-lts.spec (
       word-of-reads.Asked,
       word-of-reads.Learnt,
       add-reads.Asked,
       add-reads.Learnt,
-      body-place-reads.Asked,
-      body-place-reads.Learnt,
+      body-site-reads.Asked,
+      body-site-reads.Learnt,
       expr-below t,
       expr.Post,
       is-type-reads.Asked,
       is-type-reads.Learnt,
       finish-reads.Asked,
       finish-reads.Learnt,
-      moved-reads.Asked,
-      moved-reads.Learnt,
+      moved-on-reads.Asked,
+      moved-on-reads.Learnt,
       leaf-reads.Asked,
       leaf-reads.Learnt,
     )
     (body-at t)
     body.Post
     (body-cast-if1 t)
-    (body-add-t17 t)
+    (body-add-t19 t)
     (body-returns t)
     (body-word-of-requires t)
     (body-add-requires t)
-    (body-body-place-requires t)
+    (body-body-site-requires t)
     (body-expr-requires t)
     (body-enum-known-x t)
     (body-enum-told t)
     (body-same-length t)
-    (body-same-length-2 t)
-    (body-same-length-3 t)
     (body-returns-2 t)
     (body-is-type-requires t)
     (body-add-t33 t)
-    (body-same-length-4 t)
-    (body-same-length-5 t)
-    (body-same-length-6 t)
+    (body-same-length-2 t)
     (body-returns-3 t)
     (body-finish-requires t)
-    (body-moved-requires t)
+    (body-moved-on-requires t)
     (body-leaf-requires t)
-    (body-same-length-7 t)
-    (body-same-length-8 t)
-    (body-same-length-9 t)
+    (body-same-length-3 t)
     (body-returns-4 t))
     (λ t. branch-lts.spec (
       own-fields-reads.Asked,
@@ -9001,8 +7056,8 @@ pub +adjust+apply+at-splits+binding+body+branch+branches+call+case-of+choice+com
       skip-reads.Learnt,
       nothing-reads.Asked,
       nothing-reads.Learnt,
-      moved-reads.Asked,
-      moved-reads.Learnt,
+      moved-on-reads.Asked,
+      moved-on-reads.Learnt,
       leaf-reads.Asked,
       leaf-reads.Learnt,
       first-split-reads.Asked,
@@ -9017,7 +7072,7 @@ pub +adjust+apply+at-splits+binding+body+branch+branches+call+case-of+choice+com
     (branch-frame-line-requires t)
     (branch-skip-requires t)
     (branch-nothing-requires t)
-    (branch-moved-requires t)
+    (branch-moved-on-requires t)
     (branch-leaf-requires t)
     (branch-returns t)
     (branch-cast-first-split t)
@@ -9025,8 +7080,6 @@ pub +adjust+apply+at-splits+binding+body+branch+branches+call+case-of+choice+com
     (branch-first-split-requires t)
     (branch-at-splits-requires t)
     (branch-same-length t)
-    (branch-same-length-2 t)
-    (branch-same-length-3 t)
     (branch-returns-2 t))
     (λ t. branches-lts.spec (
       constructors-reads.Asked,
@@ -9054,22 +7107,16 @@ pub +adjust+apply+at-splits+binding+body+branch+branches+call+case-of+choice+com
     (branches-enum-known-x t)
     (branches-enum-told t)
     (branches-same-length t)
-    (branches-same-length-2 t)
-    (branches-same-length-3 t)
     (branches-returns-2 t)
     (branches-behind-requires t)
     (branches-add-j t)
     (branches-branches-requires t)
     (branches-enum-known-y t)
     (branches-enum-told-2 t)
-    (branches-same-length-4 t)
-    (branches-same-length-5 t)
-    (branches-same-length-6 t)
+    (branches-same-length-2 t)
     (branches-returns-3 t)
     (branches-branched-requires t)
-    (branches-same-length-7 t)
-    (branches-same-length-8 t)
-    (branches-same-length-9 t)
+    (branches-same-length-3 t)
     (branches-returns-4 t))
     (λ t. call-lts.spec (
       arity-reads.Asked,
@@ -9090,14 +7137,9 @@ pub +adjust+apply+at-splits+binding+body+branch+branches+call+case-of+choice+com
     (call-enum-told t)
     (call-refused-requires t)
     (call-same-length t)
-    (call-same-length-2 t)
-    (call-same-length-3 t)
     (call-returns t)
-    (call-slice-aggregate-apply t)
     (call-apply-requires t)
-    (call-same-length-4 t)
-    (call-same-length-5 t)
-    (call-same-length-6 t)
+    (call-same-length-2 t)
     (call-returns-2 t))
     (λ t. case-of-lts.spec (
       expr-below t,
@@ -9108,8 +7150,8 @@ pub +adjust+apply+at-splits+binding+body+branch+branches+call+case-of+choice+com
       type-at-reads.Learnt,
       subject-reads.Asked,
       subject-reads.Learnt,
-      moved-reads.Asked,
-      moved-reads.Learnt,
+      moved-on-reads.Asked,
+      moved-on-reads.Learnt,
       branches-below t,
       branches.Post,
       cased-reads.Asked,
@@ -9121,37 +7163,27 @@ pub +adjust+apply+at-splits+binding+body+branch+branches+call+case-of+choice+com
     (case-of-enum-known-x t)
     (case-of-enum-told t)
     (case-of-same-length t)
-    (case-of-same-length-2 t)
-    (case-of-same-length-3 t)
     (case-of-returns t)
     (case-of-enum-known-ty t)
-    (case-of-add-t29 t)
-    (case-of-same-length-4 t)
-    (case-of-same-length-5 t)
-    (case-of-same-length-6 t)
+    (case-of-add-t28 t)
+    (case-of-same-length-2 t)
     (case-of-returns-2 t)
     (case-of-frame-line-requires t)
     (case-of-type-at-requires t)
     (case-of-enum-known-y t)
     (case-of-enum-told-2 t)
-    (case-of-add-t32 t)
-    (case-of-same-length-7 t)
-    (case-of-same-length-8 t)
-    (case-of-same-length-9 t)
+    (case-of-add-t31 t)
+    (case-of-same-length-3 t)
     (case-of-returns-3 t)
     (case-of-subject-requires t)
-    (case-of-moved-requires t)
+    (case-of-moved-on-requires t)
     (case-of-branches-requires t)
     (case-of-enum-known-z t)
     (case-of-enum-told-3 t)
-    (case-of-same-length-10 t)
-    (case-of-same-length-11 t)
-    (case-of-same-length-12 t)
+    (case-of-same-length-4 t)
     (case-of-returns-4 t)
     (case-of-cased-requires t)
-    (case-of-same-length-13 t)
-    (case-of-same-length-14 t)
-    (case-of-same-length-15 t)
+    (case-of-same-length-5 t)
     (case-of-returns-5 t))
     (λ t. choice-lts.spec (
       expr-below t,
@@ -9169,35 +7201,25 @@ pub +adjust+apply+at-splits+binding+body+branch+branches+call+case-of+choice+com
     (choice-enum-known-x t)
     (choice-enum-told t)
     (choice-same-length t)
-    (choice-same-length-2 t)
-    (choice-same-length-3 t)
     (choice-returns t)
     (choice-behind-requires t)
     (choice-expr-requires-2 t)
     (choice-enum-known-y t)
     (choice-enum-told-2 t)
-    (choice-same-length-4 t)
-    (choice-same-length-5 t)
-    (choice-same-length-6 t)
+    (choice-same-length-2 t)
     (choice-returns-2 t)
     (choice-behind-requires-2 t)
     (choice-expr-requires-3 t)
     (choice-enum-known-z t)
     (choice-enum-told-3 t)
-    (choice-same-length-7 t)
-    (choice-same-length-8 t)
-    (choice-same-length-9 t)
+    (choice-same-length-3 t)
     (choice-returns-3 t)
     (choice-agree-requires t)
-    (choice-add-t39 t)
-    (choice-same-length-10 t)
-    (choice-same-length-11 t)
-    (choice-same-length-12 t)
+    (choice-add-t34 t)
+    (choice-same-length-4 t)
     (choice-returns-4 t)
     (choice-chosen-requires t)
-    (choice-same-length-13 t)
-    (choice-same-length-14 t)
-    (choice-same-length-15 t)
+    (choice-same-length-5 t)
     (choice-returns-5 t))
     (λ t. compound-lts.spec (
       binding-below t,
@@ -9235,38 +7257,22 @@ pub +adjust+apply+at-splits+binding+body+branch+branches+call+case-of+choice+com
     (compound-adjust-requires t)
     (compound-enum-known-form-5 t)
     (compound-fit-requires t)
-    (compound-add-t72 t)
+    (compound-add-t57 t)
     (compound-same-length t)
-    (compound-same-length-2 t)
-    (compound-same-length-3 t)
     (compound-returns t)
-    (compound-same-length-4 t)
-    (compound-same-length-5 t)
-    (compound-same-length-6 t)
+    (compound-same-length-2 t)
     (compound-returns-2 t)
-    (compound-same-length-7 t)
-    (compound-same-length-8 t)
-    (compound-same-length-9 t)
+    (compound-same-length-3 t)
     (compound-returns-3 t)
-    (compound-same-length-10 t)
-    (compound-same-length-11 t)
-    (compound-same-length-12 t)
+    (compound-same-length-4 t)
     (compound-returns-4 t)
-    (compound-same-length-13 t)
-    (compound-same-length-14 t)
-    (compound-same-length-15 t)
+    (compound-same-length-5 t)
     (compound-returns-5 t)
-    (compound-same-length-16 t)
-    (compound-same-length-17 t)
-    (compound-same-length-18 t)
+    (compound-same-length-6 t)
     (compound-returns-6 t)
-    (compound-same-length-19 t)
-    (compound-same-length-20 t)
-    (compound-same-length-21 t)
+    (compound-same-length-7 t)
     (compound-returns-7 t)
-    (compound-same-length-22 t)
-    (compound-same-length-23 t)
-    (compound-same-length-24 t)
+    (compound-same-length-8 t)
     (compound-returns-8 t)
     (compound-returns-9 t))
     (λ t. construct-lts.spec (
@@ -9288,14 +7294,10 @@ pub +adjust+apply+at-splits+binding+body+branch+branches+call+case-of+choice+com
     (construct-enum-told t)
     (construct-refused-requires t)
     (construct-same-length t)
-    (construct-same-length-2 t)
-    (construct-same-length-3 t)
     (construct-returns t)
     (construct-slice-aggregate-made t)
     (construct-made-requires t)
-    (construct-same-length-4 t)
-    (construct-same-length-5 t)
-    (construct-same-length-6 t)
+    (construct-same-length-2 t)
     (construct-returns-2 t))
     (λ t. enter-lts.spec (
       find-reads.Asked,
@@ -9312,12 +7314,9 @@ pub +adjust+apply+at-splits+binding+body+branch+branches+call+case-of+choice+com
     (enter-enum-told t)
     (enter-enter-new-requires t)
     (enter-same-length t)
-    (enter-same-length-2 t)
-    (enter-same-length-3 t)
     (enter-returns t)
     (enter-again-requires t)
-    (enter-same-length-4 t)
-    (enter-same-length-5 t)
+    (enter-same-length-2 t)
     (enter-returns-2 t))
     (λ t. enter-new-lts.spec (
       prepare-reads.Asked,
@@ -9333,12 +7332,9 @@ pub +adjust+apply+at-splits+binding+body+branch+branches+call+case-of+choice+com
     (enter-new-enum-known-y t)
     (enter-new-enum-told t)
     (enter-new-not-entered-requires t)
-    (enter-new-same-length t)
     (enter-new-returns t)
     (enter-new-body-requires t)
-    (enter-new-same-length-2 t)
-    (enter-new-same-length-3 t)
-    (enter-new-same-length-4 t)
+    (enter-new-same-length t)
     (enter-new-returns-2 t))
     (λ t. expr-lts.spec (
       frame-line-reads.Asked,
@@ -9362,7 +7358,7 @@ pub +adjust+apply+at-splits+binding+body+branch+branches+call+case-of+choice+com
     )
     (expr-at t)
     expr.Post
-    (expr-add-t18 t)
+    (expr-add-t19 t)
     (expr-returns t)
     (expr-frame-line-requires t)
     (expr-head-at-requires t)
@@ -9389,13 +7385,10 @@ pub +adjust+apply+at-splits+binding+body+branch+branches+call+case-of+choice+com
     (expr-compound-requires t)
     (expr-returns-2 t)
     (expr-returns-3 t)
-    (expr-same-length t)
     (expr-returns-4 t)
     (expr-returns-5 t)
     (expr-returns-6 t)
-    (expr-same-length-2 t)
-    (expr-same-length-3 t)
-    (expr-same-length-4 t)
+    (expr-same-length t)
     (expr-returns-7 t))
     (λ t. fit-lts.spec (
       expr-below t,
@@ -9419,16 +7412,12 @@ pub +adjust+apply+at-splits+binding+body+branch+branches+call+case-of+choice+com
     (fit-enum-known-x t)
     (fit-enum-told t)
     (fit-same-length t)
-    (fit-same-length-2 t)
-    (fit-same-length-3 t)
     (fit-returns t)
     (fit-enum-known-ty t)
-    (fit-add-t27 t)
-    (fit-same-length-4 t)
-    (fit-same-length-5 t)
-    (fit-same-length-6 t)
+    (fit-add-t26 t)
+    (fit-same-length-2 t)
     (fit-returns-2 t)
-    (fit-cast-t28 t)
+    (fit-cast-t27 t)
     (fit-word-of-requires t)
     (fit-cast-put t)
     (fit-put-requires t)
@@ -9437,28 +7426,20 @@ pub +adjust+apply+at-splits+binding+body+branch+branches+call+case-of+choice+com
     (fit-expr-requires-2 t)
     (fit-enum-known-y t)
     (fit-enum-told-2 t)
-    (fit-same-length-7 t)
-    (fit-same-length-8 t)
-    (fit-same-length-9 t)
+    (fit-same-length-3 t)
     (fit-returns-3 t)
     (fit-behind-requires-2 t)
     (fit-expr-requires-3 t)
     (fit-enum-known-z t)
     (fit-enum-told-3 t)
-    (fit-same-length-10 t)
-    (fit-same-length-11 t)
-    (fit-same-length-12 t)
+    (fit-same-length-4 t)
     (fit-returns-4 t)
     (fit-agree-requires t)
-    (fit-add-t51 t)
-    (fit-same-length-13 t)
-    (fit-same-length-14 t)
-    (fit-same-length-15 t)
+    (fit-add-t46 t)
+    (fit-same-length-5 t)
     (fit-returns-5 t)
     (fit-fitted-requires t)
-    (fit-same-length-16 t)
-    (fit-same-length-17 t)
-    (fit-same-length-18 t)
+    (fit-same-length-6 t)
     (fit-returns-6 t))
     (λ t. operation-lts.spec (
       expr-below t,
@@ -9474,27 +7455,21 @@ pub +adjust+apply+at-splits+binding+body+branch+branches+call+case-of+choice+com
     (operation-enum-known-x t)
     (operation-enum-told t)
     (operation-same-length t)
-    (operation-same-length-2 t)
-    (operation-same-length-3 t)
     (operation-returns t)
     (operation-behind-requires t)
     (operation-expr-requires-2 t)
     (operation-enum-known-y t)
     (operation-enum-told-2 t)
-    (operation-same-length-4 t)
-    (operation-same-length-5 t)
-    (operation-same-length-6 t)
+    (operation-same-length-2 t)
     (operation-returns-2 t)
     (operation-operated-requires t)
-    (operation-same-length-7 t)
-    (operation-same-length-8 t)
-    (operation-same-length-9 t)
+    (operation-same-length-3 t)
     (operation-returns-3 t))
     λ t. several-lts.spec (
       frame-line-reads.Asked,
       frame-line-reads.Learnt,
-      none-reads.Asked,
-      none-reads.Learnt,
+      none-at-reads.Asked,
+      none-at-reads.Learnt,
       variable-at-reads.Asked,
       variable-at-reads.Learnt,
       word-at-reads.Asked,
@@ -9503,8 +7478,8 @@ pub +adjust+apply+at-splits+binding+body+branch+branches+call+case-of+choice+com
       put-reads.Learnt,
       passed-reads.Asked,
       passed-reads.Learnt,
-      moved-reads.Asked,
-      moved-reads.Learnt,
+      moved-on-reads.Asked,
+      moved-on-reads.Learnt,
       expr-below t,
       expr.Post,
       refused-all-reads.Asked,
@@ -9519,7 +7494,7 @@ pub +adjust+apply+at-splits+binding+body+branch+branches+call+case-of+choice+com
     several-Inv-loop
     several-μ-loop
     (several-frame-line-requires t)
-    (several-none-requires t)
+    (several-none-at-requires t)
     (several-loop-holds t)
     (several-variable-at-requires t)
     (several-enum-known-v t)
@@ -9529,15 +7504,13 @@ pub +adjust+apply+at-splits+binding+body+branch+branches+call+case-of+choice+com
     (several-put-requires t)
     (several-passed-requires t)
     (several-enum-told t)
-    (several-moved-requires t)
+    (several-moved-on-requires t)
     (several-expr-requires t)
     (several-enum-known-x t)
     (several-enum-told-2 t)
     (several-refused-all-requires t)
     (several-same-length t)
     (several-same-length-2 t)
-    (several-same-length-3 t)
-    (several-same-length-4 t)
     (several-returns t)
     (several-cast-put-2 t)
     (several-type-word-requires t)
@@ -9546,8 +7519,6 @@ pub +adjust+apply+at-splits+binding+body+branch+branches+call+case-of+choice+com
     (several-add-i t)
     (several-loop-less t)
     (several-loop-again t)
-    (several-same-length-5 t)
-    (several-same-length-6 t)
-    (several-same-length-7 t)
-    (several-same-length-8 t)
+    (several-same-length-3 t)
+    (several-same-length-4 t)
     (several-returns-2 t)

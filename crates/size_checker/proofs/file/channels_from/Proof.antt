@@ -5,27 +5,28 @@ use mathlib.Core.Path.{_≡_, refl, _∙_}
 use lib.ListN.{length}
 use Rattle.size_steps.specs.Agreement.{table}
 use Rattle.size_laws.specs.Promises.{lent}
+use Rattle.size_laws.specs.FileParts.{entryWord}
 use Rattle.size_laws.specs.ChannelsLaws.{Along, along-start, along-on, along-no, along-end}
 use Rattle.size_checker.proofs.file.channels_from.Statement.{statement}
 use Rattle.size_checker.proofs.file.channels_from.Tie as tie
 
 abbrev Inv-loop : tie.InvT-loop
-Inv-loop text index list₀ memo₀ n from word used last all₀ c₀ list memo all c = Along (lent text index) (table list₀ memo₀) n from word used c (table list memo) all × (length list ≡ length list₀)
+Inv-loop text index list₀ memo₀ n from update used last all₀ c₀ list memo all c = Along (lent text index) (table list₀ memo₀) n from (entryWord update) used c (table list memo) all × (length list ≡ length list₀)
 
 abbrev μ-loop : tie.MeasureT-loop
-μ-loop text index list₀ memo₀ n from word used last all₀ c₀ list memo all c = last - c
+μ-loop text index list₀ memo₀ n from update used last all₀ c₀ list memo all c = last - c
 
 add-last : tie.Need-add-last Inv-loop μ-loop
-add-last c = omega (arith, (c .before .before .before .pre .0 .inputs), (c .before .before .before .pre .0 .nodes))
+add-last c = omega (arith, (c .before .before .before .pre .inputs), (c .before .before .before .pre .nodes))
 
-none-yet-requires : tie.Need-none-yet-requires Inv-loop μ-loop
-none-yet-requires c κs = tt
+none-requires : tie.Need-none-requires Inv-loop μ-loop
+none-requires c κs = tt
 
 loop-holds : tie.Need-loop-holds Inv-loop μ-loop
-loop-holds c = (along-start (c .none-yet .ensures), refl)
+loop-holds c = (along-start (c .none .ensures), refl)
 
 channel-requires : tie.Need-channel-requires Inv-loop μ-loop
-channel-requires c κs = ((c .before .before .before .before .before .before .before .before .pre .0), (omega (arith, (c .before .before .before .before .before .before .before .before .pre .0 .inputs), (c .before .before .before .before .before .before .before .before .pre .0 .nodes), (c .before .before .loop-test .taken)), (c .before .before .before .before .before .before .before .before .pre .1)))
+channel-requires c κs = ((c .before .before .before .before .before .before .before .before .pre), omega (arith, (c .before .before .before .before .before .before .before .before .pre .inputs), (c .before .before .before .before .before .before .before .before .pre .nodes), (c .before .before .loop-test .taken)))
 
 enum-known-x : tie.Need-enum-known-x Inv-loop μ-loop
 enum-known-x c = (c .match .keys1)
@@ -46,7 +47,7 @@ joined-requires : tie.Need-joined-requires Inv-loop μ-loop
 joined-requires c κs = tt
 
 add-c : tie.Need-add-c Inv-loop μ-loop
-add-c c = omega (arith, (c .before .before .before .before .before .before .before .before .before .loop-test .taken), (c .before .before .before .before .before .before .before .before .before .before .before .before .before .before .before .pre .0 .inputs), (c .before .before .before .before .before .before .before .before .before .before .before .before .before .before .before .pre .0 .nodes))
+add-c c = omega (arith, (c .before .before .before .before .before .before .before .before .before .loop-test .taken), (c .before .before .before .before .before .before .before .before .before .before .before .before .before .before .before .pre .inputs), (c .before .before .before .before .before .before .before .before .before .before .before .before .before .before .before .pre .nodes))
 
 loop-less : tie.Need-loop-less Inv-loop μ-loop
 loop-less c = omega (arith, (c .before .before .before .before .before .before .before .before .before .loop-test .taken))
@@ -67,7 +68,7 @@ channels-from-spec =
     Inv-loop
     μ-loop
     add-last
-    none-yet-requires
+    none-requires
     loop-holds
     channel-requires
     enum-known-x

@@ -1,6 +1,6 @@
 -- Initial values: the list cleared, the counts tested.
 use native.Mathlib.Omega.{arith}
-use mathlib.Core.Path.{refl, _∙_}
+use mathlib.Core.Path.{_∙_}
 use borrow.Author.Tests.{not-true, not-false}
 use Rattle.size_laws.specs.ChannelLaws.{limited-few, limited-many}
 use Rattle.size_laws.specs.FileLaws.{initials-many, initials-done}
@@ -20,7 +20,7 @@ returns : tie.Need-returns
 returns c = initials-many (limited-many (c .before .limited .ensures) (not-true _ (c .if1 .taken)))
 
 channels-from-requires : tie.Need-channels-from-requires
-channels-from-requires c κs = (limited-few (c .before .before .before .limited .ensures) (not-false _ (c .before .before .if1 .left)), λ other. refl)
+channels-from-requires c κs = limited-few (c .before .before .before .limited .ensures) (not-false _ (c .before .before .if1 .left))
 
 same-length-2 : tie.Need-same-length-2
 same-length-2 c = (c .before .before .channels-from .kept .1 .1 .0) ∙ (c .before .before .before .before .before .before .before .before .before .clear .kept .0)

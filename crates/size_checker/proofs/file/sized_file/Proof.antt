@@ -1,5 +1,5 @@
 -- A whole file: initial values, then updates.
-use mathlib.Core.Path.{refl, _∙_}
+use mathlib.Core.Path.{_∙_}
 use Rattle.size_laws.specs.FileLaws.{file-first, file-done}
 use Rattle.size_checker.proofs.file.sized_file.Statement.{statement}
 use Rattle.size_checker.proofs.file.sized_file.Tie as tie
@@ -23,7 +23,7 @@ returns : tie.Need-returns
 returns c = file-first ((c .before .before .before .before .before .before .before .frame-counts .ensures .0)) (c .before .before .before .before .initials .ensures) (c .enum-told .given .1)
 
 channels-from-requires : tie.Need-channels-from-requires
-channels-from-requires c κs = ((c .before .before .before .before .before .before .before .initials .ensures .few) (c .before .before .before .x .given .1), λ other. absurd (other refl))
+channels-from-requires c κs = (c .before .before .before .before .before .before .before .initials .ensures .few) (c .before .before .before .x .given .1)
 
 same-length-2 : tie.Need-same-length-2
 same-length-2 c = (c .before .before .channels-from .kept .1 .1 .0) ∙ (c .before .before .before .before .before .before .before .before .before .before .initials .kept .1 .1 .0)

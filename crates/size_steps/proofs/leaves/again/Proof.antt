@@ -6,13 +6,13 @@ use Rattle.size_steps.proofs.leaves.again.Statement.{statement}
 use Rattle.size_steps.proofs.leaves.again.Tie as tie
 
 may-call-requires : tie.Need-may-call-requires
-may-call-requires c κs = ((c .before .before .before .pre .0), (c .before .before .before .pre .1 .1))
+may-call-requires c κs = search needs
 
-add-t12 : tie.Need-add-t12
-add-t12 c = search needs
+add-t13 : tie.Need-add-t13
+add-t13 c = search needs
 
 returns : tie.Need-returns
-returns c = again-refused (c .before .before .may-call .ensures) (not-true _ (c .before .if1 .taken))
+returns c = again-refused (c .before .before .before .may-call .ensures) (not-true _ (c .before .before .if1 .taken))
 
 result-word-requires : tie.Need-result-word-requires
 result-word-requires c κs = search needs
@@ -34,7 +34,7 @@ again-spec =
     tie.close
     (tie.spec
     may-call-requires
-    add-t12
+    add-t13
     returns
     result-word-requires
     type-of-requires

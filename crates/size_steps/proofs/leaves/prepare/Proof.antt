@@ -1,3 +1,4 @@
+-- What is tested of a call before its body.
 use native.Mathlib.Omega.{arith}
 use borrow.Author.Tests.{not-true, not-false}
 use Rattle.size_steps.specs.LeafLaws.{prepare-no-condition, prepare-no-fall, prepare-no-size, prepare-ready}
@@ -5,8 +6,8 @@ use borrow.Author.Needs.{needs}
 use Rattle.size_steps.proofs.leaves.prepare.Statement.{statement}
 use Rattle.size_steps.proofs.leaves.prepare.Tie as tie
 
-add-frame-line : tie.Need-add-frame-line
-add-frame-line c = search needs
+line-behind-types-requires : tie.Need-line-behind-types-requires
+line-behind-types-requires c κs = search needs
 
 frame-line-requires : tie.Need-frame-line-requires
 frame-line-requires c κs = search needs
@@ -17,11 +18,11 @@ conditions-start-requires c κs = search needs
 conditions-hold-requires : tie.Need-conditions-hold-requires
 conditions-hold-requires c κs = search needs
 
-add-t16 : tie.Need-add-t16
-add-t16 c = search needs
+add-t19 : tie.Need-add-t19
+add-t19 c = search needs
 
 returns : tie.Need-returns
-returns c = prepare-no-condition _ _ _ _ _ (c .before .before .before .before .frame-line .ensures) (c .before .before .before .conditions-start .ensures) (c .before .before .conditions-hold .ensures) (not-true _ (c .before .if1 .taken))
+returns c = prepare-no-condition _ _ _ _ _ (c .before .before .before .before .before .before .line-behind-types .ensures) (c .before .before .before .before .before .frame-line .ensures) (c .before .before .before .before .conditions-start .ensures) (c .before .before .conditions-hold .ensures) (not-true _ (c .before .if1 .taken))
 
 measure-start-requires : tie.Need-measure-start-requires
 measure-start-requires c κs = search needs
@@ -32,11 +33,11 @@ summed-measure-requires c κs = search needs
 falls-requires : tie.Need-falls-requires
 falls-requires c κs = search needs
 
-add-t17 : tie.Need-add-t17
-add-t17 c = omega (arith, (c .before .before .before .before .before .before .before .before .before .before .before .before .pre .1 .0))
+add-t22 : tie.Need-add-t22
+add-t22 c = omega (arith, (c .before .before .before .before .before .before .before .before .before .before .before .before .before .before .pre))
 
 returns-2 : tie.Need-returns-2
-returns-2 c = prepare-no-fall _ _ _ _ _ (c .before .before .before .before .before .before .before .before .frame-line .ensures) (c .before .before .before .before .before .before .before .conditions-start .ensures) (c .before .before .before .before .before .before .conditions-hold .ensures) (not-false _ (c .before .before .before .before .before .if1 .left)) (c .before .before .before .before .measure-start .ensures) (c .before .before .before .summed-measure .ensures) (c .before .before .falls .ensures) (not-true _ (c .before .if2 .taken))
+returns-2 c = prepare-no-fall _ _ _ _ _ (c .before .before .before .before .before .before .before .before .before .before .before .line-behind-types .ensures) (c .before .before .before .before .before .before .before .before .before .before .frame-line .ensures) (c .before .before .before .before .before .before .before .before .before .conditions-start .ensures) (c .before .before .before .before .before .before .before .conditions-hold .ensures) (not-false _ (c .before .before .before .before .before .before .if1 .left)) (c .before .before .before .before .before .measure-start .ensures) (c .before .before .before .summed-measure .ensures) (c .before .before .falls .ensures) (not-true _ (c .before .if2 .taken))
 
 result-start-requires : tie.Need-result-start-requires
 result-start-requires c κs = search needs
@@ -50,38 +51,34 @@ enum-known-x c = search needs
 enum-told : tie.Need-enum-told
 enum-told c = search needs
 
-add-t18 : tie.Need-add-t18
-add-t18 c = omega (arith, (c .before .before .before .before .before .before .before .before .before .before .before .before .before .before .before .before .pre .0), (c .before .before .before .before .before .before .before .before .before .before .before .before .before .before .before .before .pre .1 .1))
-
-add-t19 : tie.Need-add-t19
-add-t19 c = omega (arith, (c .before .before .before .before .before .before .before .before .before .before .before .before .before .before .before .before .pre .0), (c .before .before .before .before .before .before .before .before .before .before .before .before .before .before .before .before .pre .1 .1))
+add-t25 : tie.Need-add-t25
+add-t25 c = omega (arith, (c .before .before .before .before .before .before .before .before .before .before .before .before .before .before .before .line-behind-types .ensures))
 
 returns-3 : tie.Need-returns-3
-returns-3 c = prepare-no-size _ _ _ _ _ (c .before .before .before .before .before .before .before .before .before .before .before .before .frame-line .ensures) (c .before .before .before .before .before .before .before .before .before .before .before .conditions-start .ensures) (c .before .before .before .before .before .before .before .before .before .before .conditions-hold .ensures) (not-false _ (c .before .before .before .before .before .before .before .before .before .if1 .left)) (c .before .before .before .before .before .before .before .before .measure-start .ensures) (c .before .before .before .before .before .before .before .summed-measure .ensures) (c .before .before .before .before .before .before .falls .ensures) (not-false _ (c .before .before .before .before .before .if2 .left)) (c .before .before .before .before .result-start .ensures) (c .before .before .before .type-at .ensures) ((c .before .enum-told .given) .1)
+returns-3 c = prepare-no-size _ _ _ _ _ (c .before .before .before .before .before .before .before .before .before .before .before .before .before .before .before .line-behind-types .ensures) (c .before .before .before .before .before .before .before .before .before .before .before .before .before .before .frame-line .ensures) (c .before .before .before .before .before .before .before .before .before .before .before .before .before .conditions-start .ensures) (c .before .before .before .before .before .before .before .before .before .before .before .conditions-hold .ensures) (not-false _ (c .before .before .before .before .before .before .before .before .before .before .if1 .left)) (c .before .before .before .before .before .before .before .before .before .measure-start .ensures) (c .before .before .before .before .before .before .before .summed-measure .ensures) (c .before .before .before .before .before .before .falls .ensures) (not-false _ (c .before .before .before .before .before .if2 .left)) (c .before .before .before .before .result-start .ensures) (c .before .before .type-at .ensures) (c .enum-told .given .1)
 
 returns-4 : tie.Need-returns-4
-returns-4 c = prepare-ready _ _ _ _ _ (c .before .before .before .before .before .before .before .before .before .before .before .before .frame-line .ensures) (c .before .before .before .before .before .before .before .before .before .before .before .conditions-start .ensures) (c .before .before .before .before .before .before .before .before .before .before .conditions-hold .ensures) (not-false _ (c .before .before .before .before .before .before .before .before .before .if1 .left)) (c .before .before .before .before .before .before .before .before .measure-start .ensures) (c .before .before .before .before .before .before .before .summed-measure .ensures) (c .before .before .before .before .before .before .falls .ensures) (not-false _ (c .before .before .before .before .before .if2 .left)) (c .before .before .before .before .result-start .ensures) (c .before .before .before .type-at .ensures) ((c .before .x .given) .1)
+returns-4 c = prepare-ready _ _ _ _ _ (c .before .before .before .before .before .before .before .before .before .before .before .before .before .before .before .before .line-behind-types .ensures) (c .before .before .before .before .before .before .before .before .before .before .before .before .before .before .before .frame-line .ensures) (c .before .before .before .before .before .before .before .before .before .before .before .before .before .before .conditions-start .ensures) (c .before .before .before .before .before .before .before .before .before .before .before .before .conditions-hold .ensures) (not-false _ (c .before .before .before .before .before .before .before .before .before .before .before .if1 .left)) (c .before .before .before .before .before .before .before .before .before .before .measure-start .ensures) (c .before .before .before .before .before .before .before .before .summed-measure .ensures) (c .before .before .before .before .before .before .before .falls .ensures) (not-false _ (c .before .before .before .before .before .before .if2 .left)) (c .before .before .before .before .before .result-start .ensures) (c .before .before .before .type-at .ensures) (c .before .x .given .1)
 
 pub prepare-spec : {M : Type 1} → statement M
 prepare-spec =
     tie.close
     (tie.spec
-    add-frame-line
+    line-behind-types-requires
     frame-line-requires
     conditions-start-requires
     conditions-hold-requires
-    add-t16
+    add-t19
     returns
     measure-start-requires
     summed-measure-requires
     falls-requires
-    add-t17
+    add-t22
     returns-2
     result-start-requires
     type-at-requires
     enum-known-x
     enum-told
-    add-t18
-    add-t19
+    add-t25
     returns-3
     returns-4)
