@@ -37,7 +37,7 @@ extern "C" {
 #define PAUGMELN_LIST_WORDS (PAUGMELN_LIST_RECORDS * PAUGMELN_RECORD_WORDS)
 
 /* The stack, in bytes, that a thread is to have on which paugmeln_check is given any rule file: the checker goes as deep as
- * 1,024 bodies, each nested 32. Set by measurement (tools/measure-checking): the deepest files that were tried took 44 MiB.
+ * 1,024 bodies, each nested 32. Set by measurement (tools/measure-checking): the deepest files that were tried took 39 MiB.
  * Nothing is proved of the real stack, and the checker does not look how much of it is left. A file that is not so deep needs
  * far less; paugmeln_read needs no more than a thread usually has. */
 #define PAUGMELN_STACK_BYTES 268435456

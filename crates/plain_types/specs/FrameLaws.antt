@@ -35,7 +35,7 @@ use Rattle.plain_types.specs.declared.words.Typing.{Typing}
 use Rattle.plain_types.specs.declared.words.Typing.the-variants.{Is, Wrong}
 use Rattle.plain_types.specs.declared.words.Want.the-variants.{Parameters}
 use Rattle.heads.specs.declared.places.Place.{Place}
-use Rattle.heads.specs.Places.{lineBehindTypes}
+use Rattle.heads.specs.Places.{lineBehindTypes, function-line}
 use Rattle.plain_types.specs.Words.{typeAt, wantedType, entered, Returns}
 use Rattle.plain_types.specs.Agrees.{meaning, Agrees, is-some, is-none, holds, fails, both-first, both-not}
 use Rattle.plain_types.specs.Asks.{Stage, Part, TypesWant}
@@ -84,7 +84,7 @@ module _ (text index : List ℕ) (f : ℕ) {n : ℕ} (k : (n ≡ getD (functions
     parameter-count = let told = h .eachFunction f e .tells in count-same k (told .count) (omega (arith, told .few))
 
     line-is : line ≡ functionLine P f
-    line-is = omega (arith, number, h .counted .typeCount, look-less (P .functions) f e, h .within .fewFunctions)
+    line-is = number ∙ function-line h (look-less (P .functions) f e)
 
     parameter-type : (j : ℕ) → j < length (F .parameters) → meaning (wantedType index (Parameters f) j) ≡ getD (F .parameters) j pbool
     unfolding wantedType

@@ -256,8 +256,7 @@ fn several(
     let mut i: u32 = 0;
     while i < n {
         let at = all.next;
-        let v = variable_at(line, at);
-        match v {
+        match variable_at(line, at) {
             VariableAt::Is(number, next) => {
                 put(row, i as usize, word_at(scope, number as usize));
                 all = passed(all, next);

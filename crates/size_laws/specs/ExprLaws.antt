@@ -1,5 +1,5 @@
 -- What each return of an expression gives: no level left, a leaf, or what its form gives behind its head; and a form by its number.
-use Prim.Native.Nat.{ℕ, suc, _+_, _-_, _<_, _^_}
+use Prim.Native.Nat.{ℕ, suc, _-_, _<_}
 use mathlib.Core.List.{List}
 use mathlib.Core.Bool.{Bool, true, false}
 use mathlib.Core.Path.{_≡_, refl, sym, ap, _∙_, subst}
@@ -216,13 +216,6 @@ module _ {t : Lent} {b : Buffers} {p : Site} {line : List ℕ} {h : Head} (cut :
     expr-compound Adjust is parts v = expr-adj is v
     expr-compound (Fit n) is parts v = expr-fit is v
     expr-compound Missing is parts v = expr-missing is v
-
--- ---- the line of a channel that is named can be counted
-pub now-counted : {line : List ℕ} {at first c : ℕ} {h : Head} → Heads line at h → h .form ≡ Now c → first < 2 ^ 16 → first + c < 2 ^ 32
-now-counted r is small = omega (arith, shown r is .1 .small, small)
-
-pub last-counted : {line : List ℕ} {at first c : ℕ} {h : Head} → Heads line at h → h .form ≡ Last c → first < 2 ^ 16 → first + c < 2 ^ 32
-last-counted r is small = omega (arith, shown r is .1 .small, small)
 
 -- ---- a form by its number: what the function for that form gives, or nothing where there are no parts
 pub compound-is : {t : Lent} {b b′ : Buffers} {p : Site} {x : Sizing} {form f : Form} → form ≡ f → Sizes (CompoundPart f) t b p x b′ → Sizes (CompoundPart form) t b p x b′

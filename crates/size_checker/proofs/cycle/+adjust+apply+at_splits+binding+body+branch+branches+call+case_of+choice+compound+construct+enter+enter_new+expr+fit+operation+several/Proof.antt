@@ -19,7 +19,7 @@ use Rattle.sizes.specs.declared.SizedType.{SizedType}
 use Rattle.size_laws.specs.NamedTypes.{NotNamed}
 use Rattle.size_steps.specs.Leaves.{Operands}
 use Rattle.language.specs.Limits.{byteRange}
-use Rattle.size_laws.specs.ExprLaws.{isLeaf, hasParts, expr-deep, expr-bool, expr-int, expr-variable, expr-now, expr-last, expr-compound, now-counted, last-counted, compound-is, compound-none, operands-of}
+use Rattle.size_laws.specs.ExprLaws.{isLeaf, hasParts, expr-deep, expr-bool, expr-int, expr-variable, expr-now, expr-last, expr-compound, compound-is, compound-none, operands-of}
 use Rattle.size_laws.specs.SeveralLaws.{Turned, turned-start, turned-variable, turned-expr, several-part, several-done}
 use Rattle.size_laws.specs.CallLaws.{call-arguments, call-applied, apply-refused, apply-done}
 use Rattle.size_laws.specs.EnterLaws.{enter-found, enter-absent, new-refused, new-entered, entry-numbers}
@@ -6187,7 +6187,7 @@ several-variable-at-requires : (t : ℕ) → several-lts.Need-variable-at-requir
 ) (several-at t) several.Post several-Inv-loop several-μ-loop
 several-variable-at-requires t c κs = tt
 
-several-enum-known-v : (t : ℕ) → several-lts.Need-enum-known-v (
+several-enum-known-number : (t : ℕ) → several-lts.Need-enum-known-number (
   frame-line-reads.Asked,
   frame-line-reads.Learnt,
   none-at-reads.Asked,
@@ -6211,7 +6211,7 @@ several-enum-known-v : (t : ℕ) → several-lts.Need-enum-known-v (
   joined-reads.Asked,
   joined-reads.Learnt,
 ) (several-at t) several.Post several-Inv-loop several-μ-loop
-several-enum-known-v t c = (c .match .keys1)
+several-enum-known-number t c = (c .match .keys1)
 
 several-cast-put : (t : ℕ) → several-lts.Need-cast-put (
   frame-line-reads.Asked,
@@ -7497,7 +7497,7 @@ pub +adjust+apply+at-splits+binding+body+branch+branches+call+case-of+choice+com
     (several-none-at-requires t)
     (several-loop-holds t)
     (several-variable-at-requires t)
-    (several-enum-known-v t)
+    (several-enum-known-number t)
     (several-cast-put t)
     (several-cast-word-at t)
     (several-word-at-requires t)

@@ -1,5 +1,4 @@
 -- Initial values: the list cleared, the counts tested.
-use native.Mathlib.Omega.{arith}
 use mathlib.Core.Path.{_∙_}
 use borrow.Author.Tests.{not-true, not-false}
 use Rattle.size_laws.specs.ChannelLaws.{limited-few, limited-many}
