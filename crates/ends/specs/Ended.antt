@@ -7,7 +7,7 @@ use mathlib.Core.Option.{some}
 use mathlib.Core.Path.{_≡_}
 use lib.ListN.{length, getD, getElem? as look}
 use Rattle.language.specs.Syntax.{Size, ResultType, Op, Expr, ebool, eint, evar, enow, elast, elet, eif, eop, ecall, econ, ecase, eadj, efit, Exprs, enil, econs, Function, Node, File}
-use Rattle.language.specs.Format.{sizeBytes, resultBytes, exprBytes, exprsBytes}
+use Rattle.language.specs.Format.{sizeBytes, resultBytes, exprBytes}
 use Rattle.text.specs.Places.{past}
 use Rattle.encoding.specs.FrameSpells.{lineAt}
 use Rattle.index.specs.Sections.{framesOf, functionsOf, channelsOf}
