@@ -20,13 +20,13 @@ use Rattle.heads.specs.declared.Form.the-variants.{Bool as BoolForm, Int, Varia
 use Rattle.heads.specs.declared.Head.{Head}
 use Rattle.heads.specs.Heads.{Heads, shown}
 use Rattle.heads.specs.HeadForms.{no-missing, bool-head, int-head, var-head, now-head, last-head, let-head, if-head, op-head, call-head, con-head, case-head, adj-head, fit-head}
-use Rattle.heads.specs.Skips.{Shapes, Skippable, no-more, one-more, Skips, Over, partsOf}
+use Rattle.heads.specs.Skips.{Shapes, Skippable, no-more, one-more, Skips, partsOf}
 use Rattle.heads.specs.PartLaws.{adj-parts, case-subject, case-result, none-ends, more-ends}
 use Rattle.heads.specs.SkipLaws.{no-level}
 use Rattle.heads.specs.Parted.{lastParts, partsPlace, Parted, parted, adj-parted, case-parted}
 use Rattle.ends.specs.Ended.{EndedAll, ds-nil, ds-cons}
 use Rattle.ends.specs.Lengths.{expr-some}
-use Rattle.ends.specs.Walks.{Noted, Walked, EndedHere, Walks, WalksAll, WalksOn}
+use Rattle.ends.specs.Walks.{Noted, NotedOver, Walked, EndedHere, Walks, WalksAll, WalksOn}
 use Rattle.ends.specs.KeptLaws.{past-beyond, ended-kept, here-kept}
 use Rattle.ends.specs.Begins.{Before, ended-made, parts-later, before-kept, noted-end, Began, case-began, adj-began}
 
@@ -113,21 +113,21 @@ module _ (line types functions : List ℕ) (from : ℕ) (c : Cursor) (levels : �
     }
 
     module _ {behind : Cursor} (start : first ≡ behind) where
-      pub walk-adjust : {noted : List ℕ} → t₁ ≡ noted → head .form ≡ Adjust → Over sizeBytes (WithinSize sizeVariablesMost nestingMost) line (head .next .at) behind → length t₀ ≡ textMost → Noted from (head .next .at) (behind .at) t₀ noted →
+      pub walk-adjust : {noted : List ℕ} → t₁ ≡ noted → head .form ≡ Adjust → NotedOver sizeBytes (WithinSize sizeVariablesMost nestingMost) line from (head .next .at) t₀ noted behind →
           Walks line types functions from c levels t₀ t₃ r
-      walk-adjust {noted} same q o full m = record { says = says }
+      walk-adjust {noted} same q m = record { says = says }
         where
           says : (S : Scope) (e : Expr) → Shapes types functions S → WithinExpr levels S e → Spells exprBytes line (c .at) e → from + length line ≤ textMost → Walked (EndedHere from line (c .at) e) line from (c .at) (length (exprBytes e)) t₀ t₃ r
           says S e h w s room =
               let i = adj-head d s (less-deep some w) q in
               let within = subst (WithinExpr (suc (levels - 1)) S) (i .is) (less-deep some w) in
-              let place : behind .at ≡ past line (head .next .at) (length (sizeBytes (i .size))) = o .says (i .size) (adj-parts h within .0) (i .spelled) in
-              let began : Began line from (c .at) (eadj (i .size) (i .first)) t₀ noted = adj-began (i .first) (shown d q .ends) (i .spelled) room place full m in
-              whole-walked s room (rw (start, count, q) (adj-parted d h (less-deep some w) s q o)) (subst₂ (λ (x : Expr) (t : List ℕ). Began line from (c .at) x t₀ t) (sym (i .is)) (sym same) began) a long k
+              let place : behind .at ≡ past line (head .next .at) (length (sizeBytes (i .size))) = m .over .says (i .size) (adj-parts h within .0) (i .spelled) in
+              let began : Began line from (c .at) (eadj (i .size) (i .first)) t₀ noted = adj-began (i .first) (shown d q .ends) (i .spelled) room place (m .long) (m .noted) in
+              whole-walked s room (rw (start, count, q) (adj-parted d h (less-deep some w) s q (m .over))) (subst₂ (λ (x : Expr) (t : List ℕ). Began line from (c .at) x t₀ t) (sym (i .is)) (sym same) began) a long k
 
       pub walk-case : {t : ℕ} {result : Cursor} {walked noted : List ℕ} → t₁ ≡ noted → head .form ≡ Case t → Walks line types functions from (head .next) (levels - 1) t₀ walked result →
-          Over resultBytes (WithinResult typesMost sizeVariablesMost) line (result .at) behind → length walked ≡ textMost → Noted from (result .at) (behind .at) walked noted → Walks line types functions from c levels t₀ t₃ r
-      walk-case {t} {result} {walked} {noted} same q u o full m = record { says = says }
+          NotedOver resultBytes (WithinResult typesMost sizeVariablesMost) line from (result .at) walked noted behind → Walks line types functions from c levels t₀ t₃ r
+      walk-case {t} {result} {walked} {noted} same q u m = record { says = says }
         where
           says : (S : Scope) (e : Expr) → Shapes types functions S → WithinExpr levels S e → Spells exprBytes line (c .at) e → from + length line ≤ textMost → Walked (EndedHere from line (c .at) e) line from (c .at) (length (exprBytes e)) t₀ t₃ r
           says S e h w s room =
@@ -135,10 +135,10 @@ module _ (line types functions : List ℕ) (from : ℕ) (c : Cursor) (levels : �
               let within = subst (WithinExpr (suc (levels - 1)) S) (i .is) (less-deep some w) in
               let skips : Skips line types functions (head .next) (levels - 1) result = record { says = λ S e h w s. u .says S e h w s room .stops } in
               let subject = u .says S (i .first) h (case-subject h within) (i .spelled) room in
-              let place : behind .at ≡ past line (result .at) (length (resultBytes (i .result))) = o .says (i .result) (case-result h within) (subst (λ m. Spells resultBytes line m (i .result)) (sym (subject .stops)) (i .spelled₂)) in
+              let place : behind .at ≡ past line (result .at) (length (resultBytes (i .result))) = m .over .says (i .result) (case-result h within) (subst (λ m. Spells resultBytes line m (i .result)) (sym (subject .stops)) (i .spelled₂)) in
               let whole : behind .at ≡ past line (past line (head .next .at) (length (exprBytes (i .first)))) (length (resultBytes (i .result))) = place ∙ ap (λ (m : ℕ). past line m (length (resultBytes (i .result)))) (subject .stops) in
-              let began : Began line from (c .at) (ecase t (i .first) (i .result) (i .branches)) t₀ noted = case-began t (i .branches) (shown d q .0 .ends) (i .spelled) (i .spelled₂) room subject whole full m in
-              whole-walked s room (rw (start, count, q) (case-parted d h (less-deep some w) s q skips o)) (subst₂ (λ (x : Expr) (t : List ℕ). Began line from (c .at) x t₀ t) (sym (i .is)) (sym same) began) a long k
+              let began : Began line from (c .at) (ecase t (i .first) (i .result) (i .branches)) t₀ noted = case-began t (i .branches) (shown d q .0 .ends) (i .spelled) (i .spelled₂) room subject whole (m .long) (m .noted) in
+              whole-walked s room (rw (start, count, q) (case-parted d h (less-deep some w) s q skips (m .over))) (subst₂ (λ (x : Expr) (t : List ℕ). Began line from (c .at) x t₀ t) (sym (i .is)) (sym same) began) a long k
 
   -- ---- several
   pub several-none : {n : ℕ} (ends : List ℕ) → n ≡ 0 → WalksAll line types functions from c levels n ends ends c

@@ -12,7 +12,7 @@ use Rattle.language.specs.Within.{WithinExpr}
 use Rattle.text.specs.declared.Cursor.{Cursor}
 use Rattle.text.specs.Places.{past}
 use Rattle.encoding.specs.Spells.{Spells}
-use Rattle.heads.specs.Skips.{Shapes, Skippable}
+use Rattle.heads.specs.Skips.{Shapes, Skippable, Over}
 use Rattle.ends.specs.Ended.{endIn, EndAt, Ended, EndedAll}
 
 -- the words outside a range are as they were
@@ -24,6 +24,12 @@ pub record Kept (low high : ℕ) (ends ends′ : List ℕ) : Type 0 where
 pub record Noted (from at end : ℕ) (ends ends′ : List ℕ) : Type 0 where
   pub is : from + at < length ends → end ≤ textMost → endIn ends′ from at ≡ end
   pub others : (i : ℕ) → (i ≡ from + at → ⊥) → getD ends′ i 0 ≡ getD ends i 0
+
+-- where a thing that is spelled at a place ends was noted, and the cursor stands there
+pub record NotedOver {A : Type 0} (bytes : A → List ℕ) (Limited : A → Type 0) (line : List ℕ) (from at : ℕ) (ends ends′ : List ℕ) (r : Cursor) : Type 0 where
+  pub over : Over bytes Limited line at r
+  pub long : length ends ≡ textMost
+  pub noted : Noted from at (r .at) ends ends′
 
 -- n bytes from a place on were walked over, and the table tells of them
 pub record Walked (Told : List ℕ → Type 0) (line : List ℕ) (from at n : ℕ) (ends ends′ : List ℕ) (r : Cursor) : Type 0 where

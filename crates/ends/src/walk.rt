@@ -1,6 +1,9 @@
 // The walk over an expression that is known to be spelled in a line: where each of its parts ends is noted in the table.
+ghost use Rattle.language.specs.Limits.{typesMost, sizeVariablesMost, nestingMost};
+ghost use Rattle.language.specs.Format.{sizeBytes, resultBytes};
+ghost use Rattle.language.specs.Within.{WithinSize, WithinResult};
 ghost use Rattle.index.specs.Sections.{typesOf, functionsOf};
-ghost use Rattle.ends.specs.Walks.{Noted, Walks};
+ghost use Rattle.ends.specs.Walks.{Noted, NotedOver, Walks};
 use heads::Form;
 use heads::head_at;
 use heads::skip::behind_result;
@@ -28,6 +31,24 @@ fn note(ends: &mut [u16], from: usize, at: Cursor, end: Cursor)
     ends[from + place] = word as u16;
 }
 
+// Notes where a written size ends, and gives the cursor behind it.
+fn note_size(line: &[u8], ends: &mut [u16; TEXT_MOST], from: usize, at: Cursor) -> Cursor
+    ensures { λ r. ⌜ NotedOver sizeBytes (WithinSize sizeVariablesMost nestingMost) (now (line .entry)) from (at .at) (now (ends .entry)) (now (ends .exit)) r ⌝ }
+{
+    let end = behind_size(line, at);
+    note(ends, from, at, end);
+    end
+}
+
+// Notes where the return type of a case ends, and gives the cursor behind it.
+fn note_result(line: &[u8], ends: &mut [u16; TEXT_MOST], from: usize, at: Cursor) -> Cursor
+    ensures { λ r. ⌜ NotedOver resultBytes (WithinResult typesMost sizeVariablesMost) (now (line .entry)) from (at .at) (now (ends .entry)) (now (ends .exit)) r ⌝ }
+{
+    let end = behind_result(line, at);
+    note(ends, from, at, end);
+    end
+}
+
 // An expression with so many levels left: notes its ends, and gives the cursor behind it.
 pub fn expression(
     line: &[u8],
@@ -50,15 +71,9 @@ pub fn expression(
     let first = match form {
         Form::Case(_) => {
             let result = expression(line, index, ends, from, next, inner);
-            let branches = behind_result(line, result);
-            note(ends, from, result, branches);
-            branches
+            note_result(line, ends, from, result)
         }
-        Form::Adjust => {
-            let part = behind_size(line, next);
-            note(ends, from, next, part);
-            part
-        }
+        Form::Adjust => note_size(line, ends, from, next),
         _ => next,
     };
     let mut end = first;

@@ -11,9 +11,9 @@ use Rattle.ends.proofs.walk.expression.Reads as expression
 use Rattle.ends.proofs.walk.expression.Kinds as expression-kinds
 use Rattle.ends.proofs.walk.+expression.Lts-expression as expression-lts
 use Rattle.ends.proofs.walk.note.Reads as note-reads
+use Rattle.ends.proofs.walk.note_result.Reads as note-result-reads
+use Rattle.ends.proofs.walk.note_size.Reads as note-size-reads
 use Rattle.heads.proofs.head_at.Reads as head-at-reads
-use Rattle.heads.proofs.skip.behind_result.Reads as behind-result-reads
-use Rattle.heads.proofs.skip.behind_size.Reads as behind-size-reads
 use Rattle.heads.proofs.skip.parts.Reads as parts-reads
 use Rattle.ends.proofs.walk.+expression.{statement}
 use Rattle.ends.proofs.walk.+expression.Tie.{close}
@@ -54,12 +54,12 @@ expression-returns : (t : ℕ) → expression-lts.Need-returns (
   parts-reads.Learnt,
   expression-below t,
   expression.Post,
-  behind-result-reads.Asked,
-  behind-result-reads.Learnt,
+  note-result-reads.Asked,
+  note-result-reads.Learnt,
+  note-size-reads.Asked,
+  note-size-reads.Learnt,
   note-reads.Asked,
   note-reads.Learnt,
-  behind-size-reads.Asked,
-  behind-size-reads.Learnt,
 ) (expression-at t) expression.Post expression-Inv-loop expression-μ-loop
 expression-returns t c = walk-none _ _ _ _ _ _ (c .if1 .taken)
 
@@ -70,12 +70,12 @@ expression-sub-inner : (t : ℕ) → expression-lts.Need-sub-inner (
   parts-reads.Learnt,
   expression-below t,
   expression.Post,
-  behind-result-reads.Asked,
-  behind-result-reads.Learnt,
+  note-result-reads.Asked,
+  note-result-reads.Learnt,
+  note-size-reads.Asked,
+  note-size-reads.Learnt,
   note-reads.Asked,
   note-reads.Learnt,
-  behind-size-reads.Asked,
-  behind-size-reads.Learnt,
 ) (expression-at t) expression.Post expression-Inv-loop expression-μ-loop
 expression-sub-inner t c = pos-of-ne-zero (c .if1 .left)
 
@@ -86,12 +86,12 @@ expression-head-at-requires : (t : ℕ) → expression-lts.Need-head-at-requires
   parts-reads.Learnt,
   expression-below t,
   expression.Post,
-  behind-result-reads.Asked,
-  behind-result-reads.Learnt,
+  note-result-reads.Asked,
+  note-result-reads.Learnt,
+  note-size-reads.Asked,
+  note-size-reads.Learnt,
   note-reads.Asked,
   note-reads.Learnt,
-  behind-size-reads.Asked,
-  behind-size-reads.Learnt,
 ) (expression-at t) expression.Post expression-Inv-loop expression-μ-loop
 expression-head-at-requires t c κs = tt
 
@@ -102,12 +102,12 @@ expression-parts-requires : (t : ℕ) → expression-lts.Need-parts-requires (
   parts-reads.Learnt,
   expression-below t,
   expression.Post,
-  behind-result-reads.Asked,
-  behind-result-reads.Learnt,
+  note-result-reads.Asked,
+  note-result-reads.Learnt,
+  note-size-reads.Asked,
+  note-size-reads.Learnt,
   note-reads.Asked,
   note-reads.Learnt,
-  behind-size-reads.Asked,
-  behind-size-reads.Learnt,
 ) (expression-at t) expression.Post expression-Inv-loop expression-μ-loop
 expression-parts-requires t c κs = tt
 
@@ -118,12 +118,12 @@ expression-enum-told : (t : ℕ) → expression-lts.Need-enum-told (
   parts-reads.Learnt,
   expression-below t,
   expression.Post,
-  behind-result-reads.Asked,
-  behind-result-reads.Learnt,
+  note-result-reads.Asked,
+  note-result-reads.Learnt,
+  note-size-reads.Asked,
+  note-size-reads.Learnt,
   note-reads.Asked,
   note-reads.Learnt,
-  behind-size-reads.Asked,
-  behind-size-reads.Learnt,
 ) (expression-at t) expression.Post expression-Inv-loop expression-μ-loop
 expression-enum-told t c = (c .match .keys1)
 
@@ -134,46 +134,30 @@ expression-expression-requires : (t : ℕ) → expression-lts.Need-expression-re
   parts-reads.Learnt,
   expression-below t,
   expression.Post,
-  behind-result-reads.Asked,
-  behind-result-reads.Learnt,
+  note-result-reads.Asked,
+  note-result-reads.Learnt,
+  note-size-reads.Asked,
+  note-size-reads.Learnt,
   note-reads.Asked,
   note-reads.Learnt,
-  behind-size-reads.Asked,
-  behind-size-reads.Learnt,
 ) (expression-at t) expression.Post expression-Inv-loop expression-μ-loop
 expression-expression-requires t c κs = (omega (arith, (c .before .before .before .before .before .before .before .before .pre .0), (c .before .before .before .before .before .before .if1 .left)), tt)
 
-expression-behind-result-requires : (t : ℕ) → expression-lts.Need-behind-result-requires (
+expression-note-result-requires : (t : ℕ) → expression-lts.Need-note-result-requires (
   head-at-reads.Asked,
   head-at-reads.Learnt,
   parts-reads.Asked,
   parts-reads.Learnt,
   expression-below t,
   expression.Post,
-  behind-result-reads.Asked,
-  behind-result-reads.Learnt,
+  note-result-reads.Asked,
+  note-result-reads.Learnt,
+  note-size-reads.Asked,
+  note-size-reads.Learnt,
   note-reads.Asked,
   note-reads.Learnt,
-  behind-size-reads.Asked,
-  behind-size-reads.Learnt,
 ) (expression-at t) expression.Post expression-Inv-loop expression-μ-loop
-expression-behind-result-requires t c κs = tt
-
-expression-note-requires : (t : ℕ) → expression-lts.Need-note-requires (
-  head-at-reads.Asked,
-  head-at-reads.Learnt,
-  parts-reads.Asked,
-  parts-reads.Learnt,
-  expression-below t,
-  expression.Post,
-  behind-result-reads.Asked,
-  behind-result-reads.Learnt,
-  note-reads.Asked,
-  note-reads.Learnt,
-  behind-size-reads.Asked,
-  behind-size-reads.Learnt,
-) (expression-at t) expression.Post expression-Inv-loop expression-μ-loop
-expression-note-requires t c κs = tt
+expression-note-result-requires t c κs = tt
 
 expression-enum-told-2 : (t : ℕ) → expression-lts.Need-enum-told-2 (
   head-at-reads.Asked,
@@ -182,46 +166,30 @@ expression-enum-told-2 : (t : ℕ) → expression-lts.Need-enum-told-2 (
   parts-reads.Learnt,
   expression-below t,
   expression.Post,
-  behind-result-reads.Asked,
-  behind-result-reads.Learnt,
+  note-result-reads.Asked,
+  note-result-reads.Learnt,
+  note-size-reads.Asked,
+  note-size-reads.Learnt,
   note-reads.Asked,
   note-reads.Learnt,
-  behind-size-reads.Asked,
-  behind-size-reads.Learnt,
 ) (expression-at t) expression.Post expression-Inv-loop expression-μ-loop
 expression-enum-told-2 t c = (c .match .keys2)
 
-expression-behind-size-requires : (t : ℕ) → expression-lts.Need-behind-size-requires (
+expression-note-size-requires : (t : ℕ) → expression-lts.Need-note-size-requires (
   head-at-reads.Asked,
   head-at-reads.Learnt,
   parts-reads.Asked,
   parts-reads.Learnt,
   expression-below t,
   expression.Post,
-  behind-result-reads.Asked,
-  behind-result-reads.Learnt,
+  note-result-reads.Asked,
+  note-result-reads.Learnt,
+  note-size-reads.Asked,
+  note-size-reads.Learnt,
   note-reads.Asked,
   note-reads.Learnt,
-  behind-size-reads.Asked,
-  behind-size-reads.Learnt,
 ) (expression-at t) expression.Post expression-Inv-loop expression-μ-loop
-expression-behind-size-requires t c κs = tt
-
-expression-note-requires-2 : (t : ℕ) → expression-lts.Need-note-requires-2 (
-  head-at-reads.Asked,
-  head-at-reads.Learnt,
-  parts-reads.Asked,
-  parts-reads.Learnt,
-  expression-below t,
-  expression.Post,
-  behind-result-reads.Asked,
-  behind-result-reads.Learnt,
-  note-reads.Asked,
-  note-reads.Learnt,
-  behind-size-reads.Asked,
-  behind-size-reads.Learnt,
-) (expression-at t) expression.Post expression-Inv-loop expression-μ-loop
-expression-note-requires-2 t c κs = tt
+expression-note-size-requires t c κs = tt
 
 expression-loop-holds : (t : ℕ) → expression-lts.Need-loop-holds (
   head-at-reads.Asked,
@@ -230,12 +198,12 @@ expression-loop-holds : (t : ℕ) → expression-lts.Need-loop-holds (
   parts-reads.Learnt,
   expression-below t,
   expression.Post,
-  behind-result-reads.Asked,
-  behind-result-reads.Learnt,
+  note-result-reads.Asked,
+  note-result-reads.Learnt,
+  note-size-reads.Asked,
+  note-size-reads.Learnt,
   note-reads.Asked,
   note-reads.Learnt,
-  behind-size-reads.Asked,
-  behind-size-reads.Learnt,
 ) (expression-at t) expression.Post expression-Inv-loop expression-μ-loop
 expression-loop-holds t c = (omega arith, on-start _ _)
 
@@ -246,12 +214,12 @@ expression-expression-requires-2 : (t : ℕ) → expression-lts.Need-expression-
   parts-reads.Learnt,
   expression-below t,
   expression.Post,
-  behind-result-reads.Asked,
-  behind-result-reads.Learnt,
+  note-result-reads.Asked,
+  note-result-reads.Learnt,
+  note-size-reads.Asked,
+  note-size-reads.Learnt,
   note-reads.Asked,
   note-reads.Learnt,
-  behind-size-reads.Asked,
-  behind-size-reads.Learnt,
 ) (expression-at t) expression.Post expression-Inv-loop expression-μ-loop
 expression-expression-requires-2 t c κs = (omega (arith, (c .before .before .before .before .before .before .before .before .before .pre .0), (c .before .before .before .before .before .before .before .if1 .left)), tt)
 
@@ -262,12 +230,12 @@ expression-add-i : (t : ℕ) → expression-lts.Need-add-i (
   parts-reads.Learnt,
   expression-below t,
   expression.Post,
-  behind-result-reads.Asked,
-  behind-result-reads.Learnt,
+  note-result-reads.Asked,
+  note-result-reads.Learnt,
+  note-size-reads.Asked,
+  note-size-reads.Learnt,
   note-reads.Asked,
   note-reads.Learnt,
-  behind-size-reads.Asked,
-  behind-size-reads.Learnt,
 ) (expression-at t) expression.Post expression-Inv-loop expression-μ-loop
 expression-add-i t c = omega (arith, (c .before .before .loop-test .taken), (c .before .before .before .before .before .parts .ensures .1))
 
@@ -278,12 +246,12 @@ expression-loop-less : (t : ℕ) → expression-lts.Need-loop-less (
   parts-reads.Learnt,
   expression-below t,
   expression.Post,
-  behind-result-reads.Asked,
-  behind-result-reads.Learnt,
+  note-result-reads.Asked,
+  note-result-reads.Learnt,
+  note-size-reads.Asked,
+  note-size-reads.Learnt,
   note-reads.Asked,
   note-reads.Learnt,
-  behind-size-reads.Asked,
-  behind-size-reads.Learnt,
 ) (expression-at t) expression.Post expression-Inv-loop expression-μ-loop
 expression-loop-less t c = omega (arith, (c .before .before .loop-test .taken))
 
@@ -294,30 +262,30 @@ expression-loop-again : (t : ℕ) → expression-lts.Need-loop-again (
   parts-reads.Learnt,
   expression-below t,
   expression.Post,
-  behind-result-reads.Asked,
-  behind-result-reads.Learnt,
+  note-result-reads.Asked,
+  note-result-reads.Learnt,
+  note-size-reads.Asked,
+  note-size-reads.Learnt,
   note-reads.Asked,
   note-reads.Learnt,
-  behind-size-reads.Asked,
-  behind-size-reads.Learnt,
 ) (expression-at t) expression.Post expression-Inv-loop expression-μ-loop
 expression-loop-again t c = (omega (arith, (c .before .before .loop-test .taken)), on-more (c .before .before .loop-test .taken) (c .before .before .before .loop .inv .1) (c .expression2 .ensures))
 
-expression-note-requires-3 : (t : ℕ) → expression-lts.Need-note-requires-3 (
+expression-note-requires : (t : ℕ) → expression-lts.Need-note-requires (
   head-at-reads.Asked,
   head-at-reads.Learnt,
   parts-reads.Asked,
   parts-reads.Learnt,
   expression-below t,
   expression.Post,
-  behind-result-reads.Asked,
-  behind-result-reads.Learnt,
+  note-result-reads.Asked,
+  note-result-reads.Learnt,
+  note-size-reads.Asked,
+  note-size-reads.Learnt,
   note-reads.Asked,
   note-reads.Learnt,
-  behind-size-reads.Asked,
-  behind-size-reads.Learnt,
 ) (expression-at t) expression.Post expression-Inv-loop expression-μ-loop
-expression-note-requires-3 t c κs = tt
+expression-note-requires t c κs = tt
 
 expression-returns-2 : (t : ℕ) → expression-lts.Need-returns-2 (
   head-at-reads.Asked,
@@ -326,18 +294,18 @@ expression-returns-2 : (t : ℕ) → expression-lts.Need-returns-2 (
   parts-reads.Learnt,
   expression-below t,
   expression.Post,
-  behind-result-reads.Asked,
-  behind-result-reads.Learnt,
+  note-result-reads.Asked,
+  note-result-reads.Learnt,
+  note-size-reads.Asked,
+  note-size-reads.Learnt,
   note-reads.Asked,
   note-reads.Learnt,
-  behind-size-reads.Asked,
-  behind-size-reads.Learnt,
 ) (expression-at t) expression.Post expression-Inv-loop expression-μ-loop
 expression-returns-2 t c = ⊎-elim
-    (λ way. walk-case _ _ _ _ _ _ (c .before .before .before .before .before .before .before .head-at .ensures) (c .before .before .before .before .before .before .before .before .if1 .left) (c .before .before .before .before .before .parts .ensures .0) (on-end (c .before .before .loop-test .left) (c .before .before .before .loop .inv .1)) (c .before .note-arg3 .given .0 .1) (c .note3 .ensures) (way .8) (way .7) (way .1 .given .1) (way .3 .ensures) (way .4 .ensures) (way .5 .given .0 .1) (way .6 .ensures))
+    (λ way. walk-case _ _ _ _ _ _ (c .before .before .before .before .before .before .before .head-at .ensures) (c .before .before .before .before .before .before .before .before .if1 .left) (c .before .before .before .before .before .parts .ensures .0) (on-end (c .before .before .loop-test .left) (c .before .before .before .loop .inv .1)) (c .before .note-arg .given .0 .1) (c .note .ensures) (way .7) (way .6) (way .1 .given .1) (way .3 .ensures) (way .5 .ensures))
     (⊎-elim
-    (λ way. walk-adjust _ _ _ _ _ _ (c .before .before .before .before .before .before .before .head-at .ensures) (c .before .before .before .before .before .before .before .before .if1 .left) (c .before .before .before .before .before .parts .ensures .0) (on-end (c .before .before .loop-test .left) (c .before .before .before .loop .inv .1)) (c .before .note-arg3 .given .0 .1) (c .note3 .ensures) (way .6) (way .5) (way .1 .given .1) (way .2 .ensures) (way .3 .given .0 .1) (way .4 .ensures))
-    (λ way. walk-parts _ _ _ _ _ _ (c .before .before .before .before .before .before .before .head-at .ensures) (c .before .before .before .before .before .before .before .before .if1 .left) (c .before .before .before .before .before .parts .ensures .0) (on-end (c .before .before .loop-test .left) (c .before .before .before .loop .inv .1)) (c .before .note-arg3 .given .0 .1) (c .note3 .ensures) (way .1) (way .2) (λ t q. no-tag-between _ (way .0 .keys3) (omega (arith, ap tag q)) (omega (arith, ap tag q))) (λ q. no-tag-between _ (way .0 .keys3) (omega (arith, ap tag q)) (omega (arith, ap tag q)))))
+    (λ way. walk-adjust _ _ _ _ _ _ (c .before .before .before .before .before .before .before .head-at .ensures) (c .before .before .before .before .before .before .before .before .if1 .left) (c .before .before .before .before .before .parts .ensures .0) (on-end (c .before .before .loop-test .left) (c .before .before .before .loop .inv .1)) (c .before .note-arg .given .0 .1) (c .note .ensures) (way .5) (way .4) (way .1 .given .1) (way .3 .ensures))
+    (λ way. walk-parts _ _ _ _ _ _ (c .before .before .before .before .before .before .before .head-at .ensures) (c .before .before .before .before .before .before .before .before .if1 .left) (c .before .before .before .before .before .parts .ensures .0) (on-end (c .before .before .loop-test .left) (c .before .before .before .loop .inv .1)) (c .before .note-arg .given .0 .1) (c .note .ensures) (way .1) (way .2) (λ t q. no-tag-between _ (way .0 .keys3) (omega (arith, ap tag q)) (omega (arith, ap tag q))) (λ q. no-tag-between _ (way .0 .keys3) (omega (arith, ap tag q)) (omega (arith, ap tag q)))))
     (c .before .before .before .before .match .came)
 
 pub +expression-spec : {M : Type 1} → statement M
@@ -348,12 +316,12 @@ pub +expression-spec : {M : Type 1} → statement M
   parts-reads.Learnt,
   expression-below t,
   expression.Post,
-  behind-result-reads.Asked,
-  behind-result-reads.Learnt,
+  note-result-reads.Asked,
+  note-result-reads.Learnt,
+  note-size-reads.Asked,
+  note-size-reads.Learnt,
   note-reads.Asked,
   note-reads.Learnt,
-  behind-size-reads.Asked,
-  behind-size-reads.Learnt,
 )
     (expression-at t)
     expression.Post
@@ -365,15 +333,13 @@ pub +expression-spec : {M : Type 1} → statement M
     (expression-parts-requires t)
     (expression-enum-told t)
     (expression-expression-requires t)
-    (expression-behind-result-requires t)
-    (expression-note-requires t)
+    (expression-note-result-requires t)
     (expression-enum-told-2 t)
-    (expression-behind-size-requires t)
-    (expression-note-requires-2 t)
+    (expression-note-size-requires t)
     (expression-loop-holds t)
     (expression-expression-requires-2 t)
     (expression-add-i t)
     (expression-loop-less t)
     (expression-loop-again t)
-    (expression-note-requires-3 t)
+    (expression-note-requires t)
     (expression-returns-2 t)
