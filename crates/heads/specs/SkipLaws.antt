@@ -35,7 +35,7 @@ module _ {A : Type 0} {p : Parser A} {bytes : A → List ℕ} {W : A → Type 0}
   over-stop q = record { says = λ a w s. absurd (next-there (passed-over exact s w x v) q) }
 
 -- ---- levels
-no-level : {S : Scope} {e : Expr} → WithinExpr zero S e → ⊥
+pub no-level : {S : Scope} {e : Expr} → WithinExpr zero S e → ⊥
 no-level w = elim w [ ]
 
 module _ (line types functions : List ℕ) (c : Cursor) (levels : ℕ) where

@@ -20,7 +20,7 @@ use text::Cursor;
 use text::Step;
 
 // How many expressions end an expression of a form.
-fn parts(index: &[u32; INDEX_WORDS], form: Form) -> u32
+pub fn parts(index: &[u32; INDEX_WORDS], form: Form) -> u32
     ensures { λ r. ⌜ (r ≡ partsOf (typesOf (now (index .entry))) (functionsOf (now (index .entry))) form) × (r < byteRange) ⌝ }
 {
     match form {
@@ -37,7 +37,7 @@ fn parts(index: &[u32; INDEX_WORDS], form: Form) -> u32
 }
 
 // The cursor behind a written size.
-fn behind_size(line: &[u8], c: Cursor) -> Cursor
+pub fn behind_size(line: &[u8], c: Cursor) -> Cursor
     ensures { λ r. ⌜ Over sizeBytes (WithinSize sizeVariablesMost nestingMost) (now (line .entry)) (c .at) r ⌝ }
 {
     let x = c.size(line, SIZE_VARIABLES_MOST, NESTING_MOST);
@@ -48,7 +48,7 @@ fn behind_size(line: &[u8], c: Cursor) -> Cursor
 }
 
 // The cursor behind the return type of a case.
-fn behind_result(line: &[u8], c: Cursor) -> Cursor
+pub fn behind_result(line: &[u8], c: Cursor) -> Cursor
     ensures { λ r. ⌜ Over resultBytes (WithinResult typesMost sizeVariablesMost) (now (line .entry)) (c .at) r ⌝ }
 {
     let x = c.result(line, TYPES_MOST as u32, SIZE_VARIABLES_MOST);

@@ -12,6 +12,7 @@ use Rattle.language.specs.Format.{spellAll, resultBytes, conditionBytes, exprBy
 use Rattle.language.specs.Reader.{readFile}
 use Rattle.language.specs.Within.{Within}
 use Rattle.text.specs.Bytes.{fieldWord, declaredWord}
+use Rattle.text.specs.Lines.{lineStart}
 use Rattle.text.specs.Places.{past, byteAt}
 use Rattle.index.specs.Tables.{frameWords, constructorWords, typeWords, functionWords, channelWords}
 use Rattle.index.specs.Enters.{TellsType, TellsParameters}
@@ -72,6 +73,7 @@ lineCount P = length (P .types) + length (P .functions) + length (P .inputs) + l
 
 -- ---- what is said of a frame, a type, a function, a channel, a node
 pub record FrameIndexed (text frames : List ℕ) (i : ℕ) : Type 0 where
+  pub starts : framePlace frames i ≡ lineStart text i
   pub within : framePlace frames i + frameLength frames i ≤ length text
   pub line : framePart text frames i ≡ lineAt text i
 

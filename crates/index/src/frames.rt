@@ -5,7 +5,7 @@ ghost use lib.ListN.{length, set};
 ghost use Rattle.index.specs.Tables.{frameWords};
 ghost use Rattle.index.specs.Sections.{indexWords, framesFrom, frameTableWords, framesOf};
 ghost use Rattle.index.specs.SectionLaws.{Outside};
-ghost use Rattle.index.specs.Indexed.{frameLength, framePart};
+ghost use Rattle.index.specs.Indexed.{framePlace, frameLength, framePart};
 use super::FRAME_TABLE;
 use super::FRAME_WORDS;
 use super::FRAMES_FROM;
@@ -13,6 +13,13 @@ use super::INDEX_WORDS;
 use super::TYPES_FROM;
 use super::put;
 use super::section_word;
+
+// Where frame i starts in the text, from 0; 0 beyond the section.
+pub fn frame_place(index: &[u32; INDEX_WORDS], i: u32) -> usize
+    ensures { λ r. ⌜ r ≡ framePlace (framesOf (now (index .entry))) i ⌝ }
+{
+    section_word(index, FRAMES_FROM, FRAME_TABLE, FRAME_WORDS * (i as usize)) as usize
+}
 
 // How many characters frame i has, from 0; 0 beyond the section.
 pub fn frame_length(index: &[u32; INDEX_WORDS], i: u32) -> usize

@@ -53,6 +53,7 @@ module _ (t : List ℕ) (fs : List (List ℕ)) (are : framesFrom 1 t ≡ ok fs) 
 pub frame-indexed : {text frames : List ℕ} {P : File} → readFile text ≡ ok P → lineCount P ≤ framesMost → frames ≡ frameTable P → (i : ℕ) → i < lineCount P → FrameIndexed text frames i
 unfolding framePart
 frame-indexed {text} {frames} {P} read few table i less = record {
+  starts = place;
   within = omega (arith, place, long, line-frame text (fileFrames P) i are there .next .within);
   line = ap₂ (λ (n p : ℕ). take n (drop p text)) long place ∙ first-line-taken (drop (lineStart text i) text);
 }

@@ -1,0 +1,9 @@
+pub mod Ended
+pub mod EndOf
+pub mod Lengths
+pub mod Walks
+pub mod KeptLaws
+pub mod Begins
+pub mod WalkLaws
+pub mod Told
+pub mod ToldLaws
