@@ -6,14 +6,12 @@
 --   bool-made, int-made   a Bool's and an Int's words
 use Prim.Native.Nat.{ℕ, _+_, _≤_, _<_}
 use mathlib.Core.List.{List, [], _∷_, _++_}
-use mathlib.Core.Bool.{Bool}
 use mathlib.Core.Path.{_≡_, refl, sym, ap, subst, _∙_}
 use native.Mathlib.Omega.{arith}
 use lib.ListN.{length}
-use lib.Dec.{ltb}
 use lib.Seq.{sets}
 use borrow.Author.Tests.{lt-ltb, le-ltb}
-use Rattle.language.specs.Limits.{fieldsMost, cellWords, intRange}
+use Rattle.language.specs.Limits.{fieldsMost, intRange}
 use Rattle.language.specs.Refusals.{heapSpent}
 use Rattle.language.specs.Syntax.{File}
 use Rattle.language.specs.Heap.{kbool, kint, Cell, leaf, fieldsIn}

@@ -1,9 +1,9 @@
 -- What is asked of the functions that make a cell, by the definitions of the evaluator: what each form's rule allocates.
 use Prim.Native.Nat.{ℕ, _+_, _≤_, _<_}
-use mathlib.Core.List.{List, []}
+use mathlib.Core.List.{List}
 use mathlib.Core.Bool.{Bool}
 use mathlib.Core.Path.{_≡_}
-use lib.ListN.{length, take}
+use lib.ListN.{length, getD}
 use lib.Dec.{ltb, leb}
 use Rattle.language.specs.Limits.{sizeMost}
 use Rattle.language.specs.Refusals.{valueTooLarge}
@@ -17,6 +17,7 @@ use Rattle.language.specs.Evaluator.{Out, needs, alloc}
 use Rattle.theory.specs.CellWords.{Writable}
 use Rattle.text.specs.Bytes.{fieldWord}
 use Rattle.index.specs.Indexed.{Indexed}
+use Rattle.state_words.specs.Words.{rowOf}
 use Rattle.state_words.specs.Holds.{Holds}
 
 -- ---- a new cell, by its words
@@ -50,7 +51,7 @@ pub record Applied (index values : List ℕ) (t c n : ℕ) (P : File) (ls : List
   pub indexed : Indexed text index P
   pub known : c < length (constructorsOf P t)
   pub count : n ≡ length (fieldsOf P t c)
-  pub given : ls ≡ take n values
+  pub given : ls ≡ rowOf (λ j. getD values j 0) n
 
 pub record Constructs (index values : List ℕ) (t c n : ℕ) (P : File) (cells : ℕ) (h : List Cell) (out : Out) : Type 0 where
   pub ls : List ℕ

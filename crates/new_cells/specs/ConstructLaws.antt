@@ -6,7 +6,7 @@ use mathlib.Core.Path.{_≡_, refl, sym, ap, _∙_}
 use native.Mathlib.Numerals.{add-one}
 use native.Mathlib.Omega.{arith}
 use lib.ListN.{length, getD, take, drop, drop-of-length-le, List·getD-map}
-use lib.Seq.{length-take-le, drop-cons, getD-take}
+use lib.Seq.{drop-cons}
 use lib.Dec.{ltb}
 use borrow.Author.Tests.{lt-ltb, le-ltb, ltb-true}
 use Rattle.language.specs.Limits.{byteRange, fieldsMost, parametersMost, sizeMost}
@@ -24,6 +24,7 @@ use Rattle.theory.specs.CellWords.{con-writable}
 use Rattle.text.specs.Bytes.{fieldWord}
 use Rattle.index.specs.Sections.{typesOf}
 use Rattle.index.specs.Indexed.{fieldAt}
+use Rattle.state_words.specs.RowLaws.{row-are, row-length, row-at}
 use Rattle.state_words.specs.Holds.{Holds}
 use Rattle.new_cells.specs.Steps.{Gives}
 use Rattle.new_cells.specs.Asked.{Allocates, Applied, Constructs, summed, Adds, Sums}
@@ -61,12 +62,14 @@ module _ {index values : List ℕ} {t c n : ℕ} {P : File} {ls : List ℕ} (a :
       let d = rw zeroth at (type-within (a .indexed .within .types) t named) in
       all-getD (all-getD (d .constructors) c [] (a .known) .fields) j fbool (omega (arith, a .count))
 
-  module _ (wide : length values ≡ parametersMost) where
-    as-many : length ls ≡ n
-    as-many = ap length (a .given) ∙ length-take-le n values (omega (arith, a .count, few, wide))
+  as-many : length ls ≡ n
+  as-many = ap length (a .given) ∙ row-length (λ j. getD values j 0) n
 
-    value-at : (j : ℕ) → j < n → getD ls j 0 ≡ getD values j 0
-    value-at j less = ap (λ (x : List ℕ). getD x j 0) (a .given) ∙ getD-take n values j 0 less
+  value-at : (j : ℕ) → j < n → getD ls j 0 ≡ getD values j 0
+  value-at j less = ap (λ (x : List ℕ). getD x j 0) (a .given) ∙ row-at (λ j. getD values j 0) n j less
+
+  first-values : length values ≡ parametersMost → ls ≡ take n values
+  first-values wide = a .given ∙ row-are (λ j. getD values j 0) n values (omega (arith, a .count, few, wide)) (λ j less. refl)
 
 -- ---- the loop: the sum so far and the fields from here on give the whole
 pub record SummedTo (index words : List ℕ) (used : ℕ) (values : List ℕ) (t c n i sum : ℕ) : Type 0 where
@@ -87,14 +90,14 @@ module _ {index words : List ℕ} {used : ℕ} {values : List ℕ} {t c n : ℕ}
           sym (s .says a v ∙ rw (none, all, lt-ltb sum sizeMost (s .low)));
     }
 
-    module _ {word l r : ℕ} (wide : length values ≡ parametersMost) (less : i < n) (told : word ≡ fieldAt (typesOf index) t c i) (is : l ≡ getD values i 0) (f : Adds words used sum word l r) where
+    module _ {word l r : ℕ} (less : i < n) (told : word ≡ fieldAt (typesOf index) t c i) (is : l ≡ getD values i 0) (f : Adds words used sum word l r) where
       field-turn : {P : File} {ls : List ℕ} {h : List Cell} → Applied index values t c n P ls → Holds words used h →
           summed h (fieldsOf P t c) ls 0 ≡ choose (ltb r sizeMost) (summed h (drop (suc i) (fieldsOf P t c)) (drop (suc i) ls) r) sizeMost
       field-turn {P} {ls} {h} a v =
           let fs = fieldsOf P t c in
-          let value : l ≡ getD ls i 0 = is ∙ sym (value-at a wide i less) in
+          let value : l ≡ getD ls i 0 = is ∙ sym (value-at a i less) in
           let next = f .says (field-within a i less) (sym (field-told a i less) ∙ sym told) v in
-          s .says a v ∙ rw (drop-cons fs i fbool (omega (arith, a .count)), drop-cons ls i 0 (omega (arith, as-many a wide)), ← value)
+          s .says a v ∙ rw (drop-cons fs i fbool (omega (arith, a .count)), drop-cons ls i 0 (omega (arith, as-many a)), ← value)
           (field-on h (drop (suc i) fs) (drop (suc i) ls) sum (s .low) (getD fs i fbool) l ∙ rw (← next))
 
       pub summed-on : r < sizeMost → SummedTo index words used values t c n (i + 1) r
@@ -146,7 +149,7 @@ module _ {index words : List ℕ} {used : ℕ} {values : List ℕ} {t c n r : �
       let size-is : 1 + sum ≡ r + 1 = omega (arith, fits .1) in
       record {
         cell = con t c (1 + sum) (k .ls);
-        spelled = rw (tag-is, size-is) (ap (λ (x : List ℕ). tag ∷ (r + 1) ∷ padded fieldsMost x) (a .given));
-        writable = con-writable (look-at (constructorsOf P t) c [] (a .known)) (as-many a wide ∙ a .count) (few a) (small-constructor a);
+        spelled = rw (tag-is, size-is) (ap (λ (x : List ℕ). tag ∷ (r + 1) ∷ padded fieldsMost x) (first-values a wide));
+        writable = con-writable (look-at (constructorsOf P t) c [] (a .known)) (as-many a ∙ a .count) (few a) (small-constructor a);
         is = k .is ∙ rw (fits .0);
       }) g

@@ -1,6 +1,6 @@
--- What the operators' codes stand for: one law for each return of the functions that compute on two constants, and what they read of
--- the constants in cells.
-use Prim.Native.Nat.{ℕ, _+_, _-_, _*_, _%_, _^_, _≤_, _<_}
+-- What the operators' codes stand for: a law for each return of the functions that compute on two constants; and from constants to
+-- the cells that hold them (numbers-operated, numbers-compared, truths-operated).
+use Prim.Native.Nat.{ℕ, _+_, _*_, _%_, _^_, _≤_, _<_}
 use mathlib.Core.List.{List}
 use mathlib.Core.Bool.{Bool, true, false, not, _&&_, _||_}
 use mathlib.Core.Option.{some, Option·some-injective}
@@ -17,10 +17,10 @@ use Rattle.language.specs.Syntax.{Op, oadd, osub, omul, oeq, olt, ole, oand, oo
 use Rattle.language.specs.ReadExpr.{ops}
 use Rattle.language.specs.Format.{bit, opCode}
 use Rattle.language.specs.Heap.{Constant, kbool, kint, Cell, leaf, truth, number, signedLess, applyOp, cellAt, constantIn}
-use Rattle.language.specs.Evaluator.{alloc}
+use Rattle.language.specs.Evaluator.{Out, alloc}
 use Rattle.theory.specs.Lists.{look-less}
 use Rattle.state_words.specs.Holds.{Reads}
-use Rattle.new_cells.specs.Steps.{Gives}
+use Rattle.new_cells.specs.Steps.{Lies, Gives}
 use Rattle.new_cells.specs.Asked.{MakesBool, MakesInt, Computes, Operates}
 use Rattle.new_cells.specs.AllocLaws.{gives-asked}
 use Rattle.new_cells.specs.declared.Value.{Value}
@@ -114,21 +114,20 @@ on-truths ole x y le = absurd (omega arith)
 on-truths oand x y le = refl
 on-truths oor x y le = refl
 
-module _ {words words′ : List ℕ} {used o l m : ℕ} {out : Value} where
+-- what the functions leave that write the constant computed
+module _ {words : List ℕ} {used o l m : ℕ} where
   module _ {a b : ℕ} (p : Reads words used (λ h. number (constantIn (cellAt h l))) a) (q : Reads words used (λ h. number (constantIn (cellAt h m))) b) (low : o < operatorAnd) where
-    pub numbers-operated : {r : ℕ} → Computes o (kint a) (kint b) (kint r) → Gives words used (MakesInt r) out words′ → Gives words used (Operates o l m) out words′
-    numbers-operated {r} k g = gives-asked (λ P cells h o v s. record {
-      is = s .is ∙ ap (λ x. alloc cells h (leaf x)) (sym (k .says (s .op) (s .code) ∙ rw (p .says h (v .held), q .says h (v .held)) (on-numbers (s .op) (constantIn (cellAt h l)) (constantIn (cellAt h m)) (omega (arith, s .code)))));
-    }) g
+    numbers-give : {x : Constant} {P : File} {cells : ℕ} {h : List Cell} {out : Out} → Computes o (kint a) (kint b) x → Lies P cells words used h → Operates o l m P cells h out → out ≡ alloc cells h (leaf x)
+    numbers-give {cells} {h} k v s = s .is ∙ ap (λ x. alloc cells h (leaf x))
+        (sym (k .says (s .op) (s .code) ∙ rw (p .says h (v .held), q .says h (v .held)) (on-numbers (s .op) (constantIn (cellAt h l)) (constantIn (cellAt h m)) (omega (arith, s .code)))))
 
-    pub numbers-compared : {r : Bool} {w : ℕ} → Computes o (kint a) (kint b) (kbool r) → w ≡ bit r → Gives words used (MakesBool w) out words′ → Gives words used (Operates o l m) out words′
-    numbers-compared {r} k e g = gives-asked (λ P cells h o v s. record {
-      truth = r;
-      spelled = sym e;
-      is = s .is ∙ ap (λ x. alloc cells h (leaf x)) (sym (k .says (s .op) (s .code) ∙ rw (p .says h (v .held), q .says h (v .held)) (on-numbers (s .op) (constantIn (cellAt h l)) (constantIn (cellAt h m)) (omega (arith, s .code)))));
-    }) g
+    pub numbers-operated : {words′ : List ℕ} {out : Value} {r : ℕ} → Computes o (kint a) (kint b) (kint r) → Gives words used (MakesInt r) out words′ → Gives words used (Operates o l m) out words′
+    numbers-operated k g = gives-asked (λ P cells h o v s. record { is = numbers-give k v s }) g
 
-  pub truths-operated : {a b r : Bool} {w : ℕ} → Reads words used (λ h. truth (constantIn (cellAt h l))) a → Reads words used (λ h. truth (constantIn (cellAt h m))) b → operatorAnd ≤ o →
+    pub numbers-compared : {words′ : List ℕ} {out : Value} {r : Bool} {w : ℕ} → Computes o (kint a) (kint b) (kbool r) → w ≡ bit r → Gives words used (MakesBool w) out words′ → Gives words used (Operates o l m) out words′
+    numbers-compared {r} k e g = gives-asked (λ P cells h o v s. record { truth = r; spelled = sym e; is = numbers-give k v s }) g
+
+  pub truths-operated : {words′ : List ℕ} {out : Value} {a b r : Bool} {w : ℕ} → Reads words used (λ h. truth (constantIn (cellAt h l))) a → Reads words used (λ h. truth (constantIn (cellAt h m))) b → operatorAnd ≤ o →
       Computes o (kbool a) (kbool b) (kbool r) → w ≡ bit r → Gives words used (MakesBool w) out words′ → Gives words used (Operates o l m) out words′
   truths-operated {r = r} p q high k e g = gives-asked (λ P cells h o v s. record {
     truth = r;

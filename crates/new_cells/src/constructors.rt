@@ -1,6 +1,5 @@
 // A constructor's cell: "a constructor over size 64, a field above its k .. is refusal 23", and its size comes before its cell.
-ghost use mathlib.Core.Path.{_≡_};
-ghost use Prim.Native.Nat.{_<_, _≤_};
+ghost use Prim.Native.Nat.{_<_};
 ghost use Rattle.language.specs.Limits.{sizeMost};
 ghost use Rattle.new_cells.specs.Steps.{Board, Gives};
 ghost use Rattle.new_cells.specs.Asked.{Adds, Sums, Constructs};

@@ -27,7 +27,7 @@ with-field-requires : tie.Need-with-field-requires Inv-loop μ-loop
 with-field-requires c κs = (c .before .before .before .before .loop .inv .low)
 
 returns : tie.Need-returns Inv-loop μ-loop
-returns c = summed-over (c .before .before .before .before .before .before .loop .inv) (c .before .before .before .word-at-arg .given .0) (c .before .before .before .before .before .loop-test .taken) (c .before .before .before .before .field-word .ensures) (c .before .before .word-at .ensures) (c .before .with-field .ensures) (c .if1 .taken)
+returns c = summed-over (c .before .before .before .before .before .before .loop .inv) (c .before .before .before .before .before .loop-test .taken) (c .before .before .before .before .field-word .ensures) (c .before .before .word-at .ensures) (c .before .with-field .ensures) (c .if1 .taken)
 
 add-i : tie.Need-add-i Inv-loop μ-loop
 add-i c = omega arith
@@ -36,7 +36,7 @@ loop-less : tie.Need-loop-less Inv-loop μ-loop
 loop-less c = omega arith
 
 loop-again : tie.Need-loop-again Inv-loop μ-loop
-loop-again c = summed-on (c .before .before .before .before .before .before .loop .inv) (c .before .before .before .word-at-arg .given .0) (c .before .before .before .before .before .loop-test .taken) (c .before .before .before .before .field-word .ensures) (c .before .before .word-at .ensures) (c .before .with-field .ensures) (c .if1 .left)
+loop-again c = summed-on (c .before .before .before .before .before .before .loop .inv) (c .before .before .before .before .before .loop-test .taken) (c .before .before .before .before .field-word .ensures) (c .before .before .word-at .ensures) (c .before .with-field .ensures) (c .if1 .left)
 
 returns-2 : tie.Need-returns-2 Inv-loop μ-loop
 returns-2 c = summed-end (c .before .loop .inv) (c .loop-test .left)
