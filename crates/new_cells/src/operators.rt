@@ -1,4 +1,5 @@
-// What an operator gives of two cells: "sums, differences and products wrap", comparisons are signed, both sides of and, or are there.
+// What an operator gives of two cells: "sums, differences and products wrap", comparisons are signed; of and, or both sides were
+// evaluated before.
 ghost use mathlib.Core.Path.{_≡_};
 ghost use Prim.Native.Nat.{_*_, _%_, _≤_, _<_};
 ghost use Rattle.language.specs.Limits.{intRange};
@@ -79,8 +80,8 @@ pub fn operate(state: &mut [u32], used: u32, o: u32, l: u32, m: u32) -> Value
     ensures { λ r. ⌜ Gives (now (state .entry)) used (Operates o l m) r (now (state .exit)) ⌝ }
 {
     if o >= OPERATOR_AND {
-        let both = logic(o, truth(state, used, l), truth(state, used, m));
-        return new_bool(state, used, one_if(both));
+        let holds = logic(o, truth(state, used, l), truth(state, used, m));
+        return new_bool(state, used, one_if(holds));
     }
     let a = number(state, used, l);
     let b = number(state, used, m);
