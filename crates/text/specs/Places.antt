@@ -92,6 +92,15 @@ module _ (line : List ℕ) where
     pub past-once : {m n : ℕ} → m ≤ bytesLeft line at → n ≤ bytesLeft line at → bytesFrom line (past line at m) ≡ bytesFrom line (past line at n) → m ≡ n
     past-once {m} {n} h k e = omega (arith, h, k, left-past m, left-past n, ap length e)
 
+  -- no more bytes are left at a later place, and never more than the line has characters
+  pub left-later : (at at′ : ℕ) → at ≤ at′ → bytesLeft line at′ ≤ bytesLeft line at
+  unfolding bytesFrom
+  left-later at at′ le = omega (arith, length-drop at (bytesOf line), length-drop at′ (bytesOf line))
+
+  pub left-most : (at : ℕ) → bytesLeft line at ≤ length line
+  unfolding bytesFrom
+  left-most at = omega (arith, length-drop at (bytesOf line), bytes-length line)
+
   -- no place of a line is beyond its characters
   pub place-most : {at : ℕ} → IsPlace line at → at ≤ length line
   place-most h = omega (arith, h .inside, bytes-length line)
