@@ -90,6 +90,9 @@ declared-asked w-tbool = asks-bool
 declared-asked w-tint = asks-int
 declared-asked (w-tnamed {t} {k} low bound) = asks-named {t = t} {k = k} low (omega (arith, bound .1))
 
+pub inputs-counted : {text index : List ℕ} {P : File} {counts : Counts} → Indexed text index P → counts ≡ countsIn index → counts .inputs ≡ length (P .inputs)
+inputs-counted i told = rw told (sym (i .counted .inputCount))
+
 pub record InputAsked (index : List ℕ) (P : File) (i : ℕ) : Type 0 where
   pub asked : Asked (length (P .types)) (getD (inputTypes P) i tbool)
   pub word : declaredAt (channelsOf index) i ≡ declaredWord (getD (inputTypes P) i tbool)
@@ -123,7 +126,7 @@ module _ {line index : List ℕ} {n i word : ℕ} {first next : Cursor} {y : Num
   inputs-on e = record { on = moved-on (v .on) (rw e at (u .on)); says = λ text P x count m enough. rw add-one (rw e at (next-input text P x count m enough)) }
 
 -- ---- the bytes of a line: its kind, and the values
-no-bytes : {n : ℕ} (bs : List ℕ) → byte bs ≡ bad n → bs ≡ []
+pub no-bytes : {n : ℕ} (bs : List ℕ) → byte bs ≡ bad n → bs ≡ []
 unfolding byte
 no-bytes [] e = refl
 no-bytes (b ∷ bs) e = absurd (let z : _≡_ {A = ℕ} 0 1 = cc in omega arith)
@@ -133,7 +136,7 @@ unfolding byte
 first-byte [] e = absurd (let z : _≡_ {A = ℕ} 0 1 = cc in omega arith)
 first-byte {b} {cs} (a ∷ bs) e = let head : a ≡ b = cc in let tail : bs ≡ cs = cc in rw (head, tail)
 
-bytes-are : (line : List ℕ) {x : Number} {f : Found} → ReadsNumber line 0 x (byte (bytesFrom line 0)) × Below byteRange x → x ≡ Is f → bytesOf line ≡ f .value ∷ bytesFrom line (f .next .at)
+pub bytes-are : (line : List ℕ) {x : Number} {f : Found} → ReadsNumber line 0 x (byte (bytesFrom line 0)) × Below byteRange x → x ≡ Is f → bytesOf line ≡ f .value ∷ bytesFrom line (f .next .at)
 bytes-are line v e = sym (bytes-start line) ∙ first-byte (bytesFrom line 0) (number-got (v .0) e)
 
 module _ (line index : List ℕ) {x : Number} (v : ReadsNumber line 0 x (byte (bytesFrom line 0)) × Below byteRange x) where
@@ -159,18 +162,15 @@ module _ (line index : List ℕ) {x : Number} (v : ReadsNumber line 0 x (byte (b
       unfolding inputTrees chain when
       values-are text P i = rw (bytes-are line v e, eq-eqb (f .value) kindInputLine kind, i .counted .inputCount, told)
 
-      count-is : {text : List ℕ} {P : File} → Indexed text index P → counts .inputs ≡ length (P .inputs)
-      count-is i = rw told (sym (i .counted .inputCount))
-
       pub inputs-stop : {i word q : ℕ} {next : Cursor} {y : Number} → InputsLeft line index (counts .inputs) (f .next) i next → i < counts .inputs → word ≡ declaredAt (channelsOf index) i →
           Judges line index (next .at) word y (λ n P. valueAt n P) → y ≡ Refused q → InputsJudged line index false
       unfolding given fitThen
-      inputs-stop w less said u refused = record { says = λ text P i. sym (values-are text P i ∙ rw refused at (next-input w less said u text P i (count-is i) (bytesLeft line (f .next .at)) (le-refl _))) }
+      inputs-stop w less said u refused = record { says = λ text P i. sym (values-are text P i ∙ rw refused at (next-input w less said u text P i (inputs-counted i told) (bytesLeft line (f .next .at)) (le-refl _))) }
 
       pub inputs-end : {i : ℕ} {next : Cursor} {more : Bool} → InputsLeft line index (counts .inputs) (f .next) i next → i ≤ counts .inputs → counts .inputs ≤ i → more ≡ ltb 0 (bytesLeft line (next .at)) → InputsJudged line index (not more)
       inputs-end {i} {next} w low high m = record {
         says = λ text P x.
-            let count = count-is x in
+            let count = inputs-counted x told in
             let all : i ≡ length (inputTypes P) = omega (arith, length-map (P .inputs) (λ (a : Input). a .declared)) in
             let none-left : counts .inputs - i ≡ 0 = omega arith in
             let level = bytesLeft line (f .next .at) in

@@ -6,3 +6,8 @@ pub mod ValueLaws
 pub mod FieldsLaws
 pub mod InputLaws
 pub mod LineLaws
+pub mod Lays
+pub mod CellLaws
+pub mod LayLaws
+pub mod FieldsLaidLaws
+pub mod InputsLaidLaws

@@ -68,6 +68,15 @@ module _ (line : List ℕ) {x : LineEnd} {end : ℕ} (v : x ≡ lineEnd line 0) 
   lines-are : linesOf line ≡ record { ended = firstLine line ∷ linesOf (behind line) .ended; rest = linesOf (behind line) .rest }
   lines-are = let h = line-ended line 0 v q in first-line-ended line (omega (arith, h .less, h .place))
 
+  -- what the definition reads of it
+  pub line-read : (P : File) → length line - end ≡ 1 → lineTrees P line ≡ chain (inputTrees P (bytesOf (take end line))) (λ vs. when (treesFit P vs (inputTypes P)) vs)
+  unfolding chain oneLine linesOf
+  line-read P one = let h = line-ended line 0 v q in
+      let none-there : behind line ≡ [] = drop-of-length-le line {i = suc (length (firstLine line))} (omega (arith, h .less, h .place)) in
+      let from-start : end - 0 ≡ end = omega arith in
+      let part-is : take end line ≡ firstLine line = ap (λ n. take n line) (sym from-start) ∙ h .is in
+      lines-read P line lines-are ∙ rw (none-there, h .spelled, part-is, line-bytes-read (firstLine line) (h .frame) (h .spelled))
+
 module _ (line index : List ℕ) {x : LineEnd} (v : x ≡ lineEnd line 0) where
   pub line-bad : x ≡ Bad → LineJudged line index false
   unfolding lineEnd lineTrees both choose isSome chain oneLine
@@ -87,11 +96,4 @@ module _ (line index : List ℕ) {x : LineEnd} (v : x ≡ lineEnd line 0) where
         record { says = λ text P i. sym (ap isSome (lines-read P line (lines-are line v q) ∙ ap (λ o. chain o (treesOf P)) (more-lines (firstLine line) (behind line) some-there))) }
 
     pub line-whole : {part : List ℕ} {r : Bool} → length line - end ≡ 1 → part ≡ take end line → InputsJudged part index r → LineJudged line index r
-    unfolding lineTrees chain oneLine linesOf
-    line-whole {part} {r} one is u = let h = line-ended line 0 v q in
-        let none-there : behind line ≡ [] = drop-of-length-le line {i = suc (length (firstLine line))} (omega (arith, h .less, h .place)) in
-        let from-start : end - 0 ≡ end = omega arith in
-        let part-is : part ≡ firstLine line = is ∙ ap (λ n. take n line) (sym from-start) ∙ h .is in
-        record {
-          says = λ text P i. u .says text P i ∙ rw (part-is, line-bytes-read (firstLine line) (h .frame) (h .spelled)) (sym (ap isSome (lines-read P line (lines-are line v q)) ∙ rw (none-there, h .spelled)));
-        }
+    line-whole one is u = record { says = λ text P i. u .says text P i ∙ rw is (ap isSome (sym (line-read line v q P one))) }

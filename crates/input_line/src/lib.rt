@@ -1,5 +1,7 @@
 // The input line: whether it is one that the file allows (document 01, "Estimation and memory"). It is judged whole before any cell is
 // made.
+pub mod laying;
+
 ghost use mathlib.Core.Path.{_≡_};
 ghost use mathlib.Core.List.{[]};
 ghost use Prim.Native.Nat.{_≤_};
