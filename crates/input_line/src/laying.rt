@@ -35,13 +35,13 @@ use text::Found;
 use text::Number;
 
 // A value laid: how many cells are used then, of which its own is the last; its size; and the cursor behind it.
-pub struct Laid {
+struct Laid {
     pub used: u32,
     pub size: u32,
     pub next: Cursor,
 }
 
-pub enum Laying {
+enum Laying {
     Done(Laid),
     Full,
 }
@@ -72,7 +72,7 @@ fn lay_leaf(state: &mut [u32], cells: u32, used: u32, tag: u32, value: u32, next
 fn lay_constructor(
     state: &mut [u32],
     cells: u32,
-    used: u32,
+    top: u32,
     tag: u32,
     own: u32,
     fields: &[u32],
@@ -80,16 +80,16 @@ fn lay_constructor(
     next: Cursor,
 ) -> Laying
     requires { ⌜ stateLength cells ≤ length (now state) ⌝ }
-    requires { ⌜ own ≤ used ⌝ }
-    ensures { λ r. ⌜ ConstructorPut cells used tag (own + 1) (now (fields .entry)) n next (now (state .entry)) r (now (state .exit)) ⌝ }
+    requires { ⌜ own ≤ top ⌝ }
+    ensures { λ r. ⌜ ConstructorPut cells top tag (own + 1) (now (fields .entry)) n next (now (state .entry)) r (now (state .exit)) ⌝ }
 {
-    if cells <= used {
+    if cells <= top {
         return Laying::Full;
     }
     let size = own + 1;
-    put_constructor(state, used, tag, size, fields, n);
+    put_constructor(state, top, tag, size, fields, n);
     Laying::Done(Laid {
-        used: used + 1,
+        used: top + 1,
         size: size,
         next: next,
     })

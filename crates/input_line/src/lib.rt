@@ -120,7 +120,7 @@ fn wanted(kind: u32, word: u32, size: u32) -> u32
 }
 
 // What a field of some size adds to its constructor's.
-pub fn own_part(kind: u32, size: u32) -> u32
+fn own_part(kind: u32, size: u32) -> u32
     ensures { λ r. ⌜ r ≡ ownPart kind size ⌝ }
 {
     if kind == OWN_FIELD {
