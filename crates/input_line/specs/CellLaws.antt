@@ -1,10 +1,10 @@
 -- One cell laid: which words stay, and a Bool or an Int behind its code, return by return.
-use Prim.Native.Nat.{ℕ, zero, suc, _+_, _-_, _*_, _≤_, _<_}
-use mathlib.Core.List.{List, [], _∷_, _++_}
-use mathlib.Core.Bool.{Bool, true, false}
+use Prim.Native.Nat.{ℕ, zero, suc, _+_, _-_, _≤_, _<_}
+use mathlib.Core.List.{List, [], _∷_}
+use mathlib.Core.Bool.{false}
 use mathlib.Core.Path.{_≡_, refl, sym, ap, _∙_}
 use native.Mathlib.Omega.{arith}
-use lib.ListN.{length, getD, take, drop, length-append}
+use lib.ListN.{length, getD, drop, length-append}
 use lib.Seq.{sets, drop-drop}
 use Rattle.language.specs.Limits.{byteRange, fieldsMost}
 use Rattle.language.specs.Codes.{boolFirst}
@@ -13,7 +13,7 @@ use Rattle.language.specs.Format.{bit}
 use Rattle.language.specs.Heap.{Constant, kbool, kint, Cell, leaf, Tree, vleaf}
 use Rattle.language.specs.Values.{treeSize}
 use Rattle.language.specs.Layout.{boolTag, intTag, padded, wordsOf, stateLength}
-use Rattle.language.specs.Parser.{got, bad, Parser, andThen}
+use Rattle.language.specs.Parser.{got, bad, Parser}
 use Rattle.language.specs.ReadExpr.{Form, boolForm, intForm, bools, int}
 use Rattle.language.specs.Line.{valueBehind}
 use Rattle.language.specs.Machine.{newCell, build}
@@ -31,9 +31,9 @@ use Rattle.text.specs.ReadLaws.{read-then, read-stops}
 use Rattle.text.specs.StepLaws.{number-moved}
 use Rattle.index.specs.ParserLaws.{bad-is-not-got, got-value, got-left}
 use Rattle.state_words.specs.Holds.{Holds, Written}
-use Rattle.state_words.specs.HoldLaws.{written-long, written-below, written-above, holds-pushed, holds-kept, bool-written, int-written}
+use Rattle.state_words.specs.HoldLaws.{written-long, written-below, written-above, holds-pushed, bool-written, int-written}
 use Rattle.input_line.specs.declared.laying.Laying.{Laying}
-use Rattle.input_line.specs.declared.laying.Laying.the-variants.{Done, Full}
+use Rattle.input_line.specs.declared.laying.Laying.the-variants.{Full}
 use Rattle.input_line.specs.Lays.{Kept, LeafPut, leaf-put, leaf-full, LaidAs, laid-as, full-as, Grows, grows, full, stepTo, LeafLaid}
 
 -- ---- the words that stay
@@ -57,9 +57,6 @@ kept-then {cells} {used} {top} {words} {words₁} {words₂} le a b = record {
   below = take-fewer (stateLength used) (stateLength top) words₂ words₁ (omega arith) (b .below) ∙ a .below;
   above = b .above ∙ a .above;
 }
-
-pub kept-holds : {cells used : ℕ} {words words′ : List ℕ} {h : List Cell} → Kept cells used words words′ → Holds words used h → Holds words′ used h
-kept-holds k v = holds-kept v (k .long) (k .below)
 
 -- ---- a Bool or an Int, as its cell is written
 abbrev WritesLeaf : ℕ → List ℕ → ℕ → ℕ → Constant → Type 0

@@ -1,13 +1,13 @@
 -- A constructor behind its code, up to its fields, return by return.
-use Prim.Native.Nat.{ℕ, suc, _+_, _-_, _*_, _/_, _%_, _≤_, _<_}
-use mathlib.Core.List.{List, [], _∷_}
+use Prim.Native.Nat.{ℕ, _+_, _-_, _*_, _/_, _%_, _≤_, _<_}
+use mathlib.Core.List.{List}
 use mathlib.Core.Bool.{Bool, true, false}
 use mathlib.Core.Path.{_≡_, refl, sym, ap, _∙_}
 use native.Mathlib.Nat.{lt-of-le-of-lt}
 use native.Mathlib.Omega.{arith}
 use lib.ListN.{length, getD}
-use lib.Dec.{ltb, leb, eqb}
-use borrow.Author.Tests.{lt-ltb, ltb-true, lt-leb, ne-eqb}
+use lib.Dec.{ltb, eqb}
+use borrow.Author.Tests.{lt-ltb, lt-leb, ne-eqb}
 use Rattle.language.specs.Limits.{byteRange}
 use Rattle.language.specs.Refusals.{badInputLine, badIndex}
 use Rattle.language.specs.Result.{both, choose}
@@ -15,20 +15,20 @@ use Rattle.language.specs.Syntax.{Ty, tbool, tint, tnamed, File, constructorsOf
 use Rattle.language.specs.Heap.{Tree, vcon, Trees}
 use Rattle.language.specs.Values.{treeSize, ownTreeSum, fits, namedAs}
 use Rattle.language.specs.Layout.{tagStep}
-use Rattle.language.specs.Parser.{Read, got, bad, Parser, andThen, must, return, byte, index as indexRead}
+use Rattle.language.specs.Parser.{got, bad, Parser, andThen, must, return, byte, index as indexRead}
 use Rattle.language.specs.ReadExpr.{conForm}
 use Rattle.language.specs.Line.{valueTrees, valueBehind}
 use Rattle.theory.specs.Lists.{both-never}
 use Rattle.text.specs.declared.Found.{Found}
 use Rattle.text.specs.declared.Number.{Number}
 use Rattle.text.specs.declared.Number.the-variants.{Is, Refused}
-use Rattle.text.specs.Bytes.{bytesFrom, bytesLeft, stepOf, stopped, ReadsNumber, Below, declaredWord}
-use Rattle.text.specs.ReadLaws.{read-then}
+use Rattle.text.specs.Bytes.{bytesFrom, stopped, ReadsNumber, Below, declaredWord}
 use Rattle.text.specs.StepLaws.{number-got, number-bad, number-moved, moved-on, moved-left}
 use Rattle.index.specs.Tables.{typeWords}
 use Rattle.index.specs.Sections.{typesOf}
 use Rattle.index.specs.Indexed.{Indexed}
-use Rattle.input_line.specs.Judges.{sized, Asked, asks-bool, asks-int, asks-named, Constructs, ConstructorAt}
+use Rattle.input_line.specs.Judges.{sized, Asked, asks-named, ConstructorAt}
+use Rattle.input_line.specs.ReadParts.{byte-shorter, index-got}
 use Rattle.input_line.specs.SizedLaws.{never-sized, bad-sized}
 
 -- ---- a constructor's value is of no other type
@@ -66,22 +66,6 @@ no-size-unfit P tint a e t c ws = refl
 no-size-unfit P (tnamed u k) (asks-named low small) e t c ws =
     let large : k < 1 + ownTreeSum P ws (fieldsOf P t c) = omega arith in
     both-never (eqb t u) (rw (lt-leb (1 + ownTreeSum P ws (fieldsOf P t c)) k large))
-
--- ---- what a byte and an index read take
-pub byte-shorter : (bs : List ℕ) {b : ℕ} {cs : List ℕ} → byte bs ≡ got b cs → length bs ≡ suc (length cs)
-unfolding byte
-byte-shorter [] e = absurd (let z : _≡_ {A = ℕ} 0 1 = cc in omega arith)
-byte-shorter (b ∷ bs) {cs} e = let same : bs ≡ cs = cc in ap (λ (l : List ℕ). suc (length l)) same
-
-tested-less : (bound : ℕ) {i : ℕ} {cs : List ℕ} (n : ℕ) (bs : List ℕ) (b : Bool) → ltb n bound ≡ b → must b badIndex (return n) bs ≡ got i cs → ltb i bound ≡ true
-unfolding must
-tested-less bound {i} n bs true h e = let same : n ≡ i = cc in rw (← same) h
-tested-less bound n bs false h e = absurd (let z : _≡_ {A = ℕ} 0 1 = cc in omega arith)
-
-pub index-less : (bound : ℕ) (bs : List ℕ) {i : ℕ} {cs : List ℕ} → indexRead bound bs ≡ got i cs → ltb i bound ≡ true
-unfolding indexRead byte andThen
-index-less bound [] e = absurd (let z : _≡_ {A = ℕ} 0 1 = cc in omega arith)
-index-less bound (b ∷ bs) e = tested-less bound b bs (ltb b bound) refl e
 
 -- ---- the returns
 con-wrong : {line index : List ℕ} {at word : ℕ} →
@@ -157,7 +141,7 @@ module _ (line index : List ℕ) (at word : ℕ) {x : Number} (v : ReadsNumber l
               let here : g ≡ h = cc in
               let type = type-is u k small is in
               rw (← here) (record {
-                known = omega (arith, count-is i u low type, ltb-true (g .value) count (index-less count (bytesFrom line (f .next .at)) (number-got (w .0) there)));
+                known = omega (arith, count-is i u low type, index-got count (bytesFrom line (f .next .at)) (number-got (w .0) there) .less);
                 read = λ inner. behind-type i u low type inner ∙ rw (number-got (w .0) there);
               });
           named = λ r. (high, omega (arith, some));

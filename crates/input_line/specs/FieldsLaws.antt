@@ -1,6 +1,6 @@
 -- The fields of a constructor one after the other: what is left of them decides the whole.
-use Prim.Native.Nat.{ℕ, zero, suc, _+_, _-_, _*_, _/_, _%_, _≤_, _<_}
-use mathlib.Core.List.{List, [], _∷_}
+use Prim.Native.Nat.{ℕ, suc, _+_, _-_, _*_, _/_, _%_, _≤_, _<_}
+use mathlib.Core.List.{List, []}
 use mathlib.Core.Bool.{Bool, true, false}
 use mathlib.Core.Path.{_≡_, refl, sym, ap, _∙_}
 use native.Mathlib.Nat.{le-trans}
@@ -14,12 +14,12 @@ use Rattle.language.specs.Limits.{byteRange}
 use Rattle.language.specs.Codes.{fieldOwn}
 use Rattle.language.specs.Refusals.{badInputLine}
 use Rattle.language.specs.Result.{both, choose}
-use Rattle.language.specs.Syntax.{Field, fbool, fint, own, other, Ty, tbool, tint, tnamed, File, constructorsOf, fieldsOf}
+use Rattle.language.specs.Syntax.{Field, fbool, Ty, tbool, tint, tnamed, File, constructorsOf, fieldsOf}
 use Rattle.language.specs.Heap.{Trees}
 use Rattle.language.specs.Values.{ownTreeSum, fieldsFit}
 use Rattle.language.specs.Within.{WithinField, w-fbool, w-fint, w-own, w-other}
 use Rattle.language.specs.Layout.{tagStep}
-use Rattle.language.specs.Parser.{Read, got, bad, Parser, andThen}
+use Rattle.language.specs.Parser.{Read, got, bad, andThen}
 use Rattle.language.specs.ReadExpr.{conForm}
 use Rattle.language.specs.Line.{valueTrees, valueBehind, valueAt}
 use Rattle.theory.specs.Places.{look-at}

@@ -1,28 +1,28 @@
 -- The values of a line one after the other, and the bytes of a line, return by return.
-use Prim.Native.Nat.{ℕ, zero, suc, _+_, _-_, _*_, _≤_, _<_}
-use mathlib.Core.List.{List, [], _∷_, map}
+use Prim.Native.Nat.{ℕ, suc, _+_, _-_, _≤_, _<_}
+use mathlib.Core.List.{List, [], _∷_}
 use mathlib.Core.Bool.{Bool, true, false, not}
-use mathlib.Core.Option.{Option, none, some}
 use mathlib.Core.Path.{_≡_, refl, sym, ap, _∙_}
 use native.Mathlib.Nat.{le-trans, le-refl}
 use native.Mathlib.Numerals.{add-one}
 use native.Mathlib.Omega.{arith}
-use lib.ListN.{length, getD, take, drop, length-map, length-drop, getElem? as look}
+use lib.ListN.{length, getD, drop, length-map}
 use lib.Seq.{drop-cons, drop-length}
-use lib.Dec.{ltb, leb, eqb}
-use borrow.Author.Tests.{eq-eqb, ne-eqb, lt-ltb, le-ltb, ltb-true, ltb-false}
+use lib.Dec.{ltb}
+use borrow.Author.Tests.{eq-eqb, ne-eqb, lt-ltb}
 use Rattle.language.specs.Limits.{byteRange}
 use Rattle.language.specs.Codes.{kindInputLine}
 use Rattle.language.specs.Refusals.{badInputLine}
 use Rattle.language.specs.Result.{both, when, chain, choose}
-use Rattle.language.specs.Syntax.{Ty, tbool, tint, tnamed, Input, File}
+use Rattle.language.specs.Syntax.{Ty, tbool, Input, File}
 use Rattle.language.specs.Heap.{Tree}
 use Rattle.language.specs.Values.{treeSize, fits}
 use Rattle.language.specs.Within.{WithinDeclared, w-tbool, w-tint, w-tnamed}
 use Rattle.language.specs.Parser.{Read, got, bad, Parser, andThen, byte, many}
 use Rattle.language.specs.Line.{valueAt, allRead, inputTrees, treesFit}
 use Rattle.theory.specs.Alls.{all-at}
-use Rattle.theory.specs.Places.{look-at, Mapped, look-mapped}
+use Rattle.theory.specs.Places.{look-at, look-mapped}
+use Rattle.theory.specs.HeldChannels.{inputTypes}
 use Rattle.text.specs.declared.Cursor.{Cursor}
 use Rattle.text.specs.declared.Found.{Found}
 use Rattle.text.specs.declared.Number.{Number}
@@ -32,11 +32,10 @@ use Rattle.text.specs.Bytes.{bytesOf, bytesFrom, bytesLeft, given, Moved, Reads
 use Rattle.text.specs.Places.{bytes-start}
 use Rattle.text.specs.Lines.{isSome}
 use Rattle.text.specs.StepLaws.{number-got, number-bad, number-moved, ends-within, moved-none, moved-on, moved-left}
-use Rattle.index.specs.Tables.{channelWords}
 use Rattle.index.specs.Sections.{countsIn, channelsOf}
 use Rattle.index.specs.Indexed.{Indexed, declaredAt}
 use Rattle.index.specs.declared.Counts.{Counts}
-use Rattle.input_line.specs.Judges.{sized, Asked, asks-bool, asks-int, asks-named, Judges, inputTypes, InputsJudged}
+use Rattle.input_line.specs.Judges.{sized, Asked, asks-bool, asks-int, asks-named, Judges, InputsJudged}
 
 -- ---- so many values, each of its type, and no byte more
 abbrev allFit : File → List Ty → Read (List Tree) → Bool

@@ -1,10 +1,9 @@
 -- The values of a line laid one after the other, and the line as a whole, return by return.
-use Prim.Native.Nat.{ℕ, zero, suc, _+_, _-_, _*_, _≤_, _<_}
+use Prim.Native.Nat.{ℕ, suc, _+_, _-_, _≤_, _<_}
 use mathlib.Core.List.{List, [], _∷_, _++_}
 use mathlib.Core.Bool.{Bool, true, false}
 use mathlib.Core.Option.{Option, none, some}
 use mathlib.Core.Path.{_≡_, refl, sym, ap, _∙_}
-use native.Mathlib.Numerals.{add-one}
 use native.Mathlib.Omega.{arith}
 use lib.ListN.{length, set, take, drop, length-set, take-append-drop}
 use lib.Seq.{length-take-le, take-suc-set, drop-set-lt, drop-drop}
@@ -13,15 +12,14 @@ use borrow.Author.Tests.{le-leb, lt-leb, eqb-true, eqb-false}
 use Rattle.language.specs.Limits.{byteRange, channelsMost}
 use Rattle.language.specs.Codes.{kindInputLine}
 use Rattle.language.specs.Refusals.{heapSpent}
-use Rattle.language.specs.Result.{Result, ok, no, need, when, chain}
+use Rattle.language.specs.Result.{ok, no, need, when, chain}
 use Rattle.language.specs.Syntax.{File, channelFrame}
 use Rattle.language.specs.Heap.{Cell, Tree}
-use Rattle.language.specs.Slide.{State}
-use Rattle.language.specs.Layout.{stateLength}
-use Rattle.language.specs.Parser.{Read, got, bad, Parser, andThen, byte, many}
+use Rattle.language.specs.Parser.{Read, got, bad, Parser, byte, many}
 use Rattle.language.specs.Line.{valueAt, allRead, inputTrees, treesFit, lineTrees}
 use Rattle.language.specs.Machine.{build, putInputs}
 use Rattle.theory.specs.Lists.{none-is-not-some, false-is-not-true}
+use Rattle.theory.specs.HeldChannels.{inputTypes}
 use Rattle.text.specs.declared.Cursor.{Cursor}
 use Rattle.text.specs.declared.Found.{Found}
 use Rattle.text.specs.declared.Number.{Number}
@@ -36,19 +34,18 @@ use Rattle.text.specs.StepLaws.{number-bad, number-moved, ends-within, moved-no
 use Rattle.index.specs.Sections.{countsIn}
 use Rattle.index.specs.Indexed.{Indexed}
 use Rattle.index.specs.declared.Counts.{Counts}
-use Rattle.index.specs.ParserLaws.{Begins, many-begins, many-bad, bad-is-not-got, got-value, got-left}
+use Rattle.index.specs.ParserLaws.{many-begins, many-bad, bad-is-not-got, got-value}
 use Rattle.state_words.specs.Holds.{Holds}
 use Rattle.input_line.specs.declared.laying.Laid.{Laid}
 use Rattle.input_line.specs.declared.laying.Laying.{Laying}
 use Rattle.input_line.specs.declared.laying.Laying.the-variants.{Done, Full}
 use Rattle.input_line.specs.declared.laying.Inputs.{Inputs}
 use Rattle.input_line.specs.declared.laying.Inputs.the-variants.{Used, Full as FullAt}
-use Rattle.input_line.specs.Judges.{inputTypes}
 use Rattle.input_line.specs.InputLaws.{inputs-counted, no-bytes, bytes-are}
 use Rattle.input_line.specs.LineLaws.{line-bad, line-longer, line-read}
-use Rattle.input_line.specs.Lays.{Kept, LaidAs, Lays, PutAs, put-all, put-full, Within, within, beyond, ValuesLaid, InputsLaid}
+use Rattle.input_line.specs.Lays.{Kept, Lays, put-all, put-full, within, beyond, ValuesLaid, InputsLaid}
 use Rattle.input_line.specs.CellLaws.{kept-none, kept-then}
-use Rattle.input_line.specs.FieldsLaidLaws.{last-cell, DoneAs, done-as, full-more, grows-done}
+use Rattle.input_line.specs.FieldsLaidLaws.{last-cell, done-as, full-more, grows-done}
 
 -- ---- values that were read: the first, and the others behind it
 record FirstValue (p : Parser Tree) (m : ℕ) (bs : List ℕ) (vs : List Tree) (rest : List ℕ) : Type 0 where

@@ -1,6 +1,6 @@
 -- What the functions promise that judge an input line. A value is judged by its size: sized has it where the value is of its type.
 use Prim.Native.Nat.{ℕ, _+_, _-_, _%_, _<_, _≤_}
-use mathlib.Core.List.{List, [], _∷_, map}
+use mathlib.Core.List.{List}
 use mathlib.Core.Bool.{Bool}
 use mathlib.Core.Path.{_≡_}
 use lib.ListN.{length}
@@ -9,13 +9,14 @@ use Rattle.language.specs.Limits.{byteRange}
 use Rattle.language.specs.Codes.{fieldOwn}
 use Rattle.language.specs.Refusals.{badInputLine}
 use Rattle.language.specs.Result.{both, when, chain, choose}
-use Rattle.language.specs.Syntax.{Field, Ty, tbool, tint, tnamed, Input, File, constructorsOf, fieldsOf}
+use Rattle.language.specs.Syntax.{Field, Ty, tbool, tint, tnamed, File, constructorsOf, fieldsOf}
 use Rattle.language.specs.Heap.{Tree, vcon, Trees}
 use Rattle.language.specs.Values.{treeSize, ownTreeSum, fits, fieldsFit}
 use Rattle.language.specs.Layout.{tagStep}
 use Rattle.language.specs.Parser.{Read, got, bad, Parser, andThen}
 use Rattle.language.specs.ReadExpr.{Form, conForm}
 use Rattle.language.specs.Line.{valueTrees, valueBehind, inputTrees, treesFit, lineTrees}
+use Rattle.theory.specs.HeldChannels.{inputTypes}
 use Rattle.text.specs.declared.Found.{Found}
 use Rattle.text.specs.declared.Number.{Number}
 use Rattle.text.specs.declared.Number.the-variants.{Is, Refused}
@@ -73,9 +74,6 @@ pub record Judges (line index : List ℕ) (at word : ℕ) (r : Number) (p : ℕ 
   pub small : Below (1 + word % tagStep) r
 
 -- ---- the bytes of a line, and the line
-abbrev pub inputTypes : File → List Ty
-inputTypes P = map (λ (i : Input). i .declared) (P .inputs)
-
 pub record InputsJudged (line index : List ℕ) (r : Bool) : Type 0 where
   pub says : (text : List ℕ) (P : File) → Indexed text index P → r ≡ isSome (chain (inputTrees P (bytesOf line)) (λ vs. when (treesFit P vs (inputTypes P)) vs))
 

@@ -1,69 +1,35 @@
 -- A value laid by its form, and the tag behind the code of a constructor, return by return.
-use Prim.Native.Nat.{ℕ, zero, suc, _+_, _-_, _*_, _/_, _%_, _≤_, _<_}
+use Prim.Native.Nat.{ℕ, zero, suc, _+_, _*_, _<_}
 use mathlib.Core.List.{List}
-use mathlib.Core.Bool.{Bool, true, false}
 use mathlib.Core.Option.{some}
 use mathlib.Core.Path.{_≡_, refl, sym, ap, _∙_}
 use native.Mathlib.Nat.{lt-of-le-of-lt}
 use native.Mathlib.Omega.{arith}
 use lib.ListN.{length}
-use lib.Dec.{ltb}
-use borrow.Author.Tests.{ltb-true}
 use Rattle.language.specs.Limits.{byteRange}
 use Rattle.language.specs.Codes.{exprFirst}
-use Rattle.language.specs.Refusals.{badIndex}
 use Rattle.language.specs.Syntax.{File, constructorsOf, fieldsOf}
-use Rattle.language.specs.Heap.{Cell, Tree, vcon, Trees}
+use Rattle.language.specs.Heap.{Tree, vcon, Trees}
 use Rattle.language.specs.Layout.{tagStep}
-use Rattle.language.specs.Parser.{Read, got, bad, Parser, andThen, must, return, byte, index as indexRead}
+use Rattle.language.specs.Parser.{got, Parser, andThen, byte, index as indexRead}
 use Rattle.language.specs.ReadExpr.{Form, boolForm, conForm, forms}
 use Rattle.language.specs.Line.{valueTrees, valueBehind, valueAt}
 use Rattle.theory.specs.Places.{look-at}
 use Rattle.text.specs.declared.Found.{Found}
 use Rattle.text.specs.declared.Number.{Number}
 use Rattle.text.specs.declared.Number.the-variants.{Is, Refused}
-use Rattle.text.specs.Bytes.{bytesFrom, bytesLeft, stopped, ReadsNumber, Below}
+use Rattle.text.specs.Bytes.{bytesFrom, stopped, ReadsNumber, Below}
 use Rattle.text.specs.Codes.{codePlace}
 use Rattle.text.specs.CodeLaws.{code-then, code-stops}
-use Rattle.text.specs.ReadLaws.{read-then, read-stops}
-use Rattle.text.specs.StepLaws.{number-got, number-none, number-other, number-moved, moved-on, moved-left, reads-behind, read-stops-read, read-then-read}
-use Rattle.index.specs.Indexed.{Indexed}
+use Rattle.text.specs.ReadLaws.{read-then}
+use Rattle.text.specs.StepLaws.{number-got, number-other, number-moved, moved-on, moved-left, read-stops-read, read-then-read}
 use Rattle.index.specs.ParserLaws.{bad-is-not-got, got-value, got-left}
-use Rattle.state_words.specs.Holds.{Holds}
 use Rattle.input_line.specs.declared.laying.Laying.{Laying}
-use Rattle.input_line.specs.declared.laying.Laying.the-variants.{Done, Full}
+use Rattle.input_line.specs.declared.laying.Laying.the-variants.{Full}
 use Rattle.input_line.specs.Lays.{full, tagRead, LeafLaid, TagAt, Lays}
-use Rattle.input_line.specs.ConstructorLaws.{byte-shorter}
-use Rattle.input_line.specs.ValueLaws.{formAt, other-form, form-less}
+use Rattle.input_line.specs.ReadParts.{then-got, index-got, byte-shorter}
+use Rattle.input_line.specs.ValueLaws.{formAt, boolPlace, intPlace, constructPlace, other-form, form-less}
 use Rattle.input_line.specs.CellLaws.{kept-none}
-
--- ---- a parser that gave something: its first part did, and what follows from there on
-pub record Then {A B : Type 0} (x : Read A) (k : A → Parser B) (b : B) (rest : List ℕ) : Type 0 where
-  pub value : A
-  pub left : List ℕ
-  pub first : x ≡ got value left
-  pub then : k value left ≡ got b rest
-
-pub then-got : {A B : Type 0} (x : Read A) (k : A → Parser B) {b : B} {rest : List ℕ} → andThen x k ≡ got b rest → Then x k b rest
-unfolding andThen
-then-got (got a bs) k e = record { value = a; left = bs; first = refl; then = e }
-then-got (bad n) k e = bad-is-not-got e
-
--- an index that was read is a byte below its bound
-pub record IndexGot (bound : ℕ) (bs : List ℕ) (i : ℕ) (cs : List ℕ) : Type 0 where
-  pub read : byte bs ≡ got i cs
-  pub less : i < bound
-
-pub index-got : (bound : ℕ) (bs : List ℕ) {i : ℕ} {cs : List ℕ} → indexRead bound bs ≡ got i cs → IndexGot bound bs i cs
-unfolding indexRead must
-index-got bound bs {i} {cs} e = by (then-got (byte bs) (λ n. must (ltb n bound) badIndex (return n)) e)
-  where
-    tested : (n : ℕ) (ds : List ℕ) (b : Bool) → ltb n bound ≡ b → byte bs ≡ got n ds → must b badIndex (return n) ds ≡ got i cs → IndexGot bound bs i cs
-    tested n ds true h r q = record { read = r ∙ q; less = ltb-true i bound (ap (λ m. ltb m bound) (sym (got-value q)) ∙ h) }
-    tested n ds false h r q = bad-is-not-got q
-
-    by : Then (byte bs) (λ n. must (ltb n bound) badIndex (return n)) i cs → IndexGot bound bs i cs
-    by w = tested (w .value) (w .left) (ltb (w .value) bound) refl (w .first) (w .then)
 
 -- ---- a constructor that was read: its type and its number as a tag, and its fields
 pub record ConRead (P : File) (inner : Parser Tree) (bs : List ℕ) (v : Tree) (rest : List ℕ) : Type 0 where
@@ -157,7 +123,7 @@ module _ (line index : List ℕ) (at : ℕ) {x : Number} (v : ReadsNumber line a
         grown = u .grown;
       }
 
-    pub value-unknown : {cells used : ℕ} {words : List ℕ} → ((f .value ≡ 0) → ⊥) → ((f .value ≡ 1) → ⊥) → ((f .value ≡ 9) → ⊥) → Lays line index at cells used words Full words (λ n P. valueAt n P)
+    pub value-unknown : {cells used : ℕ} {words : List ℕ} → ((f .value ≡ boolPlace) → ⊥) → ((f .value ≡ intPlace) → ⊥) → ((f .value ≡ constructPlace) → ⊥) → Lays line index at cells used words Full words (λ n P. valueAt n P)
     value-unknown {cells} {used} {words} not-bool not-int not-con = record {
       says = λ text P i h hs n q. behind-code (formAt (f .value)) refl P n q (λ m p. bad-is-not-got (sym (other-form P (valueAt m P) (bytesFrom line (f .next .at)) (f .value) (form-less line at v e) not-bool not-int not-con) ∙ p));
       on = stopped;

@@ -1,6 +1,6 @@
 -- What the functions promise that lay the values of a line: the cells are the definition's, above those used; on any bytes the words
 -- below, and from the board's last cell on, stay as they were.
-use Prim.Native.Nat.{ℕ, _+_, _-_, _*_, _<_, _≤_}
+use Prim.Native.Nat.{ℕ, _+_, _*_, _<_, _≤_}
 use mathlib.Core.List.{List, [], _∷_, _++_}
 use mathlib.Core.Option.{some}
 use mathlib.Core.Path.{_≡_}
@@ -14,9 +14,9 @@ use Rattle.language.specs.Heap.{Cell, Tree}
 use Rattle.language.specs.Values.{treeSize}
 use Rattle.language.specs.Slide.{State}
 use Rattle.language.specs.Layout.{padded, tagStep, stateLength}
-use Rattle.language.specs.Parser.{Read, got, Parser, _>>=_, return, byte}
+use Rattle.language.specs.Parser.{got, Parser, _>>=_, return, byte}
 use Rattle.language.specs.ReadExpr.{Form}
-use Rattle.language.specs.Line.{valueAt, valueBehind, lineTrees, inputTrees}
+use Rattle.language.specs.Line.{valueBehind, lineTrees, inputTrees}
 use Rattle.language.specs.Machine.{build, putInputs}
 use Rattle.text.specs.declared.Cursor.{Cursor}
 use Rattle.text.specs.declared.Found.{Found}

@@ -1,20 +1,20 @@
 -- A Bool and an Int behind their codes, return by return; and the other forms, which no value has.
 use Prim.Native.Nat.{ℕ, _<_}
 use mathlib.Core.List.{List}
-use mathlib.Core.Bool.{Bool, true, false}
+use mathlib.Core.Bool.{Bool, false}
 use mathlib.Core.Path.{_≡_, refl, sym, ap, _∙_}
 use native.Mathlib.Omega.{arith}
-use lib.ListN.{length, getD, getElem? as look}
+use lib.ListN.{length, getD}
 use borrow.Author.Tests.{lt-ltb}
 use Rattle.language.specs.Limits.{byteRange, intRange}
 use Rattle.language.specs.Codes.{boolFirst, fieldBool, fieldInt}
 use Rattle.language.specs.Refusals.{badInputLine}
 use Rattle.language.specs.Result.{choose}
 use Rattle.language.specs.Syntax.{Ty, tbool, tint, tnamed, File}
-use Rattle.language.specs.Heap.{kbool, kint, Tree, vleaf}
+use Rattle.language.specs.Heap.{kbool, kint, vleaf}
 use Rattle.language.specs.Values.{treeSize, fits, constantFits}
 use Rattle.language.specs.Format.{intBytes}
-use Rattle.language.specs.Parser.{Read, got, bad, Parser, andThen, code}
+use Rattle.language.specs.Parser.{Read, got, bad, andThen, code}
 use Rattle.language.specs.ReadExpr.{boolForm, intForm, bools, int}
 use Rattle.language.specs.Line.{valueBehind}
 use Rattle.theory.specs.Outcomes.{Reads, reads-got, reads-bad}
@@ -79,7 +79,7 @@ module _ (line : List ℕ) (at word : ℕ) where
     none = no-number;
   }
 
-  module _ {x : Number} (v : ReadsNumber line at x (codePlace boolFirst 2 (bytesFrom line at)) × Below byteRange x) where
+  module _ {x : Number} (v : ReadsNumber line at x (codePlace boolFirst (length bools) (bytesFrom line at)) × Below byteRange x) where
     pub bool-none : {n : ℕ} → x ≡ Refused n → LeafJudged line at word boolForm (Refused badInputLine)
     unfolding valueBehind given
     bool-none e = record {

@@ -1,5 +1,6 @@
 pub mod Judges
 pub mod SizedLaws
+pub mod ReadParts
 pub mod LeafLaws
 pub mod ConstructorLaws
 pub mod ValueLaws
@@ -10,4 +11,5 @@ pub mod Lays
 pub mod CellLaws
 pub mod LayLaws
 pub mod FieldsLaidLaws
+pub mod ConstructorLaidLaws
 pub mod InputsLaidLaws

@@ -1,11 +1,11 @@
 -- A text as one line with its LF, and nothing behind it, return by return.
-use Prim.Native.Nat.{ℕ, suc, _+_, _-_, _≤_, _<_}
+use Prim.Native.Nat.{ℕ, suc, _+_, _-_, _<_}
 use mathlib.Core.List.{List, [], _∷_}
 use mathlib.Core.Bool.{Bool, true, false}
 use mathlib.Core.Option.{Option, none, some}
 use mathlib.Core.Path.{_≡_, refl, sym, ap, _∙_}
 use native.Mathlib.Omega.{arith}
-use lib.ListN.{length, take, drop, length-drop, drop-of-length-le}
+use lib.ListN.{length, take, length-drop, drop-of-length-le}
 use lib.Seq.{length-take-le}
 use lib.Dec.{ltb, eqb}
 use borrow.Author.Tests.{ltb-true, ltb-false}
@@ -15,6 +15,7 @@ use Rattle.language.specs.Syntax.{File}
 use Rattle.language.specs.Heap.{Tree}
 use Rattle.language.specs.Reader.{Lines, linesOf, longer, lineBytes}
 use Rattle.language.specs.Line.{inputTrees, treesFit, oneLine, lineTrees}
+use Rattle.theory.specs.HeldChannels.{inputTypes}
 use Rattle.text.specs.declared.lines.LineEnd.{LineEnd}
 use Rattle.text.specs.declared.lines.LineEnd.the-variants.{At, Bad}
 use Rattle.text.specs.Bytes.{bytesOf}
@@ -22,8 +23,7 @@ use Rattle.text.specs.Lines.{isSome, firstLine, lineEnd}
 use Rattle.text.specs.LinesEnd.{behind, first-line-ended, first-line-last}
 use Rattle.text.specs.LinesSpell.{line-bytes-read}
 use Rattle.text.specs.LinesJudge.{line-ended}
-use Rattle.index.specs.Indexed.{Indexed}
-use Rattle.input_line.specs.Judges.{inputTypes, InputsJudged, LineJudged}
+use Rattle.input_line.specs.Judges.{InputsJudged, LineJudged}
 
 -- ---- one line
 -- the first line decides, or there are more

@@ -1,17 +1,17 @@
 -- The size of a value that fits, read part by part: a constructor's fields one after the other, each against what is left of its size.
-use Prim.Native.Nat.{ℕ, zero, suc, _+_, _-_, _≤_, _<_}
+use Prim.Native.Nat.{ℕ, suc, _+_, _-_, _≤_, _<_}
 use mathlib.Core.List.{List, [], _∷_}
 use mathlib.Core.Bool.{Bool, true, false}
 use mathlib.Core.Path.{_≡_, refl, sym, ap, _∙_}
 use native.Mathlib.Nat.{add-zero}
 use native.Mathlib.Omega.{arith}
 use lib.ListN.{length}
-use lib.Dec.{leb, eqb}
+use lib.Dec.{leb}
 use borrow.Author.Tests.{eq-eqb, le-leb, lt-leb, leb-true, leb-false}
 use Rattle.language.specs.Refusals.{badInputLine}
 use Rattle.language.specs.Result.{both, choose}
 use Rattle.language.specs.Syntax.{Field, fbool, fint, own, other, Ty, tbool, tint, tnamed, File, constructorsOf, fieldsOf}
-use Rattle.language.specs.Heap.{Tree, vcon, Trees, vnil, vcons}
+use Rattle.language.specs.Heap.{Tree, vcon, Trees, vcons}
 use Rattle.language.specs.Values.{treeSize, ownTreeSum, fits, fieldsFit, namedAs, isConstructor}
 use Rattle.language.specs.Parser.{Read, got, bad, Parser, andThen}
 use Rattle.language.specs.Line.{valueTrees}

@@ -1,21 +1,17 @@
 -- A value and its forms, return by return.
-use Prim.Native.Nat.{ℕ, zero, suc, _+_, _-_, _%_, _≤_, _<_}
-use mathlib.Core.List.{List, [], _∷_}
-use mathlib.Core.Bool.{Bool, true, false}
+use Prim.Native.Nat.{ℕ, zero, suc, _-_, _≤_, _<_}
+use mathlib.Core.List.{List}
 use mathlib.Core.Option.{some}
 use mathlib.Core.Path.{_≡_, refl, sym, ap, _∙_}
 use native.Mathlib.Omega.{arith}
-use lib.ListN.{length, getD, getElem? as look}
-use lib.Dec.{ltb, leb}
+use lib.ListN.{length, getD}
 use Rattle.language.specs.Limits.{byteRange}
-use Rattle.language.specs.Codes.{exprFirst}
-use Rattle.language.specs.Refusals.{badInputLine, badCode}
-use Rattle.language.specs.Result.{both}
+use Rattle.language.specs.Codes.{exprBool, exprInt, exprConstruct, exprFirst}
+use Rattle.language.specs.Refusals.{badInputLine}
 use Rattle.language.specs.Syntax.{Ty, File}
 use Rattle.language.specs.Heap.{Tree}
-use Rattle.language.specs.Layout.{tagStep}
-use Rattle.language.specs.Parser.{Read, got, bad, Parser, andThen, must, return, byte, code}
-use Rattle.language.specs.ReadExpr.{Form, boolForm, conForm, forms}
+use Rattle.language.specs.Parser.{bad, Parser}
+use Rattle.language.specs.ReadExpr.{Form, boolForm, forms}
 use Rattle.language.specs.Line.{valueBehind, valueAt}
 use Rattle.theory.specs.Places.{look-at}
 use Rattle.text.specs.declared.Found.{Found}
@@ -26,25 +22,25 @@ use Rattle.text.specs.Codes.{codePlace}
 use Rattle.text.specs.CodeLaws.{code-then, code-stops, code-below}
 use Rattle.text.specs.StepLaws.{number-got, number-moved, moved-on, below-more}
 use Rattle.input_line.specs.Judges.{sized, LeafJudged, Judges}
+use Rattle.input_line.specs.ReadParts.{code-shorter}
 use Rattle.input_line.specs.SizedLaws.{bad-sized}
-
--- ---- a code takes a byte
-one-byte : (b : Bool) (n : ℕ) (bs : List ℕ) {i : ℕ} {cs : List ℕ} → must b badCode (return n) bs ≡ got i cs → cs ≡ bs
-unfolding must
-one-byte true n bs e = cc
-one-byte false n bs e = absurd (let z : _≡_ {A = ℕ} 0 1 = cc in omega arith)
-
-pub code-shorter : (first size : ℕ) (bs : List ℕ) {i : ℕ} {cs : List ℕ} → codePlace first size bs ≡ got i cs → length bs ≡ suc (length cs)
-unfolding codePlace byte andThen
-code-shorter first size [] e = absurd (let z : _≡_ {A = ℕ} 0 1 = cc in omega arith)
-code-shorter first size (b ∷ bs) e = ap (λ (l : List ℕ). suc (length l)) (sym (one-byte (both (leb first b) (ltb (b - first) size)) (b - first) bs e))
 
 -- the form at a place of the table
 abbrev pub formAt : ℕ → Form
 formAt i = getD forms i boolForm
 
+-- the places of the forms that a value has
+abbrev pub boolPlace : ℕ
+boolPlace = exprBool - exprFirst
+
+abbrev pub intPlace : ℕ
+intPlace = exprInt - exprFirst
+
+abbrev pub constructPlace : ℕ
+constructPlace = exprConstruct - exprFirst
+
 -- ---- no value has another form than `10`, `11`, `19`
-pub other-form : (P : File) (inner : Parser Tree) (bs : List ℕ) (i : ℕ) → i < length forms → ((i ≡ 0) → ⊥) → ((i ≡ 1) → ⊥) → ((i ≡ 9) → ⊥) → valueBehind P inner (formAt i) bs ≡ bad badInputLine
+pub other-form : (P : File) (inner : Parser Tree) (bs : List ℕ) (i : ℕ) → i < length forms → ((i ≡ boolPlace) → ⊥) → ((i ≡ intPlace) → ⊥) → ((i ≡ constructPlace) → ⊥) → valueBehind P inner (formAt i) bs ≡ bad badInputLine
 unfolding valueBehind
 other-form P inner bs zero less a b c = absurd (a refl)
 other-form P inner bs (suc zero) less a b c = absurd (b refl)
@@ -104,7 +100,7 @@ module _ (line index : List ℕ) (at word : ℕ) {x : Number} (v : ReadsNumber l
         small = u .small;
       }
 
-    pub value-other : ((f .value ≡ 0) → ⊥) → ((f .value ≡ 1) → ⊥) → ((f .value ≡ 9) → ⊥) → Value (Refused badInputLine)
+    pub value-other : ((f .value ≡ boolPlace) → ⊥) → ((f .value ≡ intPlace) → ⊥) → ((f .value ≡ constructPlace) → ⊥) → Value (Refused badInputLine)
     unfolding given
     value-other not-bool not-int not-con = record {
       says = λ text P i τ a is. behind-form (formAt (f .value)) refl (Refused badInputLine) P τ (λ m enough. sym (bad-sized P τ (other-form P (valueAt m P) (bytesFrom line (f .next .at)) (f .value) (form-less line at v e) not-bool not-int not-con)));

@@ -1,6 +1,5 @@
 // The cells of an input line's values, above those used: the fields of a constructor left to right before it. The line was judged before.
 // On bytes that spell no value it ends too, and keeps to its cells; what it then answers is free.
-ghost use mathlib.Core.Path.{_≡_};
 ghost use Prim.Native.Nat.{_+_, _≤_};
 ghost use lib.ListN.{length};
 ghost use Rattle.language.specs.Layout.{stateLength};

@@ -3,7 +3,6 @@
 pub mod laying;
 
 ghost use mathlib.Core.Path.{_≡_};
-ghost use mathlib.Core.List.{[]};
 ghost use Prim.Native.Nat.{_≤_};
 ghost use Rattle.language.specs.Line.{valueAt, valueBehind};
 ghost use Rattle.language.specs.ReadExpr.{boolForm, intForm, conForm};

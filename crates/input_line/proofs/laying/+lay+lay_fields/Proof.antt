@@ -7,7 +7,8 @@ use Rattle.text.specs.Places.{bytesLeft}
 use Rattle.text.specs.StepLaws.{moved-left}
 use Rattle.input_line.specs.ValueLaws.{formAt, form-fewer}
 use Rattle.input_line.specs.LayLaws.{value-missing, value-leaf-laid, value-con-laid, value-unknown}
-use Rattle.input_line.specs.FieldsLaidLaws.{FieldsLaid, con-missing, fields-begun, top-grows, own-most, fields-fuller, con-over, con-laid}
+use Rattle.input_line.specs.FieldsLaidLaws.{FieldsLaid, fields-begun, top-grows, own-most, fields-fuller}
+use Rattle.input_line.specs.ConstructorLaidLaws.{con-missing, con-over, con-laid}
 use Prim.Native.Nat.{ℕ, _<_}
 use borrow.Fn.Kinds.{In}
 use borrow.Fn.PlainCycle.{Measures, is, falls, and}
