@@ -1,0 +1,15 @@
+pub mod Judges
+pub mod SizedLaws
+pub mod ReadParts
+pub mod LeafLaws
+pub mod ConstructorLaws
+pub mod ValueLaws
+pub mod FieldsLaws
+pub mod InputLaws
+pub mod LineLaws
+pub mod Lays
+pub mod CellLaws
+pub mod LayLaws
+pub mod FieldsLaidLaws
+pub mod ConstructorLaidLaws
+pub mod InputsLaidLaws
