@@ -8,13 +8,12 @@ use lib.ListN.{getD, take, length-take, List·getD-eq-default}
 use lib.Seq.{getD-take}
 use denote.Enum.Declared.{tagOf, declared}
 use types.Run.{OneOf, miss}
-use Rattle.language.specs.Limits.{byteRange}
 use Rattle.text.specs.declared.Cursor.{Cursor}
 use Rattle.heads.specs.declared.Form.{Form}
 use Rattle.heads.specs.declared.Form.the-variants.{Bool as BoolForm, Int, Variable, Now, Last, Let, If, Operator, Call, Construct, Case, Adjust, Fit, Missing}
+use Rattle.heads.specs.Places.{lineBehindTypes}
 use Rattle.heads.proofs.Form.{enum}
-use Rattle.index.specs.declared.Counts.{Counts}
-use Rattle.index.specs.Sections.{countsIn, functionsOf}
+use Rattle.index.specs.Sections.{functionsOf}
 use Rattle.index.specs.Indexed.{bodyAt}
 use Rattle.ends.specs.EndOf.{endOf}
 use Rattle.evaluator.specs.declared.Context.{Context}
@@ -111,6 +110,6 @@ pushed-all {asked} {slots} {slots′} {top} {i} {n} le q ge =
     subst (λ m. Pushed asked slots top m slots′) all q
 
 -- ---- body_context
-pub body-contextd : (index : List ℕ) (p : Context) (f n : ℕ) {at : Cursor} {counts : Counts} → at .at ≡ bodyAt (functionsOf index) f → counts ≡ countsIn index →
-    _≡_ {A = Context} (record { at = at; line = counts .types + f % byteRange; top = n; used = p .used; calls = p .calls - 1 }) (bodyContext index p f n)
-body-contextd index p f n start count = λ i. record { at = record { at = start i }; line = count i .types + f % byteRange; top = n; used = p .used; calls = p .calls - 1 }
+pub body-found : (index : List ℕ) (p : Context) (f n : ℕ) {at : Cursor} {line : ℕ} → at .at ≡ bodyAt (functionsOf index) f → line ≡ lineBehindTypes index f →
+    _≡_ {A = Context} (record { at = at; line = line; top = n; used = p .used; calls = p .calls - 1 }) (bodyContext index p f n)
+body-found index p f n start behind = λ i. record { at = record { at = start i }; line = behind i; top = n; used = p .used; calls = p .calls - 1 }
