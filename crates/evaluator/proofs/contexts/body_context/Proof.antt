@@ -10,11 +10,11 @@ body-start-requires c κs = tt
 line-behind-types-requires : tie.Need-line-behind-types-requires
 line-behind-types-requires c κs = tt
 
-sub-t8 : tie.Need-sub-t8
-sub-t8 c = search needs
+sub-t7 : tie.Need-sub-t7
+sub-t7 c = search needs
 
 returns : tie.Need-returns
 returns c = body-found _ (c .before .before .before .args .p) _ _ (c .before .before .body-start .ensures) (c .before .line-behind-types .ensures)
 
 pub body-context-spec : {M : Type 1} → statement M
-body-context-spec = tie.close (tie.spec body-start-requires line-behind-types-requires sub-t8 returns)
+body-context-spec = tie.close (tie.spec body-start-requires line-behind-types-requires sub-t7 returns)
