@@ -32,15 +32,16 @@ use Rattle.text.specs.StepLaws.{number-moved}
 use Rattle.index.specs.ParserLaws.{bad-is-not-got, got-value, got-left}
 use Rattle.state_words.specs.Holds.{Holds, Written}
 use Rattle.state_words.specs.HoldLaws.{written-long, written-below, written-above, holds-pushed, bool-written, int-written}
+use Rattle.input_line.specs.declared.laying.Laid.{Laid}
 use Rattle.input_line.specs.declared.laying.Laying.{Laying}
-use Rattle.input_line.specs.declared.laying.Laying.the-variants.{Full}
+use Rattle.input_line.specs.declared.laying.Laying.the-variants.{Done, Full}
 use Rattle.input_line.specs.Lays.{Kept, LeafPut, leaf-put, leaf-full, LaidAs, laid-as, full-as, Grows, grows, full, stepTo, LeafLaid}
 
 -- ---- the words that stay
 pub kept-none : (cells used : ℕ) (words : List ℕ) → Kept cells used words words
 kept-none cells used words = record { long = refl; below = refl; above = refl }
 
-drop-further : (m n : ℕ) (l k : List ℕ) → m ≤ n → drop m l ≡ drop m k → drop n l ≡ drop n k
+pub drop-further : (m n : ℕ) (l k : List ℕ) → m ≤ n → drop m l ≡ drop m k → drop n l ≡ drop n k
 drop-further m n l k le e = let on : m + (n - m) ≡ n = omega arith in
     ap (λ i. drop i l) (sym on) ∙ sym (drop-drop (n - m) m l) ∙ ap (drop (n - m)) e ∙ drop-drop (n - m) m k ∙ ap (λ i. drop i k) on
 
@@ -58,6 +59,13 @@ kept-then {cells} {used} {top} {words} {words₁} {words₂} le a b = record {
   above = b .above ∙ a .above;
 }
 
+-- beyond the cells used in the end: a later step that uses no fewer
+pub high-then : (top n : ℕ) (words words₁ words₂ : List ℕ) → top ≤ n → drop (stateLength top) words₁ ≡ drop (stateLength top) words → drop (stateLength n) words₂ ≡ drop (stateLength n) words₁ → drop (stateLength n) words₂ ≡ drop (stateLength n) words
+high-then top n words words₁ words₂ le a b = b ∙ drop-further (stateLength top) (stateLength n) words₁ words (omega arith) a
+
+pub full-is-not-done : {B : Type 0} {b : Laid} → Full ≡ Done b → B
+full-is-not-done e = absurd (let z : _≡_ {A = ℕ} 0 1 = cc in omega arith)
+
 -- ---- a Bool or an Int, as its cell is written
 abbrev WritesLeaf : ℕ → List ℕ → ℕ → ℕ → Constant → Type 0
 WritesLeaf used words tag value k = (words′ : List ℕ) → stateLength (used + 1) ≤ length words → words′ ≡ sets words (stateLength used) (tag ∷ value ∷ padded fieldsMost []) → Written words used (wordsOf (leaf k)) words′
@@ -72,6 +80,10 @@ module _ {cells used tag value : ℕ} {next : Cursor} {words : List ℕ} (k : Co
   leaf-kept {words′} (leaf-put less is) = kept-written less (writes words′ (omega (arith, room)) is)
   leaf-kept (leaf-full le) = kept-none cells used words
 
+  leaf-high : {words′ : List ℕ} {r : Laying} {b : Laid} → LeafPut cells used tag value next words r words′ → r ≡ Done b → drop (stateLength (b .used)) words′ ≡ drop (stateLength (b .used)) words
+  leaf-high {words′} {b = b} (leaf-put less is) e = let same : record { used = used + 1; size = 0; next = next } ≡ b = cc in rw (← same) (written-above (writes words′ (omega (arith, room)) is))
+  leaf-high (leaf-full le) e = full-is-not-done e
+
 leaf-moved : {line : List ℕ} {at cells used tag value : ℕ} {next : Cursor} {words words′ : List ℕ} {r : Laying} → Moved line at (Next next) → LeafPut cells used tag value next words r words′ → Moved line at (stepTo r)
 leaf-moved m (leaf-put less is) = m
 leaf-moved m (leaf-full le) = stopped
@@ -82,7 +94,7 @@ leaf-grows (leaf-full le) = full
 
 -- no value behind the code
 leaf-none : {line : List ℕ} {at cells used : ℕ} {form : Form} {words : List ℕ} (n : ℕ) → ((P : File) (inner : Parser Tree) → valueBehind P inner form (bytesFrom line at) ≡ bad n) → LeafLaid line at form cells used words Full words
-leaf-none {cells} {used} {words} n none-read = record { says = λ P inner h v e. bad-is-not-got (sym (none-read P inner) ∙ e); on = stopped; kept = kept-none cells used words; grown = full }
+leaf-none {cells} {used} {words} n none-read = record { says = λ P inner h v e. bad-is-not-got (sym (none-read P inner) ∙ e); on = stopped; kept = kept-none cells used words; high = λ q. full-is-not-done q; grown = full }
 
 leaf-some : {line : List ℕ} {at cells used tag value : ℕ} {form : Form} {next : Cursor} {words words′ : List ℕ} {r : Laying} (k : Constant) → stateLength cells ≤ length words → WritesLeaf used words tag value k → Moved line at (Next next) →
     ((P : File) (inner : Parser Tree) → valueBehind P inner form (bytesFrom line at) ≡ got (vleaf k) (bytesFrom line (next .at))) → LeafPut cells used tag value next words r words′ → LeafLaid line at form cells used words r words′
@@ -90,6 +102,7 @@ leaf-some k room writes m reads put = record {
   says = λ P inner h v e. rw (← (got-value (sym (reads P inner) ∙ e)), ← (got-left (sym (reads P inner) ∙ e))) (leaf-as k room writes P h v put);
   on = leaf-moved m put;
   kept = leaf-kept k room writes put;
+  high = λ q. leaf-high k room writes put q;
   grown = leaf-grows put;
 }
 

@@ -4,10 +4,12 @@ use mathlib.Core.List.{List, [], _∷_, _++_, append-nil}
 use mathlib.Core.Path.{_≡_, sym, ap, _∙_}
 use native.Mathlib.Omega.{arith}
 use lib.ListN.{length, take, drop, length-append}
+use lib.Seq.{sets}
+use Rattle.language.specs.Limits.{fieldsMost}
 use Rattle.language.specs.Syntax.{File, constructorsOf, fieldsOf}
 use Rattle.language.specs.Heap.{Cell, con, Tree, vcon, Trees, vnil}
 use Rattle.language.specs.Values.{treeSize, ownTreeSum}
-use Rattle.language.specs.Layout.{tagStep, stateLength, wordsOf}
+use Rattle.language.specs.Layout.{tagStep, padded, stateLength, wordsOf}
 use Rattle.language.specs.Parser.{got, Parser}
 use Rattle.language.specs.ReadExpr.{conForm}
 use Rattle.language.specs.Line.{valueTrees, valueBehind, valueAt}
@@ -20,11 +22,12 @@ use Rattle.text.specs.Bytes.{bytesFrom, Moved, stopped}
 use Rattle.text.specs.StepLaws.{number-got, number-bad, number-moved, moved-on}
 use Rattle.index.specs.ParserLaws.{bad-is-not-got, got-value, got-left}
 use Rattle.state_words.specs.Holds.{Holds, Written}
-use Rattle.state_words.specs.HoldLaws.{holds-pushed, con-written}
+use Rattle.state_words.specs.HoldLaws.{written-above, holds-pushed, con-written}
+use Rattle.input_line.specs.declared.laying.Laid.{Laid}
 use Rattle.input_line.specs.declared.laying.Laying.{Laying}
-use Rattle.input_line.specs.declared.laying.Laying.the-variants.{Full}
+use Rattle.input_line.specs.declared.laying.Laying.the-variants.{Done, Full}
 use Rattle.input_line.specs.Lays.{Kept, ConstructorPut, con-put, con-full, LaidAs, laid-as, full-as, Grows, grows, full, stepTo, TagAt, Lays}
-use Rattle.input_line.specs.CellLaws.{kept-none, kept-written, kept-then}
+use Rattle.input_line.specs.CellLaws.{kept-none, kept-written, kept-then, high-then, full-is-not-done}
 use Rattle.input_line.specs.LayLaws.{con-read}
 use Rattle.input_line.specs.FieldsLaidLaws.{FieldsLaid, PartLaid, next-tree, fields-over, full-more}
 
@@ -43,6 +46,7 @@ con-missing {line} {at} {cells} {used} {words} v e = record {
   says = λ text P x h hs m q. let d = con-read P (valueAt m P) (bytesFrom line at) q in bad-is-not-got (sym (number-bad (v .read) e) ∙ d .tag);
   on = stopped;
   kept = kept-none cells used words;
+  high = λ q. full-is-not-done q;
   grown = full;
 }
 
@@ -56,6 +60,7 @@ con-over {line} {cells} v e w less u is-full = record {
       full-as (rw whole (fields-over w less u P part (full-more is-full (u .says text P x (part .heap) (part .holds) m (next-tree w less u P part .read))))));
   on = stopped;
   kept = kept-then (w .low) (w .kept) (u .kept);
+  high = λ q. full-is-not-done q;
   grown = full;
 }
 
@@ -98,11 +103,20 @@ module _ {line index : List ℕ} {at cells used n j top owned : ℕ} {words₀ w
       laid-as (holds-pushed cell (all .holds) written) (all .sized) (all .ends)
   con-as P t c {ws} {h = h} tag all (con-full le) = full-as (omega (arith, all .holds .count, length-append (buildFields P ws h .heap) (con t c (treeSize P (vcon t c ws)) (buildFields P ws h .locations) ∷ [])))
 
-  con-kept : {words′ : List ℕ} {y : Laying} → ConstructorPut cells top (f .value) (owned + 1) waiting n next words y words′ → Kept cells top words words′
-  con-kept (con-put less is) =
+  -- whatever the tag, the cell's words are those of a constructor
+  con-cell : {words′ : List ℕ} → top < cells → words′ ≡ sets words (stateLength top) (f .value ∷ (owned + 1) ∷ padded fieldsMost (take n waiting)) →
+      Written words top (wordsOf (con (f .value / tagStep - 1) (f .value % tagStep) (owned + 1) (take n waiting))) words′
+  con-cell less is =
       let tag : f .value ≡ tagStep * (f .value / tagStep - 1 + 1) + f .value % tagStep = omega (arith, v .high e) in
-      kept-written less (con-written (f .value / tagStep - 1) (f .value % tagStep) (owned + 1) (take n waiting) tag (omega (arith, room, w .kept .long)) is)
+      con-written (f .value / tagStep - 1) (f .value % tagStep) (owned + 1) (take n waiting) tag (omega (arith, room, w .kept .long)) is
+
+  con-kept : {words′ : List ℕ} {y : Laying} → ConstructorPut cells top (f .value) (owned + 1) waiting n next words y words′ → Kept cells top words words′
+  con-kept (con-put less is) = kept-written less (con-cell less is)
   con-kept (con-full le) = kept-none cells top words
+
+  con-high : {words′ : List ℕ} {y : Laying} {b : Laid} → ConstructorPut cells top (f .value) (owned + 1) waiting n next words y words′ → y ≡ Done b → drop (stateLength (b .used)) words′ ≡ drop (stateLength (b .used)) words₀
+  con-high {words′} {b = b} (con-put less is) q = let same : record { used = top + 1; size = owned + 1; next = next } ≡ b = cc in rw (← same) (high-then top (top + 1) words₀ words words′ (omega arith) (w .untouched) (written-above (con-cell less is)))
+  con-high (con-full le) q = full-is-not-done q
 
   con-moved : {words′ : List ℕ} {y : Laying} → ConstructorPut cells top (f .value) (owned + 1) waiting n next words y words′ → Moved line at (stepTo y)
   con-moved (con-put less is) = moved-on (number-moved (v .read) e) (w .on)
@@ -117,5 +131,6 @@ module _ {line index : List ℕ} {at cells used n j top owned : ℕ} {words₀ w
     says = λ text P x h hs m q. by-fields v e P m q (λ t c ws less known tag whole read. rw whole (con-as P t c tag (all-laid (w .says text P x h hs t c less known tag m read) low high) put));
     on = con-moved put;
     kept = kept-then (w .low) (w .kept) (con-kept put);
+    high = λ q. con-high put q;
     grown = con-grows put;
   }

@@ -14,7 +14,7 @@ use Rattle.language.specs.Result.{choose}
 use Rattle.language.specs.Syntax.{Field, fbool, fint, own, other, File, constructorsOf, fieldsOf}
 use Rattle.language.specs.Heap.{Cell, leaf, con, Tree, vleaf, vcon, Trees, vcons}
 use Rattle.language.specs.Values.{treeSize, ownTreeSum}
-use Rattle.language.specs.Layout.{tagStep}
+use Rattle.language.specs.Layout.{tagStep, stateLength}
 use Rattle.language.specs.Parser.{got, Parser}
 use Rattle.language.specs.Line.{valueTrees, valueAt}
 use Rattle.language.specs.Machine.{newCell, build, buildFields}
@@ -41,7 +41,7 @@ use Rattle.input_line.specs.declared.laying.Laying.the-variants.{Done, F
 use Rattle.input_line.specs.Judges.{ownPart}
 use Rattle.input_line.specs.SizedLaws.{fieldAdds}
 use Rattle.input_line.specs.Lays.{Kept, LaidAs, laid-as, full-as, Grows, grows, TagAt, Lays}
-use Rattle.input_line.specs.CellLaws.{kept-none, kept-then}
+use Rattle.input_line.specs.CellLaws.{kept-none, kept-then, high-then}
 use Rattle.input_line.specs.ReadParts.{then-got}
 
 -- ---- trees that were read: the first, and the others behind it
@@ -104,6 +104,7 @@ pub record PartLaid (P : File) (line : List ℕ) (t c n : ℕ) (ws : Trees) (res
 pub record FieldsLaid (line index : List ℕ) (cells used : ℕ) (words₀ : List ℕ) (tag n : ℕ) (first : Cursor) (j : ℕ) (next : Cursor) (top owned : ℕ) (words waiting : List ℕ) : Type 0 where
   pub on : Moved line (first .at) (Next next)
   pub kept : Kept cells used words₀ words
+  pub untouched : drop (stateLength top) words ≡ drop (stateLength top) words₀
   pub low : used ≤ top
   pub high : top ≤ cells
   pub small : owned + used ≤ top
@@ -119,6 +120,7 @@ pub fields-begun : {line index : List ℕ} {at cells used n : ℕ} {words waitin
 fields-begun {line} {index} {at} {cells} {used} {n} {words} {waiting} {r} {f} v e room counted wide = record {
   on = moved-none (ends-within (number-moved (v .read) e));
   kept = kept-none cells used words;
+  untouched = refl;
   low = omega arith;
   high = room;
   small = omega arith;
@@ -175,6 +177,7 @@ module _ {line index : List ℕ} {cells used : ℕ} {words₀ : List ℕ} {tag n
   fields-fuller {t} {kind} {part} {waiting′} {b} e put type {c} constructor told is-part = record {
     on = moved-on (v .on) (rw e at (u .on));
     kept = kept-then (v .low) (v .kept) (u .kept);
+    untouched = high-then top (b .used) words₀ words words′ (omega (arith, top-grows e .0)) (v .untouched) (u .high e);
     low = omega (arith, v .low, top-grows e .0);
     high = top-grows e .1 .0;
     small = omega (arith, v .small, is-part, part-most kind (b .size), top-grows e .1 .1);

@@ -6,7 +6,7 @@ use mathlib.Core.Option.{Option, none, some}
 use mathlib.Core.Path.{_≡_, refl, sym, ap, _∙_}
 use native.Mathlib.Omega.{arith}
 use lib.ListN.{length, set, take, drop, length-set, take-append-drop}
-use lib.Seq.{length-take-le, take-suc-set, drop-set-lt, drop-drop}
+use lib.Seq.{length-take-le, take-suc-set, drop-set-lt}
 use lib.Dec.{leb, eqb}
 use borrow.Author.Tests.{le-leb, lt-leb, eqb-true, eqb-false}
 use Rattle.language.specs.Limits.{byteRange, channelsMost}
@@ -15,6 +15,7 @@ use Rattle.language.specs.Refusals.{heapSpent}
 use Rattle.language.specs.Result.{ok, no, need, when, chain}
 use Rattle.language.specs.Syntax.{File, channelFrame}
 use Rattle.language.specs.Heap.{Cell, Tree}
+use Rattle.language.specs.Layout.{stateLength}
 use Rattle.language.specs.Parser.{Read, got, bad, Parser, byte, many}
 use Rattle.language.specs.Line.{valueAt, allRead, inputTrees, treesFit, lineTrees}
 use Rattle.language.specs.Machine.{build, putInputs}
@@ -44,7 +45,7 @@ use Rattle.input_line.specs.declared.laying.Inputs.the-variants.{Used, F
 use Rattle.input_line.specs.InputLaws.{inputs-counted, no-bytes, bytes-are}
 use Rattle.input_line.specs.LineLaws.{line-bad, line-longer, line-read}
 use Rattle.input_line.specs.Lays.{Kept, Lays, put-all, put-full, within, beyond, ValuesLaid, InputsLaid}
-use Rattle.input_line.specs.CellLaws.{kept-none, kept-then}
+use Rattle.input_line.specs.CellLaws.{drop-further, kept-none, kept-then, high-then}
 use Rattle.input_line.specs.FieldsLaidLaws.{last-cell, done-as, full-more, grows-done}
 
 -- ---- values that were read: the first, and the others behind it
@@ -74,16 +75,13 @@ pub record PartPut (P : File) (line : List ℕ) (cells n : ℕ) (vs : List Tree)
 pub record InputsTo (line index : List ℕ) (cells used : ℕ) (words₀ roots₀ : List ℕ) (n : ℕ) (first : Cursor) (i : ℕ) (next : Cursor) (top : ℕ) (words roots : List ℕ) : Type 0 where
   pub on : Moved line (first .at) (Next next)
   pub kept : Kept cells used words₀ words
+  pub untouched : drop (stateLength top) words ≡ drop (stateLength top) words₀
   pub low : used ≤ top
   pub high : top ≤ cells
   pub wide : length roots ≡ length roots₀
   pub others : drop i roots ≡ drop i roots₀
   pub says : (text : List ℕ) (P : File) → Indexed text index P → (h : List Cell) → Holds words₀ used h → n ≤ length roots₀ → (m : ℕ) {vs : List Tree} {rest : List ℕ} → many (valueAt m P) n (bytesFrom line (first .at)) ≡ got vs rest →
       PartPut P line cells n vs rest h m i next top words roots
-
-drop-next : (i : ℕ) (l k : List ℕ) → drop i l ≡ drop i k → drop (suc i) l ≡ drop (suc i) k
-drop-next i l k e = let on : i + 1 ≡ suc i = omega arith in
-    ap (λ j. drop j l) (sym on) ∙ sym (drop-drop 1 i l) ∙ ap (drop 1) e ∙ drop-drop 1 i k ∙ ap (λ j. drop j k) on
 
 module _ {line index : List ℕ} {cells used n i top : ℕ} {words₀ roots₀ words roots words′ : List ℕ} {first next : Cursor} {y : Laying} (v : InputsTo line index cells used words₀ roots₀ n first i next top words roots) (less : i < n)
     (u : Lays line index (next .at) cells top words y words′ (λ n P. valueAt n P)) where
@@ -100,10 +98,11 @@ module _ {line index : List ℕ} {cells used n i top : ℕ} {words₀ roots₀ w
       record {
         on = moved-on (v .on) (rw e at (u .on));
         kept = kept-then (v .low) (v .kept) (u .kept);
+        untouched = high-then top (b .used) words₀ words words′ (omega (arith, input-grows e .0)) (v .untouched) (u .high e);
         low = omega (arith, v .low, input-grows e .0);
         high = input-grows e .1 .0;
         wide = ap length put ∙ length-set roots i (b .used - 1) ∙ v .wide;
-        others = ap (λ j. drop j roots′) on ∙ ap (drop (suc i)) put ∙ drop-set-lt (suc i) roots i (b .used - 1) (omega arith) ∙ drop-next i roots roots₀ (v .others) ∙ ap (λ j. drop j roots₀) (sym on);
+        others = ap (λ j. drop j roots′) on ∙ ap (drop (suc i)) put ∙ drop-set-lt (suc i) roots i (b .used - 1) (omega arith) ∙ drop-further i (suc i) roots roots₀ (omega arith) (v .others) ∙ ap (λ j. drop j roots₀) (sym on);
         says = λ text P x h hs wide m {vs} {rest} read.
             let q = v .says text P x h hs wide m read in
             let w = next-value P q in
@@ -133,6 +132,9 @@ module _ {line index : List ℕ} {cells used n i top : ℕ} {words₀ roots₀ w
       q .same ∙ ap (λ (l : List Tree). putInputs P cells i l (q .heap) (take i roots)) (w .whole)
       ∙ ap (λ t. need t heapSpent (channelFrame P i) (putInputs P cells (suc i) (w .others) (made .heap) (take i roots ++ (made .location ∷ [])))) (lt-leb (length (made .heap)) cells more)
 
+full-is-not-used : {B : Type 0} {c n : ℕ} → FullAt c ≡ Used n → B
+full-is-not-used e = absurd (let z : _≡_ {A = ℕ} 0 1 = cc in omega arith)
+
 -- ---- the bytes of a line
 -- as many values as there are inputs were read
 values-read : (P : File) (k : ℕ) (cs : List ℕ) {vs : List Tree} → inputTrees P (k ∷ cs) ≡ some vs → many (valueAt (length cs) P) (length (P .inputs)) cs ≡ got vs []
@@ -159,6 +161,7 @@ module _ {line index : List ℕ} {cells used : ℕ} {words₀ roots₀ : List �
   values-none e = record {
     says = λ text P i h hs wide q. none-is-not-some (ap (inputTrees P) (sym (no-bytes (bytesOf line) (ap byte (sym (bytes-start line)) ∙ number-bad (v .0) e))) ∙ q);
     kept = kept-none cells used words₀;
+    high = λ q. refl;
     grown = within {n = used} (omega arith) room;
   }
 
@@ -167,6 +170,7 @@ module _ {line index : List ℕ} {cells used : ℕ} {words₀ roots₀ : List �
     values-start {n} = record {
       on = moved-none (ends-within (number-moved (v .0) e));
       kept = kept-none cells used words₀;
+      untouched = refl;
       low = omega arith;
       high = room;
       wide = refl;
@@ -183,6 +187,7 @@ module _ {line index : List ℕ} {cells used : ℕ} {words₀ roots₀ : List �
             let part = w .says text P x h hs count (bytesLeft line (f .next .at)) (values-are v e told x q) in
             rw (input-refused w less u P part (full-more is-full (u .says text P x (part .heap) (part .holds) (bytesLeft line (f .next .at)) (next-value w less u P part .read)))) (put-full {c = i});
         kept = kept-then (w .low) (w .kept) (u .kept);
+        high = λ q. full-is-not-used q;
         grown = beyond;
       }
 
@@ -200,6 +205,7 @@ module _ {line index : List ℕ} {cells used : ℕ} {words₀ roots₀ : List �
             rw state (put-all {s = record { heap = part .heap; roots = take i roots }} (part .holds)
             (sym (take-append-drop i roots) ∙ ap (λ (l : List ℕ). take i roots ++ l) (w .others ∙ ap (λ j. drop j roots₀) (sym as-many))));
         kept = w .kept;
+        high = λ {n = m} q. let same : top ≡ m = cc in rw (← same) (w .untouched);
         grown = within (w .low) (w .high);
       }
 
@@ -238,6 +244,7 @@ unfolding inputTrees bytesOf
 inputs-none {line} {index} {cells} {used} {words} room empty = record {
   says = λ text P x h hs {vs} e. none-is-not-some (nothing P line empty (allowed-values x line e));
   kept = kept-none cells used words;
+  high = λ q. refl;
   grown = within {n = used} (omega arith) room;
 }
   where
@@ -250,5 +257,6 @@ pub inputs-laid : {line part index : List ℕ} {cells used : ℕ} {words roots w
 inputs-laid {line} is wide u = record {
   says = λ text P x h hs e. u .says text P x h hs (omega (arith, wide, x .within .fewInputs)) (rw is (allowed-values x line e));
   kept = u .kept;
+  high = u .high;
   grown = u .grown;
 }

@@ -29,7 +29,7 @@ use Rattle.input_line.specs.declared.laying.Laying.the-variants.{Full}
 use Rattle.input_line.specs.Lays.{full, tagRead, LeafLaid, TagAt, Lays}
 use Rattle.input_line.specs.ReadParts.{then-got, index-got, byte-shorter}
 use Rattle.input_line.specs.ValueLaws.{formAt, boolPlace, intPlace, constructPlace, other-form, form-less}
-use Rattle.input_line.specs.CellLaws.{kept-none}
+use Rattle.input_line.specs.CellLaws.{kept-none, full-is-not-done}
 
 -- ---- a constructor that was read: its type and its number as a tag, and its fields
 pub record ConRead (P : File) (inner : Parser Tree) (bs : List ℕ) (v : Tree) (rest : List ℕ) : Type 0 where
@@ -93,7 +93,7 @@ module _ (line : List ℕ) (at : ℕ) {x : Number} (v : ReadsNumber line at x (b
 module _ (line index : List ℕ) (at : ℕ) {x : Number} (v : ReadsNumber line at x (codePlace exprFirst (length forms) (bytesFrom line at)) × Below byteRange x) where
   pub value-missing : {n cells used : ℕ} {words : List ℕ} → x ≡ Refused n → Lays line index at cells used words Full words (λ n P. valueAt n P)
   unfolding valueAt
-  value-missing {n} {cells} {used} {words} e = record { says = λ text P i h hs m q. never P m q; on = stopped; kept = kept-none cells used words; grown = full }
+  value-missing {n} {cells} {used} {words} e = record { says = λ text P i h hs m q. never P m q; on = stopped; kept = kept-none cells used words; high = λ q. full-is-not-done q; grown = full }
     where
       never : {B : Type 0} (P : File) (m : ℕ) {w : Tree} {rest : List ℕ} → valueAt m P (bytesFrom line at) ≡ got w rest → B
       never P zero q = bad-is-not-got q
@@ -112,6 +112,7 @@ module _ (line index : List ℕ) (at : ℕ) {x : Number} (v : ReadsNumber line a
         says = λ text P i h hs n q. behind-code P n q (λ m p. u .says P (valueAt m P) h hs p);
         on = moved-on (number-moved (v .0) e) (u .on);
         kept = u .kept;
+        high = u .high;
         grown = u .grown;
       }
 
@@ -120,6 +121,7 @@ module _ (line index : List ℕ) (at : ℕ) {x : Number} (v : ReadsNumber line a
         says = λ text P i h hs n q. behind-code P n q (λ m p. u .says text P i h hs m p);
         on = moved-on (number-moved (v .0) e) (u .on);
         kept = u .kept;
+        high = u .high;
         grown = u .grown;
       }
 
@@ -128,5 +130,6 @@ module _ (line index : List ℕ) (at : ℕ) {x : Number} (v : ReadsNumber line a
       says = λ text P i h hs n q. behind-code (formAt (f .value)) refl P n q (λ m p. bad-is-not-got (sym (other-form P (valueAt m P) (bytesFrom line (f .next .at)) (f .value) (form-less line at v e) not-bool not-int not-con) ∙ p));
       on = stopped;
       kept = kept-none cells used words;
+      high = λ q. full-is-not-done q;
       grown = full;
     }

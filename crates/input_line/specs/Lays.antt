@@ -1,5 +1,5 @@
 -- What the functions promise that lay the values of a line: the cells are the definition's, above those used; on any bytes the words
--- below, and from the board's last cell on, stay as they were.
+-- below, and from the board's last cell on, stay as they were, and where all was laid those above the cells then used.
 use Prim.Native.Nat.{ℕ, _+_, _*_, _<_, _≤_}
 use mathlib.Core.List.{List, [], _∷_, _++_}
 use mathlib.Core.Option.{some}
@@ -68,6 +68,7 @@ pub record LeafLaid (line : List ℕ) (at : ℕ) (form : Form) (cells used : ℕ
   pub says : (P : File) (inner : Parser Tree) (h : List Cell) → Holds words used h → {v : Tree} {rest : List ℕ} → valueBehind P inner form (bytesFrom line at) ≡ got v rest → LaidAs P line cells h v rest words′ r
   pub on : Moved line at (stepTo r)
   pub kept : Kept cells used words words′
+  pub high : {b : Laid} → r ≡ Done b → drop (stateLength (b .used)) words′ ≡ drop (stateLength (b .used)) words
   pub grown : Grows cells used r
 
 unfoldable pub tagRead : Parser ℕ
@@ -85,6 +86,7 @@ pub record Lays (line index : List ℕ) (at cells used : ℕ) (words : List ℕ)
   pub says : (text : List ℕ) (P : File) → Indexed text index P → (h : List Cell) → Holds words used h → (n : ℕ) {v : Tree} {rest : List ℕ} → p n P (bytesFrom line at) ≡ got v rest → LaidAs P line cells h v rest words′ r
   pub on : Moved line at (stepTo r)
   pub kept : Kept cells used words words′
+  pub high : {b : Laid} → r ≡ Done b → drop (stateLength (b .used)) words′ ≡ drop (stateLength (b .used)) words
   pub grown : Grows cells used r
 
 -- ---- all inputs: the definition's state, its roots before what else stood in the row; or the input that it refuses
@@ -101,9 +103,11 @@ pub record ValuesLaid (line index : List ℕ) (cells used : ℕ) (words roots : 
   pub says : (text : List ℕ) (P : File) → Indexed text index P → (h : List Cell) → Holds words used h → length (P .inputs) ≤ length roots → {vs : List Tree} → inputTrees P (bytesOf line) ≡ some vs →
       PutAs P roots roots′ words′ (putInputs P cells 0 vs h []) r
   pub kept : Kept cells used words words′
+  pub high : {n : ℕ} → r ≡ Used n → drop (stateLength n) words′ ≡ drop (stateLength n) words
   pub grown : Within cells used r
 
 pub record InputsLaid (line index : List ℕ) (cells used : ℕ) (words roots : List ℕ) (r : Inputs) (words′ roots′ : List ℕ) : Type 0 where
   pub says : (text : List ℕ) (P : File) → Indexed text index P → (h : List Cell) → Holds words used h → {vs : List Tree} → lineTrees P line ≡ some vs → PutAs P roots roots′ words′ (putInputs P cells 0 vs h []) r
   pub kept : Kept cells used words words′
+  pub high : {n : ℕ} → r ≡ Used n → drop (stateLength n) words′ ≡ drop (stateLength n) words
   pub grown : Within cells used r
