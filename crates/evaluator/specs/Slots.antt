@@ -4,7 +4,7 @@ use mathlib.Core.List.{List, [], _∷_, _++_}
 use mathlib.Core.Path.{_≡_, refl, sym, ap, _∙_, subst}
 use native.Mathlib.Omega.{arith}
 use lib.ListN.{length, getD, take, drop, set, length-append, List·getD-append}
-use lib.Seq.{take-set-le, getD-take, sets, length-sets, sets-eq, ext-getD, getD-append-seam, length-take-le, take-at}
+use lib.Seq.{take-set-le, sets, length-sets, sets-eq, ext-getD, getD-append-seam, length-take-le, take-at}
 use Rattle.language.specs.Limits.{fieldsMost}
 use Rattle.language.specs.Heap.{Cell, cellAt, fieldsIn}
 use Rattle.theory.specs.Places.{below-or-not}
@@ -67,9 +67,6 @@ module _ {asked : ℕ → ℕ → Type 0} where
     pushed-below room = record { low = ap (take top) (q .stored) ∙ take-sets (q .row) slots top; long = pushed-long }
 
 -- ---- the row is what was asked for
-pub row-is : {slots slots′ : List ℕ} {top n : ℕ} {row : List ℕ} (q : Pushed (WordOf row) slots top n slots′) → n ≤ length row → q .row ≡ take n row
-row-is {n} {row} q few = ext-getD 0 (q .row) (take n row) (q .long ∙ sym (length-take-le n row few)) (λ j less. q .each j (omega (arith, q .long)) .is ∙ sym (getD-take n row j 0 (omega (arith, q .long))))
-
 pub fields-are : {slots slots′ words : List ℕ} {top used cell n : ℕ} {h : List Cell} (q : Pushed (FieldOf words used cell) slots top n slots′) → Holds words used h → n ≡ length (fieldsIn (cellAt h cell)) → n ≤ fieldsMost →
     q .row ≡ fieldsIn (cellAt h cell)
 fields-are {n} q v count few = ext-getD 0 (q .row) _ (q .long ∙ count) (λ j less. q .each j (omega (arith, q .long)) .says _ v (omega (arith, q .long)))
