@@ -5,7 +5,7 @@ use mathlib.Core.Path.{_≡_, refl, sym, ap, _∙_, subst, subst₂}
 use native.Mathlib.Omega.{arith}
 use native.Mathlib.Nat.{le-refl}
 use native.Mathlib.Numerals.{add-one}
-use lib.ListN.{length, getD, take, set, length-append}
+use lib.ListN.{length, getD, take, set}
 use lib.Seq.{getD-set-same, getD-set-other}
 use Rattle.language.specs.Limits.{parametersMost}
 use Rattle.language.specs.Syntax.{Expr, Exprs, enil, econs, File}
@@ -25,16 +25,16 @@ use Rattle.index.specs.Sections.{framesOf}
 use Rattle.index.specs.Indexed.{framePlace}
 use Rattle.state_words.specs.Words.{rowOf}
 use Rattle.state_words.specs.Holds.{Holds}
-use Rattle.ends.specs.Ended.{EndedAll, ds-nil, ds-cons}
+use Rattle.ends.specs.Ended.{EndedAll, ds-cons}
 use Rattle.ends.specs.EndOf.{endOf, end-told, end-least}
 use Rattle.new_cells.specs.declared.Value.{Value}
 use Rattle.new_cells.specs.declared.Value.the-variants.{Is, Refused as RefusedValue}
-use Rattle.new_cells.specs.Steps.{Board, Lies, Agrees, is-value, is-refused, Kept, has-grown}
+use Rattle.new_cells.specs.Steps.{Agrees, is-value, is-refused, Kept, has-grown}
 use Rattle.evaluator.specs.declared.Context.{Context}
 use Rattle.evaluator.specs.declared.Values.{Values}
 use Rattle.evaluator.specs.declared.Values.the-variants.{Are, Refused}
 use Rattle.evaluator.specs.Contexts.{movedTo}
-use Rattle.evaluator.specs.Promises.{Room, Below, Stage, Stands, StandsAll, cellsIn, AgreesAll, are-values, are-refused, asValue, Onward, goes-on, goes-out, EvalsAll}
+use Rattle.evaluator.specs.Promises.{Room, Below, Stage, Stands, StandsAll, cellsIn, are-values, are-refused, goes-on, goes-out, EvalsAll}
 use Rattle.evaluator.specs.Asks.{EvalsExpr}
 use Rattle.evaluator.specs.KeepLaws.{Moved, moved-by, kept-then, below-same, below-then, stage-moved}
 

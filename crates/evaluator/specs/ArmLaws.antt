@@ -5,33 +5,26 @@ use mathlib.Core.Bool.{Bool, true, false}
 use mathlib.Core.Path.{_≡_, refl, sym, ap, _∙_, subst}
 use native.Mathlib.Omega.{arith}
 use native.Mathlib.Numerals.{add-one}
-use lib.ListN.{length, getD, take, set, length-set}
+use lib.ListN.{length, take, set, length-set}
 use lib.Seq.{take-suc-set, take-set-le}
-use lib.Dec.{ltb, leb}
 use borrow.Author.Tests.{lt-ltb, le-ltb, le-leb, lt-leb}
 use Rattle.language.specs.Refusals.{environmentSpent}
-use Rattle.language.specs.Result.{choose}
-use Rattle.language.specs.Syntax.{Expr, File}
-use Rattle.language.specs.Format.{exprBytes}
+use Rattle.language.specs.Syntax.{File}
 use Rattle.language.specs.Scope.{Scope, wider}
 use Rattle.language.specs.Heap.{Cell, truth, cellAt, constantIn, sizeIn}
-use Rattle.language.specs.Evaluator.{Out, needs, Channels, eval, run}
+use Rattle.language.specs.Evaluator.{Out, Channels, eval, run}
 use Rattle.text.specs.declared.Cursor.{Cursor}
-use Rattle.text.specs.Places.{past}
-use Rattle.encoding.specs.FrameSpells.{lineAt}
 use Rattle.encoding.specs.Known.{wider-known}
 use Rattle.index.specs.Sections.{framesOf}
 use Rattle.index.specs.Indexed.{framePlace}
 use Rattle.state_words.specs.Holds.{Reads}
-use Rattle.ends.specs.Ended.{EndAt}
 use Rattle.ends.specs.EndOf.{endOf, end-told}
 use Rattle.new_cells.specs.declared.Value.{Value}
-use Rattle.new_cells.specs.declared.Value.the-variants.{Is, Refused}
-use Rattle.new_cells.specs.Steps.{Agrees}
+use Rattle.new_cells.specs.declared.Value.the-variants.{Refused}
 use Rattle.evaluator.specs.declared.Context.{Context}
 use Rattle.evaluator.specs.Operands.{choose-first, choose-second, needs-met, needs-unmet}
 use Rattle.evaluator.specs.Contexts.{movedTo, boundTo}
-use Rattle.evaluator.specs.Promises.{Room, Below, Stage, Stands, Asked, Evals}
+use Rattle.evaluator.specs.Promises.{Below, Stage, Stands, Asked, Evals}
 use Rattle.evaluator.specs.Asks.{AskExpr, EvalsExpr, EvalsBound, EvalsChoice, EvalsFit}
 use Rattle.evaluator.specs.KeepLaws.{below-same, below-then}
 use Rattle.evaluator.specs.ExprLaws.{agrees-refused, kept-not, stage-at}

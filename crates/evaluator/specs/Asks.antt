@@ -1,6 +1,6 @@
 -- What each function of the cycle is asked for: an expression, an expression whose head was read, what a form makes of its operands' cells,
 -- an arm, a branch, the body of a function.
-use Prim.Native.Nat.{ℕ, _-_, _≤_, _<_}
+use Prim.Native.Nat.{ℕ, _-_, _<_}
 use mathlib.Core.List.{List, [], _∷_, _++_}
 use mathlib.Core.Bool.{true}
 use mathlib.Core.Option.{some}
@@ -30,7 +30,7 @@ use Rattle.new_cells.specs.declared.Value.{Value}
 use Rattle.evaluator.specs.declared.Context.{Context}
 use Rattle.evaluator.specs.Operands.{operandsOf, finished}
 use Rattle.evaluator.specs.Forms.{hasParts}
-use Rattle.evaluator.specs.Promises.{Stands, Asked, Evals, cellsIn}
+use Rattle.evaluator.specs.Promises.{Stands, Evals, cellsIn}
 
 module _ (text index ends slots : List ℕ) (p : Context) where
   pub record AskExpr (P : File) (cells : ℕ) (S : Scope) (N : Channels) (h : List Cell) (o : Out) : Type 0 where

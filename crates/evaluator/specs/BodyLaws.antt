@@ -1,23 +1,22 @@
 -- The body of a function at its arguments, return by return.
-use Prim.Native.Nat.{ℕ, zero, suc, _+_, _-_, _%_, _≤_, _<_}
+use Prim.Native.Nat.{ℕ, _+_, _-_, _≤_}
 use mathlib.Core.List.{List, [], _++_, append-nil}
 use mathlib.Core.Option.{some}
-use mathlib.Core.Path.{_≡_, refl, sym, ap, _∙_, subst, subst₂}
+use mathlib.Core.Path.{_≡_, sym, ap, _∙_, subst}
 use native.Mathlib.Omega.{arith}
 use lib.ListN.{length, getD, take, drop, length-drop, length-append, drop-of-length-le, getElem? as look}
 use lib.Seq.{take-all, ext-getD, drop-at, length-take-le, take-at}
-use Rattle.language.specs.Limits.{nestingMost, channelsMost}
+use Rattle.language.specs.Limits.{nestingMost}
 use Rattle.language.specs.Refusals.{stackSpent}
-use Rattle.language.specs.Syntax.{Expr, Function, File}
+use Rattle.language.specs.Syntax.{Function, File}
 use Rattle.language.specs.Scope.{Scope}
 use Rattle.language.specs.Heap.{Cell}
 use Rattle.language.specs.Evaluator.{Out, refused, Channels, noChannels, eval, enterBody, run}
 use Rattle.theory.specs.Lists.{look-less}
 use Rattle.theory.specs.Places.{one-less}
-use Rattle.encoding.specs.FrameSpells.{lineAt}
 use Rattle.encoding.specs.Known.{body-known}
 use Rattle.heads.specs.Places.{lineBehindTypes, function-line}
-use Rattle.index.specs.Indexed.{functionLine, Indexed}
+use Rattle.index.specs.Indexed.{functionLine}
 use Rattle.state_words.specs.RowLaws.{row-at, row-length}
 use Rattle.state_words.specs.WriteLaws.{drop-of-take}
 use Rattle.new_cells.specs.declared.Value.{Value}
@@ -27,7 +26,7 @@ use Rattle.evaluator.specs.Contexts.{bodyContext}
 use Rattle.evaluator.specs.Promises.{Below, Stage, Stands, cellsIn}
 use Rattle.evaluator.specs.Asks.{AskBody, EvalsExpr, EvalsBody}
 use Rattle.evaluator.specs.Slots.{Pushed, WordOf, pushed-after, pushed-below, pushed-long}
-use Rattle.evaluator.specs.KeepLaws.{below-same, below-then}
+use Rattle.evaluator.specs.KeepLaws.{below-same}
 use Rattle.evaluator.specs.ExprLaws.{agrees-refused, kept-not}
 
 -- ---- slots lent from a place on, and given back

@@ -1,12 +1,12 @@
 -- The branch of a cell's constructor, return by return.
 use Prim.Native.Nat.{ℕ, zero, suc, _+_, _-_, _*_, _%_, _≤_, _<_}
-use mathlib.Core.List.{List, [], _∷_, _++_}
+use mathlib.Core.List.{List, _++_}
 use mathlib.Core.Path.{_≡_, refl, sym, ap, _∙_, subst}
 use native.Mathlib.Omega.{arith}
 use lib.ListN.{length, getD, take, List·getD-eq-default}
 use lib.Dec.{leb}
 use borrow.Author.Tests.{le-leb, lt-leb}
-use Rattle.language.specs.Limits.{byteRange, fieldsMost}
+use Rattle.language.specs.Limits.{byteRange}
 use Rattle.language.specs.Refusals.{noRefusal, environmentSpent}
 use Rattle.language.specs.Syntax.{owns, Constructor, Expr, Exprs, enil, econs, File}
 use Rattle.language.specs.Format.{exprBytes, exprsBytes, resultBytes}
@@ -26,9 +26,9 @@ use Rattle.heads.specs.ScopeShapes.{known-shapes}
 use Rattle.index.specs.Tables.{typeWords}
 use Rattle.index.specs.Sections.{framesOf, typesOf}
 use Rattle.index.specs.Indexed.{framePlace}
-use Rattle.state_words.specs.Holds.{Holds, ReadsConstructor, ReadsCount}
+use Rattle.state_words.specs.Holds.{ReadsConstructor, ReadsCount}
 use Rattle.state_words.specs.ReadLaws.{few-fields}
-use Rattle.ends.specs.Ended.{Ended, EndedAll, ds-cons}
+use Rattle.ends.specs.Ended.{EndedAll, ds-cons}
 use Rattle.ends.specs.EndOf.{endOf, end-told}
 use Rattle.new_cells.specs.declared.Value.{Value}
 use Rattle.new_cells.specs.declared.Value.the-variants.{Refused}
@@ -36,7 +36,7 @@ use Rattle.evaluator.specs.declared.Context.{Context}
 use Rattle.evaluator.specs.Operands.{needs-met, needs-unmet}
 use Rattle.evaluator.specs.Contexts.{boundTo}
 use Rattle.evaluator.specs.Forms.{endAfter}
-use Rattle.evaluator.specs.Promises.{Room, Below, Stage, Stands}
+use Rattle.evaluator.specs.Promises.{Stage, Stands}
 use Rattle.evaluator.specs.Asks.{AskBranch, EvalsExpr, EvalsBranch}
 use Rattle.evaluator.specs.Slots.{Pushed, FieldOf, pushed-after, pushed-below, pushed-long, fields-are}
 use Rattle.evaluator.specs.KeepLaws.{below-same, below-then}
@@ -83,7 +83,7 @@ module _ (text index ends : List ℕ) (line : ℕ) (P : File) (B : Body) (cells 
   chosen {at} (suc c) (wb-cons {b = b} {bs = bs} w ws) s (ds-cons e d ds) less =
       let more = chosen c ws (first-of-exprs s .next) ds (omega arith) in
       let place : endAfter ends (framePlace (framesOf index) line) at (suc c) ≡ endAfter ends (framePlace (framesOf index) line) (past (lineAt text line) at (length (exprBytes b))) c =
-          end-first ends (framePlace (framesOf index) line) at c ∙ ap (λ m. endAfter ends (framePlace (framesOf index) line) m c) (end-told e) in
+      end-first ends (framePlace (framesOf index) line) at c ∙ ap (λ m. endAfter ends (framePlace (framesOf index) line) m c) (end-told e) in
       record {
         branch = more .branch;
         variables = more .variables;
@@ -141,7 +141,7 @@ module _ (text index ends now words slots : List ℕ) (p : Context) (t l : ℕ) 
               let count = is-n st ask in
               let row : pushed .row ≡ fieldsIn (cellAt h l) = fields-are pushed (st .lies .held) count (omega (arith, count, few-fields (cell-writable l (st .lies .writable)))) in
               let place : at .at ≡ endAfter ends (framePlace (framesOf index) (p .line)) (past (lineAt text (p .line)) (p .at .at) (length (resultBytes (ask .result)))) c =
-                  a ∙ ap (λ m. endAfter ends (framePlace (framesOf index) (p .line)) m c) (f ∙ end-told (ask .end)) in
+              a ∙ ap (λ m. endAfter ends (framePlace (framesOf index) (p .line)) m c) (f ∙ end-told (ask .end)) in
               let env : take (p .top + n) slots₁ ≡ take (p .top) slots ++ fieldsIn (cellAt h l) = pushed-after pushed (omega arith) ∙ ap (λ (x : List ℕ). take (p .top) slots ++ x) row in
               let left : length slots - p .top - length (fieldsIn (cellAt h l)) ≡ length slots₁ - (p .top + n) = omega (arith, count, pushed-long pushed) in
               v .says (stage-wider at n (b .variables) (b .sizes) st) (record {

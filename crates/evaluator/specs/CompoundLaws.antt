@@ -1,12 +1,11 @@
 -- An expression that has parts, return by return: no slots for a call, an operand that is refused, and what the form makes of them.
 use Prim.Native.Nat.{ℕ, _+_, _-_, _≤_, _<_}
-use mathlib.Core.List.{List, [], _++_}
+use mathlib.Core.List.{List, _++_}
 use mathlib.Core.Path.{_≡_, refl, sym, ap, _∙_, subst, subst₂}
 use native.Mathlib.Omega.{arith}
 use native.Mathlib.Nat.{le-refl}
 use lib.ListN.{length, take, drop, length-append, length-drop}
 use lib.Seq.{take-take, length-take-le, take-append-le}
-use lib.Dec.{leb}
 use borrow.Author.Tests.{le-leb, lt-leb}
 use Rattle.language.specs.Limits.{byteRange}
 use Rattle.language.specs.Refusals.{environmentSpent}
@@ -15,20 +14,19 @@ use Rattle.language.specs.Format.{exprsBytes}
 use Rattle.language.specs.Scope.{Scope}
 use Rattle.language.specs.Within.{All}
 use Rattle.language.specs.Heap.{Cell}
-use Rattle.language.specs.Evaluator.{Out, refused, Outs, values, refusedAll, bindOuts, Channels, eval, evals, run}
+use Rattle.language.specs.Evaluator.{Out, Outs, values, refusedAll, bindOuts, Channels, evals, run}
 use Rattle.theory.specs.CellWords.{Writable}
 use Rattle.text.specs.declared.Cursor.{Cursor}
 use Rattle.text.specs.Places.{past}
 use Rattle.encoding.specs.FrameSpells.{lineAt}
 use Rattle.encoding.specs.ExprLists.{exprs-counted}
 use Rattle.heads.specs.declared.Form.{Form}
-use Rattle.heads.specs.declared.Form.the-variants.{Call}
 use Rattle.index.specs.Sections.{framesOf, typesOf, functionsOf}
 use Rattle.index.specs.Indexed.{framePlace}
 use Rattle.state_words.specs.Holds.{Holds}
 use Rattle.new_cells.specs.declared.Value.{Value}
 use Rattle.new_cells.specs.declared.Value.the-variants.{Refused as RefusedValue}
-use Rattle.new_cells.specs.Steps.{Kept, Agrees}
+use Rattle.new_cells.specs.Steps.{Kept}
 use Rattle.evaluator.specs.declared.Context.{Context}
 use Rattle.evaluator.specs.declared.Values.{Values}
 use Rattle.evaluator.specs.declared.Values.the-variants.{Are, Refused}

@@ -1,13 +1,11 @@
 -- An expression, return by return: what is read at once, and what is left to the functions of the forms.
-use Prim.Native.Nat.{ℕ, _-_, _≤_, _<_}
-use mathlib.Core.List.{List, []}
+use Prim.Native.Nat.{ℕ, _-_}
+use mathlib.Core.List.{List}
 use mathlib.Core.Bool.{true}
 use mathlib.Core.Path.{_≡_, refl, sym, ap, _∙_, subst}
-use native.Mathlib.Omega.{arith}
 use lib.ListN.{length, getD, take}
 use Rattle.language.specs.Syntax.{Expr, File}
 use Rattle.language.specs.Scope.{Scope}
-use Rattle.language.specs.Within.{All}
 use Rattle.language.specs.Heap.{Cell}
 use Rattle.language.specs.Evaluator.{Out, value, refused, Channels, eval, run}
 use Rattle.text.specs.declared.Cursor.{Cursor}
@@ -21,7 +19,7 @@ use Rattle.heads.specs.Heads.{Heads, Shows}
 use Rattle.heads.specs.HeadForms.{no-missing, bool-head, int-head, var-head, now-head, last-head}
 use Rattle.heads.specs.Variables.{VariableRead, is-variable}
 use Rattle.index.specs.Sections.{framesOf}
-use Rattle.index.specs.Indexed.{framePart, Indexed}
+use Rattle.index.specs.Indexed.{framePart}
 use Rattle.state_words.specs.Words.{channelAt}
 use Rattle.new_cells.specs.declared.Value.{Value}
 use Rattle.new_cells.specs.declared.Value.the-variants.{Is, Refused}
@@ -30,7 +28,7 @@ use Rattle.new_cells.specs.Asked.{MakesBool, MakesInt}
 use Rattle.evaluator.specs.declared.Context.{Context}
 use Rattle.evaluator.specs.Forms.{hasParts}
 use Rattle.evaluator.specs.Contexts.{movedTo}
-use Rattle.evaluator.specs.Promises.{Room, Stage, Stands, Evals}
+use Rattle.evaluator.specs.Promises.{Room, Stage}
 use Rattle.evaluator.specs.Asks.{AskExpr, EvalsExpr, EvalsForm}
 use Rattle.evaluator.specs.KeepLaws.{kept-refused, kept-value, below-same}
 

@@ -1,27 +1,26 @@
 -- What a form makes of its operands' cells, return by return.
 use Prim.Native.Nat.{ℕ, _+_, _-_, _<_}
 use mathlib.Core.List.{List, [], _∷_, _++_}
-use mathlib.Core.Bool.{true, false}
+use mathlib.Core.Bool.{false}
 use mathlib.Core.Path.{_≡_, refl, sym, ap, _∙_, subst}
 use native.Mathlib.Omega.{arith}
 use lib.ListN.{length, getD, take}
 use lib.Dec.{ltb, leb}
 use Rattle.language.specs.Refusals.{environmentSpent}
 use Rattle.language.specs.Result.{choose}
-use Rattle.language.specs.Syntax.{TypeDef, Expr, elet, eif, eop, ecall, econ, ecase, eadj, efit, Exprs, enil, econs, File, constructorsOf, fieldsOf}
+use Rattle.language.specs.Syntax.{TypeDef, Expr, Exprs, enil, econs, File}
 use Rattle.language.specs.Format.{exprBytes, exprsBytes, resultBytes}
-use Rattle.language.specs.Scope.{Scope, wider}
+use Rattle.language.specs.Scope.{Scope}
 use Rattle.language.specs.Heap.{Cell, leaf, truth, applyOp, cellAt, constantIn, constructorIn, sizeIn, fieldsIn}
 use Rattle.language.specs.Evaluator.{Out, value, needs, alloc, Channels, arity, parameterCount, eval, evalBranch, run}
 use Rattle.theory.specs.Lists.{false-is-not-true}
-use Rattle.text.specs.declared.Cursor.{Cursor}
 use Rattle.text.specs.Places.{past}
 use Rattle.encoding.specs.Spells.{Spells}
 use Rattle.encoding.specs.FrameSpells.{lineAt}
 use Rattle.encoding.specs.ExprLists.{exprCount, exprs-counted}
 use Rattle.heads.specs.declared.Form.{Form}
 use Rattle.heads.specs.declared.Form.the-variants.{Let, If, Operator, Call, Construct, Case, Adjust, Fit}
-use Rattle.heads.specs.Heads.{Heads, shown}
+use Rattle.heads.specs.Heads.{shown}
 use Rattle.heads.specs.HeadForms.{let-head, if-head, op-head, call-head, con-head, case-head, adj-head, fit-head}
 use Rattle.heads.specs.PartLaws.{one-ends}
 use Rattle.index.specs.Sections.{framesOf}
@@ -30,13 +29,13 @@ use Rattle.state_words.specs.RowLaws.{row-at}
 use Rattle.ends.specs.Ended.{EndAt}
 use Rattle.new_cells.specs.declared.Value.{Value}
 use Rattle.new_cells.specs.declared.Value.the-variants.{Is, Refused}
-use Rattle.new_cells.specs.Steps.{Kept, Gives}
-use Rattle.new_cells.specs.Asked.{Operates, Applied, Constructs}
+use Rattle.new_cells.specs.Steps.{Gives}
+use Rattle.new_cells.specs.Asked.{Operates, Constructs}
 use Rattle.evaluator.specs.declared.Context.{Context}
 use Rattle.evaluator.specs.Operands.{operandsOf, finished}
 use Rattle.evaluator.specs.Forms.{hasParts}
 use Rattle.evaluator.specs.Promises.{Room, Stage, Stands, Asked, Evals, cellsIn}
-use Rattle.evaluator.specs.Asks.{AskFinish, Finishes, AskBound, EvalsBound, AskChoice, EvalsChoice, AskFit, EvalsFit, AskBranch, EvalsBranch, AskBody, EvalsBody}
+use Rattle.evaluator.specs.Asks.{AskFinish, Finishes, EvalsBound, EvalsChoice, EvalsFit, EvalsBranch, EvalsBody}
 use Rattle.evaluator.specs.KeepLaws.{below-same}
 use Rattle.evaluator.specs.ExprLaws.{agrees-value, kept-is, kept-not}
 use Rattle.evaluator.specs.PartLaws.{let-ended, if-ended, case-ended, fit-ended, first-end, first-ended, others-ended, ended-as, ended-at}

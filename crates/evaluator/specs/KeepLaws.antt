@@ -1,40 +1,37 @@
 -- What stays as it was over two steps, and what the second may rest on: words, slots, the place's file and heap.
 use Prim.Native.Nat.{ℕ, _+_, _-_, _≤_, _<_}
-use mathlib.Core.List.{List, [], _∷_, _++_}
+use mathlib.Core.List.{List}
 use mathlib.Core.Path.{_≡_, refl, sym, ap, _∙_, subst}
 use native.Mathlib.Omega.{arith}
 use native.Mathlib.Nat.{le-refl}
 use lib.ListN.{length, getD, take, drop, length-drop}
-use lib.Seq.{length-take-le, take-take, drop-drop, getD-take}
-use Rattle.language.specs.Limits.{channelsMost, headerWords, cellWords}
+use lib.Seq.{length-take-le, drop-drop, getD-take}
+use Rattle.language.specs.Limits.{channelsMost}
 use Rattle.language.specs.Syntax.{File}
 use Rattle.language.specs.Scope.{Scope}
 use Rattle.language.specs.Within.{All}
 use Rattle.language.specs.Heap.{Cell}
 use Rattle.language.specs.Layout.{stateLength}
 use Rattle.language.specs.Evaluator.{Channels}
+use Rattle.theory.specs.Lists.{take-fewer}
 use Rattle.theory.specs.CellWords.{Writable}
 use Rattle.text.specs.declared.Cursor.{Cursor}
 use Rattle.state_words.specs.Words.{channelAt}
 use Rattle.state_words.specs.Holds.{Holds}
 use Rattle.new_cells.specs.declared.Value.{Value}
 use Rattle.new_cells.specs.declared.Value.the-variants.{Is, Refused}
-use Rattle.new_cells.specs.Steps.{Board, Lies, Agrees, is-value, is-refused, Grown, has-grown, not-grown, Kept}
+use Rattle.new_cells.specs.Steps.{Board, Grown, has-grown, not-grown, Kept}
 use Rattle.evaluator.specs.declared.Context.{Context}
 use Rattle.evaluator.specs.Contexts.{movedTo, boundTo, bodyContext}
 use Rattle.evaluator.specs.Promises.{Room, Below, Stage}
 
--- ---- fewer words taken, and dropped
-pub take-fewer : (m n : ℕ) (x y : List ℕ) → m ≤ n → take n x ≡ take n y → take m x ≡ take m y
-take-fewer m n x y le e = sym (take-take m n x le) ∙ ap (take m) e ∙ take-take m n y le
-
+-- ---- words
 pub drop-more : (m n : ℕ) (x y : List ℕ) → m ≤ n → drop m x ≡ drop m y → drop n x ≡ drop n y
 drop-more m n x y le e =
     let there : m + (n - m) ≡ n = omega arith in
     let split : (z : List ℕ) → drop (n - m) (drop m z) ≡ drop n z = λ z. drop-drop (n - m) m z ∙ ap (λ i. drop i z) there in
     sym (split x) ∙ ap (drop (n - m)) e ∙ split y
 
--- ---- words
 -- what a step that gave a value leaves
 pub record Moved (words : List ℕ) (used : ℕ) (words′ : List ℕ) (used′ : ℕ) : Type 0 where
   pub more : used ≤ used′

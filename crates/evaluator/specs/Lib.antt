@@ -1,10 +1,12 @@
 pub mod Operands
+pub mod Contexts
+pub mod Forms
 pub mod Promises
 pub mod Asks
-pub mod Contexts
-pub mod Slots
-pub mod Forms
 pub mod KeepLaws
+pub mod Slots
+pub mod LeafLaws
+pub mod Measures
 pub mod ExprLaws
 pub mod ArmLaws
 pub mod BranchLaws
@@ -13,5 +15,3 @@ pub mod ArgumentLaws
 pub mod PartLaws
 pub mod CompoundLaws
 pub mod FinishLaws
-pub mod Measures
-pub mod LeafLaws

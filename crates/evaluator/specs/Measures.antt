@@ -1,12 +1,11 @@
 -- The measure of the cycle: the calls left, then what is left of the line, then the function's rank.
-use Prim.Native.Nat.{ℕ, zero, suc, _+_, _-_, _*_, _/_, _≤_, _<_, _^_}
+use Prim.Native.Nat.{ℕ, zero, suc, _+_, _-_, _*_, _≤_, _<_, _^_}
 use mathlib.Core.List.{List}
 use mathlib.Core.Bool.{true}
-use mathlib.Core.Path.{_≡_, refl, sym, ap, _∙_, subst}
+use mathlib.Core.Path.{_≡_, refl, ap, subst}
 use native.Mathlib.Omega.{arith}
-use native.Mathlib.Nat.{suc-mul}
-use lib.ListN.{length, take, drop, length-take, length-drop}
-use native.Mathlib.Nat.{le-refl}
+use native.Mathlib.Nat.{suc-mul, le-refl}
+use lib.ListN.{length, drop, length-take, length-drop}
 use Rattle.theory.specs.Lists.{false-is-not-true}
 use Rattle.text.specs.declared.Cursor.{Cursor}
 use Rattle.text.specs.Places.{bytesLeft, left-later, left-most}

@@ -3,7 +3,7 @@
 use Prim.Native.Nat.{ℕ, _+_, _-_}
 use mathlib.Core.List.{List, [], _∷_, _++_}
 use mathlib.Core.Bool.{Bool, true, false}
-use mathlib.Core.Path.{_≡_, refl, sym, ap, _∙_}
+use mathlib.Core.Path.{_≡_, refl, _∙_}
 use native.Mathlib.Omega.{arith}
 use lib.ListN.{getD}
 use lib.Dec.{ltb, leb}
@@ -13,7 +13,7 @@ use Rattle.language.specs.Refusals.{noRefusal, environmentSpent, valueTooLarge}
 use Rattle.language.specs.Result.{both, choose}
 use Rattle.language.specs.Syntax.{Size, ResultType, Op, Expr, ebool, eint, evar, enow, elast, elet, eif, eop, ecall, econ, ecase, eadj, efit, Exprs, enil, econs, File, fieldsOf}
 use Rattle.language.specs.Heap.{Cell, leaf, con, truth, applyOp, cellAt, constantIn, constructorIn, sizeIn, fieldsIn, ownSum, fieldsWithin}
-use Rattle.language.specs.Evaluator.{Out, value, refused, Outs, values, refusedAll, bindOut, bindOuts, first, rest, needs, alloc, Channels, Body, arity, eval, evals, evalBranch}
+use Rattle.language.specs.Evaluator.{Out, value, refused, values, bindOut, bindOuts, first, rest, needs, alloc, Channels, Body, arity, eval, evals, evalBranch}
 
 -- the parts that are evaluated first, and the slots that wait for them
 unfoldable pub operandsOf : Expr → Exprs

@@ -1,15 +1,14 @@
 -- What is known of an expression whose head was read: its operands, where they stand and end, and the slots that wait for them.
-use Prim.Native.Nat.{ℕ, suc, _≤_, _<_}
+use Prim.Native.Nat.{ℕ}
 use mathlib.Core.List.{List, []}
-use mathlib.Core.Bool.{true, false}
+use mathlib.Core.Bool.{true}
 use mathlib.Core.Path.{_≡_, refl, sym, ap, _∙_, subst}
 use native.Mathlib.Omega.{arith}
 use lib.ListN.{length, getD}
-use Rattle.language.specs.Limits.{byteRange, parametersMost, fieldsMost}
 use Rattle.language.specs.Syntax.{Size, ResultType, Op, Expr, elet, eif, eop, ecall, econ, ecase, eadj, efit, Exprs, enil, econs, File}
-use Rattle.language.specs.Format.{exprBytes, exprsBytes, sizeBytes, resultBytes}
+use Rattle.language.specs.Format.{exprBytes, sizeBytes, resultBytes}
 use Rattle.language.specs.Scope.{Scope}
-use Rattle.language.specs.Within.{WithinExpr, WithinExprs, ws-nil, ws-cons}
+use Rattle.language.specs.Within.{WithinExpr, ws-nil, ws-cons}
 use Rattle.language.specs.Evaluator.{parameterCount}
 use Rattle.theory.specs.Lists.{false-is-not-true}
 use Rattle.text.specs.declared.Cursor.{Cursor}
@@ -184,7 +183,7 @@ module _ {text index ends : List ℕ} {line : ℕ} {P : File} {S : Scope} (i : I
       let d = adj-ended (ended-as _ s (y .is)) in
       let start : next .at ≡ past (lineAt text line) at 1 = shown h refl .ends in
       let place : endOf ends (framePlace (framesOf index) line) (next .at) ≡ past (lineAt text line) (next .at) (length (sizeBytes (y .size))) =
-          ap (endOf ends (framePlace (framesOf index) line)) start ∙ end-told (d .size) ∙ ap (λ m. past (lineAt text line) m (length (sizeBytes (y .size)))) (sym start) in
+      ap (endOf ends (framePlace (framesOf index) line)) start ∙ end-told (d .size) ∙ ap (λ m. past (lineAt text line) m (length (sizeBytes (y .size)))) (sym start) in
       one-part {form = Adjust} (y .is) c-adj refl refl refl (y .within₂) (subst (λ m. Spells exprBytes (lineAt text line) m (y .first)) (sym place) (y .spelled₂))
       (ended-at (place ∙ ap (λ m. past (lineAt text line) m (length (sizeBytes (y .size)))) start) (d .subject))
   parts-of (Fit n) parts h =

@@ -1,15 +1,14 @@
 -- Cells stored in the slots above an environment: what is written, one slot after the other, and what that makes of the environment.
-use Prim.Native.Nat.{ℕ, zero, suc, _+_, _-_, _≤_, _<_}
+use Prim.Native.Nat.{ℕ, suc, _+_, _-_, _≤_, _<_}
 use mathlib.Core.List.{List, [], _∷_, _++_}
 use mathlib.Core.Path.{_≡_, refl, sym, ap, _∙_, subst}
 use native.Mathlib.Omega.{arith}
-use native.Mathlib.Numerals.{add-one}
-use lib.ListN.{length, getD, take, drop, set, length-append, length-take}
-use lib.Seq.{take-set-le, take-take, getD-take, sets, length-sets, sets-eq, ext-getD, getD-append-seam, length-take-le, take-at, take-append-seam, drop-append-seam, append-snoc}
-use lib.ListN.{List·getD-append}
+use lib.ListN.{length, getD, take, drop, set, length-append, List·getD-append}
+use lib.Seq.{take-set-le, sets, length-sets, sets-eq, ext-getD, getD-append-seam, length-take-le, take-at}
 use Rattle.language.specs.Limits.{fieldsMost}
 use Rattle.language.specs.Heap.{Cell, cellAt, fieldsIn}
 use Rattle.theory.specs.Places.{below-or-not}
+use Rattle.theory.specs.Lists.{take-fewer}
 use Rattle.state_words.specs.RowLaws.{sets-append}
 use Rattle.state_words.specs.Holds.{Holds, ReadsField}
 use Rattle.evaluator.specs.Promises.{Below}
@@ -27,12 +26,6 @@ pub record WordOf (row : List ℕ) (j l : ℕ) : Type 0 where
 
 abbrev pub FieldOf : List ℕ → ℕ → ℕ → ℕ → ℕ → Type 0
 FieldOf words used cell j l = ReadsField words used cell j l
-
-take-fewer : (m n : ℕ) (x y : List ℕ) → m ≤ n → take n x ≡ take n y → take m x ≡ take m y
-take-fewer m n x y le e = sym (taken x) ∙ ap (take m) e ∙ taken y
-  where
-    taken : (z : List ℕ) → take m (take n z) ≡ take m z
-    taken z = take-take m n z le
 
 take-sets : (row slots : List ℕ) (top : ℕ) → take top (sets slots top row) ≡ take top slots
 take-sets [] slots top = refl
@@ -74,9 +67,6 @@ module _ {asked : ℕ → ℕ → Type 0} where
     pushed-below room = record { low = ap (take top) (q .stored) ∙ take-sets (q .row) slots top; long = pushed-long }
 
 -- ---- the row is what was asked for
-pub row-is : {slots slots′ : List ℕ} {top n : ℕ} {row : List ℕ} (q : Pushed (WordOf row) slots top n slots′) → n ≤ length row → q .row ≡ take n row
-row-is {n} {row} q few = ext-getD 0 (q .row) (take n row) (q .long ∙ sym (length-take-le n row few)) (λ j less. q .each j (omega (arith, q .long)) .is ∙ sym (getD-take n row j 0 (omega (arith, q .long))))
-
 pub fields-are : {slots slots′ words : List ℕ} {top used cell n : ℕ} {h : List Cell} (q : Pushed (FieldOf words used cell) slots top n slots′) → Holds words used h → n ≡ length (fieldsIn (cellAt h cell)) → n ≤ fieldsMost →
     q .row ≡ fieldsIn (cellAt h cell)
 fields-are {n} q v count few = ext-getD 0 (q .row) _ (q .long ∙ count) (λ j less. q .each j (omega (arith, q .long)) .says _ v (omega (arith, q .long)))

@@ -1,7 +1,7 @@
 // Figure 4 over the lent words: the value of an expression, as a cell of the state.
+mod contexts;
 pub mod cycle;
 mod forms;
-mod contexts;
 mod slots;
 
 use text::Cursor;

@@ -1,11 +1,11 @@
 -- The cycle of the evaluator meets its contracts: each need is answered by a law of its function's file.
-use Prim.Native.Nat.{_+_, _-_, _≤_}
+use Prim.Native.Nat.{_+_, _-_, _≤_, ℕ, _<_}
 use mathlib.Core.Bool.{true, false}
 use mathlib.Core.Logic.{_⊎_, inl, inr, ⊎-elim}
-use mathlib.Core.Path.{_≡_, refl, sym, ap, _∙_, subst}
+use mathlib.Core.Path.{_≡_, refl, sym, ap, _∙_}
 use native.Mathlib.Omega.{arith}
 use native.Mathlib.Nat.{le-refl}
-use lib.ListN.{length, take, drop}
+use lib.ListN.{length}
 use lib.Seq.{length-take-le}
 use denote.Enum.Declared.{tagOf, declared}
 use Rattle.heads.proofs.Form.{enum as form-enum}
@@ -24,7 +24,6 @@ use Rattle.evaluator.specs.ArgumentLaws.{Gathered, gathered-none, gather
 use Rattle.evaluator.specs.CompoundLaws.{compound-full, compound-refused, compound-moved, compound-done, so-below, still-free}
 use Rattle.evaluator.specs.FinishLaws.{finish-adjust, finish-operator, finish-construct, finish-call, finish-let, finish-if, finish-fit, finish-case, finish-none}
 use borrow.Author.Needs.{needs}
-use Prim.Native.Nat.{ℕ, _<_}
 use borrow.Fn.Kinds.{In}
 use borrow.Fn.PlainCycle.{Measures, is, falls, and}
 use Rattle.evaluator.proofs.cycle.arguments.Reads as arguments
