@@ -11,7 +11,7 @@ use Rattle.language.specs.PlainTypes.{plainTypes}
 use Rattle.language.specs.Estimate.{stopped}
 use Rattle.language.specs.Checker.{SizedFile, sizedFile}
 use Rattle.language.specs.Cells.{updatesNumbers, numbersNeeded}
-use Rattle.language.specs.Machine.{judged, checkFile}
+use Rattle.language.specs.Machine.{checkFile}
 use Rattle.language.specs.PlainTyping.{WellPlain}
 use Rattle.theory.specs.PlainTypesAgree.{well-plain}
 use Rattle.theory.specs.PlainFileSizes.{well-plain-refusals}

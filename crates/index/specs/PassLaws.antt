@@ -1,9 +1,8 @@
 -- Lists of so many passed over: the loop's way, and a condition.
-use Prim.Native.Nat.{ℕ, zero, suc, _-_, _≤_, _<_}
+use Prim.Native.Nat.{ℕ, zero, suc, _-_, _<_}
 use mathlib.Core.List.{List, _∷_}
 use mathlib.Core.Path.{_≡_, refl, ap}
 use native.Mathlib.Omega.{arith}
-use lib.ListN.{length}
 use Rattle.language.specs.Limits.{byteRange, nestingMost}
 use Rattle.language.specs.Syntax.{Size, Relation, req, rlt, rle, Condition}
 use Rattle.language.specs.Parser.{got, Parser, _>>=_, return, andThen, many, count, counted}

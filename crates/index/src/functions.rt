@@ -1,6 +1,6 @@
 // Function frames: the parameters are read into the function's entry, conditions and measure passed over.
 ghost use mathlib.Core.Path.{_≡_};
-ghost use Prim.Native.Nat.{_+_, _*_, _^_, _%_, _<_, _≤_};
+ghost use Prim.Native.Nat.{_+_, _*_, _^_, _%_, _<_};
 ghost use lib.ListN.{length, getD, set};
 ghost use Rattle.language.specs.Limits.{byteRange, parametersMost, conditionsMost, measuresMost};
 ghost use Rattle.language.specs.Parser.{many, counted, index as indexRead};

@@ -1,6 +1,6 @@
 // Type frames: what stands behind the kind is read, and the type's entry written.
 ghost use mathlib.Core.Path.{_≡_};
-ghost use Prim.Native.Nat.{_+_, _*_, _^_, _%_, _<_, _≤_};
+ghost use Prim.Native.Nat.{_+_, _*_, _^_, _%_, _<_};
 ghost use lib.ListN.{length, getD};
 ghost use Rattle.language.specs.Limits.{byteRange};
 ghost use Rattle.language.specs.Parser.{many};

@@ -3,7 +3,6 @@
 -- list of splits is made. And the numbers that a file needs: document 01, "Estimation and memory".
 use Prim.Native.Nat.{ℕ, zero, suc, _+_, _-_, max}
 use mathlib.Core.List.{List, [], _∷_, _++_, map}
-use mathlib.Core.Bool.{Bool}
 use lib.ListN.{getD}
 use lib.Dec.{ltb}
 use Rattle.language.specs.Result.{choose}

@@ -12,7 +12,7 @@ use Rattle.language.specs.Codes.{kindInputLine, exprFirst, boolFirst}
 use Rattle.language.specs.Syntax.{Ty, Input, File, constructorsOf, fieldsOf}
 use Rattle.language.specs.Heap.{kbool, kint, Tree, vleaf, vcon, Trees, vnil, vcons}
 use Rattle.language.specs.Values.{fits}
-use Rattle.language.specs.Parser.{Read, got, bad, Parser, _>>=_, return, refuse, byte, index, code, many}
+use Rattle.language.specs.Parser.{Read, got, bad, Parser, _>>=_, return, refuse, index, code, many}
 use Rattle.language.specs.ReadExpr.{Form, boolForm, intForm, varForm, nowForm, lastForm, letForm, ifForm, opForm, callForm, conForm, caseForm, adjForm, fitForm, forms, bools, int}
 use Rattle.language.specs.Reader.{linesOf, lineBytes}
 

@@ -1,9 +1,8 @@
 -- The calls `check`, `start` and `iterate`: from everything that is lent, contents and lengths, to the answer and the final
 -- contents of everything that is lent. Document 01, "By place". One definition gives each refusal its number, frame and bounds.
-use Prim.Native.Nat.{ℕ, zero, suc, _+_, _-_}
+use Prim.Native.Nat.{ℕ, suc, _+_, _-_}
 use mathlib.Core.List.{List, [], _∷_, _++_, map}
 use mathlib.Core.Bool.{Bool}
-use mathlib.Core.Option.{none}
 use lib.ListN.{length, drop, replicate}
 use lib.Dec.{leb}
 use Rattle.language.specs.Limits.{parametersMost, instancesMost, cellsMost, slotsMost, callsMost, scratchWords}

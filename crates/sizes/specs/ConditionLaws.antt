@@ -15,7 +15,7 @@ use Rattle.language.specs.Within.{All, all-cons, WithinCondition}
 use Rattle.language.specs.Sizes.{added, taken, compare, conditionHolds, conditionsHold, summedMeasure}
 use Rattle.text.specs.declared.Cursor.{Cursor}
 use Rattle.text.specs.declared.Found.{Found}
-use Rattle.text.specs.Places.{past, bytesLeft, byteAt, place-left}
+use Rattle.text.specs.Places.{past, bytesLeft, place-left}
 use Rattle.encoding.specs.Spells.{Spells, spells-left, spells-first, spells-next, first-of-list, themselves}
 use Rattle.encoding.specs.TypeInversions.{condition-parts}
 use Rattle.sizes.specs.declared.Worked.{Worked}

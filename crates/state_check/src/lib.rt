@@ -1,5 +1,4 @@
 // Whether lent words are a valid state of the file: refusal 18 (document 01, "Estimation and memory").
-ghost use mathlib.Core.Path.{_≡_};
 ghost use Prim.Native.Nat.{_≤_};
 ghost use lib.ListN.{length};
 ghost use Rattle.language.specs.Layout.{stateLength};

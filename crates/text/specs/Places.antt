@@ -1,8 +1,8 @@
 -- The places of a line: which bytes stand from a place on, and where so many of them end. Both are said here and nowhere else. What is
 -- above cites the laws: 0 bytes, so many and then so many more, order, and what is read behind them.
 -- Today a place is the number of bytes before it.
-use Prim.Native.Nat.{ℕ, zero, suc, _+_, _-_, _*_, _/_, _≤_, _<_, zero-le}
-use mathlib.Core.List.{List, [], _∷_, _++_}
+use Prim.Native.Nat.{ℕ, zero, suc, _+_, _-_, _/_, _≤_, _<_, zero-le}
+use mathlib.Core.List.{List, _++_}
 use mathlib.Core.Bool.{Bool, true, false}
 use mathlib.Core.Path.{_≡_, refl, sym, ap, _∙_}
 use native.Mathlib.Omega.{arith}

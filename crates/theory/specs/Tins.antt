@@ -9,7 +9,7 @@ use mathlib.Core.Option.{none, some}
 use mathlib.Core.Path.{_≡_, refl}
 use lib.ListN.{length, getD, replicate, getElem? as look}
 use Rattle.language.specs.Limits.{instancesMost, scratchWords}
-use Rattle.language.specs.Result.{Result, ok, no, from}
+use Rattle.language.specs.Result.{Result, ok, no}
 use Rattle.language.specs.Syntax.{File, Ty, Expr, ebool, eint, Op, oadd, osub, omul, olt, ole, oand, oor, eop}
 use Rattle.language.specs.Reader.{readFile, emptyFile}
 use Rattle.language.specs.Sizes.{typeAt, sizeOfType}

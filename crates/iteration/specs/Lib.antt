@@ -1,0 +1,6 @@
+pub mod Promises
+pub mod NodeLaws
+pub mod NodesLaws
+pub mod Whole
+pub mod FedLaws
+pub mod WholeLaws

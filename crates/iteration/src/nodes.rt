@@ -1,0 +1,122 @@
+// The nodes' updates, one after the other: each is evaluated with the channels as they stand by then.
+ghost use mathlib.Core.Path.{_≡_};
+ghost use Rattle.new_cells.specs.Steps.{Board};
+ghost use Rattle.index.specs.Sections.{channelsOf};
+ghost use Rattle.index.specs.Indexed.{declaredAt};
+ghost use Rattle.iteration.specs.Promises.{sizeInWord, nodeContext, UpdatesNode, UpdatesNodes, handedOn};
+use evaluator::Context;
+use evaluator::cycle::expr;
+use heads::places::line_behind_types;
+use index::INDEX_WORDS;
+use index::channels::declared_word;
+use index::channels::update_start;
+use index::frame_counts;
+use index::put;
+use language::limits::BYTE_RANGE;
+use language::limits::CHANNELS_MOST;
+use language::limits::TEXT_MOST;
+use language::refusals::NO_REFUSAL;
+use language::refusals::VALUE_TOO_LARGE;
+use new_cells::Value;
+use state_words::reads::size;
+use state_words::tags::CONSTRUCTOR_TAGS;
+use state_words::tags::word_size;
+
+// How many cells are used once all nodes are updated; or a refusal, and the channel where it was met.
+pub enum Updated {
+    Used(u32),
+    Refused(u32, u32),
+}
+
+// The size in the declared type of channel c; 0 of a Bool or an Int.
+fn declared_size(index: &[u32; INDEX_WORDS], c: u32) -> u32
+    ensures { λ r. ⌜ r ≡ sizeInWord (declaredAt (channelsOf (now (index .entry))) c) ⌝ }
+{
+    let word = declared_word(index, c);
+    if word < CONSTRUCTOR_TAGS {
+        return 0;
+    }
+    word_size(word)
+}
+
+// Where the update of channel c is evaluated, with nothing in the environment.
+fn node_context(index: &[u32; INDEX_WORDS], c: u32, used: u32, calls: u32) -> Context
+    ensures { λ r. ⌜ r ≡ nodeContext (now (index .entry)) c used calls ⌝ }
+{
+    let at = update_start(index, c);
+    let counts = frame_counts(index);
+    let line = line_behind_types(index, counts.functions + c % BYTE_RANGE);
+    Context {
+        at: at,
+        line: line,
+        top: 0,
+        used: used,
+        calls: calls,
+    }
+}
+
+// A refusal handed on, with the channel where it was met.
+fn refused_at(x: Value, c: u32) -> Updated
+    ensures { λ r. ⌜ r ≡ handedOn x c ⌝ }
+{
+    match x {
+        Value::Is(_, _) => Updated::Refused(NO_REFUSAL, c),
+        Value::Refused(n) => Updated::Refused(n, c),
+    }
+}
+
+// The update of channel c; 23 where its value is above the declared size.
+fn update_node(
+    text: &[u8],
+    index: &[u32; INDEX_WORDS],
+    ends: &[u16; TEXT_MOST],
+    channels: &[u32; CHANNELS_MOST],
+    state: &mut [u32],
+    slots: &mut [u32],
+    c: u32,
+    used: u32,
+    calls: u32,
+) -> Value
+    requires { ⌜ Board (now state) used ⌝ }
+    ensures { λ r. ⌜ UpdatesNode (now (text .entry)) (now (index .entry)) (now (ends .entry)) (now (channels .entry)) c used calls (now (state .entry)) (now (slots .entry)) r (now (state .exit)) (now (slots .exit)) ⌝ }
+{
+    let p = node_context(index, c, used, calls);
+    let x = expr(text, index, ends, channels, state, slots, p);
+    let Value::Is(cell, more) = x else {
+        return x;
+    };
+    if declared_size(index, c) < size(state, more, cell) {
+        return Value::Refused(VALUE_TOO_LARGE);
+    }
+    x
+}
+
+// All of them, in channel order.
+pub fn update_nodes(
+    text: &[u8],
+    index: &[u32; INDEX_WORDS],
+    ends: &[u16; TEXT_MOST],
+    channels: &mut [u32; CHANNELS_MOST],
+    state: &mut [u32],
+    slots: &mut [u32],
+    used: u32,
+    calls: u32,
+) -> Updated
+    requires { ⌜ Board (now state) used ⌝ }
+    ensures { λ r. ⌜ UpdatesNodes (now (text .entry)) (now (index .entry)) (now (ends .entry)) used calls (now (channels .entry)) (now (state .entry)) (now (slots .entry)) r (now (channels .exit)) (now (state .exit)) (now (slots .exit)) ⌝ }
+{
+    let counts = frame_counts(index);
+    let end = counts.inputs + counts.nodes;
+    let mut top = used;
+    let mut c = counts.inputs;
+    while c < end {
+        let x = update_node(text, index, ends, channels, state, slots, c, top, calls);
+        let Value::Is(cell, more) = x else {
+            return refused_at(x, c);
+        };
+        put(channels, c as usize, cell);
+        top = more;
+        c += 1;
+    }
+    Updated::Used(top)
+}
