@@ -10,7 +10,7 @@ use Rattle.language.specs.Layout.{padded}
 use Rattle.language.specs.Within.{Within}
 use Rattle.language.specs.Estimate.{Estimate as Exact, stopped}
 use Rattle.language.specs.Cells.{updatesNumbers, numbersNeeded}
-use Rattle.language.specs.Machine.{Board as MachineBoard, Answer as MachineAnswer, Record, emptyRecord, answer, judge, listLent, check}
+use Rattle.language.specs.Machine.{Board as MachineBoard, Answer as MachineAnswer, Record, emptyRecord, answer, judge, boardAllowed, listLent, check}
 use Rattle.index.specs.Sections.{countsIn}
 use Rattle.index.specs.Whole.{FileSections}
 use Rattle.reader.specs.declared.Reading.{Reading}
@@ -70,6 +70,9 @@ pub record ReadHeld (text index : List ℕ) : Type 0 where
   pub sections : FileSections index file
 
 -- ---- the parts
+pub record Allows (b : Board) (r : Bool) : Type 0 where
+  pub is : r ≡ boardAllowed (boardOf b)
+
 pub record Lends (b : Board) (words : ℕ) (r : Bool) : Type 0 where
   pub is : r ≡ listLent (boardOf b) (recordsOf words)
 

@@ -20,7 +20,7 @@ use Rattle.checker.specs.Checks.{Checks, readAnswer, ReadHeld}
 use Rattle.checker.specs.Outcomes.{sizesOf, lends, refused}
 
 -- ---- refused
-read-fault : {index : List ℕ} {x : Reading} {m frame : ℕ} {y : Result File} → TextRead x index y → x ≡ Fault m frame → y ≡ no m frame
+pub read-fault : {index : List ℕ} {x : Reading} {m frame : ℕ} {y : Result File} → TextRead x index y → x ≡ Fault m frame → y ≡ no m frame
 read-fault (done e w) q = absurd (let u = sym e ∙ q in let z : _≡_ {A = ℕ} 0 1 = cc in omega arith)
 read-fault {m} {frame} (fault {m = n} {frame = f} e w) q = let u : Fault n f ≡ Fault m frame = sym e ∙ q in cc
 

@@ -16,7 +16,7 @@ use Rattle.estimate.specs.declared.Estimate.{Estimate as Held}
 use Rattle.instances.specs.Listed.{instanceWordsCount}
 use Rattle.checker.specs.declared.Board.{Board}
 use Rattle.checker.specs.declared.Answer.{Answer}
-use Rattle.checker.specs.Checks.{boardOf, numbersOf, said, recordsOf, boundsOf, Lends, Judges}
+use Rattle.checker.specs.Checks.{boardOf, numbersOf, said, recordsOf, boundsOf, Allows, Lends, Judges}
 
 -- ---- the board and the list that are lent
 words-of-records : (words : ℕ) → leb (instancesMost * instanceWordsCount) words ≡ leb instancesMost (words / instanceWordsCount)
@@ -26,24 +26,28 @@ words-of-records words = go (leb (instancesMost * instanceWordsCount) words) ref
     go true q = sym (le-leb instancesMost (words / instanceWordsCount) (let z = leb-true (instancesMost * instanceWordsCount) words q in omega (arith, z)))
     go false q = sym (lt-leb instancesMost (words / instanceWordsCount) (let z = leb-false (instancesMost * instanceWordsCount) words q in omega (arith, z)))
 
-module _ {b : Board} {words : ℕ} where
-  pub cells-over : cellsMost < b .cells → Lends b words false
-  unfolding listLent boardAllowed both
+module _ {b : Board} where
+  pub cells-over : cellsMost < b .cells → Allows b false
+  unfolding boardAllowed both
   cells-over h = record { is = rw (lt-leb _ _ h) refl }
 
   module _ (cells : b .cells ≤ cellsMost) where
-    pub slots-over : slotsMost < b .slots → Lends b words false
-    unfolding listLent boardAllowed both
+    pub slots-over : slotsMost < b .slots → Allows b false
+    unfolding boardAllowed both
     slots-over h = record { is = rw (le-leb _ _ cells, lt-leb _ _ h) refl }
 
-    module _ (slots : b .slots ≤ slotsMost) where
-      pub calls-over : callsMost < b .calls → Lends b words false
-      unfolding listLent boardAllowed both
-      calls-over h = record { is = rw (le-leb _ _ cells, le-leb _ _ slots, lt-leb _ _ h) refl }
+    pub calls-judged : {r : Bool} → b .slots ≤ slotsMost → r ≡ leb (b .calls) callsMost → Allows b r
+    unfolding boardAllowed both
+    calls-judged slots e = record { is = rw (le-leb _ _ cells, le-leb _ _ slots) e }
 
-      pub list-judged : {r : Bool} → b .calls ≤ callsMost → r ≡ leb (instancesMost * instanceWordsCount) words → Lends b words r
-      unfolding listLent boardAllowed both
-      list-judged calls e = record { is = rw (le-leb _ _ cells, le-leb _ _ slots, le-leb _ _ calls, length-replicate (words / instanceWordsCount) emptyRecord) (e ∙ words-of-records words) }
+module _ {b : Board} {words : ℕ} {allowed : Bool} (a : Allows b allowed) where
+  pub board-over : allowed ≡ false → Lends b words false
+  unfolding listLent both
+  board-over d = record { is = rw (← (a .is), d) refl }
+
+  pub list-judged : {r : Bool} → allowed ≡ true → r ≡ leb (instancesMost * instanceWordsCount) words → Lends b words r
+  unfolding listLent both
+  list-judged d e = record { is = rw (← (a .is), d, length-replicate (words / instanceWordsCount) emptyRecord) (e ∙ words-of-records words) }
 
 -- then there is room for all instances
 pub list-room : (b : Board) (list : List ℕ) → Lends b (length list) true → instanceWordsCount * instancesMost ≤ length list

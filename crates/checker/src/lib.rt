@@ -1,6 +1,6 @@
 // The checker of rule files: refusals 1 to 18, the three bounds, and the list of instances.
 ghost use mathlib.Core.Path.{_≡_};
-ghost use Rattle.checker.specs.Checks.{refusalOf, boundsOf, readAnswer, sizingRefusal, ReadHeld, Lends, Needs, Judges, Checks};
+ghost use Rattle.checker.specs.Checks.{refusalOf, boundsOf, readAnswer, sizingRefusal, ReadHeld, Allows, Lends, Needs, Judges, Checks};
 use cells::CELLS_TABLE;
 use cells::channels_cells;
 use estimate::Estimate;
@@ -47,7 +47,7 @@ pub struct Answer {
 }
 
 // A refusal without bounds.
-fn refusal(number: u32, frame: u32) -> Answer
+pub fn refusal(number: u32, frame: u32) -> Answer
     ensures { λ r. ⌜ r ≡ refusalOf number frame ⌝ }
 {
     Answer {
@@ -92,9 +92,9 @@ fn sizing_refusal(x: Counting) -> Answer
     }
 }
 
-// Whether the board is within its maximum and the list has so many records; else refusal 18.
-fn lent(b: Board, words: usize) -> bool
-    ensures { λ r. ⌜ Lends b words r ⌝ }
+// Whether the board is within its maximum.
+pub fn board_allowed(b: Board) -> bool
+    ensures { λ r. ⌜ Allows b r ⌝ }
 {
     if CELLS_MOST < b.cells {
         return false;
@@ -102,7 +102,14 @@ fn lent(b: Board, words: usize) -> bool
     if SLOTS_MOST < b.slots {
         return false;
     }
-    if CALLS_MOST < b.calls {
+    b.calls <= CALLS_MOST
+}
+
+// Whether it is, and the list has so many records; else refusal 18.
+fn lent(b: Board, words: usize) -> bool
+    ensures { λ r. ⌜ Lends b words r ⌝ }
+{
+    if !board_allowed(b) {
         return false;
     }
     LIST_LEAST <= words

@@ -33,7 +33,7 @@ module _ {P : File} (within : Within P) (cells : ℕ) where
       let whole : stateWords cells s ++ drop (stateLength cells) w ≡ w = ap (λ l. l ++ drop (stateLength cells) w) (sym front) ∙ take-append-drop (stateLength cells) w in
       subst (λ l. loadState P cells l ≡ some s) whole (state-load-back within (x .typed) cells (x .room) (drop (stateLength cells) w))
 
-  load-same : (v w : List ℕ) → take (stateLength cells) v ≡ take (stateLength cells) w → stateLength cells ≤ length v → stateLength cells ≤ length w → loadState P cells v ≡ loadState P cells w
+  pub load-same : (v w : List ℕ) → take (stateLength cells) v ≡ take (stateLength cells) w → stateLength cells ≤ length v → stateLength cells ≤ length w → loadState P cells v ≡ loadState P cells w
   load-same v w same long long′ = by-both (loadState P cells v) refl (loadState P cells w) refl
     where
       by-both : (o : Option State) → loadState P cells v ≡ o → (p : Option State) → loadState P cells w ≡ p → o ≡ p

@@ -1,0 +1,220 @@
+-- An iteration from the text on, return by return.
+use Prim.Native.Nat.{ℕ, zero, suc, _+_, _%_, _≤_, _<_}
+use mathlib.Core.List.{List, [], _++_, append-nil}
+use mathlib.Core.Bool.{Bool, true, false}
+use mathlib.Core.Path.{_≡_, refl, sym, ap, subst, _∙_}
+use native.Mathlib.Omega.{arith}
+use native.Mathlib.Nat.{le-refl}
+use lib.ListN.{length, take, drop, replicate, length-append, length-drop, length-replicate, take-append-drop}
+use lib.Seq.{length-take-le, drop-length, take-take}
+use lib.Dec.{leb}
+use borrow.Author.Tests.{le-leb, lt-leb, leb-true}
+use Rattle.language.specs.Limits.{byteRange, cellsMost, scratchWords}
+use Rattle.language.specs.Refusals.{noRefusal, noFrame, typesDisagree, notLent, badInputLine}
+use Rattle.language.specs.Result.{Result, ok, no, bind, need, from, both}
+use Rattle.language.specs.Reader.{readFile}
+use Rattle.language.specs.PlainTypes.{plainTypes}
+use Rattle.language.specs.PlainTyping.{WellPlain}
+use Rattle.language.specs.Slide.{State}
+use Rattle.language.specs.Layout.{stateLength, stateWords, loadState}
+use Rattle.language.specs.Line.{lineTrees}
+use Rattle.language.specs.Machine.{Iterated, answer, boardAllowed, written, zeros, buffersLent, iterateState, iterateFile, iterated, iterate}
+use Rattle.theory.specs.Lists.{both-left, both-right}
+use Rattle.theory.specs.PlainTypesAgree.{well-plain}
+use Rattle.theory.specs.Unread.{load-same}
+use Rattle.reader.specs.declared.Reading.{Reading}
+use Rattle.reader.specs.declared.Reading.the-variants.{Fault}
+use Rattle.reader.specs.Texts.{TextRead}
+use Rattle.plain_types.specs.Verdicts.{verdict, JudgesAll}
+use Rattle.plain_types.specs.JudgeLaws.{plain-types-verdict}
+use Rattle.index.specs.declared.Counts.{Counts}
+use Rattle.index.specs.Sections.{countsIn}
+use Rattle.heads.specs.Places.{lineBehindTypes}
+use Rattle.iteration.specs.declared.Iteration.{Iteration}
+use Rattle.iteration.specs.declared.Iteration.the-variants.{Done, Refused}
+use Rattle.checker.specs.declared.Board.{Board}
+use Rattle.checker.specs.declared.Answer.{Answer}
+use Rattle.checker.specs.Checks.{boardOf, said, refusalOf, readAnswer, ReadHeld, Allows}
+use Rattle.checker.specs.ReadLaws.{read-fault}
+use Rattle.runtime.specs.Runs.{Iterates, frameAt, answerOf, lengthsLent, LendsAll, Cleared, Told, told-done, told-refused, onState, Lent, IteratesLent, IteratesRead}
+
+-- ---- answers
+pub frame-is : (index : List ℕ) (c : ℕ) {n : Counts} {line : ℕ} → n ≡ countsIn index → line ≡ lineBehindTypes index (n .functions + c % byteRange) → line + 1 ≡ frameAt index c
+frame-is index c e q = ap (λ i. i + 1) (q ∙ ap (λ (z : Counts). lineBehindTypes index (z .functions + c % byteRange)) e)
+
+pub answer-done : (index : List ℕ) {x : Iteration} {r : Answer} → x ≡ Done → r ≡ refusalOf noRefusal noFrame → r ≡ answerOf index x
+answer-done index d q = q ∙ ap (answerOf index) (sym d)
+
+pub answer-refused : (index : List ℕ) {x : Iteration} {n c frame : ℕ} {r : Answer} → x ≡ Refused n c → frame ≡ frameAt index c → r ≡ refusalOf n frame → r ≡ answerOf index x
+answer-refused index {n = n} d f q = q ∙ ap (refusalOf n) f ∙ ap (answerOf index) (sym d)
+
+-- ---- what is lent, test by test
+module _ {b : Board} {state scratch slots : ℕ} {allowed : Bool} (a : Allows b allowed) where
+  pub board-over : allowed ≡ false → LendsAll b state scratch slots false
+  unfolding lengthsLent both
+  board-over d = record { is = rw (← (a .is), d) refl }
+
+  module _ (good : allowed ≡ true) {words : ℕ} (w : words ≡ stateLength (b .cells)) where
+    pub state-short : state < words → LendsAll b state scratch slots false
+    unfolding lengthsLent both
+    state-short h = record { is = rw (← (a .is), good, lt-leb (stateLength (b .cells)) state (omega (arith, h, w))) refl }
+
+    module _ (long : words ≤ state) where
+      pub scratch-short : scratch < scratchWords → LendsAll b state scratch slots false
+      unfolding lengthsLent both
+      scratch-short h = record { is = rw (← (a .is), good, le-leb (stateLength (b .cells)) state (omega (arith, long, w)), lt-leb _ _ h) refl }
+
+      pub slots-judged : {r : Bool} → scratchWords ≤ scratch → r ≡ leb (b .slots) slots → LendsAll b state scratch slots r
+      unfolding lengthsLent both
+      slots-judged h e = record { is = rw (← (a .is), good, le-leb (stateLength (b .cells)) state (omega (arith, long, w)), le-leb _ _ h) e }
+
+-- what is known where enough is lent
+record Enough (b : Board) (state scratch slots : ℕ) : Type 0 where
+  cells : b .cells ≤ cellsMost
+  words : stateLength (b .cells) ≤ state
+  marks : scratchWords ≤ scratch
+  free : b .slots ≤ slots
+
+enough-is : (b : Board) (state scratch slots : ℕ) → lengthsLent (boardOf b) state scratch slots ≡ true → Enough b state scratch slots
+unfolding lengthsLent boardAllowed
+enough-is b state scratch slots e =
+    let board = both-left _ _ e in
+    let lengths = both-right _ _ e in
+    let rest = both-right _ _ lengths in
+    record {
+      cells = leb-true (b .cells) cellsMost (both-left _ _ board);
+      words = leb-true (stateLength (b .cells)) state (both-left _ _ lengths);
+      marks = leb-true scratchWords scratch (both-left _ _ rest);
+      free = leb-true (b .slots) slots (both-right _ _ rest);
+    }
+
+-- ---- the board's words, of a longer buffer
+module _ (cells : ℕ) (state : List ℕ) (long : stateLength cells ≤ length state) where
+  front-long : length (take (stateLength cells) state) ≡ stateLength cells
+  front-long = length-take-le (stateLength cells) state long
+
+  put-back : {r : Answer} {words′ : List ℕ} {o : Result State} → Told cells (take (stateLength cells) state) r words′ o → Told cells state r (words′ ++ drop (stateLength cells) state) o
+  unfolding written
+  put-back (told-done {s} q w) =
+      let rest = drop (stateLength cells) state in
+      let none : drop (stateLength cells) (take (stateLength cells) state) ≡ [] = ap (λ n. drop n (take (stateLength cells) state)) (sym front-long) ∙ drop-length (take (stateLength cells) state) in
+      told-done q (ap (λ (z : List ℕ). z ++ rest) (w ∙ ap (λ (z : List ℕ). stateWords cells s ++ z) none ∙ append-nil (stateWords cells s)))
+  put-back (told-refused q w) = told-refused q (ap (λ (z : List ℕ). z ++ drop (stateLength cells) state) w ∙ take-append-drop (stateLength cells) state)
+
+-- ---- a file that was read
+module _ {text index : List ℕ} (z : ReadHeld text index) (line : List ℕ) (b : Board) (state scratch slots : List ℕ) {frame : ℕ} (v : JudgesAll text index frame) where
+  abbrev lentNow : Bool
+  lentNow = lengthsLent (boardOf b) (length state) (length scratch) (length slots)
+
+  abbrev outcome : Result State
+  outcome = iterateFile text (boardOf b) lentNow state line
+
+  abbrev behind : Result State
+  behind = onState (z .file) (boardOf b) state line
+
+  after-reading : outcome ≡ verdict frame (need lentNow notLent noFrame behind)
+  unfolding iterateFile bind
+  after-reading = ap (λ u. bind u (λ Q. plainTypes Q (need lentNow notLent noFrame (onState Q (boardOf b) state line)))) (z .indexed .read) ∙ plain-types-verdict v (z .indexed) (need lentNow notLent noFrame behind)
+
+  refused-with : {r : Answer} {m f : ℕ} → outcome ≡ no m f → r ≡ refusalOf m f → IteratesRead text line b state scratch slots r state scratch slots
+  refused-with {r} e q = record { says = subst (Told (b .cells) state r state) (sym e) (told-refused q refl); clean = refl; long = refl }
+
+  pub types-refused : {r : Answer} → (frame ≡ 0 → ⊥) → r ≡ refusalOf typesDisagree frame → IteratesRead text line b state scratch slots r state scratch slots
+  unfolding verdict
+  types-refused wrong q = refused-with (after-reading ∙ go frame wrong) q
+    where
+      go : (f : ℕ) → (f ≡ 0 → ⊥) → verdict f (need lentNow notLent noFrame behind) ≡ no typesDisagree f
+      go zero h = absurd (h refl)
+      go (suc f) h = refl
+
+  module _ (agree : frame ≡ 0) {given : Bool} (g : LendsAll b (length state) (length scratch) (length slots) given) where
+    after-types : outcome ≡ need given notLent noFrame behind
+    unfolding verdict
+    after-types = after-reading ∙ ap (λ f. verdict f (need lentNow notLent noFrame behind)) agree ∙ ap (λ d. need d notLent noFrame behind) (sym (g .is))
+
+    pub lent-refused : {r : Answer} → given ≡ false → r ≡ refusalOf notLent noFrame → IteratesRead text line b state scratch slots r state scratch slots
+    unfolding need
+    lent-refused e q = refused-with (after-types ∙ ap (λ d. need d notLent noFrame behind) e) q
+
+    module _ (good : given ≡ true) {words : ℕ} (w : words ≡ stateLength (b .cells)) where
+      enough : Enough b (length state) (length scratch) (length slots)
+      enough = enough-is b (length state) (length scratch) (length slots) (sym (g .is) ∙ good)
+
+      pub words-there : words ≤ length state
+      words-there = omega (arith, w, enough .words)
+
+      pub words-cut : words ≡ length (take words state)
+      words-cut = sym (length-take-le words state words-there)
+
+      pub slots-there : b .slots ≤ length slots
+      slots-there = enough .free
+
+      pub slots-cut : b .slots ≡ length (take (b .slots) slots)
+      slots-cut = sym (length-take-le (b .slots) slots slots-there)
+
+      well : WellPlain (z .file)
+      unfolding verdict
+      well = well-plain (z .file) (ok (z .file)) (plain-types-verdict v (z .indexed) (ok (z .file)) ∙ ap (λ f. verdict f (ok (z .file))) agree)
+
+      pub lends : Cleared scratch → Lent text index (b .cells) (take words state) scratch
+      lends c = record {
+        file = z .file;
+        indexed = z .indexed;
+        board = length-take-le words state words-there ∙ w;
+        most = enough .cells;
+        room = omega (arith, enough .cells, enough .marks);
+        clean = c;
+      }
+
+      pub read-iterated : {r : Answer} {words′ scratch′ slots₁ : List ℕ} → IteratesLent text index line (b .cells) (b .calls) (take words state) scratch (take (b .slots) slots) r words′ scratch′ slots₁ →
+          IteratesRead text line b state scratch slots r (words′ ++ drop words state) scratch′ (slots₁ ++ drop (b .slots) slots)
+      unfolding need from
+      read-iterated {r} {words′} {scratch′} {slots₁} i =
+          let free : length (take (b .slots) slots) ≡ b .slots = length-take-le (b .slots) slots slots-there in
+          let here : outcome ≡ behind = after-types ∙ ap (λ d. need d notLent noFrame behind) good in
+          let wide = enough .words in
+          let loads : loadState (z .file) (b .cells) (take (stateLength (b .cells)) state) ≡ loadState (z .file) (b .cells) state = load-same (z .indexed .within) (b .cells) (take (stateLength (b .cells)) state) state (take-whole (stateLength (b .cells)) state) (omega (arith, front-long (b .cells) state wide)) wide in
+          let says : Told (b .cells) (take (stateLength (b .cells)) state) r words′ (onState (z .file) (record { cells = b .cells; slots = length (take (b .slots) slots); calls = b .calls }) (take (stateLength (b .cells)) state) line) =
+          subst (λ n. Told (b .cells) (take n state) r words′ (onState (z .file) (record { cells = b .cells; slots = length (take (b .slots) slots); calls = b .calls }) (take n state) line)) w (i .says (z .indexed) well) in
+          let same : Told (b .cells) (take (stateLength (b .cells)) state) r words′ behind = subst (λ o. Told (b .cells) (take (stateLength (b .cells)) state) r words′ o)
+          (ap (λ n. onState (z .file) (record { cells = b .cells; slots = n; calls = b .calls }) (take (stateLength (b .cells)) state) line) free ∙ ap (λ u. from u notLent noFrame (λ s. from (lineTrees (z .file) line) badInputLine noFrame (λ vs. iterateState (z .file) (boardOf b) s vs))) loads) says in
+          record {
+            says = subst (λ n. Told (b .cells) state r (words′ ++ drop n state) outcome) (sym w) (subst (Told (b .cells) state r (words′ ++ drop (stateLength (b .cells)) state)) (sym here) (put-back (b .cells) state wide same));
+            clean = i .clean;
+            long = length-append slots₁ (drop (b .slots) slots) ∙ omega (arith, i .long, free, slots-there, length-drop (b .slots) slots);
+          }
+        where
+          take-whole : (n : ℕ) (l : List ℕ) → take n (take n l) ≡ take n l
+          take-whole n l = take-take n n l (le-refl n)
+
+-- ---- the whole
+told-whole : {cells : ℕ} (scratch slots : List ℕ) {state state′ scratch′ slots′ : List ℕ} {r : Answer} {o : Result State} → Told cells state r state′ o → scratch′ ≡ zeros scratch → slots′ ≡ zeros slots →
+    _≡_ {A = Iterated} (record { answer = said r; state = state′; scratch = scratch′; slots = slots′ }) (iterated o cells state scratch slots)
+unfolding iterated answer
+told-whole scratch slots (told-done q w) s l = rw (q, w, s, l) refl
+told-whole scratch slots (told-refused q w) s l = rw (q, w, s, l) refl
+
+lent-is : (b : Board) (state scratch slots : List ℕ) → buffersLent (boardOf b) state scratch slots ≡ lengthsLent (boardOf b) (length state) (length scratch) (length slots)
+unfolding buffersLent lengthsLent
+lent-is b state scratch slots = refl
+
+module _ (scratch : List ℕ) {scratch₁ : List ℕ} (cleared : scratch₁ ≡ replicate (length scratch) 0) where
+  scratch-long : length scratch₁ ≡ length scratch
+  scratch-long = ap length cleared ∙ length-replicate (length scratch) 0
+
+  pub is-clear : Cleared scratch₁
+  is-clear = record { is = cleared ∙ ap (λ n. replicate n 0) (sym scratch-long) }
+
+module _ (text : List ℕ) (b : Board) (state scratch slots line : List ℕ) {scratch₁ : List ℕ} (cleared : scratch₁ ≡ replicate (length scratch) 0) where
+  pub iterate-unread : {index slots′ : List ℕ} {x : Reading} {r : Answer} {m frame : ℕ} → TextRead x index (readFile text) → x ≡ Fault m frame → r ≡ readAnswer x → slots′ ≡ replicate (length slots) 0 →
+      Iterates text b state scratch slots line r state scratch₁ slots′
+  unfolding iterate iterateFile bind readAnswer
+  iterate-unread v q e l = record { is = told-whole scratch slots (subst (Told (b .cells) state _ state) (sym (ap (λ u. bind u (λ P. plainTypes P (need (buffersLent (boardOf b) state scratch slots) notLent noFrame (onState P (boardOf b) state line)))) (read-fault v q))) (told-refused (e ∙ ap readAnswer q) refl)) cleared l }
+
+  pub iterate-done : {state′ scratch₂ slots₁ slots′ : List ℕ} {r : Answer} → IteratesRead text line b state scratch₁ slots r state′ scratch₂ slots₁ → slots′ ≡ replicate (length slots₁) 0 →
+      Iterates text b state scratch slots line r state′ scratch₂ slots′
+  unfolding iterate
+  iterate-done {state′} {r = r} i l = record {
+    is = told-whole scratch slots (subst (λ d. Told (b .cells) state r state′ (iterateFile text (boardOf b) d state line)) (ap (λ n. lengthsLent (boardOf b) (length state) n (length slots)) (scratch-long scratch cleared) ∙ sym (lent-is b state scratch slots)) (i .says))
+        (i .clean ∙ cleared) (l ∙ ap (λ n. replicate n 0) (i .long));
+  }

@@ -1,0 +1,88 @@
+-- An iteration with the board's words lent, return by return.
+use Prim.Native.Nat.{ℕ, _+_, _≤_, _<_}
+use mathlib.Core.List.{List}
+use mathlib.Core.Bool.{Bool, true, false}
+use mathlib.Core.Path.{_≡_, refl, sym, ap, _∙_}
+use native.Mathlib.Omega.{arith}
+use lib.ListN.{length, replicate}
+use borrow.Author.Tests.{le-leb}
+use Rattle.language.specs.Refusals.{noFrame, notLent, badInputLine}
+use Rattle.language.specs.Result.{Result, from, both}
+use Rattle.language.specs.Syntax.{File, channelFrame}
+use Rattle.language.specs.Heap.{Tree}
+use Rattle.language.specs.Slide.{State}
+use Rattle.language.specs.Layout.{stateLength, loadState}
+use Rattle.language.specs.Line.{lineTrees}
+use Rattle.language.specs.Machine.{Board, iterateState}
+use Rattle.theory.specs.LineExact.{line-forth-exact, inputs-count}
+use Rattle.text.specs.Lines.{isSome}
+use Rattle.index.specs.Indexed.{Indexed}
+use Rattle.state_words.specs.StateLaws.{loaded-held}
+use Rattle.cell_check.specs.CellLaws.{some-of, none-of}
+use Rattle.state_check.specs.Loads.{StateJudged}
+use Rattle.input_line.specs.Judges.{LineJudged}
+use Rattle.iteration.specs.declared.Iteration.{Iteration}
+use Rattle.iteration.specs.Whole.{Begun, AgreesIteration, is-done, is-refused, IteratesState}
+use Rattle.checker.specs.declared.Answer.{Answer}
+use Rattle.checker.specs.Checks.{refusalOf}
+use Rattle.runtime.specs.Runs.{answerOf, Told, told-done, told-refused, Lent, IteratesLent}
+use Rattle.runtime.specs.FrameLaws.{iterated-frame, frame-found}
+
+-- what an iteration answered
+told-by : {text index : List ℕ} {P : File} (b : Board) (s : State) (vs : List Tree) {words words₂ : List ℕ} {cells : ℕ} {x : Iteration} {o : Result State} {r : Answer} → Indexed text index P → length vs ≡ length (P .inputs) → iterateState P b s vs ≡ o →
+    AgreesIteration P cells words words₂ x o → r ≡ answerOf index x → Told cells words r words₂ o
+told-by b s vs i count e (is-done w) q = told-done q w
+told-by {P = P} b s vs i count e (is-refused {n} {c} w) q =
+    let below : channelFrame P c < channelFrame P (length (P .inputs) + length (P .nodes)) = iterated-frame P b s vs count e in
+    told-refused (q ∙ ap (refusalOf n) (frame-found c i (omega (arith, below)))) w
+
+module _ (text index line : List ℕ) (cells calls : ℕ) (words scratch slots : List ℕ) (l : Lent text index cells words scratch) {given : Bool} {scratch₁ : List ℕ} (v : StateJudged index words cells scratch given scratch₁) where
+  -- enough is lent, so the test is whether there is a state
+  valid-is : {P : File} → Indexed text index P → given ≡ isSome (loadState P cells words)
+  unfolding both
+  valid-is {P} x =
+      let wide : stateLength cells ≤ length words = omega (arith, l .board) in
+      v .says text P x (l .clean .is) ∙ rw (le-leb _ _ wide, le-leb _ _ (l .room)) refl
+
+  same : scratch₁ ≡ scratch
+  same = v .none (l .clean .is)
+
+  pub state-refused : {r : Answer} → given ≡ false → r ≡ refusalOf notLent noFrame → IteratesLent text index line cells calls words scratch slots r words scratch₁ slots
+  unfolding from
+  state-refused d q = record {
+    says = λ {P} x well. rw (none-of (loadState P cells words) (sym (valid-is x) ∙ d)) (told-refused q refl);
+    clean = same;
+    long = refl;
+  }
+
+  module _ (valid : given ≡ true) where
+    pub begun : Begun index words cells
+    begun = some-of (loadState (l .file) cells words) (sym (valid-is (l .indexed)) ∙ valid) _ (λ s loads.
+        let h = loaded-held (l .indexed .within) (omega (arith, l .board)) loads in
+        let c = l .indexed .counted in
+        let w = l .indexed .within in
+        record { board = l .board; most = l .most; used = omega (arith, h .used, h .room); few = omega (arith, c .inputCount, c .nodeCount, w .fewInputs, w .fewNodes) })
+
+    pub scratch-room : cells ≤ length scratch₁
+    scratch-room = omega (arith, l .room, ap length same)
+
+    module _ {allowed : Bool} (a : LineJudged line index allowed) where
+      pub line-refused : {r : Answer} → allowed ≡ false → r ≡ refusalOf badInputLine noFrame → IteratesLent text index line cells calls words scratch slots r words scratch₁ slots
+      unfolding from
+      line-refused d q = record {
+        says = λ {P} x well. some-of (loadState P cells words) (sym (valid-is x) ∙ valid) _ (λ s loads. rw (loads, none-of (lineTrees P line) (sym (a .says text P x) ∙ d)) (told-refused q refl));
+        clean = same;
+        long = refl;
+      }
+
+      pub lent-iterated : {x : Iteration} {words₂ scratch₂ slots₂ : List ℕ} {r : Answer} → allowed ≡ true → IteratesState text index line cells calls words scratch₁ slots x words₂ scratch₂ slots₂ → r ≡ answerOf index x →
+          IteratesLent text index line cells calls words scratch slots r words₂ scratch₂ slots₂
+      unfolding from
+      lent-iterated {x} good w q =
+          let zero : scratch₁ ≡ replicate (length scratch₁) 0 = same ∙ l .clean .is ∙ ap (λ (z : List ℕ). replicate (length z) 0) (sym same) in
+          record {
+            says = λ {P} i well. some-of (loadState P cells words) (sym (valid-is i) ∙ valid) _ (λ s loads. some-of (lineTrees P line) (sym (a .says text P i) ∙ good) _ (λ vs reads.
+                rw (loads, reads) (told-by _ s vs i (inputs-count P vs (line-forth-exact P line vs reads .1)) refl (w .says (record { indexed = i; plain = well; loaded = loads; allowed = reads }) zero) q)));
+            clean = w .clean zero ∙ same;
+            long = w .long;
+          }

@@ -1,0 +1,4 @@
+pub mod Runs
+pub mod FrameLaws
+pub mod LentLaws
+pub mod IterateLaws

@@ -1,0 +1,74 @@
+-- What the calls promise that run a rule file: the machine's answer, and every lent buffer as it leaves it.
+use Prim.Native.Nat.{ℕ, _+_, _%_, _≤_}
+use mathlib.Core.List.{List}
+use mathlib.Core.Bool.{Bool}
+use mathlib.Core.Path.{_≡_}
+use lib.ListN.{length, replicate}
+use lib.Dec.{leb}
+use Rattle.language.specs.Limits.{byteRange, cellsMost, scratchWords}
+use Rattle.language.specs.Refusals.{noRefusal, noFrame, notLent, badInputLine}
+use Rattle.language.specs.Result.{Result, ok, no, from, both}
+use Rattle.language.specs.Syntax.{File}
+use Rattle.language.specs.Slide.{State}
+use Rattle.language.specs.Layout.{stateLength, loadState}
+use Rattle.language.specs.Line.{lineTrees}
+use Rattle.language.specs.PlainTyping.{WellPlain}
+use Rattle.language.specs.Machine.{Board as MachineBoard, Iterated, boardAllowed, written, iterateState, iterateFile, iterate}
+use Rattle.index.specs.Sections.{countsIn}
+use Rattle.index.specs.Indexed.{Indexed}
+use Rattle.heads.specs.Places.{lineBehindTypes}
+use Rattle.iteration.specs.declared.Iteration.{Iteration}
+use Rattle.iteration.specs.declared.Iteration.the-variants.{Done, Refused}
+use Rattle.iteration.specs.Promises.{boardOf as boardLent}
+use Rattle.checker.specs.declared.Board.{Board}
+use Rattle.checker.specs.declared.Answer.{Answer}
+use Rattle.checker.specs.Checks.{boardOf, said, refusalOf}
+
+-- ---- the promise of the public function
+pub record Iterates (text : List ℕ) (b : Board) (state scratch slots line : List ℕ) (r : Answer) (state′ scratch′ slots′ : List ℕ) : Type 0 where
+  pub is : _≡_ {A = Iterated} (record { answer = said r; state = state′; scratch = scratch′; slots = slots′ }) (iterate text (boardOf b) state scratch slots line)
+
+-- ---- the parts
+-- the machine's `buffersLent`, of lengths
+unfoldable pub lengthsLent : MachineBoard → ℕ → ℕ → ℕ → Bool
+lengthsLent b state scratch slots = both (boardAllowed b) (both (leb (stateLength (b .cells)) state) (both (leb scratchWords scratch) (leb (b .slots) slots)))
+
+pub record LendsAll (b : Board) (state scratch slots : ℕ) (r : Bool) : Type 0 where
+  pub is : r ≡ lengthsLent (boardOf b) state scratch slots
+
+abbrev pub frameAt : List ℕ → ℕ → ℕ
+frameAt index c = lineBehindTypes index (countsIn index .functions + c % byteRange) + 1
+
+abbrev pub answerOf : List ℕ → Iteration → Answer
+answerOf index Done = refusalOf noRefusal noFrame
+answerOf index (Refused n c) = refusalOf n (frameAt index c)
+
+pub record Cleared (scratch : List ℕ) : Type 0 where
+  pub is : scratch ≡ replicate (length scratch) 0
+
+-- a result of the machine, as an answer and the words of a state
+pub data Told (cells : ℕ) (words : List ℕ) (r : Answer) (words′ : List ℕ) : Result State → Type 0 where
+  told-done : {s : State} → r ≡ refusalOf noRefusal noFrame → words′ ≡ written cells s words → Told cells words r words′ (ok s)
+  told-refused : {n frame : ℕ} → r ≡ refusalOf n frame → words′ ≡ words → Told cells words r words′ (no n frame)
+
+-- of a file of right plain types, where enough is lent: 18, 19, then 20 to 23
+abbrev pub onState : File → MachineBoard → List ℕ → List ℕ → Result State
+onState P b words line = from (loadState P (b .cells) words) notLent noFrame (λ s. from (lineTrees P line) badInputLine noFrame (λ vs. iterateState P b s vs))
+
+pub record Lent (text index : List ℕ) (cells : ℕ) (words scratch : List ℕ) : Type 0 where
+  pub file : File
+  pub indexed : Indexed text index file
+  pub board : length words ≡ stateLength cells
+  pub most : cells ≤ cellsMost
+  pub room : cells ≤ length scratch
+  pub clean : Cleared scratch
+
+pub record IteratesLent (text index line : List ℕ) (cells calls : ℕ) (words scratch slots : List ℕ) (r : Answer) (words′ scratch′ slots′ : List ℕ) : Type 0 where
+  pub says : {P : File} → Indexed text index P → WellPlain P → Told cells words r words′ (onState P (boardLent cells slots calls) words line)
+  pub clean : scratch′ ≡ scratch
+  pub long : length slots′ ≡ length slots
+
+pub record IteratesRead (text line : List ℕ) (b : Board) (state scratch slots : List ℕ) (r : Answer) (state′ scratch′ slots′ : List ℕ) : Type 0 where
+  pub says : Told (b .cells) state r state′ (iterateFile text (boardOf b) (lengthsLent (boardOf b) (length state) (length scratch) (length slots)) state line)
+  pub clean : scratch′ ≡ scratch
+  pub long : length slots′ ≡ length slots
