@@ -1,5 +1,5 @@
 -- An iteration with the board's words lent, return by return.
-use Prim.Native.Nat.{ℕ, _+_, _≤_, _<_}
+use Prim.Native.Nat.{ℕ, _≤_, _<_}
 use mathlib.Core.List.{List}
 use mathlib.Core.Bool.{Bool, true, false}
 use mathlib.Core.Path.{_≡_, refl, sym, ap, _∙_}
@@ -14,6 +14,9 @@ use Rattle.language.specs.Slide.{State}
 use Rattle.language.specs.Layout.{stateLength, loadState}
 use Rattle.language.specs.Line.{lineTrees}
 use Rattle.language.specs.Machine.{Board, iterateState}
+use Rattle.theory.specs.FrameNumbers.{channelTotal}
+use Rattle.theory.specs.IterationAgrees.{refused-iff-rules, iteration-numbered}
+use Rattle.theory.specs.StateWords.{state-loaded}
 use Rattle.theory.specs.LineExact.{line-forth-exact, inputs-count}
 use Rattle.text.specs.Lines.{isSome}
 use Rattle.index.specs.Indexed.{Indexed}
@@ -22,19 +25,24 @@ use Rattle.cell_check.specs.CellLaws.{some-of, none-of}
 use Rattle.state_check.specs.Loads.{StateJudged}
 use Rattle.input_line.specs.Judges.{LineJudged}
 use Rattle.iteration.specs.declared.Iteration.{Iteration}
-use Rattle.iteration.specs.Whole.{Begun, AgreesIteration, is-done, is-refused, IteratesState}
+use Rattle.iteration.specs.Whole.{Begun, Given, AgreesIteration, is-done, is-refused, IteratesState}
 use Rattle.checker.specs.declared.Answer.{Answer}
 use Rattle.checker.specs.Checks.{refusalOf}
-use Rattle.runtime.specs.Runs.{answerOf, Told, told-done, told-refused, Lent, IteratesLent}
-use Rattle.runtime.specs.FrameLaws.{iterated-frame, frame-found}
+use Rattle.runtime.specs.Runs.{frameAt, answerOf, Told, told-done, told-refused, Lent, IteratesLent}
+
+-- the frame of a channel is found by the index
+frame-found : {text index : List ℕ} {P : File} (c : ℕ) → Indexed text index P → c < channelTotal P → frameAt index c ≡ channelFrame P c
+frame-found c x less = omega (arith, less, x .counted .typeCount, x .counted .functionCount, x .within .fewFunctions, x .within .fewInputs, x .within .fewNodes)
 
 -- what an iteration answered
-told-by : {text index : List ℕ} {P : File} (b : Board) (s : State) (vs : List Tree) {words words₂ : List ℕ} {cells : ℕ} {x : Iteration} {o : Result State} {r : Answer} → Indexed text index P → length vs ≡ length (P .inputs) → iterateState P b s vs ≡ o →
+told-by : {text index line : List ℕ} {cells : ℕ} {words : List ℕ} {P : File} (b : Board) {s : State} {vs : List Tree} {words₂ : List ℕ} {x : Iteration} {o : Result State} {r : Answer} → Given text index line cells words P s vs → iterateState P b s vs ≡ o →
     AgreesIteration P cells words words₂ x o → r ≡ answerOf index x → Told cells words r words₂ o
-told-by b s vs i count e (is-done w) q = told-done q w
-told-by {P = P} b s vs i count e (is-refused {n} {c} w) q =
-    let below : channelFrame P c < channelFrame P (length (P .inputs) + length (P .nodes)) = iterated-frame P b s vs count e in
-    told-refused (q ∙ ap (refusalOf n) (frame-found c i (omega (arith, below)))) w
+told-by b g e (is-done w) q = told-done q w
+told-by {line = line} {P = P} b {s} {vs} g e (is-refused {n} {c} w) q =
+    let fit = line-forth-exact P line vs (g .allowed) .1 in
+    let met = refused-iff-rules (g .plain) b (state-loaded (g .indexed .within) (g .loaded) .typed) vs fit n (channelFrame P c) .0 e in
+    let below = iteration-numbered vs (omega (arith, inputs-count P vs fit)) met .to-last in
+    told-refused (q ∙ ap (refusalOf n) (frame-found c (g .indexed) (omega (arith, below)))) w
 
 module _ (text index line : List ℕ) (cells calls : ℕ) (words scratch slots : List ℕ) (l : Lent text index cells words scratch) {given : Bool} {scratch₁ : List ℕ} (v : StateJudged index words cells scratch given scratch₁) where
   -- enough is lent, so the test is whether there is a state
@@ -82,7 +90,7 @@ module _ (text index line : List ℕ) (cells calls : ℕ) (words scratch slots :
           let zero : scratch₁ ≡ replicate (length scratch₁) 0 = same ∙ l .clean .is ∙ ap (λ (z : List ℕ). replicate (length z) 0) (sym same) in
           record {
             says = λ {P} i well. some-of (loadState P cells words) (sym (valid-is i) ∙ valid) _ (λ s loads. some-of (lineTrees P line) (sym (a .says text P i) ∙ good) _ (λ vs reads.
-                rw (loads, reads) (told-by _ s vs i (inputs-count P vs (line-forth-exact P line vs reads .1)) refl (w .says (record { indexed = i; plain = well; loaded = loads; allowed = reads }) zero) q)));
+                let g : Given text index line cells words P s vs = record { indexed = i; plain = well; loaded = loads; allowed = reads } in rw (loads, reads) (told-by _ g refl (w .says g zero) q)));
             clean = w .clean zero ∙ same;
             long = w .long;
           }

@@ -1,4 +1,3 @@
 pub mod Runs
-pub mod FrameLaws
 pub mod LentLaws
 pub mod IterateLaws
