@@ -1,16 +1,18 @@
 -- What checking a text promises: the answer of the machine's `check`, and its list in words.
-use Prim.Native.Nat.{ℕ, _/_}
+use Prim.Native.Nat.{ℕ, _*_, _/_, _≤_}
 use mathlib.Core.List.{List}
-use mathlib.Core.Bool.{Bool}
+use mathlib.Core.Bool.{Bool, true}
 use mathlib.Core.Path.{_≡_}
 use lib.ListN.{length, replicate}
+use Rattle.language.specs.Limits.{instancesMost}
+use Rattle.language.specs.Refusals.{noRefusal, noFrame}
 use Rattle.language.specs.Syntax.{File}
 use Rattle.language.specs.Format.{spellAll}
 use Rattle.language.specs.Layout.{padded}
 use Rattle.language.specs.Within.{Within}
 use Rattle.language.specs.Estimate.{Estimate as Exact, stopped}
 use Rattle.language.specs.Cells.{updatesNumbers, numbersNeeded}
-use Rattle.language.specs.Machine.{Board as MachineBoard, Answer as MachineAnswer, Record, emptyRecord, answer, judge, boardAllowed, listLent, check}
+use Rattle.language.specs.Machine.{Board as MachineBoard, Answer as MachineAnswer, Record, emptyRecord, answer, judge, verdictOf, finalList, boardAllowed, listLent, checkFile, check}
 use Rattle.index.specs.Sections.{countsIn}
 use Rattle.index.specs.Whole.{FileSections}
 use Rattle.reader.specs.declared.Reading.{Reading}
@@ -48,19 +50,27 @@ pub record Checks (text : List ℕ) (b : Board) (list : List ℕ) (r : Answer) (
   pub answer : said r ≡ check text (boardOf b) (recordsOf (length list)) .answer
   pub instances : list′ ≡ wordsOf (length list) (check text (boardOf b) (recordsOf (length list)) .list)
 
+-- ---- a file that was read, whether enough is lent having been judged
+pub record Granted (given : Bool) (list : List ℕ) : Type 0 where
+  pub room : given ≡ true → instanceWordsCount * instancesMost ≤ length list
+
+pub record ChecksGiven (text : List ℕ) (b : Board) (given : Bool) (list : List ℕ) (r : Answer) (list′ : List ℕ) : Type 0 where
+  pub says : said r ≡ answer (verdictOf (boardOf b) (checkFile text given))
+  pub instances : list′ ≡ wordsOf (length list) (finalList (verdictOf (boardOf b) (checkFile text given)) (checkFile text given) (length (recordsOf (length list))))
+
 -- ---- answers
 abbrev pub refusalOf : ℕ → ℕ → Answer
 refusalOf n frame = record { number = n; frame = frame; heap = 0; environment = 0; stack = 0 }
 
 abbrev pub boundsOf : ℕ → Held → Answer
-boundsOf n x = record { number = n; frame = 0; heap = x .heap; environment = x .env; stack = x .stack }
+boundsOf n x = record { number = n; frame = noFrame; heap = x .heap; environment = x .env; stack = x .stack }
 
 unfoldable pub readAnswer : Reading → Answer
-readAnswer Done = refusalOf 0 0
+readAnswer Done = refusalOf noRefusal noFrame
 readAnswer (Fault n frame) = refusalOf n frame
 
 unfoldable pub sizingRefusal : Counting → Answer
-sizingRefusal (Are k) = refusalOf 0 0
+sizingRefusal (Are k) = refusalOf noRefusal noFrame
 sizingRefusal (Refused n frame) = refusalOf n frame
 
 -- ---- a text that was read, and its index

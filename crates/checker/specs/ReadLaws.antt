@@ -1,14 +1,16 @@
 -- A text as it is read: a refusal's answer, or the file in the index.
 use Prim.Native.Nat.{ℕ}
 use mathlib.Core.List.{List}
-use mathlib.Core.Path.{_≡_, sym, ap, _∙_}
+use mathlib.Core.Bool.{Bool}
+use mathlib.Core.Path.{_≡_, refl, sym, ap, _∙_}
 use native.Mathlib.Omega.{arith}
 use lib.ListN.{length, replicate}
+use Rattle.language.specs.Refusals.{noFrame, notLent}
 use Rattle.language.specs.Result.{Result, ok, no, bind, need}
 use Rattle.language.specs.Syntax.{File}
 use Rattle.language.specs.Reader.{readFile}
 use Rattle.language.specs.PlainTypes.{plainTypes}
-use Rattle.language.specs.Machine.{checkFile}
+use Rattle.language.specs.Machine.{listLent, checkFile}
 use Rattle.index.specs.Whole.{indexOf, whole-sections}
 use Rattle.reader.specs.declared.Reading.{Reading}
 use Rattle.reader.specs.declared.Reading.the-variants.{Done, Fault}
@@ -16,8 +18,8 @@ use Rattle.reader.specs.Texts.{TextRead, done, fault}
 use Rattle.reader.specs.Indexes.{read-indexes}
 use Rattle.checker.specs.declared.Board.{Board}
 use Rattle.checker.specs.declared.Answer.{Answer}
-use Rattle.checker.specs.Checks.{Checks, readAnswer, ReadHeld}
-use Rattle.checker.specs.Outcomes.{sizesOf, lends, refused}
+use Rattle.checker.specs.Checks.{boardOf, recordsOf, ChecksGiven, Checks, readAnswer, ReadHeld}
+use Rattle.checker.specs.Outcomes.{sizesOf, refused, checked}
 
 -- ---- refused
 pub read-fault : {index : List ℕ} {x : Reading} {m frame : ℕ} {y : Result File} → TextRead x index y → x ≡ Fault m frame → y ≡ no m frame
@@ -25,9 +27,12 @@ read-fault (done e w) q = absurd (let u = sym e ∙ q in let z : _≡_ {A = ℕ}
 read-fault {m} {frame} (fault {m = n} {frame = f} e w) q = let u : Fault n f ≡ Fault m frame = sym e ∙ q in cc
 
 pub reading-refused : {text index list list′ : List ℕ} {b : Board} {x : Reading} {r : Answer} {m frame : ℕ} → TextRead x index (readFile text) → x ≡ Fault m frame → r ≡ readAnswer x →
-    list′ ≡ replicate (length list) 0 → Checks text b list r list′
+    list′ ≡ replicate (length list) 0 → (given : Bool) → ChecksGiven text b given list r list′
 unfolding readAnswer checkFile bind
-reading-refused {text} {list} {b} v q e z = refused text b list (ap (λ u. bind u (λ P. plainTypes P (need (lends b list) 18 0 (sizesOf P)))) (read-fault v q)) (e ∙ ap readAnswer q) z
+reading-refused {text} {list} {b} v q e z given = refused text b given list (ap (λ u. bind u (λ P. plainTypes P (need given notLent noFrame (sizesOf P)))) (read-fault v q)) (e ∙ ap readAnswer q) z
+
+pub check-unread : {text index list list′ : List ℕ} {b : Board} {x : Reading} {r : Answer} {m frame : ℕ} → TextRead x index (readFile text) → x ≡ Fault m frame → r ≡ readAnswer x → list′ ≡ replicate (length list) 0 → Checks text b list r list′
+check-unread {list} {b} v q e z = checked (record { is = refl }) (reading-refused v q e z (listLent (boardOf b) (recordsOf (length list))))
 
 -- ---- read: the index is the file's
 read-whole : {index : List ℕ} {x : Reading} {y : Result File} {P : File} → TextRead x index y → y ≡ ok P → index ≡ indexOf P

@@ -16,7 +16,7 @@ use Rattle.estimate.specs.declared.Estimate.{Estimate as Held}
 use Rattle.instances.specs.Listed.{instanceWordsCount}
 use Rattle.checker.specs.declared.Board.{Board}
 use Rattle.checker.specs.declared.Answer.{Answer}
-use Rattle.checker.specs.Checks.{boardOf, numbersOf, said, recordsOf, boundsOf, Allows, Lends, Judges}
+use Rattle.checker.specs.Checks.{boardOf, numbersOf, said, recordsOf, boundsOf, Allows, Lends, Granted, Judges}
 
 -- ---- the board and the list that are lent
 words-of-records : (words : ℕ) → leb (instancesMost * instanceWordsCount) words ≡ leb instancesMost (words / instanceWordsCount)
@@ -50,11 +50,13 @@ module _ {b : Board} {words : ℕ} {allowed : Bool} (a : Allows b allowed) where
   list-judged d e = record { is = rw (← (a .is), d, length-replicate (words / instanceWordsCount) emptyRecord) (e ∙ words-of-records words) }
 
 -- then there is room for all instances
-pub list-room : (b : Board) (list : List ℕ) → Lends b (length list) true → instanceWordsCount * instancesMost ≤ length list
+pub list-room : {b : Board} (list : List ℕ) {given : Bool} → Lends b (length list) given → Granted given list
 unfolding listLent
-list-room b list e =
-    let enough : instancesMost ≤ length (recordsOf (length list)) = leb-true _ _ (both-right _ _ (sym (e .is))) in
-    omega (arith, enough, length-replicate (length list / instanceWordsCount) emptyRecord)
+list-room list l = record {
+  room = λ e.
+      let enough : instancesMost ≤ length (recordsOf (length list)) = leb-true _ _ (both-right _ _ (sym (l .is) ∙ e)) in
+      omega (arith, enough, length-replicate (length list / instanceWordsCount) emptyRecord);
+}
 
 -- ---- what the board has
 module _ {b : Board} {x : Held} {r : Answer} where

@@ -1,6 +1,6 @@
 // The checker of rule files: refusals 1 to 18, the three bounds, and the list of instances.
 ghost use mathlib.Core.Path.{_≡_};
-ghost use Rattle.checker.specs.Checks.{refusalOf, boundsOf, readAnswer, sizingRefusal, ReadHeld, Allows, Lends, Needs, Judges, Checks};
+ghost use Rattle.checker.specs.Checks.{refusalOf, boundsOf, readAnswer, sizingRefusal, ReadHeld, Allows, Lends, Granted, Needs, Judges, ChecksGiven, Checks};
 use cells::CELLS_TABLE;
 use cells::channels_cells;
 use estimate::Estimate;
@@ -106,7 +106,7 @@ pub fn board_allowed(b: Board) -> bool
 }
 
 // Whether it is, and the list has so many records; else refusal 18.
-fn lent(b: Board, words: usize) -> bool
+pub fn lent(b: Board, words: usize) -> bool
     ensures { λ r. ⌜ Lends b words r ⌝ }
 {
     if !board_allowed(b) {
@@ -148,17 +148,24 @@ fn judge(b: Board, x: Estimate) -> Answer
     bounds(NO_REFUSAL, x)
 }
 
-// Checks a file that was read: plain types, what is lent, sizes, and what the board has.
-fn check_read(text: &[u8], index: &[u32; INDEX_WORDS], b: Board, list: &mut [u32]) -> Answer
+// Checks a file that was read: plain types, what is lent, sizes, and what the board has. Whether enough is lent was judged before.
+pub fn check_read(
+    text: &[u8],
+    index: &[u32; INDEX_WORDS],
+    b: Board,
+    given: bool,
+    list: &mut [u32],
+) -> Answer
     requires { ⌜ ReadHeld (now text) (now index) ⌝ }
-    ensures { λ r. ⌜ Checks (now (text .entry)) b (now (list .entry)) r (now (list .exit)) ⌝ }
+    requires { ⌜ Granted given (now list) ⌝ }
+    ensures { λ r. ⌜ ChecksGiven (now (text .entry)) b given (now (list .entry)) r (now (list .exit)) ⌝ }
 {
     let frame = plain_types(text, index);
     if frame != NO_FRAME {
         clear(list);
         return refusal(TYPES_DISAGREE, frame);
     }
-    if !lent(b, list.len()) {
+    if !given {
         clear(list);
         return refusal(NOT_LENT, NO_FRAME);
     }
@@ -185,5 +192,6 @@ pub fn check(text: &[u8], b: Board, list: &mut [u32]) -> Answer
         clear(list);
         return read_answer(x);
     };
-    check_read(text, &index, b, list)
+    let given = lent(b, list.len());
+    check_read(text, &index, b, given, list)
 }

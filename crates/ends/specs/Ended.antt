@@ -6,12 +6,12 @@ use mathlib.Core.Bool.{Bool}
 use mathlib.Core.Option.{some}
 use mathlib.Core.Path.{_≡_}
 use lib.ListN.{length, getD, getElem? as look}
-use Rattle.language.specs.Syntax.{Size, ResultType, Op, Expr, ebool, eint, evar, enow, elast, elet, eif, eop, ecall, econ, ecase, eadj, efit, Exprs, enil, econs, Function, Node, File}
+use Rattle.language.specs.Syntax.{Size, ResultType, Op, Expr, ebool, eint, evar, enow, elast, elet, eif, eop, ecall, econ, ecase, eadj, efit, Exprs, enil, econs, Function, Node, File, initialValues}
 use Rattle.language.specs.Format.{sizeBytes, resultBytes, exprBytes}
 use Rattle.text.specs.Places.{past}
 use Rattle.encoding.specs.FrameSpells.{lineAt}
 use Rattle.index.specs.Sections.{framesOf, functionsOf, channelsOf}
-use Rattle.index.specs.Indexed.{framePlace, bodyAt, updateAt, functionLine, channelLine}
+use Rattle.index.specs.Indexed.{framePlace, bodyAt, initialAt, updateAt, functionLine, channelLine}
 
 -- the word of a place of the line that starts at from
 abbrev pub endIn : List ℕ → ℕ → ℕ → ℕ
@@ -43,8 +43,18 @@ mutual
     ds-nil : {at : ℕ} → EndedAll ends from line at enil
     ds-cons : {at : ℕ} {e : Expr} {es : Exprs} → EndAt exprBytes ends from line at e → Ended ends from line at e → EndedAll ends from line (past line at (length (exprBytes e))) es → EndedAll ends from line at (econs e es)
 
--- the table tells the bodies and the updates of a file
-pub record EndsTold (text index ends : List ℕ) (P : File) : Type 0 where
-  pub bodies : (f : ℕ) {F : Function} → look (P .functions) f ≡ some F → Ended ends (framePlace (framesOf index) (functionLine P f)) (lineAt text (functionLine P f)) (bodyAt (functionsOf index) f) (F .body)
-  pub updates : (m : ℕ) {n : Node} → look (P .nodes) m ≡ some n → let c = length (P .inputs) + m in
-      Ended ends (framePlace (framesOf index) (channelLine P c)) (lineAt text (channelLine P c)) (updateAt (channelsOf index) c) (n .update)
+-- the table tells the expression that starts at a place of line i
+abbrev pub LineEnded : List ℕ → List ℕ → ℕ → ℕ → Expr → List ℕ → Type 0
+LineEnded text index i at e ends = Ended ends (framePlace (framesOf index) i) (lineAt text i) at e
+
+-- the bodies of a file; with them its updates, or its initial values
+pub record BodiesTold (text index ends : List ℕ) (P : File) : Type 0 where
+  pub each : (f : ℕ) {F : Function} → look (P .functions) f ≡ some F → LineEnded text index (functionLine P f) (bodyAt (functionsOf index) f) (F .body) ends
+
+pub record UpdatesTold (text index ends : List ℕ) (P : File) : Type 0 where
+  pub bodies : BodiesTold text index ends P
+  pub each : (m : ℕ) {n : Node} → look (P .nodes) m ≡ some n → let c = length (P .inputs) + m in LineEnded text index (channelLine P c) (updateAt (channelsOf index) c) (n .update) ends
+
+pub record InitialsTold (text index ends : List ℕ) (P : File) : Type 0 where
+  pub bodies : BodiesTold text index ends P
+  pub each : (c : ℕ) {e : Expr} → look (initialValues P) c ≡ some e → LineEnded text index (channelLine P c) (initialAt (channelsOf index) c) e ends

@@ -5,5 +5,6 @@ pub mod Walks
 pub mod KeptLaws
 pub mod Begins
 pub mod WalkLaws
+pub mod Initials
 pub mod Told
 pub mod ToldLaws

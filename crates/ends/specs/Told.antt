@@ -1,11 +1,11 @@
--- What the functions promise that fill the table for a file: of the expression of one line, of the bodies and the updates so far, of all.
+-- What the functions promise that fill the table for a file: of the expression of one line, of those of several lines so far, of all.
 use Prim.Native.Nat.{ℕ, _+_, _≤_, _<_}
 use mathlib.Core.List.{List}
 use mathlib.Core.Option.{some}
 use mathlib.Core.Path.{_≡_}
 use lib.ListN.{length, getD, getElem? as look}
 use Rattle.language.specs.Limits.{textMost, nestingMost}
-use Rattle.language.specs.Syntax.{Expr, Function, Node, File}
+use Rattle.language.specs.Syntax.{Expr, File}
 use Rattle.language.specs.Format.{exprBytes}
 use Rattle.language.specs.Scope.{Scope}
 use Rattle.language.specs.Within.{WithinExpr}
@@ -13,9 +13,11 @@ use Rattle.text.specs.Lines.{lineStart}
 use Rattle.encoding.specs.Spells.{Spells}
 use Rattle.encoding.specs.FrameSpells.{lineAt}
 use Rattle.index.specs.Sections.{framesOf, typesOf, functionsOf, channelsOf}
-use Rattle.index.specs.Indexed.{framePlace, bodyAt, updateAt, functionLine, channelLine, FrameIndexed, Indexed}
+use Rattle.index.specs.Indexed.{bodyAt, initialAt, updateAt, FrameIndexed, Indexed}
 use Rattle.heads.specs.Skips.{Shapes}
-use Rattle.ends.specs.Ended.{Ended, EndsTold}
+use Rattle.ends.specs.declared.Part.{Part}
+use Rattle.ends.specs.declared.Part.the-variants.{Body, Initial, Update}
+use Rattle.ends.specs.Ended.{LineEnded, UpdatesTold, InitialsTold}
 
 -- an expression stands at a place of line i, in some scope within the limits
 pub record Stands (text index : List ℕ) (i at : ℕ) (e : Expr) : Type 0 where
@@ -25,10 +27,6 @@ pub record Stands (text index : List ℕ) (i at : ℕ) (e : Expr) : Type 0 where
   pub shapes : Shapes (typesOf index) (functionsOf index) scope
   pub within : WithinExpr nestingMost scope e
   pub spelled : Spells exprBytes (lineAt text i) at e
-
--- the table tells it
-abbrev pub LineEnded : List ℕ → List ℕ → ℕ → ℕ → Expr → List ℕ → Type 0
-LineEnded text index i at e ends = Ended ends (framePlace (framesOf index) i) (lineAt text i) at e
 
 -- the words before a line are as they were
 pub record FrontKept (text : List ℕ) (line : ℕ) (ends ends′ : List ℕ) : Type 0 where
@@ -42,21 +40,26 @@ pub record LineTold (text index : List ℕ) (i at : ℕ) (e : Expr) (ends ends�
 pub record LineEnds (text index : List ℕ) (i at : ℕ) (ends ends′ : List ℕ) : Type 0 where
   pub says : (e : Expr) → Stands text index i at e → LineTold text index i at e ends ends′
 
--- the first n functions, and the first n nodes
-pub record BodiesTold (text index : List ℕ) (P : File) (n : ℕ) (ends : List ℕ) : Type 0 where
-  pub each : (f : ℕ) {F : Function} → f < n → look (P .functions) f ≡ some F → LineEnded text index (functionLine P f) (bodyAt (functionsOf index) f) (F .body) ends
+-- where a part of function or channel i starts in its line
+unfoldable pub startOf : List ℕ → Part → ℕ → ℕ
+startOf index Body f = bodyAt (functionsOf index) f
+startOf index Initial c = initialAt (channelsOf index) c
+startOf index Update c = updateAt (channelsOf index) c
 
-pub record UpdatesTold (text index : List ℕ) (P : File) (n : ℕ) (ends : List ℕ) : Type 0 where
-  pub each : (m : ℕ) {N : Node} → m < n → look (P .nodes) m ≡ some N → let c = length (P .inputs) + m in LineEnded text index (channelLine P c) (updateAt (channelsOf index) c) (N .update) ends
+-- expressions in lines that follow each other from `first` on, parts of functions or channels from number `from` on; the first n of them told
+pub record LinesStand (text index : List ℕ) (part : Part) (first from : ℕ) (es : List Expr) : Type 0 where
+  pub each : (k : ℕ) {e : Expr} → look es k ≡ some e → Stands text index (first + k) (startOf index part (from + k)) e
 
--- in a file with these counts the first n functions
-pub record TellsBodies (text index : List ℕ) (types functions n : ℕ) (ends : List ℕ) : Type 0 where
-  pub says : (P : File) → Indexed text index P → length (P .types) ≡ types → length (P .functions) ≡ functions → BodiesTold text index P n ends
+pub record LinesTold (text index : List ℕ) (part : Part) (first from : ℕ) (es : List Expr) (n : ℕ) (ends : List ℕ) : Type 0 where
+  pub each : (k : ℕ) {e : Expr} → k < n → look es k ≡ some e → LineEnded text index (first + k) (startOf index part (from + k)) e ends
 
--- in a file with these counts the first n nodes; before the channels stand so many lines
-pub record TellsUpdates (text index : List ℕ) (before inputs nodes n : ℕ) (ends ends′ : List ℕ) : Type 0 where
-  pub says : (P : File) → Indexed text index P → length (P .types) + length (P .functions) ≡ before → length (P .inputs) ≡ inputs → length (P .nodes) ≡ nodes →
-      UpdatesTold text index P n ends′ × FrontKept text before ends ends′
+-- of n such expressions the first m
+pub record TellsLines (text index : List ℕ) (part : Part) (first from n m : ℕ) (ends ends′ : List ℕ) : Type 0 where
+  pub says : (es : List Expr) → length es ≡ n → LinesStand text index part first from es → LinesTold text index part first from es m ends′ × FrontKept text first ends ends′
 
-pub record TellsFile (text index ends : List ℕ) : Type 0 where
-  pub says : (P : File) → Indexed text index P → EndsTold text index ends P
+-- ---- a whole file
+pub record TellsUpdates (text index ends : List ℕ) : Type 0 where
+  pub says : (P : File) → Indexed text index P → UpdatesTold text index ends P
+
+pub record TellsInitials (text index ends : List ℕ) : Type 0 where
+  pub says : (P : File) → Indexed text index P → InitialsTold text index ends P

@@ -1,15 +1,16 @@
 -- The table of a file, line by line: what was told of a line stays told when a later one is walked over.
 use Prim.Native.Nat.{ℕ, zero, suc, _+_, _-_, _≤_, _<_}
 use mathlib.Core.List.{List, map}
+use mathlib.Core.Bool.{true}
 use mathlib.Core.Option.{some, Option·some-injective}
-use mathlib.Core.Path.{_≡_, refl, sym, ap, _∙_, subst}
+use mathlib.Core.Path.{_≡_, refl, sym, ap, _∙_, subst, subst₂}
 use native.Mathlib.Omega.{arith}
-use native.Mathlib.Nat.{add-zero}
+use native.Mathlib.Nat.{add-zero, zero-add}
 use lib.ListN.{length, getD, drop, length-take, length-drop, length-map, getElem? as look}
 use Rattle.language.specs.Limits.{nestingMost}
-use Rattle.language.specs.Syntax.{Expr, Function, Node, File}
-use Rattle.theory.specs.Lists.{look-less}
-use Rattle.theory.specs.Places.{below-or-last, look-at, Mapped, look-mapped}
+use Rattle.language.specs.Syntax.{Expr, ebool, Function, Node, File, initialValues}
+use Rattle.theory.specs.Lists.{look-less, look-map}
+use Rattle.theory.specs.Places.{below-or-last, look-at, look-mapped}
 use Rattle.text.specs.declared.Cursor.{Cursor}
 use Rattle.text.specs.Lines.{lineStart}
 use Rattle.text.specs.LinesWalk.{line-start-next}
@@ -20,12 +21,15 @@ use Rattle.encoding.specs.Known.{outer-known, body-known}
 use Rattle.encoding.specs.WithinParts.{node-within}
 use Rattle.index.specs.declared.Counts.{Counts}
 use Rattle.index.specs.Sections.{framesOf, typesOf, functionsOf, channelsOf, countsIn}
-use Rattle.index.specs.Indexed.{framePlace, frameLength, framePart, bodyAt, updateAt, functionLine, channelLine, FrameIndexed, Counted, Indexed}
+use Rattle.index.specs.Indexed.{framePlace, frameLength, framePart, bodyAt, initialAt, updateAt, functionLine, channelLine, FrameIndexed, Counted, Indexed}
 use Rattle.heads.specs.ScopeShapes.{known-shapes}
-use Rattle.ends.specs.Ended.{EndsTold}
+use Rattle.ends.specs.declared.Part.{Part}
+use Rattle.ends.specs.declared.Part.the-variants.{Body, Initial, Update}
+use Rattle.ends.specs.Ended.{LineEnded, BodiesTold, UpdatesTold, InitialsTold}
 use Rattle.ends.specs.Walks.{Walks}
 use Rattle.ends.specs.KeptLaws.{ended-kept}
-use Rattle.ends.specs.Told.{Stands, LineEnded, FrontKept, LineTold, LineEnds, BodiesTold, UpdatesTold, TellsBodies, TellsUpdates, TellsFile}
+use Rattle.ends.specs.Initials.{initials-long, initial-known}
+use Rattle.ends.specs.Told.{Stands, FrontKept, LineTold, LineEnds, startOf, LinesStand, LinesTold, TellsLines, TellsUpdates, TellsInitials}
 
 -- ---- lines in order
 later-line : (text : List ℕ) (i k : ℕ) → lineStart text i ≤ lineStart text (i + k)
@@ -68,110 +72,141 @@ line-stays {text} {index} {ends} {ends′} {i} j s less k told =
 front-on : {text ends ends′ ends″ : List ℕ} {line : ℕ} (next : ℕ) → line ≤ next → FrontKept text line ends ends′ → FrontKept text next ends′ ends″ → FrontKept text line ends ends″
 front-on {text} {line} next le k m = record { same = λ i less. m .same i (omega (arith, less, line-order text line next le)) ∙ k .same i less }
 
--- ---- a place below the length has something
-abbrev zeroOf : {A : Type 0} → A → ℕ
-zeroOf a = 0
+-- ---- one more of several
+module _ {text index : List ℕ} {part : Part} {first from : ℕ} {es : List Expr} (s : LinesStand text index part first from es) where
+  line-more : (k : ℕ) {ends₀ ends ends′ : List ℕ} → k < length es → LinesTold text index part first from es k ends → FrontKept text first ends₀ ends → LineEnds text index (first + k) (startOf index part (from + k)) ends ends′ →
+      LinesTold text index part first from es (k + 1) ends′ × FrontKept text first ends₀ ends′
+  line-more k {ends₀} {ends} {ends′} less so kept l = (record { each = each }, front-on (first + k) (omega arith) kept (last-told .kept))
+    where
+      there : look es k ≡ some (getD es k (ebool true))
+      there = look-at es k (ebool true) less
 
-there : {A : Type 0} (l : List A) (i : ℕ) → i < length l → Mapped zeroOf l i (getD (map zeroOf l) i 0)
-there l i less = look-mapped zeroOf l i (look-at (map zeroOf l) i 0 (omega (arith, less, length-map l zeroOf)))
+      last-told : LineTold text index (first + k) (startOf index part (from + k)) (getD es k (ebool true)) ends ends′
+      last-told = l .says (getD es k (ebool true)) (s .each k there)
 
-same-there : {A : Type 0} (l : List A) {i j : ℕ} {a b : A} → look l i ≡ some a → i ≡ j → look l j ≡ some b → a ≡ b
-same-there l {a} {b} e q f = Option·some-injective a b (sym e ∙ ap (look l) q ∙ f)
+      each : (j : ℕ) {e : Expr} → j < k + 1 → look es j ≡ some e → LineEnded text index (first + j) (startOf index part (from + j)) e ends′
+      each j {e} below is = below-or-last j k (omega (arith, below)) (λ earlier. line-stays (first + k) (s .each j is) (omega (arith, earlier)) (last-told .kept) (so .each j earlier is))
+          (λ last. rw (last, Option·some-injective e (getD es k (ebool true)) (sym is ∙ ap (look es) last ∙ there)) (last-told .told))
 
--- ---- the bodies and updates of a file
+-- ---- the loop
+module _ (text index : List ℕ) (part : Part) (first from n : ℕ) where
+  pub lines-none : (ends : List ℕ) → TellsLines text index part first from n 0 ends ends
+  lines-none ends = record { says = λ es long s. (record { each = λ k less is. absurd (omega (arith, less)) }, record { same = λ j less. refl }) }
+
+  pub lines-on : {k at : ℕ} {ends₀ ends ends′ : List ℕ} → k < n → TellsLines text index part first from n k ends₀ ends → at ≡ startOf index part (from + k) → LineEnds text index (first + k) at ends ends′ →
+      TellsLines text index part first from n (k + 1) ends₀ ends′
+  lines-on {k} less so place l = record {
+    says = λ es long s.
+        let told = so .says es long s in
+        line-more s k (omega (arith, less, long)) (told .0) (told .1) (rw place at l);
+  }
+
+  pub lines-end : {k : ℕ} {ends₀ ends : List ℕ} → k ≤ n → n ≤ k → TellsLines text index part first from n k ends₀ ends → TellsLines text index part first from n n ends₀ ends
+  lines-end {k} {ends₀} {ends} le ge so = let same : k ≡ n = omega (arith, le, ge) in subst (λ m. TellsLines text index part first from n m ends₀ ends) same so
+
+-- ---- the expressions of a file
+abbrev bodiesOf : File → List Expr
+bodiesOf P = map (λ (F : Function). F .body) (P .functions)
+
+abbrev updatesOf : File → List Expr
+updatesOf P = map (λ (N : Node). N .update) (P .nodes)
+
 module _ {text index : List ℕ} {P : File} (h : Indexed text index P) where
-  body-stands : (f : ℕ) {F : Function} → look (P .functions) f ≡ some F → Stands text index (functionLine P f) (bodyAt (functionsOf index) f) (F .body)
-  body-stands f is =
-      let k = body-known (h .within) f is in
-      record {
-        frame = h .eachFrame (functionLine P f) (omega (arith, look-less (P .functions) f is));
-        short = h .short;
-        scope = k .scope;
-        shapes = known-shapes h (k .known);
-        within = k .within;
-        spelled = h .eachFunction f is .body;
-      }
+  channel-frame : (c : ℕ) → c < length (P .inputs) + length (P .nodes) → FrameIndexed text (framesOf index) (channelLine P c)
+  channel-frame c less = h .eachFrame (channelLine P c) (omega (arith, less))
 
-  update-stands : (m : ℕ) {N : Node} → look (P .nodes) m ≡ some N → let c = length (P .inputs) + m in Stands text index (channelLine P c) (updateAt (channelsOf index) c) (N .update)
-  update-stands m is = record {
-    frame = h .eachFrame (channelLine P (length (P .inputs) + m)) (omega (arith, look-less (P .nodes) m is));
-    short = h .short;
-    scope = _;
-    shapes = known-shapes h (outer-known P (length (P .inputs) + m) (length (P .inputs) + length (P .nodes)));
-    within = node-within (h .within) m is .update;
-    spelled = h .eachNode m is .update;
-  }
-
-  -- ---- one more of each
-  body-more : (f : ℕ) {ends ends′ : List ℕ} → f < length (P .functions) → BodiesTold text index P f ends → LineEnds text index (functionLine P f) (bodyAt (functionsOf index) f) ends ends′ → BodiesTold text index P (f + 1) ends′
-  body-more f {ends} {ends′} less so l = record { each = each }
+  bodies-stand : LinesStand text index Body (length (P .types)) 0 (bodiesOf P)
+  unfolding startOf
+  bodies-stand = record { each = λ f {e} is. subst (λ i. Stands text index (functionLine P f) (bodyAt (functionsOf index) i) e) (sym (zero-add f)) (each f is) }
     where
-      each : (g : ℕ) {G : Function} → g < f + 1 → look (P .functions) g ≡ some G → LineEnded text index (functionLine P g) (bodyAt (functionsOf index) g) (G .body) ends′
-      each g {G} below is =
-          let F = there (P .functions) f less in
-          let t = l .says (F .of .body) (body-stands f (F .at)) in
-          below-or-last g f (omega (arith, below)) (λ earlier. line-stays (functionLine P f) (body-stands g is) (omega (arith, earlier)) (t .kept) (so .each g earlier is))
-          (λ last. rw (last, sym (same-there (P .functions) (F .at) (sym last) is)) (t .told))
+      each : (f : ℕ) {e : Expr} → look (bodiesOf P) f ≡ some e → Stands text index (functionLine P f) (bodyAt (functionsOf index) f) e
+      each f is =
+          let F = look-mapped (λ (G : Function). G .body) (P .functions) f is in
+          let k = body-known (h .within) f (F .at) in
+          rw (F .is) (record {
+            frame = h .eachFrame (functionLine P f) (omega (arith, look-less (P .functions) f (F .at)));
+            short = h .short;
+            scope = k .scope;
+            shapes = known-shapes h (k .known);
+            within = k .within;
+            spelled = h .eachFunction f (F .at) .body;
+          })
 
-  update-more : (m : ℕ) {ends₀ ends ends′ : List ℕ} → m < length (P .nodes) → UpdatesTold text index P m ends → LineEnds text index (channelLine P (length (P .inputs) + m)) (updateAt (channelsOf index) (length (P .inputs) + m)) ends ends′ →
-      FrontKept text (length (P .types) + length (P .functions)) ends₀ ends → UpdatesTold text index P (m + 1) ends′ × FrontKept text (length (P .types) + length (P .functions)) ends₀ ends′
-  update-more m {ends₀} {ends} {ends′} less so l k = (record { each = each }, front-on (channelLine P (length (P .inputs) + m)) (omega arith) k (last-told .kept))
+  updates-stand : LinesStand text index Update (length (P .types) + length (P .functions) + length (P .inputs)) (length (P .inputs)) (updatesOf P)
+  unfolding startOf
+  updates-stand = record { each = each }
     where
-      last-told : LineTold text index (channelLine P (length (P .inputs) + m)) (updateAt (channelsOf index) (length (P .inputs) + m)) (there (P .nodes) m less .of .update) ends ends′
-      last-told = let N = there (P .nodes) m less in l .says (N .of .update) (update-stands m (N .at))
+      each : (m : ℕ) {e : Expr} → look (updatesOf P) m ≡ some e → Stands text index (length (P .types) + length (P .functions) + length (P .inputs) + m) (updateAt (channelsOf index) (length (P .inputs) + m)) e
+      each m is =
+          let N = look-mapped (λ (M : Node). M .update) (P .nodes) m is in
+          let line : length (P .types) + length (P .functions) + length (P .inputs) + m ≡ channelLine P (length (P .inputs) + m) = omega arith in
+          rw (N .is, line) (record {
+            frame = channel-frame (length (P .inputs) + m) (omega (arith, look-less (P .nodes) m (N .at)));
+            short = h .short;
+            scope = _;
+            shapes = known-shapes h (outer-known P (length (P .inputs) + m) (length (P .inputs) + length (P .nodes)));
+            within = node-within (h .within) m (N .at) .update;
+            spelled = h .eachNode m (N .at) .update;
+          })
 
-      each : (n : ℕ) {N : Node} → n < m + 1 → look (P .nodes) n ≡ some N → let c = length (P .inputs) + n in LineEnded text index (channelLine P c) (updateAt (channelsOf index) c) (N .update) ends′
-      each n {N} below is = below-or-last n m (omega (arith, below))
-          (λ earlier. line-stays (channelLine P (length (P .inputs) + m)) (update-stands n is) (omega (arith, earlier)) (last-told .kept) (so .each n earlier is))
-          (λ last. rw (last, sym (same-there (P .nodes) (there (P .nodes) m less .at) (sym last) is)) (last-told .told))
-
--- ---- the loop over the functions
-module _ (text index : List ℕ) (types functions : ℕ) where
-  pub bodies-none : (ends : List ℕ) → TellsBodies text index types functions 0 ends
-  bodies-none ends = record { says = λ P h t n. record { each = λ f less is. absurd (omega (arith, less)) } }
-
-  pub bodies-on : {f at : ℕ} {ends ends′ : List ℕ} → f < functions → TellsBodies text index types functions f ends → at ≡ bodyAt (functionsOf index) f → LineEnds text index (types + f) at ends ends′ → TellsBodies text index types functions (f + 1) ends′
-  bodies-on {f} {at} {ends} {ends′} less so place l = record {
-    says = λ P h t n.
-        let line : types + f ≡ functionLine P f = ap (λ (m : ℕ). m + f) (sym t) in
-        body-more h f (omega (arith, less, n)) (so .says P h t n) (rw (line, place) at l);
-  }
-
-  pub bodies-end : {f : ℕ} {ends : List ℕ} → f ≤ functions → functions ≤ f → TellsBodies text index types functions f ends → TellsBodies text index types functions functions ends
-  bodies-end {f} {ends} le ge so = let same : f ≡ functions = omega (arith, le, ge) in subst (λ (m : ℕ). TellsBodies text index types functions m ends) same so
-
--- ---- the loop over the nodes
-module _ (text index : List ℕ) (before inputs nodes : ℕ) where
-  pub updates-none : (ends : List ℕ) → TellsUpdates text index before inputs nodes 0 ends ends
-  updates-none ends = record { says = λ P h b i n. (record { each = λ m less is. absurd (omega (arith, less)) }, record { same = λ j less. refl }) }
-
-  pub updates-on : {m at : ℕ} {ends₀ ends ends′ : List ℕ} → m < nodes → TellsUpdates text index before inputs nodes m ends₀ ends → at ≡ updateAt (channelsOf index) (inputs + m) → LineEnds text index (before + (inputs + m)) at ends ends′ →
-      TellsUpdates text index before inputs nodes (m + 1) ends₀ ends′
-  updates-on {m} {at} {ends₀} {ends} {ends′} less so place l = record {
-    says = λ P h b i n.
-        let told = so .says P h b i n in
-        let line : before + (inputs + m) ≡ channelLine P (length (P .inputs) + m) = omega (arith, b, i) in
-        let from : at ≡ updateAt (channelsOf index) (length (P .inputs) + m) = place ∙ ap (λ (k : ℕ). updateAt (channelsOf index) (k + m)) (sym i) in
-        let more = update-more h m (omega (arith, less, n)) (told .0) (rw (line, from) at l) (subst (λ (k : ℕ). FrontKept text k ends₀ ends) (sym b) (told .1)) in
-        (more .0, subst (λ (k : ℕ). FrontKept text k ends₀ ends′) b (more .1));
-  }
-
-  pub updates-end : {m : ℕ} {ends₀ ends : List ℕ} → m ≤ nodes → nodes ≤ m → TellsUpdates text index before inputs nodes m ends₀ ends → TellsUpdates text index before inputs nodes nodes ends₀ ends
-  updates-end {m} {ends₀} {ends} le ge so = let same : m ≡ nodes = omega (arith, le, ge) in subst (λ (k : ℕ). TellsUpdates text index before inputs nodes k ends₀ ends) same so
+  initials-stand : LinesStand text index Initial (length (P .types) + length (P .functions)) 0 (initialValues P)
+  unfolding startOf
+  initials-stand = record { each = λ c {e} is. subst (λ i. Stands text index (channelLine P c) (initialAt (channelsOf index) i) e) (sym (zero-add c)) (each c is) }
+    where
+      each : (c : ℕ) {e : Expr} → look (initialValues P) c ≡ some e → Stands text index (channelLine P c) (initialAt (channelsOf index) c) e
+      each c is =
+          let x = initial-known h c is in
+          record { frame = channel-frame c (x .less); short = h .short; scope = _; shapes = known-shapes h (outer-known P 0 0); within = x .within; spelled = x .spelled }
 
 -- ---- the whole file
-pub file-told : {text index ends ends′ : List ℕ} {n : Counts} → n ≡ countsIn index → TellsBodies text index (n .types) (n .functions) (n .functions) ends →
-    TellsUpdates text index (n .types + n .functions) (n .inputs) (n .nodes) (n .nodes) ends ends′ → TellsFile text index ends′
-file-told {text} {index} {ends} {ends′} {n} are b u = record { says = says }
-  where
-    says : (P : File) → Indexed text index P → EndsTold text index ends′ P
-    says P h =
-        let c : Counted n P = subst (λ (m : Counts). Counted m P) (sym are) (h .counted) in
-        let bodies = b .says P h (c .typeCount) (c .functionCount) in
-        let updates = u .says P h (omega (arith, c .typeCount, c .functionCount)) (c .inputCount) (c .nodeCount) in
-        record {
-          bodies = λ f is.
-              let less = look-less (P .functions) f is in
-              line-stays (n .types + n .functions) (body-stands h f is) (omega (arith, less, c .typeCount, c .functionCount)) (updates .1) (bodies .each f (omega (arith, less, c .functionCount)) is);
-          updates = λ m is. updates .0 .each m (omega (arith, look-less (P .nodes) m is, c .nodeCount)) is;
-        }
+module _ {text index : List ℕ} {n : Counts} (are : n ≡ countsIn index) where
+  counted : {P : File} → Indexed text index P → Counted n P
+  counted {P} h = subst (λ (m : Counts). Counted m P) (sym are) (h .counted)
+
+  module _ {ends₀ ends : List ℕ} (b : TellsLines text index Body (n .types) 0 (n .functions) (n .functions) ends₀ ends) where
+    -- the bodies stay told while lines behind them are walked over
+    bodies-stay : {P : File} {ends′ : List ℕ} → Indexed text index P → (first : ℕ) → length (P .types) + length (P .functions) ≤ first → FrontKept text first ends ends′ → BodiesTold text index ends′ P
+    unfolding startOf
+    bodies-stay {P} {ends′} h first le kept = record {
+      each = λ f {F} is.
+          let c = counted h in
+          let less = look-less (P .functions) f is in
+          let there = look-map (λ (G : Function). G .body) (P .functions) f is in
+          let stands = bodies-stand h .each f there in
+          let told = b .says (bodiesOf P) (length-map (P .functions) (λ (G : Function). G .body) ∙ c .functionCount) (subst (λ i. LinesStand text index Body i 0 (bodiesOf P)) (c .typeCount) (bodies-stand h)) .0 .each f (omega (arith, less, c .functionCount)) there in
+          let place : bodyAt (functionsOf index) (0 + f) ≡ bodyAt (functionsOf index) f = ap (bodyAt (functionsOf index)) (zero-add f) in
+          subst (λ i. LineEnded text index (functionLine P f) i (F .body) ends′) place
+          (line-stays first stands (omega (arith, less, le)) kept (subst (λ i. LineEnded text index (i + f) (bodyAt (functionsOf index) (0 + f)) (F .body) ends) (sym (c .typeCount)) told));
+    }
+
+    pub updates-told : {before : ℕ} {ends′ : List ℕ} → before ≡ n .types + n .functions + n .inputs → TellsLines text index Update before (n .inputs) (n .nodes) (n .nodes) ends ends′ → TellsUpdates text index ends′
+    unfolding startOf
+    updates-told {before} {ends′} behind u = record { says = says }
+      where
+        says : (P : File) → Indexed text index P → UpdatesTold text index ends′ P
+        says P h =
+            let c = counted h in
+            let first : length (P .types) + length (P .functions) + length (P .inputs) ≡ before = omega (arith, behind, c .typeCount, c .functionCount, c .inputCount) in
+            let told = u .says (updatesOf P) (length-map (P .nodes) (λ (N : Node). N .update) ∙ c .nodeCount) (subst₂ (λ i j. LinesStand text index Update i j (updatesOf P)) first (c .inputCount) (updates-stand h)) in
+            record {
+              bodies = bodies-stay h before (omega (arith, first)) (told .1);
+              each = λ m {n = N} is.
+                  let line : before + m ≡ channelLine P (length (P .inputs) + m) = omega (arith, first) in
+                  let its = told .0 .each m (omega (arith, look-less (P .nodes) m is, c .nodeCount)) (look-map (λ (M : Node). M .update) (P .nodes) m is) in
+                  subst₂ (λ i j. LineEnded text index i (updateAt (channelsOf index) (j + m)) (N .update) ends′) line (sym (c .inputCount)) its;
+            }
+
+    pub initials-told : {before many : ℕ} {ends′ : List ℕ} → before ≡ n .types + n .functions → many ≡ n .inputs + n .nodes → TellsLines text index Initial before 0 many many ends ends′ → TellsInitials text index ends′
+    unfolding startOf
+    initials-told {before} {many} {ends′} behind all u = record { says = says }
+      where
+        says : (P : File) → Indexed text index P → InitialsTold text index ends′ P
+        says P h =
+            let c = counted h in
+            let first : length (P .types) + length (P .functions) ≡ before = omega (arith, behind, c .typeCount, c .functionCount) in
+            let long : length (initialValues P) ≡ many = initials-long h ∙ omega (arith, all, c .inputCount, c .nodeCount) in
+            let told = u .says (initialValues P) long (subst (λ i. LinesStand text index Initial i 0 (initialValues P)) first (initials-stand h)) in
+            record {
+              bodies = bodies-stay h before (omega (arith, first)) (told .1);
+              each = λ k {e} is. subst₂ (λ i j. LineEnded text index (i + k) (initialAt (channelsOf index) j) e ends′) (sym first) (zero-add k) (told .0 .each k (omega (arith, look-less (initialValues P) k is, long)) is);
+            }

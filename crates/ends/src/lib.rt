@@ -2,14 +2,15 @@
 mod walk;
 
 ghost use mathlib.Core.Path.{_≡_};
-ghost use Prim.Native.Nat.{_+_, _<_};
+ghost use Prim.Native.Nat.{_*_, _<_};
 ghost use Rattle.language.specs.Limits.{byteRange};
 ghost use Rattle.index.specs.Sections.{framesOf};
 ghost use Rattle.index.specs.Indexed.{framePlace};
 ghost use Rattle.ends.specs.Ended.{endIn};
 ghost use Rattle.ends.specs.EndOf.{endOf};
-ghost use Rattle.ends.specs.Told.{LineEnds, TellsBodies, TellsUpdates, TellsFile};
+ghost use Rattle.ends.specs.Told.{startOf, LineEnds, TellsLines, TellsUpdates, TellsInitials};
 use index::INDEX_WORDS;
+use index::channels::initial_start;
 use index::channels::update_start;
 use index::frame_counts;
 use index::frames::frame_line;
@@ -19,6 +20,13 @@ use language::limits::NESTING_MOST;
 use language::limits::TEXT_MOST;
 use text::Cursor;
 use walk::expression;
+
+// The expressions of a frame: a function's body; a channel's initial value; a node's update.
+pub enum Part {
+    Body,
+    Initial,
+    Update,
+}
 
 // The word of a place of the line that starts at `from`; 0 beyond the table.
 fn word_at(ends: &[u16], from: usize, at: Cursor) -> usize
@@ -67,61 +75,55 @@ fn line_ends(
     expression(line, index, ends, from, at, NESTING_MOST);
 }
 
-// Notes the ends in the bodies of so many functions, whose lines stand behind those of the types.
-fn bodies_ends(
-    text: &[u8],
-    index: &[u32; INDEX_WORDS],
-    ends: &mut [u16; TEXT_MOST],
-    types: u32,
-    functions: u32,
-)
-    requires { ⌜ types < byteRange ⌝ }
-    requires { ⌜ functions < byteRange ⌝ }
-    ensures { λ _. ⌜ TellsBodies (now (text .entry)) (now (index .entry)) types functions functions (now (ends .exit)) ⌝ }
+// Where such a part of function or channel i starts in its line.
+fn part_start(index: &[u32; INDEX_WORDS], part: Part, i: u32) -> Cursor
+    ensures { λ r. ⌜ r .at ≡ startOf (now (index .entry)) part i ⌝ }
 {
-    let mut f: u32 = 0;
-    while f < functions {
-        line_ends(text, index, ends, types + f, body_start(index, f));
-        f += 1;
+    match part {
+        Part::Body => body_start(index, i),
+        Part::Initial => initial_start(index, i),
+        Part::Update => update_start(index, i),
     }
 }
 
-// Notes the ends in the updates of so many nodes, the channels from `inputs` on, whose lines stand behind `before` others.
-fn updates_ends(
+// Notes the ends in such a part of n functions or channels from number `from` on, whose lines follow each other from `first` on.
+fn lines_ends(
     text: &[u8],
     index: &[u32; INDEX_WORDS],
     ends: &mut [u16; TEXT_MOST],
-    before: u32,
-    inputs: u32,
-    nodes: u32,
+    part: Part,
+    first: u32,
+    from: u32,
+    n: u32,
 )
-    requires { ⌜ before < byteRange + byteRange ⌝ }
-    requires { ⌜ inputs < byteRange ⌝ }
-    requires { ⌜ nodes < byteRange ⌝ }
-    ensures { λ _. ⌜ TellsUpdates (now (text .entry)) (now (index .entry)) before inputs nodes nodes (now (ends .entry)) (now (ends .exit)) ⌝ }
+    requires { ⌜ first < 3 * byteRange ⌝ }
+    requires { ⌜ from < byteRange ⌝ }
+    requires { ⌜ n < 2 * byteRange ⌝ }
+    ensures { λ _. ⌜ TellsLines (now (text .entry)) (now (index .entry)) part first from n n (now (ends .entry)) (now (ends .exit)) ⌝ }
 {
-    let mut m: u32 = 0;
-    while m < nodes {
-        let c = inputs + m;
-        line_ends(text, index, ends, before + c, update_start(index, c));
-        m += 1;
+    let mut k: u32 = 0;
+    while k < n {
+        line_ends(text, index, ends, first + k, part_start(index, part, from + k));
+        k += 1;
     }
 }
 
 // Fills the table for the body of every function and the update of every node of a file that was read.
 pub fn find_ends(text: &[u8], index: &[u32; INDEX_WORDS], ends: &mut [u16; TEXT_MOST])
-    ensures { λ _. ⌜ TellsFile (now (text .entry)) (now (index .entry)) (now (ends .exit)) ⌝ }
+    ensures { λ _. ⌜ TellsUpdates (now (text .entry)) (now (index .entry)) (now (ends .exit)) ⌝ }
 {
-    let counts = frame_counts(index);
-    let types = counts.types;
-    let functions = counts.functions;
-    bodies_ends(text, index, ends, types, functions);
-    updates_ends(
-        text,
-        index,
-        ends,
-        types + functions,
-        counts.inputs,
-        counts.nodes,
-    );
+    let c = frame_counts(index);
+    lines_ends(text, index, ends, Part::Body, c.types, 0, c.functions);
+    let before = c.types + c.functions + c.inputs;
+    lines_ends(text, index, ends, Part::Update, before, c.inputs, c.nodes);
+}
+
+// The same for the initial value of every channel in place of the updates.
+pub fn find_initial_ends(text: &[u8], index: &[u32; INDEX_WORDS], ends: &mut [u16; TEXT_MOST])
+    ensures { λ _. ⌜ TellsInitials (now (text .entry)) (now (index .entry)) (now (ends .exit)) ⌝ }
+{
+    let c = frame_counts(index);
+    lines_ends(text, index, ends, Part::Body, c.types, 0, c.functions);
+    let before = c.types + c.functions;
+    lines_ends(text, index, ends, Part::Initial, before, 0, c.inputs + c.nodes);
 }

@@ -99,7 +99,7 @@ module _ (text index ends now words slots : List ℕ) (p : Context) (f : ℕ) (r
 
     body-stands : Stands text index ends (lineBehindTypes index f) (body-known (st .indexed .within) f (ask .there) .scope) (bodyContext index p f n .at .at) (ask .function .body)
     body-stands = subst (λ m. Stands text index ends m (body-known (st .indexed .within) f (ask .there) .scope) (bodyContext index p f n .at .at) (ask .function .body)) (sym its-line)
-        (record { levels = nestingMost; within = body-known (st .indexed .within) f (ask .there) .within; spelled = st .indexed .eachFunction f (ask .there) .body; ended = st .told .bodies f (ask .there) })
+        (record { levels = nestingMost; within = body-known (st .indexed .within) f (ask .there) .within; spelled = st .indexed .eachFunction f (ask .there) .body; ended = st .told .each f (ask .there) })
 
   -- in slots of its own
   pub body-done : {slots₁ part part′ slots₂ : List ℕ} {q : Context} {r : Value} {words′ : List ℕ} → (p .calls ≡ 0 → ⊥) → p .top + n ≤ length slots → Pushed (WordOf row) slots (p .top) n slots₁ → q ≡ bodyContext index p f n →

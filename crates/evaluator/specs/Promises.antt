@@ -26,7 +26,7 @@ use Rattle.state_words.specs.Holds.{Holds}
 use Rattle.new_cells.specs.declared.Value.{Value}
 use Rattle.new_cells.specs.declared.Value.the-variants.{Is, Refused as RefusedValue}
 use Rattle.new_cells.specs.Steps.{Board, Lies, Agrees, Kept}
-use Rattle.ends.specs.Ended.{Ended, EndedAll, EndsTold}
+use Rattle.ends.specs.Ended.{Ended, EndedAll, BodiesTold}
 use Rattle.evaluator.specs.declared.Context.{Context}
 use Rattle.evaluator.specs.declared.Values.{Values}
 use Rattle.evaluator.specs.declared.Values.the-variants.{Are, Refused}
@@ -48,7 +48,7 @@ pub record Below (top : ℕ) (slots slots′ : List ℕ) : Type 0 where
 -- ---- the file, the scope S, the channels N and the heap h of an expression's place
 pub record Stage (text index ends now words : List ℕ) (p : Context) (P : File) (cells : ℕ) (S : Scope) (N : Channels) (h : List Cell) : Type 0 where
   pub indexed : Indexed text index P
-  pub told : EndsTold text index ends P
+  pub told : BodiesTold text index ends P
   pub less : p .line < lineCount P
   pub known : Known P S
   pub nowCells : (c : ℕ) → c < S .now → getD now c 0 ≡ getD (N .now) c 0

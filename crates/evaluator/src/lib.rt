@@ -1,4 +1,5 @@
 // Figure 4 over the lent words: the value of an expression, as a cell of the state.
+pub mod channels;
 mod contexts;
 pub mod cycle;
 mod forms;

@@ -1,9 +1,10 @@
 // Places of expressions: where one stands, where its parts stand, and the line of a frame.
 ghost use mathlib.Core.Path.{_≡_};
 ghost use Prim.Native.Nat.{_+_, _^_, _<_};
-ghost use Rattle.heads.specs.Places.{movedTo, widerBy, insideOf, lineBehindTypes};
+ghost use Rattle.heads.specs.Places.{movedTo, widerBy, insideOf, lineBehindTypes, channelLineOf};
 use index::INDEX_WORDS;
 use index::frame_counts;
+use language::limits::BYTE_RANGE;
 use language::limits::VARIABLES_MOST;
 use text::Cursor;
 use text::TYPE_STEP;
@@ -63,4 +64,12 @@ pub fn line_behind_types(index: &[u32; INDEX_WORDS], i: u32) -> u32
 {
     let counts = frame_counts(index);
     counts.types + i % TYPE_STEP
+}
+
+// The line of channel c.
+pub fn channel_line(index: &[u32; INDEX_WORDS], c: u32) -> u32
+    ensures { λ r. ⌜ r ≡ channelLineOf (now (index .entry)) c ⌝ }
+{
+    let counts = frame_counts(index);
+    line_behind_types(index, counts.functions + c % BYTE_RANGE)
 }

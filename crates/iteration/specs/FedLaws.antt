@@ -18,6 +18,7 @@ use Rattle.language.specs.Layout.{tagStep, stateLength}
 use Rattle.language.specs.Line.{treesFit}
 use Rattle.language.specs.Machine.{build, buildFields, buildAll, newCell, putInputs}
 use Rattle.language.specs.Values.{fits}
+use Rattle.theory.specs.FrameNumbers.{channelTotal}
 use Rattle.theory.specs.Lists.{look-getD, look-less, false-is-not-true, none-is-not-some, both-left, both-right}
 use Rattle.theory.specs.Alls.{all-snoc}
 use Rattle.theory.specs.Places.{below-or-not}
@@ -38,11 +39,11 @@ use Rattle.input_line.specs.declared.laying.Inputs.{Inputs}
 use Rattle.input_line.specs.declared.laying.Inputs.the-variants.{Used as FedUsed, Full}
 use Rattle.input_line.specs.Lays.{InputsLaid, PutAs, put-all, put-full, within, Within as FedWithin}
 use Rattle.new_cells.specs.Steps.{Board as BoardHas, not-grown}
-use Rattle.ends.specs.Told.{TellsFile}
+use Rattle.ends.specs.Told.{TellsUpdates}
 use Rattle.evaluator.specs.KeepLaws.{Moved, kept-then, channel-kept}
 use Rattle.iteration.specs.declared.nodes.Updated.{Updated}
 use Rattle.iteration.specs.declared.nodes.Updated.the-variants.{Refused}
-use Rattle.iteration.specs.Promises.{channelCount, NodeStage, not-updated, UpdatesNodes}
+use Rattle.iteration.specs.Promises.{NodeStage, not-updated, UpdatesNodes}
 use Rattle.iteration.specs.Whole.{Begun, ChannelsTaken, Given, FeedsAndUpdates, fullAt}
 
 -- ---- a constructor of the file has few fields
@@ -151,10 +152,10 @@ module _ (text index line : List ℕ) (cells calls : ℕ) (row words slots : Lis
     fit : treesFit P vs (inputTypes P) ≡ true
     fit = line-forth-exact P line vs (g .allowed) .1
 
-    roots-long : length (s .roots) ≡ channelCount P
+    roots-long : length (s .roots) ≡ channelTotal P
     roots-long = env-length (state-loaded limits (g .loaded) .typed .holds .channels) ∙ channel-count P
 
-    roots-are : (k : ℕ) → k < channelCount P → channelAt words k ≡ getD (s .roots) k 0
+    roots-are : (k : ℕ) → k < channelTotal P → channelAt words k ≡ getD (s .roots) k 0
     roots-are k less = channel-held words (s .roots) (held .channels) k (omega (arith, less, limits .fewInputs, limits .fewNodes))
 
     put-as : PutAs P row row₁ words₁ (putInputs P cells 0 vs (s .heap) []) x
@@ -186,7 +187,7 @@ module _ (text index line : List ℕ) (cells calls : ℕ) (row words slots : Lis
     pub fed-board : BoardHas words₁ n
     fed-board = record { fits = omega (arith, cells-within .1, b .board, v .kept .long); small = omega (arith, b .board, b .most, v .kept .long) }
 
-    module _ {ends : List ℕ} (t : TellsFile text index ends) {P : File} {s : State} {vs : List Tree} (g : Given text index line cells words P s vs) (taken : ChannelsTaken words row) where
+    module _ {ends : List ℕ} (t : TellsUpdates text index ends) {P : File} {s : State} {vs : List Tree} (g : Given text index line cells words P s vs) (taken : ChannelsTaken words row) where
       fed : WasFed P row row₁ words₁ (putInputs P cells 0 vs (s .heap) []) n
       fed = was-fed (put-as g) d
 
@@ -205,7 +206,7 @@ module _ (text index line : List ℕ) (cells calls : ℕ) (row words slots : Lis
           record {
             indexed = g .indexed;
             told = t .says P (g .indexed);
-            standing = fed-row words row row₁ (fed .state .roots) (s .roots) (length (P .inputs)) (channelCount P) now-long (roots-long g) (omega arith) (omega (arith, w .fewInputs, w .fewNodes)) (roots-are g) taken (fed .roots);
+            standing = fed-row words row row₁ (fed .state .roots) (s .roots) (length (P .inputs)) (channelTotal P) now-long (roots-long g) (omega arith) (omega (arith, w .fewInputs, w .fewNodes)) (roots-are g) taken (fed .roots);
             before = λ k less. channel-kept fed-moved k (omega (arith, less, w .fewInputs, w .fewNodes)) ∙ roots-are g k less;
             lies = record {
               board = v .kept .long ∙ b .board;
@@ -214,7 +215,7 @@ module _ (text index line : List ℕ) (cells calls : ℕ) (row words slots : Lis
             };
           }
 
-    pub fed-done : {ends : List ℕ} {r : Updated} {row₂ words₂ slots₂ : List ℕ} → TellsFile text index ends → UpdatesNodes text index ends n calls row₁ words₁ slots r row₂ words₂ slots₂ → FeedsAndUpdates text index line cells calls row words slots r row₂ words₂ slots₂
+    pub fed-done : {ends : List ℕ} {r : Updated} {row₂ words₂ slots₂ : List ℕ} → TellsUpdates text index ends → UpdatesNodes text index ends n calls row₁ words₁ slots r row₂ words₂ slots₂ → FeedsAndUpdates text index line cells calls row words slots r row₂ words₂ slots₂
     unfolding bind
     fed-done t w = record {
       says = λ {P} {s} {vs} g taken. rw (fed t g taken .is) (w .says (stage t g taken) (now-long t g taken) (old-long t g taken));

@@ -18,6 +18,7 @@ use Rattle.language.specs.Heap.{Cell, cellAt, sizeIn}
 use Rattle.language.specs.Slide.{State}
 use Rattle.language.specs.Evaluator.{Out, value, refused, bindOut, needs, eval, run}
 use Rattle.language.specs.Machine.{Board, channelValue, updateNodes}
+use Rattle.theory.specs.FrameNumbers.{channelTotal}
 use Rattle.theory.specs.Places.{below-or-not, look-at}
 use Rattle.index.specs.declared.Counts.{Counts}
 use Rattle.index.specs.Sections.{countsIn}
@@ -26,9 +27,10 @@ use Rattle.new_cells.specs.declared.Value.the-variants.{Is, Refused as RefusedV
 use Rattle.new_cells.specs.Steps.{Board as BoardHas, Agrees, Kept, has-grown}
 use Rattle.evaluator.specs.KeepLaws.{Moved, moved-by, kept-then, channel-kept}
 use Rattle.evaluator.specs.ArgumentLaws.{valued, not-valued}
+use Rattle.evaluator.specs.ChannelValues.{boardLent}
 use Rattle.iteration.specs.declared.nodes.Updated.{Updated}
 use Rattle.iteration.specs.declared.nodes.Updated.the-variants.{Used, Refused}
-use Rattle.iteration.specs.Promises.{handedOn, channelCount, NodeStage, nodeValue, boardOf, UpdatesNode, are-updated, not-updated, UpdatesNodes}
+use Rattle.iteration.specs.Promises.{handedOn, NodeStage, nodeValue, UpdatesNode, are-updated, not-updated, UpdatesNodes}
 
 -- ---- one node of the definition, by its value
 node-first : (P : File) (b : Board) (last : List ℕ) (c : ℕ) (n : Node) (ns : List Node) (h : List Cell) (now old : List ℕ) →
@@ -78,7 +80,7 @@ record LeftNodes (text index ends words₁ row₁ : List ℕ) (calls : ℕ) (slo
   stage : NodeStage text index ends row₁ words₁ used₁ P cells last now₁ old₁ heap
   long : length now₁ ≡ c
   rest : length old₁ ≡ length (P .nodes) - m
-  is : updateNodes P (boardOf cells slots calls) last (length (P .inputs)) (P .nodes) h now old ≡ updateNodes P (boardOf cells slots calls) last c (drop m (P .nodes)) heap now₁ old₁
+  is : updateNodes P (boardLent cells slots calls) last (length (P .inputs)) (P .nodes) h now old ≡ updateNodes P (boardLent cells slots calls) last c (drop m (P .nodes)) heap now₁ old₁
 
 pub record Updating (text index ends : List ℕ) (used calls : ℕ) (row words slots : List ℕ) (row₁ words₁ slots₁ : List ℕ) (used₁ c : ℕ) : Type 0 where
   pub moved : Moved words used words₁ used₁
@@ -104,7 +106,7 @@ module _ (text index ends : List ℕ) (used calls : ℕ) (row words slots : List
           stage = st;
           long = long ∙ sym start;
           rest = rest ∙ all;
-          is = ap (λ c. updateNodes P (boardOf cells slots calls) last c (P .nodes) h now old) (sym start);
+          is = ap (λ c. updateNodes P (boardLent cells slots calls) last c (P .nodes) h now old) (sym start);
         };
   }
 
@@ -123,13 +125,13 @@ module _ (text index ends : List ℕ) (used calls : ℕ) (row words slots : List
         there : look (P .nodes) (l .m) ≡ some node
         there = look-at (P .nodes) (l .m) _ in-time
 
-        answer : Agrees P words₂ x (nodeValue P (boardOf cells slots calls) last (l .now₁) (l .old₁) node (l .heap))
+        answer : Agrees P words₂ x (nodeValue P (boardLent cells slots calls) last (l .now₁) (l .old₁) node (l .heap))
         answer = subst (λ s. Agrees P words₂ x (nodeValue P (record { cells = cells; slots = s; calls = calls }) last (l .now₁) (l .old₁) node (l .heap))) (g .slotsLong) (v .says (l .m) node (l .stage) (l .at) there)
 
-        opened : updateNodes P (boardOf cells slots calls) last (length (P .inputs)) (P .nodes) h now old ≡
-            channelValue (channelFrame P c) (nodeValue P (boardOf cells slots calls) last (l .now₁) (l .old₁) node (l .heap)) (λ k i. updateNodes P (boardOf cells slots calls) last (suc c) (drop (suc (l .m)) (P .nodes)) i (l .now₁ ++ (k ∷ [])) (drop 1 (l .old₁)))
-        opened = l .is ∙ ap (λ (z : List Node). updateNodes P (boardOf cells slots calls) last c z (l .heap) (l .now₁) (l .old₁)) (drop-cons (P .nodes) (l .m) _ in-time) ∙
-            node-first P (boardOf cells slots calls) last c node (drop (suc (l .m)) (P .nodes)) (l .heap) (l .now₁) (l .old₁)
+        opened : updateNodes P (boardLent cells slots calls) last (length (P .inputs)) (P .nodes) h now old ≡
+            channelValue (channelFrame P c) (nodeValue P (boardLent cells slots calls) last (l .now₁) (l .old₁) node (l .heap)) (λ k i. updateNodes P (boardLent cells slots calls) last (suc c) (drop (suc (l .m)) (P .nodes)) i (l .now₁ ++ (k ∷ [])) (drop 1 (l .old₁)))
+        opened = l .is ∙ ap (λ (z : List Node). updateNodes P (boardLent cells slots calls) last c z (l .heap) (l .now₁) (l .old₁)) (drop-cons (P .nodes) (l .m) _ in-time) ∙
+            node-first P (boardLent cells slots calls) last c node (drop (suc (l .m)) (P .nodes)) (l .heap) (l .now₁) (l .old₁)
 
       pub updating-more : {cell more : ℕ} {row₂ : List ℕ} → x ≡ Is cell more → length row₁ ≡ channelsMost → row₂ ≡ set row₁ c cell → Updating text index ends used calls row words slots row₂ words₂ slots₂ more (c + 1)
       unfolding channelValue
@@ -156,15 +158,15 @@ module _ (text index ends : List ℕ) (used calls : ℕ) (row words slots : List
                 indexed = st .indexed;
                 told = st .told;
                 standing = λ j less. ap (λ (z : List ℕ). getD z j 0) w ∙
-                    row-set row₁ (k .now₁ ++ k .old₁) c cell (channelCount P) (omega (arith, wide, k .at, time, within .fewInputs, within .fewNodes)) (omega (arith, both, k .long, k .rest, time)) (k .stage .standing) j less ∙
+                    row-set row₁ (k .now₁ ++ k .old₁) c cell (channelTotal P) (omega (arith, wide, k .at, time, within .fewInputs, within .fewNodes)) (omega (arith, both, k .long, k .rest, time)) (k .stage .standing) j less ∙
                     ap (λ (z : List ℕ). getD z j 0) (ap (λ i. set (k .now₁ ++ k .old₁) i cell) (sym (k .long)) ∙ sym put);
                 before = λ j less. channel-kept m j (omega (arith, less, within .fewInputs, within .fewNodes)) ∙ k .stage .before j less;
                 lies = record { board = m .long ∙ k .stage .lies .board; held = u .held; writable = u .writable };
               };
               long = length-append (k .now₁) (cell ∷ []) ∙ ap (λ i. i + 1) (k .long);
               rest = length-drop 1 (k .old₁) ∙ omega (arith, k .rest);
-              is = opened st long rest ∙ ap (λ (z : Out). channelValue (channelFrame P c) z (λ i j. updateNodes P (boardOf cells slots calls) last (suc c) (drop (suc (k .m)) (P .nodes)) j (k .now₁ ++ (i ∷ [])) (drop 1 (k .old₁)))) (u .is) ∙
-                  ap (λ i. updateNodes P (boardOf cells slots calls) last i (drop (suc (k .m)) (P .nodes)) (u .heap) (k .now₁ ++ (cell ∷ [])) (drop 1 (k .old₁))) (sym next);
+              is = opened st long rest ∙ ap (λ (z : Out). channelValue (channelFrame P c) z (λ i j. updateNodes P (boardLent cells slots calls) last (suc c) (drop (suc (k .m)) (P .nodes)) j (k .now₁ ++ (i ∷ [])) (drop 1 (k .old₁)))) (u .is) ∙
+                  ap (λ i. updateNodes P (boardLent cells slots calls) last i (drop (suc (k .m)) (P .nodes)) (u .heap) (k .now₁ ++ (cell ∷ [])) (drop 1 (k .old₁))) (sym next);
             };
       }
 
@@ -174,7 +176,7 @@ module _ (text index ends : List ℕ) (used calls : ℕ) (row words slots : List
           let told : r ≡ Refused k c = q ∙ ap (λ (z : Value). handedOn z c) d in
           rw told (record {
             says = λ {P} {cells} {last} {now} {old} {h} st long rest.
-                rw (opened st long rest ∙ ap (λ (z : Out). channelValue (channelFrame P c) z (λ i j. updateNodes P (boardOf cells slots calls) last (suc c) (drop (suc (l st long rest .m)) (P .nodes)) j (l st long rest .now₁ ++ (i ∷ [])) (drop 1 (l st long rest .old₁)))) (not-valued (answer st long rest) d)) not-updated;
+                rw (opened st long rest ∙ ap (λ (z : Out). channelValue (channelFrame P c) z (λ i j. updateNodes P (boardLent cells slots calls) last (suc c) (drop (suc (l st long rest .m)) (P .nodes)) j (l st long rest .now₁ ++ (i ∷ [])) (drop 1 (l st long rest .old₁)))) (not-valued (answer st long rest) d)) not-updated;
             kept = subst (Kept words words₂ used) d (kept-then (g .moved) (v .kept));
             long = v .long ∙ g .slotsLong;
           })
@@ -188,7 +190,7 @@ module _ (text index ends : List ℕ) (used calls : ℕ) (row words slots : List
           let none : drop (k .m) (P .nodes) ≡ [] = drop-of-length-le (P .nodes) {i = k .m} (omega (arith, count)) in
           let nothing : k .old₁ ≡ [] = empty (k .old₁) (k .rest ∙ omega (arith, count)) in
           let same : k .now₁ ++ k .old₁ ≡ k .now₁ = ap (λ (z : List ℕ). k .now₁ ++ z) nothing ∙ append-nil (k .now₁) in
-          rw (k .is ∙ ap (λ (z : List Node). updateNodes P (boardOf cells slots calls) last c z (k .heap) (k .now₁) (k .old₁)) none)
+          rw (k .is ∙ ap (λ (z : List Node). updateNodes P (boardLent cells slots calls) last c z (k .heap) (k .now₁) (k .old₁)) none)
           (are-updated (k .stage .lies .held) (k .stage .lies .writable) (record { each = λ j less. k .stage .standing j less ∙ ap (λ (z : List ℕ). getD z j 0) same; long = k .long ∙ k .at ∙ ap (λ i. length (P .inputs) + i) count }));
       kept = record { long = g .moved .long; low = g .moved .low; grown = has-grown (g .moved .more) (g .moved .fits) (g .moved .high) };
       long = g .slotsLong;

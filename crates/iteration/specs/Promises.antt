@@ -6,7 +6,6 @@ use mathlib.Core.Option.{some}
 use mathlib.Core.Path.{_≡_}
 use lib.ListN.{length, getD, getElem? as look}
 use lib.Dec.{ltb, leb}
-use Rattle.language.specs.Limits.{byteRange}
 use Rattle.language.specs.Refusals.{noRefusal, valueTooLarge}
 use Rattle.language.specs.Result.{Result, ok, no, choose}
 use Rattle.language.specs.Syntax.{Node, File, channelFrame}
@@ -17,17 +16,16 @@ use Rattle.language.specs.Slide.{State}
 use Rattle.language.specs.Layout.{tagStep}
 use Rattle.language.specs.Evaluator.{Out, value, bindOut, needs, eval, run}
 use Rattle.language.specs.Machine.{Board, updateNodes}
+use Rattle.theory.specs.FrameNumbers.{channelTotal}
 use Rattle.theory.specs.CellWords.{Writable}
-use Rattle.heads.specs.Places.{lineBehindTypes}
-use Rattle.index.specs.Sections.{countsIn, channelsOf}
-use Rattle.index.specs.Indexed.{updateAt, Indexed}
+use Rattle.index.specs.Indexed.{Indexed}
 use Rattle.state_words.specs.Words.{channelAt}
 use Rattle.state_words.specs.Holds.{Holds}
-use Rattle.ends.specs.Ended.{EndsTold}
+use Rattle.ends.specs.Ended.{UpdatesTold}
 use Rattle.new_cells.specs.declared.Value.{Value}
 use Rattle.new_cells.specs.declared.Value.the-variants.{Is, Refused as RefusedValue}
 use Rattle.new_cells.specs.Steps.{Lies, Agrees, Kept}
-use Rattle.evaluator.specs.declared.Context.{Context}
+use Rattle.evaluator.specs.ChannelValues.{boardLent}
 use Rattle.iteration.specs.declared.nodes.Updated.{Updated}
 use Rattle.iteration.specs.declared.nodes.Updated.the-variants.{Used, Refused}
 
@@ -35,23 +33,16 @@ use Rattle.iteration.specs.declared.nodes.Updated.the-variants.{Used, Re
 unfoldable pub sizeInWord : ℕ → ℕ
 sizeInWord word = choose (ltb word tagStep) 0 (word % tagStep)
 
-abbrev pub nodeContext : List ℕ → ℕ → ℕ → ℕ → Context
-nodeContext index c used calls = record { at = record { at = updateAt (channelsOf index) c }; line = lineBehindTypes index (countsIn index .functions + c % byteRange); top = 0; used = used; calls = calls }
-
 abbrev pub handedOn : Value → ℕ → Updated
 handedOn (Is l used) c = Refused noRefusal c
 handedOn (RefusedValue n) c = Refused n c
 
--- how many channels a file has
-abbrev pub channelCount : File → ℕ
-channelCount P = length (P .inputs) + length (P .nodes)
-
 -- the file, the heap, and the channels' cells: as they stand, those done and those left, and as they stood
 pub record NodeStage (text index ends row words : List ℕ) (used : ℕ) (P : File) (cells : ℕ) (last now old : List ℕ) (h : List Cell) : Type 0 where
   pub indexed : Indexed text index P
-  pub told : EndsTold text index ends P
-  pub standing : (k : ℕ) → k < channelCount P → getD row k 0 ≡ getD (now ++ old) k 0
-  pub before : (k : ℕ) → k < channelCount P → channelAt words k ≡ getD last k 0
+  pub told : UpdatesTold text index ends P
+  pub standing : (k : ℕ) → k < channelTotal P → getD row k 0 ≡ getD (now ++ old) k 0
+  pub before : (k : ℕ) → k < channelTotal P → channelAt words k ≡ getD last k 0
   pub lies : Lies P cells words used h
 
 -- a node's value, 23 where it is above the declared size
@@ -59,12 +50,9 @@ unfoldable pub nodeValue : File → Board → List ℕ → List ℕ → List ℕ
 nodeValue P b last now old n h = bindOut (eval P (run P (b .cells) (b .calls)) (b .cells) (record { now = now ++ old; last = last }) (n .update) [] (b .slots) h)
     (λ l g. needs (leb (sizeIn (cellAt g l)) (sizeOfType (n .declared))) valueTooLarge (value l g))
 
-abbrev pub boardOf : ℕ → List ℕ → ℕ → Board
-boardOf cells slots calls = record { cells = cells; slots = length slots; calls = calls }
-
 pub record UpdatesNode (text index ends row : List ℕ) (c used calls : ℕ) (words slots : List ℕ) (r : Value) (words′ slots′ : List ℕ) : Type 0 where
   pub says : {P : File} {cells : ℕ} {last now old : List ℕ} {h : List Cell} (m : ℕ) (n : Node) → NodeStage text index ends row words used P cells last now old h → c ≡ length (P .inputs) + m → look (P .nodes) m ≡ some n →
-      Agrees P words′ r (nodeValue P (boardOf cells slots calls) last now old n h)
+      Agrees P words′ r (nodeValue P (boardLent cells slots calls) last now old n h)
   pub kept : Kept words words′ used r
   pub long : length slots′ ≡ length slots
 
@@ -75,7 +63,7 @@ pub record RowIs (row roots : List ℕ) (n : ℕ) : Type 0 where
   pub long : length roots ≡ n
 
 pub data AgreesNodes (P : File) (words′ row′ : List ℕ) : Updated → Result State → Type 0 where
-  are-updated : {s : State} {used : ℕ} → Holds words′ used (s .heap) → All (Writable P) (s .heap) → RowIs row′ (s .roots) (channelCount P) → AgreesNodes P words′ row′ (Used used) (ok s)
+  are-updated : {s : State} {used : ℕ} → Holds words′ used (s .heap) → All (Writable P) (s .heap) → RowIs row′ (s .roots) (channelTotal P) → AgreesNodes P words′ row′ (Used used) (ok s)
   not-updated : {n c : ℕ} → AgreesNodes P words′ row′ (Refused n c) (no n (channelFrame P c))
 
 abbrev pub asValue : Updated → Value
@@ -84,6 +72,6 @@ asValue (Refused n c) = RefusedValue n
 
 pub record UpdatesNodes (text index ends : List ℕ) (used calls : ℕ) (row words slots : List ℕ) (r : Updated) (row′ words′ slots′ : List ℕ) : Type 0 where
   pub says : {P : File} {cells : ℕ} {last now old : List ℕ} {h : List Cell} → NodeStage text index ends row words used P cells last now old h → length now ≡ length (P .inputs) → length old ≡ length (P .nodes) →
-      AgreesNodes P words′ row′ r (updateNodes P (boardOf cells slots calls) last (length (P .inputs)) (P .nodes) h now old)
+      AgreesNodes P words′ row′ r (updateNodes P (boardLent cells slots calls) last (length (P .inputs)) (P .nodes) h now old)
   pub kept : Kept words words′ used (asValue r)
   pub long : length slots′ ≡ length slots

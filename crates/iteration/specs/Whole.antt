@@ -22,11 +22,12 @@ use Rattle.state_words.specs.Words.{usedIn, channelAt, rowOf}
 use Rattle.input_line.specs.declared.laying.Inputs.{Inputs}
 use Rattle.input_line.specs.declared.laying.Inputs.the-variants.{Used as FedUsed, Full}
 use Rattle.new_cells.specs.Steps.{Kept}
+use Rattle.evaluator.specs.ChannelValues.{boardLent}
 use Rattle.iteration.specs.declared.nodes.Updated.{Updated}
 use Rattle.iteration.specs.declared.nodes.Updated.the-variants.{Used, Refused}
 use Rattle.iteration.specs.declared.Iteration.{Iteration}
 use Rattle.iteration.specs.declared.Iteration.the-variants.{Done, Refused as RefusedAt}
-use Rattle.iteration.specs.Promises.{boardOf, AgreesNodes, asValue}
+use Rattle.iteration.specs.Promises.{AgreesNodes, asValue}
 
 -- ---- what may be rested on: a board's words, with so many cells used, and few channels
 pub record Begun (index words : List ℕ) (cells : ℕ) : Type 0 where
@@ -59,7 +60,7 @@ pub record Given (text index line : List ℕ) (cells : ℕ) (words : List ℕ) (
 
 pub record FeedsAndUpdates (text index line : List ℕ) (cells calls : ℕ) (row words slots : List ℕ) (r : Updated) (row′ words′ slots′ : List ℕ) : Type 0 where
   pub says : {P : File} {s : State} {vs : List Tree} → Given text index line cells words P s vs → ChannelsTaken words row →
-      AgreesNodes P words′ row′ r (bind (putInputs P cells 0 vs (s .heap) []) (λ q. updateNodes P (boardOf cells slots calls) (s .roots) (length (P .inputs)) (P .nodes) (q .heap) (q .roots) (drop (length (P .inputs)) (s .roots))))
+      AgreesNodes P words′ row′ r (bind (putInputs P cells 0 vs (s .heap) []) (λ q. updateNodes P (boardLent cells slots calls) (s .roots) (length (P .inputs)) (P .nodes) (q .heap) (q .roots) (drop (length (P .inputs)) (s .roots))))
   pub kept : Kept words words′ (usedIn words) (asValue r)
   pub long : length slots′ ≡ length slots
 
@@ -68,6 +69,6 @@ pub data AgreesIteration (P : File) (cells : ℕ) (words words′ : List ℕ) : 
   is-refused : {n c : ℕ} → words′ ≡ words → AgreesIteration P cells words words′ (RefusedAt n c) (no n (channelFrame P c))
 
 pub record IteratesState (text index line : List ℕ) (cells calls : ℕ) (words scratch slots : List ℕ) (r : Iteration) (words′ scratch′ slots′ : List ℕ) : Type 0 where
-  pub says : {P : File} {s : State} {vs : List Tree} → Given text index line cells words P s vs → scratch ≡ replicate (length scratch) 0 → AgreesIteration P cells words words′ r (iterateState P (boardOf cells slots calls) s vs)
+  pub says : {P : File} {s : State} {vs : List Tree} → Given text index line cells words P s vs → scratch ≡ replicate (length scratch) 0 → AgreesIteration P cells words words′ r (iterateState P (boardLent cells slots calls) s vs)
   pub clean : scratch ≡ replicate (length scratch) 0 → scratch′ ≡ scratch
   pub long : length slots′ ≡ length slots

@@ -17,6 +17,7 @@ use Rattle.language.specs.Heap.{Cell, Tree}
 use Rattle.language.specs.Slide.{State, slide}
 use Rattle.language.specs.Layout.{padded, stateLength, stateWords, allZero}
 use Rattle.language.specs.Machine.{written, putInputs, updateNodes, iterateState}
+use Rattle.theory.specs.FrameNumbers.{channelTotal}
 use Rattle.theory.specs.Lists.{both-right, take-fewer}
 use Rattle.theory.specs.Places.{below-or-not}
 use Rattle.theory.specs.Padding.{padded-rest}
@@ -37,11 +38,12 @@ use Rattle.state_words.specs.WriteLaws.{drop-of-take, channels-tested}
 use Rattle.state_check.specs.LoadLaws.{channel-count}
 use Rattle.sliding.specs.Sliding.{Unslid, Collects}
 use Rattle.evaluator.specs.KeepLaws.{Moved, moved-by, drop-more}
+use Rattle.evaluator.specs.ChannelValues.{boardLent}
 use Rattle.iteration.specs.declared.nodes.Updated.{Updated}
 use Rattle.iteration.specs.declared.nodes.Updated.the-variants.{Used, Refused}
 use Rattle.iteration.specs.declared.Iteration.{Iteration}
 use Rattle.iteration.specs.declared.Iteration.the-variants.{Done, Refused as RefusedAt}
-use Rattle.iteration.specs.Promises.{channelCount, boardOf, RowIs, AgreesNodes, are-updated, not-updated, asValue}
+use Rattle.iteration.specs.Promises.{RowIs, AgreesNodes, are-updated, not-updated, asValue}
 use Rattle.iteration.specs.Whole.{Begun, ChannelsTaken, ChannelsPut, endedBy, Given, FeedsAndUpdates, is-done, is-refused, IteratesState}
 
 -- ---- taken
@@ -116,7 +118,7 @@ record IsFull (P : File) (words′ row′ : List ℕ) (top : ℕ) (o : Result St
   is : o ≡ ok full
   held : Holds words′ top (full .heap)
   writable : All (Writable P) (full .heap)
-  row : RowIs row′ (full .roots) (channelCount P)
+  row : RowIs row′ (full .roots) (channelTotal P)
 
 is-full : {P : File} {words′ row′ : List ℕ} {x : Updated} {o : Result State} {top : ℕ} → AgreesNodes P words′ row′ x o → x ≡ Used top → IsFull P words′ row′ top o
 is-full {P} {words′} {row′} {x} {o} {top} a d = go (subst (λ z. AgreesNodes P words′ row′ z o) d a)
@@ -226,7 +228,7 @@ module _ (text index line : List ℕ) (cells calls : ℕ) (words scratch slots :
         last : IsFull P words₁ row₁ top (fedAndUpdated P cells (length slots) calls s vs)
         last = is-full (f .says g taken) d
 
-        counted : n ≡ channelCount P
+        counted : n ≡ channelTotal P
         counted = all ∙ omega (arith, g .indexed .counted .inputCount, g .indexed .counted .nodeCount)
 
         roots-are : rowOf (channelAt words₂) n ≡ last .full .roots
@@ -236,7 +238,7 @@ module _ (text index line : List ℕ) (cells calls : ℕ) (words scratch slots :
             last .row .each k (omega (arith, small, counted)))
 
         linked : Linked (last .full)
-        linked = let z = stepped P cells (length slots) calls s vs (last .full) (last .is) in full-linked (g .indexed .within) (g .plain) (boardOf cells slots calls) (state-loaded (g .indexed .within) (g .loaded) .typed) vs (line-forth-exact P line vs (g .allowed) .1) (z .fed) (last .full) (z .put) (z .updated)
+        linked = let z = stepped P cells (length slots) calls s vs (last .full) (last .is) in full-linked (g .indexed .within) (g .plain) (boardLent cells slots calls) (state-loaded (g .indexed .within) (g .loaded) .typed) vs (line-forth-exact P line vs (g .allowed) .1) (z .fed) (last .full) (z .put) (z .updated)
 
         header : take channelsMost (drop 1 words₁) ≡ take channelsMost (drop 1 words)
         header = sym (drop-of-take 1 channelsMost words₁) ∙ ap (drop 1) (take-fewer headerWords (stateLength (usedIn words)) words₁ words (omega arith) (full-moved .low)) ∙ drop-of-take 1 channelsMost words

@@ -3,16 +3,13 @@ ghost use mathlib.Core.Path.{_≡_};
 ghost use Rattle.new_cells.specs.Steps.{Board};
 ghost use Rattle.index.specs.Sections.{channelsOf};
 ghost use Rattle.index.specs.Indexed.{declaredAt};
-ghost use Rattle.iteration.specs.Promises.{sizeInWord, nodeContext, UpdatesNode, UpdatesNodes, handedOn};
-use evaluator::Context;
-use evaluator::cycle::expr;
-use heads::places::line_behind_types;
+ghost use Rattle.iteration.specs.Promises.{sizeInWord, UpdatesNode, UpdatesNodes, handedOn};
+use evaluator::channels::channel_value;
 use index::INDEX_WORDS;
 use index::channels::declared_word;
 use index::channels::update_start;
 use index::frame_counts;
 use index::put;
-use language::limits::BYTE_RANGE;
 use language::limits::CHANNELS_MOST;
 use language::limits::TEXT_MOST;
 use language::refusals::NO_REFUSAL;
@@ -37,22 +34,6 @@ fn declared_size(index: &[u32; INDEX_WORDS], c: u32) -> u32
         return 0;
     }
     word_size(word)
-}
-
-// Where the update of channel c is evaluated, with nothing in the environment.
-fn node_context(index: &[u32; INDEX_WORDS], c: u32, used: u32, calls: u32) -> Context
-    ensures { λ r. ⌜ r ≡ nodeContext (now (index .entry)) c used calls ⌝ }
-{
-    let at = update_start(index, c);
-    let counts = frame_counts(index);
-    let line = line_behind_types(index, counts.functions + c % BYTE_RANGE);
-    Context {
-        at: at,
-        line: line,
-        top: 0,
-        used: used,
-        calls: calls,
-    }
 }
 
 // A refusal handed on, with the channel where it was met.
@@ -80,8 +61,8 @@ fn update_node(
     requires { ⌜ Board (now state) used ⌝ }
     ensures { λ r. ⌜ UpdatesNode (now (text .entry)) (now (index .entry)) (now (ends .entry)) (now (channels .entry)) c used calls (now (state .entry)) (now (slots .entry)) r (now (state .exit)) (now (slots .exit)) ⌝ }
 {
-    let p = node_context(index, c, used, calls);
-    let x = expr(text, index, ends, channels, state, slots, p);
+    let at = update_start(index, c);
+    let x = channel_value(text, index, ends, channels, state, slots, c, at, used, calls);
     let Value::Is(cell, more) = x else {
         return x;
     };

@@ -7,12 +7,15 @@ use mathlib.Core.Path.{_≡_, refl, sym, ap, _∙_, subst}
 use native.Mathlib.Omega.{arith}
 use lib.ListN.{length, getD, length-append, length-map, List·getD-eq-default, getElem? as look}
 use Rattle.language.specs.Limits.{functionsMost, channelsMost}
-use Rattle.language.specs.Result.{Result, need, needEach, choose}
+use Rattle.language.specs.Refusals.{typesDisagree}
+use Rattle.language.specs.Result.{Result, ok, no, need, needEach, choose}
 use Rattle.language.specs.Syntax.{Function, Input, Node, File, functionFrame}
+use Rattle.language.specs.PlainTyping.{WellPlain}
 use Rattle.language.specs.PlainTypes.{plainFunction, plainInitial, plainInput, plainNode, plainTypes}
 use Rattle.theory.specs.Lists.{false-is-not-true, look-getD, look-append, look-past, look-map}
 use Rattle.theory.specs.Places.{below-or-not}
 use Rattle.theory.specs.Alls.{all-at}
+use Rattle.theory.specs.PlainTypesAgree.{well-plain}
 use Rattle.encoding.specs.FrameSpells.{lineAt}
 use Rattle.index.specs.declared.Counts.{Counts}
 use Rattle.encoding.specs.WithinParts.{node-within}
@@ -178,3 +181,13 @@ refused-verdict P x =
 pub plain-types-verdict : {text index : List ℕ} {r : ℕ} {P : File} {A : Type 0} → JudgesAll text index r → Indexed text index P → (x : Result A) →
     plainTypes P x ≡ verdict r x
 plain-types-verdict {P} v h x = refused-verdict P x ∙ ap (λ m. verdict m x) (sym (v .says h))
+
+-- 9 where a frame is named; right plain types where none is
+pub verdict-refused : {A : Type 0} (r : ℕ) (x : Result A) → (r ≡ 0 → ⊥) → verdict r x ≡ no typesDisagree r
+unfolding verdict
+verdict-refused zero x named = absurd (named refl)
+verdict-refused (suc r) x named = refl
+
+pub verdict-well : {text index : List ℕ} {r : ℕ} {P : File} → JudgesAll text index r → Indexed text index P → r ≡ 0 → WellPlain P
+unfolding verdict
+verdict-well {P} v h none = well-plain P (ok P) (plain-types-verdict v h (ok P) ∙ ap (λ m. verdict m (ok P)) none)

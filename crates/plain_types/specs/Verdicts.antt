@@ -6,6 +6,7 @@ use mathlib.Core.Option.{some}
 use mathlib.Core.Path.{_≡_}
 use lib.ListN.{length, getD, getElem? as look}
 use Rattle.language.specs.Limits.{nestingMost}
+use Rattle.language.specs.Refusals.{typesDisagree}
 use Rattle.language.specs.Result.{Result, no, choose}
 use Rattle.language.specs.Syntax.{Plain, pbool, Ty, Expr, Function, Node, File, functionFrame}
 use Rattle.language.specs.Scope.{Scope, outerScope}
@@ -70,7 +71,7 @@ refusedFrame P = firstRefused (functionFrame P 0) (frameTests P)
 -- refusal 9 at a frame; a pass goes on where the number is 0
 unfoldable pub verdict : {A : Type 0} → ℕ → Result A → Result A
 verdict zero x = x
-verdict (suc n) x = no 9 (suc n)
+verdict (suc n) x = no typesDisagree (suc n)
 
 module _ (text index : List ℕ) where
   pub record FrameFits (i : ℕ) (r : Bool) : Type 0 where

@@ -1,5 +1,5 @@
 -- An iteration from the text on, return by return.
-use Prim.Native.Nat.{ℕ, zero, suc, _+_, _%_, _≤_, _<_}
+use Prim.Native.Nat.{ℕ, _+_, _≤_}
 use mathlib.Core.List.{List, [], _++_, append-nil}
 use mathlib.Core.Bool.{Bool, true, false}
 use mathlib.Core.Path.{_≡_, refl, sym, ap, subst, _∙_}
@@ -7,86 +7,41 @@ use native.Mathlib.Omega.{arith}
 use native.Mathlib.Nat.{le-refl}
 use lib.ListN.{length, take, drop, replicate, length-append, length-drop, length-replicate, take-append-drop}
 use lib.Seq.{length-take-le, drop-length, take-take}
-use lib.Dec.{leb}
-use borrow.Author.Tests.{le-leb, lt-leb, leb-true}
-use Rattle.language.specs.Limits.{byteRange, cellsMost, scratchWords}
 use Rattle.language.specs.Refusals.{noRefusal, noFrame, typesDisagree, notLent, badInputLine}
-use Rattle.language.specs.Result.{Result, ok, no, bind, need, from, both}
+use Rattle.language.specs.Result.{Result, no, bind, need, from}
 use Rattle.language.specs.Reader.{readFile}
 use Rattle.language.specs.PlainTypes.{plainTypes}
 use Rattle.language.specs.PlainTyping.{WellPlain}
 use Rattle.language.specs.Slide.{State}
 use Rattle.language.specs.Layout.{stateLength, stateWords, loadState}
 use Rattle.language.specs.Line.{lineTrees}
-use Rattle.language.specs.Machine.{Iterated, answer, boardAllowed, written, zeros, buffersLent, iterateState, iterateFile, iterated, iterate}
-use Rattle.theory.specs.Lists.{both-left, both-right}
-use Rattle.theory.specs.PlainTypesAgree.{well-plain}
+use Rattle.language.specs.Machine.{Iterated, answer, written, zeros, buffersLent, iterateState, iterateFile, iterated, iterate}
 use Rattle.theory.specs.Unread.{load-same}
 use Rattle.reader.specs.declared.Reading.{Reading}
 use Rattle.reader.specs.declared.Reading.the-variants.{Fault}
 use Rattle.reader.specs.Texts.{TextRead}
 use Rattle.plain_types.specs.Verdicts.{verdict, JudgesAll}
-use Rattle.plain_types.specs.JudgeLaws.{plain-types-verdict}
-use Rattle.index.specs.declared.Counts.{Counts}
-use Rattle.index.specs.Sections.{countsIn}
-use Rattle.heads.specs.Places.{lineBehindTypes}
+use Rattle.plain_types.specs.JudgeLaws.{plain-types-verdict, verdict-refused, verdict-well}
+use Rattle.heads.specs.Places.{channelLineOf}
 use Rattle.iteration.specs.declared.Iteration.{Iteration}
 use Rattle.iteration.specs.declared.Iteration.the-variants.{Done, Refused}
 use Rattle.checker.specs.declared.Board.{Board}
 use Rattle.checker.specs.declared.Answer.{Answer}
-use Rattle.checker.specs.Checks.{boardOf, said, refusalOf, readAnswer, ReadHeld, Allows}
+use Rattle.checker.specs.Checks.{boardOf, said, refusalOf, readAnswer, ReadHeld}
 use Rattle.checker.specs.ReadLaws.{read-fault}
 use Rattle.runtime.specs.Runs.{Iterates, frameAt, answerOf, lengthsLent, LendsAll, Cleared, Told, told-done, told-refused, onState, Lent, IteratesLent, IteratesRead}
 
+use Rattle.runtime.specs.BufferLaws.{Enough, enough-is, lent-is}
+
 -- ---- answers
-pub frame-is : (index : List ℕ) (c : ℕ) {n : Counts} {line : ℕ} → n ≡ countsIn index → line ≡ lineBehindTypes index (n .functions + c % byteRange) → line + 1 ≡ frameAt index c
-frame-is index c e q = ap (λ i. i + 1) (q ∙ ap (λ (z : Counts). lineBehindTypes index (z .functions + c % byteRange)) e)
+pub frame-is : (index : List ℕ) (c : ℕ) {line : ℕ} → line ≡ channelLineOf index c → line + 1 ≡ frameAt index c
+frame-is index c e = ap (λ i. i + 1) e
 
 pub answer-done : (index : List ℕ) {x : Iteration} {r : Answer} → x ≡ Done → r ≡ refusalOf noRefusal noFrame → r ≡ answerOf index x
 answer-done index d q = q ∙ ap (answerOf index) (sym d)
 
 pub answer-refused : (index : List ℕ) {x : Iteration} {n c frame : ℕ} {r : Answer} → x ≡ Refused n c → frame ≡ frameAt index c → r ≡ refusalOf n frame → r ≡ answerOf index x
 answer-refused index {n = n} d f q = q ∙ ap (refusalOf n) f ∙ ap (answerOf index) (sym d)
-
--- ---- what is lent, test by test
-module _ {b : Board} {state scratch slots : ℕ} {allowed : Bool} (a : Allows b allowed) where
-  pub board-over : allowed ≡ false → LendsAll b state scratch slots false
-  unfolding lengthsLent both
-  board-over d = record { is = rw (← (a .is), d) refl }
-
-  module _ (good : allowed ≡ true) {words : ℕ} (w : words ≡ stateLength (b .cells)) where
-    pub state-short : state < words → LendsAll b state scratch slots false
-    unfolding lengthsLent both
-    state-short h = record { is = rw (← (a .is), good, lt-leb (stateLength (b .cells)) state (omega (arith, h, w))) refl }
-
-    module _ (long : words ≤ state) where
-      pub scratch-short : scratch < scratchWords → LendsAll b state scratch slots false
-      unfolding lengthsLent both
-      scratch-short h = record { is = rw (← (a .is), good, le-leb (stateLength (b .cells)) state (omega (arith, long, w)), lt-leb _ _ h) refl }
-
-      pub slots-judged : {r : Bool} → scratchWords ≤ scratch → r ≡ leb (b .slots) slots → LendsAll b state scratch slots r
-      unfolding lengthsLent both
-      slots-judged h e = record { is = rw (← (a .is), good, le-leb (stateLength (b .cells)) state (omega (arith, long, w)), le-leb _ _ h) e }
-
--- what is known where enough is lent
-record Enough (b : Board) (state scratch slots : ℕ) : Type 0 where
-  cells : b .cells ≤ cellsMost
-  words : stateLength (b .cells) ≤ state
-  marks : scratchWords ≤ scratch
-  free : b .slots ≤ slots
-
-enough-is : (b : Board) (state scratch slots : ℕ) → lengthsLent (boardOf b) state scratch slots ≡ true → Enough b state scratch slots
-unfolding lengthsLent boardAllowed
-enough-is b state scratch slots e =
-    let board = both-left _ _ e in
-    let lengths = both-right _ _ e in
-    let rest = both-right _ _ lengths in
-    record {
-      cells = leb-true (b .cells) cellsMost (both-left _ _ board);
-      words = leb-true (stateLength (b .cells)) state (both-left _ _ lengths);
-      marks = leb-true scratchWords scratch (both-left _ _ rest);
-      free = leb-true (b .slots) slots (both-right _ _ rest);
-    }
 
 -- ---- the board's words, of a longer buffer
 module _ (cells : ℕ) (state : List ℕ) (long : stateLength cells ≤ length state) where
@@ -120,12 +75,7 @@ module _ {text index : List ℕ} (z : ReadHeld text index) (line : List ℕ) (b 
   refused-with {r} e q = record { says = subst (Told (b .cells) state r state) (sym e) (told-refused q refl); clean = refl; long = refl }
 
   pub types-refused : {r : Answer} → (frame ≡ 0 → ⊥) → r ≡ refusalOf typesDisagree frame → IteratesRead text line b state scratch slots r state scratch slots
-  unfolding verdict
-  types-refused wrong q = refused-with (after-reading ∙ go frame wrong) q
-    where
-      go : (f : ℕ) → (f ≡ 0 → ⊥) → verdict f (need lentNow notLent noFrame behind) ≡ no typesDisagree f
-      go zero h = absurd (h refl)
-      go (suc f) h = refl
+  types-refused wrong q = refused-with (after-reading ∙ verdict-refused frame _ wrong) q
 
   module _ (agree : frame ≡ 0) {given : Bool} (g : LendsAll b (length state) (length scratch) (length slots) given) where
     after-types : outcome ≡ need given notLent noFrame behind
@@ -153,8 +103,7 @@ module _ {text index : List ℕ} (z : ReadHeld text index) (line : List ℕ) (b 
       slots-cut = sym (length-take-le (b .slots) slots slots-there)
 
       well : WellPlain (z .file)
-      unfolding verdict
-      well = well-plain (z .file) (ok (z .file)) (plain-types-verdict v (z .indexed) (ok (z .file)) ∙ ap (λ f. verdict f (ok (z .file))) agree)
+      well = verdict-well v (z .indexed) agree
 
       pub lends : Cleared scratch → Lent text index (b .cells) (take words state) scratch
       lends c = record {
@@ -193,10 +142,6 @@ told-whole : {cells : ℕ} (scratch slots : List ℕ) {state state′ scratch′
 unfolding iterated answer
 told-whole scratch slots (told-done q w) s l = rw (q, w, s, l) refl
 told-whole scratch slots (told-refused q w) s l = rw (q, w, s, l) refl
-
-lent-is : (b : Board) (state scratch slots : List ℕ) → buffersLent (boardOf b) state scratch slots ≡ lengthsLent (boardOf b) (length state) (length scratch) (length slots)
-unfolding buffersLent lengthsLent
-lent-is b state scratch slots = refl
 
 module _ (scratch : List ℕ) {scratch₁ : List ℕ} (cleared : scratch₁ ≡ replicate (length scratch) 0) where
   scratch-long : length scratch₁ ≡ length scratch

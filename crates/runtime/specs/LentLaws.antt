@@ -19,6 +19,7 @@ use Rattle.theory.specs.IterationAgrees.{refused-iff-rules, iteration-numbered}
 use Rattle.theory.specs.StateWords.{state-loaded}
 use Rattle.theory.specs.LineExact.{line-forth-exact, inputs-count}
 use Rattle.text.specs.Lines.{isSome}
+use Rattle.heads.specs.Places.{channel-line}
 use Rattle.index.specs.Indexed.{Indexed}
 use Rattle.state_words.specs.StateLaws.{loaded-held}
 use Rattle.cell_check.specs.CellLaws.{some-of, none-of}
@@ -32,7 +33,7 @@ use Rattle.runtime.specs.Runs.{frameAt, answerOf, Told, told-done, told-
 
 -- the frame of a channel is found by the index
 frame-found : {text index : List ℕ} {P : File} (c : ℕ) → Indexed text index P → c < channelTotal P → frameAt index c ≡ channelFrame P c
-frame-found c x less = omega (arith, less, x .counted .typeCount, x .counted .functionCount, x .within .fewFunctions, x .within .fewInputs, x .within .fewNodes)
+frame-found c x less = omega (arith, channel-line c x less)
 
 -- what an iteration answered
 told-by : {text index line : List ℕ} {cells : ℕ} {words : List ℕ} {P : File} (b : Board) {s : State} {vs : List Tree} {words₂ : List ℕ} {x : Iteration} {o : Result State} {r : Answer} → Given text index line cells words P s vs → iterateState P b s vs ≡ o →

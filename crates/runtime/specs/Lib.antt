@@ -1,3 +1,6 @@
 pub mod Runs
+pub mod Starts
+pub mod BufferLaws
 pub mod LentLaws
 pub mod IterateLaws
+pub mod StartLaws

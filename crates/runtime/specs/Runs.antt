@@ -1,11 +1,11 @@
 -- What the calls promise that run a rule file: the machine's answer, and every lent buffer as it leaves it.
-use Prim.Native.Nat.{ℕ, _+_, _%_, _≤_}
+use Prim.Native.Nat.{ℕ, _+_, _≤_}
 use mathlib.Core.List.{List}
 use mathlib.Core.Bool.{Bool}
 use mathlib.Core.Path.{_≡_}
 use lib.ListN.{length, replicate}
 use lib.Dec.{leb}
-use Rattle.language.specs.Limits.{byteRange, cellsMost, scratchWords}
+use Rattle.language.specs.Limits.{cellsMost, scratchWords}
 use Rattle.language.specs.Refusals.{noRefusal, noFrame, notLent, badInputLine}
 use Rattle.language.specs.Result.{Result, ok, no, from, both}
 use Rattle.language.specs.Syntax.{File}
@@ -14,12 +14,11 @@ use Rattle.language.specs.Layout.{stateLength, loadState}
 use Rattle.language.specs.Line.{lineTrees}
 use Rattle.language.specs.PlainTyping.{WellPlain}
 use Rattle.language.specs.Machine.{Board as MachineBoard, Iterated, boardAllowed, written, iterateState, iterateFile, iterate}
-use Rattle.index.specs.Sections.{countsIn}
 use Rattle.index.specs.Indexed.{Indexed}
-use Rattle.heads.specs.Places.{lineBehindTypes}
+use Rattle.heads.specs.Places.{channelLineOf}
 use Rattle.iteration.specs.declared.Iteration.{Iteration}
 use Rattle.iteration.specs.declared.Iteration.the-variants.{Done, Refused}
-use Rattle.iteration.specs.Promises.{boardOf as boardLent}
+use Rattle.evaluator.specs.ChannelValues.{boardLent}
 use Rattle.checker.specs.declared.Board.{Board}
 use Rattle.checker.specs.declared.Answer.{Answer}
 use Rattle.checker.specs.Checks.{boardOf, said, refusalOf}
@@ -37,7 +36,7 @@ pub record LendsAll (b : Board) (state scratch slots : ℕ) (r : Bool) : Type 0 
   pub is : r ≡ lengthsLent (boardOf b) state scratch slots
 
 abbrev pub frameAt : List ℕ → ℕ → ℕ
-frameAt index c = lineBehindTypes index (countsIn index .functions + c % byteRange) + 1
+frameAt index c = channelLineOf index c + 1
 
 abbrev pub answerOf : List ℕ → Iteration → Answer
 answerOf index Done = refusalOf noRefusal noFrame

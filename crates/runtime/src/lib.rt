@@ -1,20 +1,23 @@
-// The calls that run a rule file on a board: an iteration.
+// The calls that run a rule file on a board: the start, and an iteration.
 ghost use mathlib.Core.Path.{_≡_};
 ghost use Rattle.checker.specs.Checks.{ReadHeld};
+ghost use Rattle.runtime.specs.Starts.{LendsList, StartsRead, Starts};
 ghost use Rattle.runtime.specs.Runs.{LendsAll, frameAt, answerOf, Cleared, Lent, IteratesLent, IteratesRead, Iterates};
 use checker::Answer;
 use checker::Board;
 use checker::board_allowed;
+use checker::check_read;
+use checker::lent;
 use checker::read_answer;
 use checker::refusal;
-use heads::places::line_behind_types;
+use heads::places::channel_line;
 use index::INDEX_WORDS;
 use index::clear;
-use index::frame_counts;
+use initial_state::put_initial_state;
 use input_line::allowed_line;
+use instances::clear as clear_list;
 use iteration::Iteration;
 use iteration::iterate_state;
-use language::limits::BYTE_RANGE;
 use language::limits::SCRATCH_WORDS;
 use language::refusals::BAD_INPUT_LINE;
 use language::refusals::NO_FRAME;
@@ -43,12 +46,69 @@ fn buffers_lent(b: Board, state: usize, scratch: usize, slots: usize) -> bool
     (b.slots as usize) <= slots
 }
 
+// Whether the list is long enough too.
+fn all_lent(b: Board, list: usize, state: usize, scratch: usize, slots: usize) -> bool
+    ensures { λ r. ⌜ LendsList b list state scratch slots r ⌝ }
+{
+    if !lent(b, list) {
+        return false;
+    }
+    buffers_lent(b, state, scratch, slots)
+}
+
+// The start of a file that was read: 9 to 18 as the checker has them, or the state.
+fn start_read(
+    text: &[u8],
+    index: &[u32; INDEX_WORDS],
+    b: Board,
+    list: &mut [u32],
+    state: &mut [u32],
+    scratch: &[u32],
+    slots: &mut [u32],
+) -> Answer
+    requires { ⌜ ReadHeld (now text) (now index) ⌝ }
+    ensures { λ r. ⌜ StartsRead (now (text .entry)) b (now (list .entry)) (now (state .entry)) (now (scratch .entry)) (now (slots .entry)) r (now (list .exit)) (now (state .exit)) (now (slots .exit)) ⌝ }
+{
+    let given = all_lent(b, list.len(), state.len(), scratch.len(), slots.len());
+    let r = check_read(text, index, b, given, list);
+    if r.number != NO_REFUSAL {
+        return r;
+    }
+    let words = state_length(b.cells);
+    let free = b.slots as usize;
+    put_initial_state(text, index, &mut state[..words], &mut slots[..free], b.calls);
+    r
+}
+
+// Checks a file on a board and starts it. The list ends as `check` leaves it, scratch and slots zero; after a refusal the state is unchanged.
+pub fn start(
+    text: &[u8],
+    b: Board,
+    list: &mut [u32],
+    state: &mut [u32],
+    scratch: &mut [u32],
+    slots: &mut [u32],
+) -> Answer
+    ensures { λ r. ⌜ Starts (now (text .entry)) b (now (list .entry)) (now (state .entry)) (now (scratch .entry)) (now (slots .entry)) r (now (list .exit)) (now (state .exit)) (now (scratch .exit)) (now (slots .exit)) ⌝ }
+{
+    clear(scratch);
+    let mut index = [0u32; INDEX_WORDS];
+    let x = read(text, &mut index);
+    let Reading::Done = x else {
+        clear_list(list);
+        clear(slots);
+        return read_answer(x);
+    };
+    let r = start_read(text, &index, b, list, state, scratch, slots);
+    clear(slots);
+    r
+}
+
 // The frame of channel c.
 fn channel_frame(index: &[u32; INDEX_WORDS], c: u32) -> u32
     ensures { λ r. ⌜ r ≡ frameAt (now (index .entry)) c ⌝ }
 {
-    let counts = frame_counts(index);
-    line_behind_types(index, counts.functions + c % BYTE_RANGE) + 1
+    channel_line(index, c) + 1
 }
 
 // The answer of an iteration.

@@ -1,5 +1,7 @@
 -- A text that is not read, or what its file's check gives.
-use Rattle.checker.specs.ReadLaws.{reading-refused, read-held}
+use Rattle.checker.specs.ReadLaws.{check-unread, read-held}
+use Rattle.checker.specs.VerdictLaws.{list-room}
+use Rattle.checker.specs.Outcomes.{checked}
 use borrow.Author.Needs.{needs}
 use Rattle.checker.proofs.check.Statement.{statement}
 use Rattle.checker.proofs.check.Tie as tie
@@ -23,16 +25,19 @@ same-length : tie.Need-same-length
 same-length c = search needs
 
 returns : tie.Need-returns
-returns c = reading-refused (c .before .before .before .before .before .before .before .read .ensures) (c .before .before .before .before .before .enum-told2 .given .1) (c .read-answer .ensures) (c .before .before .before .clear .ensures)
+returns c = check-unread (c .before .before .before .before .before .before .before .read .ensures) (c .before .before .before .before .before .enum-told2 .given .1) (c .read-answer .ensures) (c .before .before .before .clear .ensures)
+
+lent-requires : tie.Need-lent-requires
+lent-requires c κs = tt
 
 check-read-requires : tie.Need-check-read-requires
-check-read-requires c κs = read-held (c .before .before .before .before .read .ensures) (c .before .before .enum-told .given .1)
+check-read-requires c κs = (read-held (c .before .before .before .before .before .read .ensures) (c .before .before .before .enum-told .given .1), list-room _ (c .before .before .lent .ensures))
 
 same-length-2 : tie.Need-same-length-2
 same-length-2 c = search needs
 
 returns-2 : tie.Need-returns-2
-returns-2 c = search needs
+returns-2 c = checked (c .before .before .before .before .before .lent .ensures) (c .before .before .check-read .ensures)
 
 pub check-spec : {M : Type 1} → statement M
 check-spec =
@@ -45,6 +50,7 @@ check-spec =
     read-answer-requires
     same-length
     returns
+    lent-requires
     check-read-requires
     same-length-2
     returns-2)

@@ -19,10 +19,7 @@ same-length : tie.Need-same-length
 same-length c = search needs
 
 returns : tie.Need-returns
-returns c = types-refused (c .before .before .before .before .before .before .before .before .before .pre) _ _ (c .before .before .before .before .before .before .plain-types .ensures) (c .before .before .before .before .before .if1 .taken) (c .refusal .ensures) (c .before .before .before .clear .ensures)
-
-lent-requires : tie.Need-lent-requires
-lent-requires c κs = tt
+returns c = types-refused (c .before .before .before .before .before .before .before .before .before .pre .0) _ _ _ (c .before .before .before .before .before .before .plain-types .ensures) (c .before .before .before .before .before .if1 .taken) (c .refusal .ensures) (c .before .before .before .clear .ensures)
 
 clear-requires-2 : tie.Need-clear-requires-2
 clear-requires-2 c κs = tt
@@ -34,7 +31,7 @@ same-length-2 : tie.Need-same-length-2
 same-length-2 c = search needs
 
 returns-2 : tie.Need-returns-2
-returns-2 c = lent-refused (c .before .before .before .before .before .before .before .before .before .before .before .pre) _ _ (c .before .before .before .before .before .before .before .before .plain-types .ensures) (c .before .before .before .before .before .before .before .if1 .left) (c .before .before .before .before .before .before .lent .ensures) (not-true _ (c .before .before .before .before .before .if2 .taken)) (c .refusal2 .ensures) (c .before .before .before .clear2 .ensures)
+returns-2 c = lent-refused (c .before .before .before .before .before .before .before .before .before .before .pre .0) _ _ _ (c .before .before .before .before .before .before .before .plain-types .ensures) (c .before .before .before .before .before .before .if1 .left) (not-true _ (c .before .before .before .before .before .if2 .taken)) (c .refusal2 .ensures) (c .before .before .before .clear2 .ensures)
 
 sized-file-requires : tie.Need-sized-file-requires
 sized-file-requires c κs = tt
@@ -55,7 +52,7 @@ same-length-3 : tie.Need-same-length-3
 same-length-3 c = search needs
 
 returns-3 : tie.Need-returns-3
-returns-3 c = sizes-refused (c .before .before .before .before .before .before .before .before .before .before .before .before .before .before .before .before .before .pre) _ _ (c .before .before .before .before .before .before .before .before .before .before .before .before .before .before .plain-types .ensures) (c .before .before .before .before .before .before .before .before .before .before .before .before .before .if1 .left) (c .before .before .before .before .before .before .before .before .before .before .before .before .lent .ensures) (not-false _ (c .before .before .before .before .before .before .before .before .before .before .before .if2 .left)) (c .before .before .before .before .before .before .before .before .before .sized-file .ensures) (c .before .before .before .before .before .before .before .before .before .sized-file .kept .1 .1 .0) (c .before .before .before .before .before .enum-told .given .1) (c .sizing-refusal .ensures) (c .before .before .before .clear3 .ensures)
+returns-3 c = sizes-refused (c .before .before .before .before .before .before .before .before .before .before .before .before .before .before .before .before .pre .0) _ _ _ (c .before .before .before .before .before .before .before .before .before .before .before .before .before .plain-types .ensures) (c .before .before .before .before .before .before .before .before .before .before .before .before .if1 .left) (c .before .before .before .before .before .before .before .before .before .before .before .before .before .before .before .before .pre .1) (not-false _ (c .before .before .before .before .before .before .before .before .before .before .before .if2 .left)) (c .before .before .before .before .before .before .before .before .before .sized-file .ensures) (c .before .before .before .before .before .before .before .before .before .sized-file .kept .1 .1 .0) (c .before .before .before .before .before .enum-told .given .1) (c .sizing-refusal .ensures) (c .before .before .before .clear3 .ensures)
 
 needed-requires : tie.Need-needed-requires
 needed-requires c κs = tt
@@ -70,13 +67,13 @@ same-length-4 : tie.Need-same-length-4
 same-length-4 c = search needs
 
 returns-4 : tie.Need-returns-4
-returns-4 c = board-refused (c .before .before .before .before .before .before .before .before .before .before .before .before .before .before .before .before .before .before .before .before .before .pre) _ _ (c .before .before .before .before .before .before .before .before .before .before .before .before .before .before .before .before .before .before .plain-types .ensures) (c .before .before .before .before .before .before .before .before .before .before .before .before .before .before .before .before .before .if1 .left) (c .before .before .before .before .before .before .before .before .before .before .before .before .before .before .before .before .lent .ensures) (not-false _ (c .before .before .before .before .before .before .before .before .before .before .before .before .before .before .before .if2 .left)) (c .before .before .before .before .before .before .before .before .before .before .before .before .before .sized-file .ensures) (c .before .before .before .before .before .before .before .before .before .before .before .before .before .sized-file .kept .1 .1 .0) (c .before .before .before .before .before .before .before .before .before .x .given .1) (c .before .before .before .before .before .before .before .needed .ensures) (c .before .before .before .before .before .before .judge .ensures) (λ z. omega (arith, z, (c .before .before .before .before .if3 .taken))) (c .before .before .clear4 .ensures)
+returns-4 c = board-refused (c .before .before .before .before .before .before .before .before .before .before .before .before .before .before .before .before .before .before .before .before .pre .0) _ _ _ (c .before .before .before .before .before .before .before .before .before .before .before .before .before .before .before .before .before .plain-types .ensures) (c .before .before .before .before .before .before .before .before .before .before .before .before .before .before .before .before .if1 .left) (c .before .before .before .before .before .before .before .before .before .before .before .before .before .before .before .before .before .before .before .before .pre .1) (not-false _ (c .before .before .before .before .before .before .before .before .before .before .before .before .before .before .before .if2 .left)) (c .before .before .before .before .before .before .before .before .before .before .before .before .before .sized-file .ensures) (c .before .before .before .before .before .before .before .before .before .before .before .before .before .sized-file .kept .1 .1 .0) (c .before .before .before .before .before .before .before .before .before .x .given .1) (c .before .before .before .before .before .before .before .needed .ensures) (c .before .before .before .before .before .before .judge .ensures) (λ z. omega (arith, z, (c .before .before .before .before .if3 .taken))) (c .before .before .clear4 .ensures)
 
 same-length-5 : tie.Need-same-length-5
 same-length-5 c = search needs
 
 returns-5 : tie.Need-returns-5
-returns-5 c = board-accepts (c .before .before .before .before .before .before .before .before .before .before .before .before .before .before .before .before .before .pre) _ _ (c .before .before .before .before .before .before .before .before .before .before .before .before .before .before .plain-types .ensures) (c .before .before .before .before .before .before .before .before .before .before .before .before .before .if1 .left) (c .before .before .before .before .before .before .before .before .before .before .before .before .lent .ensures) (not-false _ (c .before .before .before .before .before .before .before .before .before .before .before .if2 .left)) (c .before .before .before .before .before .before .before .before .before .sized-file .ensures) (c .before .before .before .before .before .before .before .before .before .sized-file .kept .1 .1 .0) (c .before .before .before .before .before .x .given .1) (c .before .before .before .needed .ensures) (c .before .before .judge .ensures) (omega (arith, (c .if3 .left)))
+returns-5 c = board-accepts (c .before .before .before .before .before .before .before .before .before .before .before .before .before .before .before .before .pre .0) _ _ _ (c .before .before .before .before .before .before .before .before .before .before .before .before .before .plain-types .ensures) (c .before .before .before .before .before .before .before .before .before .before .before .before .if1 .left) (c .before .before .before .before .before .before .before .before .before .before .before .before .before .before .before .before .pre .1) (not-false _ (c .before .before .before .before .before .before .before .before .before .before .before .if2 .left)) (c .before .before .before .before .before .before .before .before .before .sized-file .ensures) (c .before .before .before .before .before .before .before .before .before .sized-file .kept .1 .1 .0) (c .before .before .before .before .before .x .given .1) (c .before .before .before .needed .ensures) (c .before .before .judge .ensures) (omega (arith, (c .if3 .left)))
 
 pub check-read-spec : {M : Type 1} → statement M
 check-read-spec =
@@ -87,7 +84,6 @@ check-read-spec =
     refusal-requires
     same-length
     returns
-    lent-requires
     clear-requires-2
     refusal-requires-2
     same-length-2

@@ -1,7 +1,7 @@
 -- Each test is one of the definition's.
 use borrow.Author.Tests.{not-true, not-false}
 use mathlib.Core.Path.{refl}
-use Rattle.runtime.specs.IterateLaws.{board-over, state-short, scratch-short, slots-judged}
+use Rattle.runtime.specs.BufferLaws.{board-over, state-short, scratch-short, slots-judged}
 use borrow.Author.Needs.{needs}
 use Rattle.runtime.proofs.buffers_lent.Statement.{statement}
 use Rattle.runtime.proofs.buffers_lent.Tie as tie

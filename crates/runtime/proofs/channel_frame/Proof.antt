@@ -1,32 +1,18 @@
--- The frame of a channel.
+-- A frame counts from 1.
+use native.Mathlib.Omega.{arith}
 use Rattle.runtime.specs.IterateLaws.{frame-is}
 use borrow.Author.Needs.{needs}
 use Rattle.runtime.proofs.channel_frame.Statement.{statement}
 use Rattle.runtime.proofs.channel_frame.Tie as tie
-use Rattle.runtime.proofs.channel_frame.Reads as reads
-use Rattle.runtime.proofs.channel_frame.Lts as lts
 
-frame-counts-requires : tie.Need-frame-counts-requires
-frame-counts-requires c κs = search needs
-
-add-line-behind-types : tie.Need-add-line-behind-types
-add-line-behind-types c = search needs
-
-line-behind-types-requires : tie.Need-line-behind-types-requires
-line-behind-types-requires c κs = search needs
+channel-line-requires : tie.Need-channel-line-requires
+channel-line-requires c κs = tt
 
 add-result : tie.Need-add-result
 add-result c = search needs
 
 returns : tie.Need-returns
-returns c = frame-is _ _ (c .before .before .frame-counts .ensures .0) (c .line-behind-types .ensures)
+returns c = frame-is _ _ (c .channel-line .ensures)
 
 pub channel-frame-spec : {M : Type 1} → statement M
-channel-frame-spec =
-    tie.close
-    (tie.spec
-    frame-counts-requires
-    add-line-behind-types
-    line-behind-types-requires
-    add-result
-    returns)
+channel-frame-spec = tie.close (tie.spec channel-line-requires add-result returns)

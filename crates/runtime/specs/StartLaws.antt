@@ -1,0 +1,165 @@
+-- The start from the text on, return by return.
+use Prim.Native.Nat.{ℕ, _≤_}
+use mathlib.Core.List.{List, _++_}
+use mathlib.Core.Bool.{Bool, true, false}
+use mathlib.Core.Path.{_≡_, refl, sym, ap, subst, _∙_}
+use native.Mathlib.Omega.{arith}
+use lib.ListN.{length, take, drop, replicate, length-append, length-drop, length-replicate}
+use lib.Seq.{length-take-le}
+use Rattle.language.specs.Refusals.{noFrame, notLent}
+use Rattle.language.specs.Result.{Result, ok, bind, need, both}
+use Rattle.language.specs.Syntax.{File}
+use Rattle.language.specs.Reader.{readFile}
+use Rattle.language.specs.PlainTypes.{plainTypes}
+use Rattle.language.specs.Layout.{stateLength, stateWords}
+use Rattle.language.specs.InitialValues.{FileBegins}
+use Rattle.language.specs.Machine.{Accepted, answer, checkFile, verdictOf, finalList, listLent, buffersLent, startState, written, startWords, start}
+use Rattle.theory.specs.Lists.{both-left, both-right}
+use Rattle.theory.specs.StateWords.{state-loaded}
+use Rattle.theory.specs.Starts.{start-writes, starts}
+use Rattle.theory.specs.StartSteps.{start-by-rules}
+use Rattle.theory.specs.FileAnswers.{StartAccepted, zero-is-accepted, start-answers}
+use Rattle.reader.specs.declared.Reading.{Reading}
+use Rattle.reader.specs.declared.Reading.the-variants.{Fault}
+use Rattle.reader.specs.Texts.{TextRead}
+use Rattle.index.specs.Indexed.{Indexed}
+use Rattle.new_cells.specs.Steps.{Board as BoardHas}
+use Rattle.evaluator.specs.ChannelValues.{boardLent}
+use Rattle.initial_state.specs.Promises.{LaysState}
+use Rattle.checker.specs.declared.Board.{Board}
+use Rattle.checker.specs.declared.Answer.{Answer}
+use Rattle.checker.specs.Checks.{boardOf, said, recordsOf, wordsOf, readAnswer, ReadHeld, Lends, Granted, ChecksGiven}
+use Rattle.checker.specs.VerdictLaws.{list-room}
+use Rattle.checker.specs.ReadLaws.{read-fault, reading-refused}
+use Rattle.checker.specs.Outcomes.{sizesOf}
+use Rattle.runtime.specs.Runs.{lengthsLent, LendsAll}
+use Rattle.runtime.specs.Starts.{started, LendsList, StartsRead, Starts}
+use Rattle.runtime.specs.BufferLaws.{Enough, enough-is, lent-is}
+
+-- ---- what is lent
+module _ {b : Board} {list state scratch slots : ℕ} {given : Bool} (l : Lends b list given) where
+  pub list-short : given ≡ false → LendsList b list state scratch slots false
+  unfolding both
+  list-short d = record { is = rw (← (l .is), d) refl }
+
+  pub list-long : {r : Bool} → given ≡ true → LendsAll b state scratch slots r → LendsList b list state scratch slots r
+  unfolding both
+  list-long d a = record { is = rw (← (l .is), d) (a .is) }
+
+-- ---- a file that was checked
+module _ (b : Board) (list state scratch slots : List ℕ) {given : Bool} (g : LendsList b (length list) (length state) (length scratch) (length slots) given) where
+  pub granted : Granted given list
+  granted = record { room = λ e. list-room {b = b} list (record { is = refl }) .room (both-left _ _ (sym (g .is) ∙ e)) }
+
+  -- what the machine tests
+  tested : given ≡ both (listLent (boardOf b) (recordsOf (length list))) (buffersLent (boardOf b) state scratch slots)
+  tested = g .is ∙ ap (both (listLent (boardOf b) (recordsOf (length list)))) (sym (lent-is b state scratch slots))
+
+  module _ {text : List ℕ} {r : Answer} {list′ : List ℕ} (c : ChecksGiven text b given list r list′) where
+    here : ChecksGiven text b (both (listLent (boardOf b) (recordsOf (length list))) (buffersLent (boardOf b) state scratch slots)) list r list′
+    here = subst (λ d. ChecksGiven text b d list r list′) tested c
+
+    answers : said r ≡ started text b list state scratch slots .answer
+    unfolding start
+    answers = here .says
+
+    listed : list′ ≡ wordsOf (length list) (started text b list state scratch slots .list)
+    unfolding start
+    listed = here .instances
+
+    number-is : r .number ≡ started text b list state scratch slots .answer .number
+    number-is = λ i. answers i .number
+
+    pub start-refused : (r .number ≡ 0 → ⊥) → StartsRead text b list state scratch slots r list′ state slots
+    start-refused some = record {
+      answer-is = answers;
+      list-is = listed;
+      state-is = sym (start-answers text (boardOf b) (recordsOf (length list)) state scratch slots .refused-state (λ z. some (number-is ∙ z)));
+      long = refl;
+    }
+
+    module _ (none : r .number ≡ 0) where
+      accepts : StartAccepted text (boardOf b) (recordsOf (length list)) state scratch slots (checkFile text (both (listLent (boardOf b) (recordsOf (length list))) (buffersLent (boardOf b) state scratch slots)))
+      accepts = zero-is-accepted text (boardOf b) (recordsOf (length list)) state scratch slots (sym number-is ∙ none)
+
+      enough : Enough b (length state) (length scratch) (length slots)
+      enough = enough-is b (length state) (length scratch) (length slots) (sym (lent-is b state scratch slots) ∙ accepts .allowed .buffers)
+
+      abbrev file : File
+      file = accepts .accepts .file
+
+      module _ {words : ℕ} (w : words ≡ stateLength (b .cells)) where
+        pub words-there : words ≤ length state
+        words-there = omega (arith, w, enough .words)
+
+        pub words-cut : words ≡ length (take words state)
+        words-cut = sym (length-take-le words state words-there)
+
+        pub slots-there : b .slots ≤ length slots
+        slots-there = enough .free
+
+        pub slots-cut : b .slots ≡ length (take (b .slots) slots)
+        slots-cut = sym (length-take-le (b .slots) slots slots-there)
+
+        pub board-there : BoardHas (take words state) 0
+        board-there = record { fits = omega (arith, w, words-cut); small = omega (arith, w, words-cut, enough .cells) }
+
+        begins : FileBegins file (boardLent (b .cells) (take (b .slots) slots) (b .calls)) (startState file)
+        begins = subst (λ n. FileBegins file (record { cells = b .cells; slots = n; calls = b .calls }) (startState file)) slots-cut
+            (start-by-rules (accepts .file) (boardOf b) (state-loaded (accepts .file .within) (starts (accepts .file) (accepts .allowed) .loads) .room))
+
+        pub start-done : {index words′ slots₁ : List ℕ} → ReadHeld text index → LaysState text index (b .calls) (take words state) (take (b .slots) slots) words′ slots₁ →
+            StartsRead text b list state scratch slots r list′ (words′ ++ drop words state) (slots₁ ++ drop (b .slots) slots)
+        unfolding written
+        start-done {index} {words′} {slots₁} z l =
+            let same : z .file ≡ file = (let e : ok (z .file) ≡ ok file = sym (z .indexed .read) ∙ accepts .file .read in cc) in
+            let indexed : Indexed text index file = subst (Indexed text index) same (z .indexed) in
+            let laid : words′ ≡ stateWords (b .cells) (startState file) = l .says indexed (sym words-cut ∙ w) begins in
+            record {
+              answer-is = answers;
+              list-is = listed;
+              state-is = ap (λ (y : List ℕ). y ++ drop words state) laid ∙ ap (λ n. stateWords (b .cells) (startState file) ++ drop n state) w ∙ sym (start-writes (accepts .file) (accepts .allowed));
+              long = length-append slots₁ (drop (b .slots) slots) ∙ omega (arith, l .long, slots-cut, slots-there, length-drop (b .slots) slots);
+            }
+
+-- ---- the whole
+module _ (text : List ℕ) (b : Board) (list state scratch slots : List ℕ) {scratch₁ : List ℕ} (cleared : scratch₁ ≡ replicate (length scratch) 0) where
+  scratch-clear : scratch₁ ≡ started text b list state scratch slots .scratch
+  unfolding start
+  scratch-clear = cleared
+
+  slots-clear : {slots′ : List ℕ} → slots′ ≡ replicate (length slots) 0 → slots′ ≡ started text b list state scratch slots .slots
+  unfolding start
+  slots-clear e = e
+
+  -- the scratch counts by its length alone
+  same-lent : buffersLent (boardOf b) state scratch₁ slots ≡ buffersLent (boardOf b) state scratch slots
+  same-lent = lent-is b state scratch₁ slots ∙ ap (λ n. lengthsLent (boardOf b) (length state) n (length slots)) (ap length cleared ∙ length-replicate (length scratch) 0) ∙ sym (lent-is b state scratch slots)
+
+  -- all passes, by what is lent
+  abbrev outcome : Bool → Result Accepted
+  outcome d = checkFile text (both (listLent (boardOf b) (recordsOf (length list))) d)
+
+  pub start-unread : {index list′ slots′ : List ℕ} {x : Reading} {r : Answer} {m frame : ℕ} → TextRead x index (readFile text) → x ≡ Fault m frame → r ≡ readAnswer x → list′ ≡ replicate (length list) 0 → slots′ ≡ replicate (length slots) 0 →
+      Starts text b list state scratch slots r list′ state scratch₁ slots′
+  unfolding start startWords verdictOf checkFile bind
+  start-unread {x = x} v q e z l =
+      let given = both (listLent (boardOf b) (recordsOf (length list))) (buffersLent (boardOf b) state scratch slots) in
+      let c = reading-refused {list = list} {b = b} v q e z given in
+      record {
+        answer-is = c .says;
+        list-is = c .instances;
+        state-is = sym (ap (λ u. let o = bind u (λ P. plainTypes P (need given notLent noFrame (sizesOf P))) in startWords (verdictOf (boardOf b) o) o (b .cells) state) (read-fault v q));
+        scratch-is = scratch-clear;
+        slots-is = slots-clear l;
+      }
+
+  pub start-from-file : {r : Answer} {list′ state′ slots₁ slots′ : List ℕ} → StartsRead text b list state scratch₁ slots r list′ state′ slots₁ → slots′ ≡ replicate (length slots₁) 0 → Starts text b list state scratch slots r list′ state′ scratch₁ slots′
+  unfolding start
+  start-from-file s l = record {
+    answer-is = s .answer-is ∙ ap (λ d. answer (verdictOf (boardOf b) (outcome d))) same-lent;
+    list-is = s .list-is ∙ ap (λ d. wordsOf (length list) (finalList (verdictOf (boardOf b) (outcome d)) (outcome d) (length (recordsOf (length list))))) same-lent;
+    state-is = s .state-is ∙ ap (λ d. startWords (verdictOf (boardOf b) (outcome d)) (outcome d) (b .cells) state) same-lent;
+    scratch-is = scratch-clear;
+    slots-is = slots-clear (l ∙ ap (λ n. replicate n 0) (s .long));
+  }
