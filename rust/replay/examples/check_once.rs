@@ -5,7 +5,7 @@ use evaluator::instances::Instance;
 use evaluator::limits::INSTANCES;
 use evaluator::machine;
 use evaluator::stack::{with_deep_stack, STACK_BYTES};
-use library::{check_on_this_stack, LIST_WORDS, STACK_NEEDED};
+use paugmeln::{check_on_this_stack, LIST_WORDS, STACK_NEEDED};
 use replay::checking::{answer, lent};
 use replay::report;
 use std::hint::black_box;

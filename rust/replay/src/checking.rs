@@ -8,7 +8,7 @@ use evaluator::machine;
 use evaluator::reader;
 use evaluator::syntax::{File, PlainType};
 use generator::case::Case;
-use library::{LIST_WORDS, RECORD_WORDS};
+use paugmeln::{LIST_WORDS, RECORD_WORDS};
 
 /// What a checker leaves: its answer, and every word of the lent list.
 #[derive(Clone, Debug, PartialEq, Eq)]
@@ -30,7 +30,7 @@ pub fn asked(case: &Case) -> (Board, &[u8]) {
 /// Checks with the proved checker, lending a list of so many words.
 pub fn by_library(text: &[u8], board: Board, words: usize) -> Checked {
     let mut list = vec![UNTOUCHED; words];
-    let verdict = library::check(text, lent(board), &mut list);
+    let verdict = paugmeln::check(text, lent(board), &mut list);
     Checked {
         answer: answer(verdict),
         list,
@@ -48,8 +48,8 @@ pub fn by_reference(text: &[u8], board: Board, words: usize) -> Checked {
 }
 
 /// A board under the library's name.
-pub fn lent(board: Board) -> library::Board {
-    library::Board {
+pub fn lent(board: Board) -> paugmeln::Sizes {
+    paugmeln::Sizes {
         cells: board.cells,
         slots: board.slots,
         calls: board.calls,
@@ -57,7 +57,7 @@ pub fn lent(board: Board) -> library::Board {
 }
 
 /// An answer of the library as the Rust evaluator has it.
-pub fn answer(of: library::Answer) -> Answer {
+pub fn answer(of: paugmeln::Answer) -> Answer {
     Answer {
         number: of.number,
         frame: of.frame,
@@ -97,7 +97,7 @@ fn entered(text: &[u8], board: Board, list: &[u32]) -> Vec<Entered> {
     let Ok(file) = reader::read(text) else {
         return vec![];
     };
-    let shown = library::instances(list);
+    let shown = paugmeln::instances(list);
     let mut entered: Vec<Entered> = shown.iter().map(|known| show(&file, known)).collect();
     if named_parameters(&file, 0) == 0 && ends_unseen(text, board) {
         entered.push(unseen());
@@ -105,7 +105,7 @@ fn entered(text: &[u8], board: Board, list: &[u32]) -> Vec<Entered> {
     entered
 }
 
-fn show(file: &File, known: &library::Instance) -> Entered {
+fn show(file: &File, known: &paugmeln::Instance) -> Entered {
     let count = named_parameters(file, known.function as usize);
     let size = |word: &u32| u8::try_from(*word).expect("a size is at most 64");
     Entered {

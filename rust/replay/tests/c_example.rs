@@ -7,7 +7,7 @@ use evaluator::limits::{
 use evaluator::stack::with_deep_stack;
 use generator::depths::{deepest_bodies, Level};
 use generator::{edges, writer};
-use library::{LIST_WORDS, STACK_NEEDED};
+use paugmeln::{LIST_WORDS, STACK_NEEDED};
 use replay::checking::{by_reference, Checked};
 use std::fs;
 use std::io::Write;
@@ -79,7 +79,7 @@ fn the_example_answers_as_the_rust_checker_does() {
         assert_eq!(String::from_utf8_lossy(&output.stdout), line(answer));
         assert_eq!(output.status.code(), Some(i32::from(answer.number != 0)));
         let listed = String::from_utf8_lossy(&output.stderr).lines().count();
-        assert_eq!(listed, library::instances(&list).len());
+        assert_eq!(listed, paugmeln::instances(&list).len());
     }
 }
 

@@ -6,7 +6,7 @@ use evaluator::answer::Board;
 use evaluator::stack::with_deep_stack;
 use generator::case::Case;
 use generator::mixture::Mixture;
-use library::LIST_WORDS;
+use paugmeln::LIST_WORDS;
 use replay::checking::{asked, by_library, by_reference, report_by_library};
 use replay::format;
 use std::collections::BTreeMap;
