@@ -1,5 +1,7 @@
 //! The C example, compiled with the header and the archive, answers as the Rust checker does; and the header's numbers are those of Rust.
 
+mod support;
+
 use evaluator::answer::{Answer, Board};
 use evaluator::limits::{
     BOARD_CALLS, BOARD_CELLS, BOARD_SLOTS, INSTANCES, PARAMETERS, TEXT_CHARACTERS,
@@ -13,12 +15,9 @@ use std::fs;
 use std::io::Write;
 use std::path::{Path, PathBuf};
 use std::process::{Command, Output, Stdio};
+use support::{example, root};
 
 const STRICT: [&str; 5] = ["-std=c11", "-Wall", "-Wextra", "-Wpedantic", "-Werror"];
-
-fn root() -> PathBuf {
-    Path::new(env!("CARGO_MANIFEST_DIR")).join("../..")
-}
 
 /// The example, compiled as its own comment says, with all warnings on.
 fn compiled() -> PathBuf {
@@ -61,9 +60,7 @@ fn line(answer: Answer) -> String {
 }
 
 fn texts() -> Vec<Vec<u8>> {
-    let names = ["accumulate.rules", "listing3.rules", "top10sum.rules"];
-    let examples = names.map(|name| root().join("examples").join(name));
-    let examples = examples.map(|path| fs::read(path).expect("the rule file is there"));
+    let examples = ["accumulate", "listing3", "top10sum"].map(example);
     let deepest = Level::ALL.map(|level| writer::text(&deepest_bodies(level)));
     let empty = vec![vec![]];
     [examples.to_vec(), deepest.to_vec(), edges::all(), empty].concat()

@@ -12,7 +12,8 @@ use generator::depths::{deepest_bodies, Level};
 use generator::examples::{listing3, top10sum};
 use generator::{edges, growth, writer};
 use paugmeln::{LIST_RECORDS, LIST_WORDS, RECORD_WORDS};
-use replay::checking::{answer, by_library, by_reference, lent, report_by_library, Checked};
+use replay::checking::{by_library, by_reference, report_by_library, Checked};
+use replay::library::{answer, sizes};
 
 /// What both checkers leave.
 fn checked(text: &[u8], board: Board, words: usize) -> Checked {
@@ -217,7 +218,7 @@ fn what_the_list_held_before_does_not_matter() {
         earlier,
     ];
     for mut list in fillings {
-        let found = answer(paugmeln::check(&text, lent(Board::LARGEST), &mut list));
+        let found = answer(paugmeln::check(&text, sizes(Board::LARGEST), &mut list));
         assert_eq!(found, expected.answer);
         assert!(list == expected.list);
     }

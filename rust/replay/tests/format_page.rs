@@ -1,19 +1,18 @@
 //! What `docs/FORMAT.md` shows: the bytes of listing 3, the limits, and the state after a line.
 
+mod support;
+
 use evaluator::limits;
 use evaluator::stack::with_deep_stack;
 use generator::case::Case;
 use replay::checking::report_by_library;
-use replay::engine::Reference;
+use replay::reference::Reference;
 use replay::run::run;
 use std::fs;
-use std::path::Path;
+use support::root;
 
 fn of_repository(name: &str) -> String {
-    let path = Path::new(env!("CARGO_MANIFEST_DIR"))
-        .join("../..")
-        .join(name);
-    fs::read_to_string(path).expect("a readable file")
+    fs::read_to_string(root().join(name)).expect("a readable file")
 }
 
 /// The lines below a heading, as far as the next of its level.
