@@ -4,12 +4,13 @@ mod support;
 
 use evaluator::answer::{Answer, Board};
 use evaluator::limits::{
-    BOARD_CALLS, BOARD_CELLS, BOARD_SLOTS, INSTANCES, PARAMETERS, TEXT_CHARACTERS,
+    BOARD_CALLS, BOARD_CELLS, BOARD_SLOTS, CHANNELS, FIELDS, INSTANCES, PARAMETERS, SCRATCH_WORDS,
+    TEXT_CHARACTERS,
 };
 use evaluator::stack::with_deep_stack;
 use generator::depths::{deepest_bodies, Level};
 use generator::{edges, writer};
-use paugmeln::{LIST_WORDS, STACK_NEEDED};
+use paugmeln::{ITERATION_STACK_NEEDED, LIST_WORDS, STACK_NEEDED};
 use replay::checking::{by_reference, Checked};
 use std::fs;
 use std::io::Write;
@@ -97,7 +98,11 @@ fn the_numbers_of_the_header_and_of_the_script_are_those_of_rust() {
         ("PAUGMELN_CALLS_MOST", BOARD_CALLS as usize),
         ("PAUGMELN_RECORD_SIZES", PARAMETERS),
         ("PAUGMELN_LIST_RECORDS", INSTANCES),
+        ("PAUGMELN_CHANNELS_MOST", CHANNELS),
+        ("PAUGMELN_CELL_FIELDS", FIELDS),
+        ("PAUGMELN_SCRATCH_WORDS", SCRATCH_WORDS),
         ("PAUGMELN_STACK_BYTES", STACK_NEEDED),
+        ("PAUGMELN_ITERATE_STACK_BYTES", ITERATION_STACK_NEEDED),
     ];
     for (name, number) in expected {
         assert_eq!(defined(&header, name), Some(number), "{name}");
