@@ -32,6 +32,6 @@ pub use checking::{check, check_on_this_stack};
 pub use instances::{instances, records, Instance, LIST_RECORDS, LIST_WORDS, RECORD_WORDS};
 pub use reading::read;
 pub use running::{iterate, iterate_on_this_stack, start, start_on_this_stack, Loan};
-pub use sizes::{Sizes, SCRATCH_WORDS};
+pub use sizes::{Sizes, SCRATCH_WORDS, TEXT_CHARACTERS};
 pub use stack::{ITERATION_STACK_NEEDED, STACK_NEEDED};
 pub use value::Value;

@@ -8,6 +8,9 @@ pub struct Sizes {
     pub calls: u32,
 }
 
+/// Characters of a rule file; a longer one is refused with 1.
+pub const TEXT_CHARACTERS: usize = 16_384;
+
 /// Channels, document 01's word for inputs and nodes, that a file may have.
 pub const CHANNELS: usize = 24;
 
