@@ -5,6 +5,7 @@ pub mod engine;
 pub mod entered;
 pub mod format;
 pub mod library;
+pub mod long;
 pub mod reading;
 pub mod reference;
 pub mod report;
