@@ -2,7 +2,7 @@
 
 mod support;
 
-use evaluator::answer::{Answer, Board};
+use evaluator::answer::{Answer, Board, Refusal};
 use evaluator::limits::{
     BOARD_CALLS, BOARD_CELLS, BOARD_SLOTS, CHANNELS, FIELDS, INSTANCES, PARAMETERS, SCRATCH_WORDS,
     TEXT_CHARACTERS,
@@ -10,7 +10,7 @@ use evaluator::limits::{
 use evaluator::stack::with_deep_stack;
 use generator::depths::{deepest_bodies, Level};
 use generator::{edges, writer};
-use paugmeln::{ITERATION_STACK_NEEDED, LIST_WORDS, STACK_NEEDED};
+use paugmeln::{Bounds, ITERATION_STACK_NEEDED, LIST_WORDS, STACK_NEEDED};
 use replay::checking::{by_reference, Checked};
 use std::fs;
 use std::io::Write;
@@ -112,4 +112,35 @@ fn the_numbers_of_the_header_and_of_the_script_are_those_of_rust() {
     assert!(script.contains(&kibibytes));
     let characters = format!("readonly characters_read={}\n", TEXT_CHARACTERS + 1);
     assert!(script.contains(&characters));
+}
+
+/// The refusals that share a line of the tables with others.
+const TOGETHER: [u32; 6] = [15, 16, 17, 20, 21, 22];
+
+#[test]
+fn the_example_and_the_tables_have_the_sentences_of_rust() {
+    let read = |name| fs::read_to_string(root().join(name)).expect("a readable file");
+    let (example, header, page) = (
+        read("examples/c/run.c"),
+        read("include/paugmeln.h"),
+        read("README.md"),
+    );
+    for number in 1..=Refusal::ValueTooLarge.number() {
+        let bounds = Bounds {
+            heap: 0,
+            environment: 0,
+            stack: 0,
+        };
+        let sentence = paugmeln::Refusal {
+            number,
+            frame: 0,
+            bounds,
+        }
+        .sentence();
+        assert!(example.contains(&format!("    \"{sentence}\",\n")));
+        if !TOGETHER.contains(&number) {
+            assert!(header.contains(&format!("{number}  {sentence}\n")));
+            assert!(page.contains(&format!("| {number} | {sentence} |")));
+        }
+    }
 }
