@@ -74,7 +74,8 @@ impl Engine for Reference {
     }
 }
 
-fn loan(buffers: &mut Buffers) -> Loan<'_> {
+/// The buffers under the evaluator's name.
+pub fn loan(buffers: &mut Buffers) -> Loan<'_> {
     Loan {
         state: &mut buffers.state,
         scratch: &mut buffers.scratch,
