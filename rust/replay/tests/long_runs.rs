@@ -31,7 +31,7 @@ fn twenty_four_thousand_lines() {
 }
 
 #[test]
-#[ignore = "takes minutes: cargo test -- --ignored, which run-tests does, or tools/run-long"]
+#[ignore = "takes minutes: cargo test --test long_runs -- --ignored, or tools/run-long"]
 fn a_million_lines() {
     give(1_000_000, 67);
 }
