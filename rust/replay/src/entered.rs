@@ -65,8 +65,8 @@ fn unseen() -> Entered {
 fn ends_unseen(text: &[u8], board: Board) -> bool {
     let mut records = vec![Instance::default(); INSTANCES];
     machine::check(text, board, &mut records);
-    let used = records.iter().filter(|record| record.function().is_some());
-    used.last().is_some_and(is_unseen)
+    let used = |record: &&Instance| record.function().is_some();
+    records.iter().rfind(used).is_some_and(is_unseen)
 }
 
 fn is_unseen(record: &Instance) -> bool {
