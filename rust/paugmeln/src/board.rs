@@ -89,7 +89,12 @@ impl Board {
     /// let small = Sizes { cells: 3, slots: 0, calls: 0 };
     /// let refusal = Board::start(text, small).unwrap_err();
     /// assert_eq!((refusal.number, refusal.bounds.heap), (15, 4));
+    /// assert!(Board::start(text, refusal.bounds.into()).is_ok());
     /// ```
+    ///
+    /// # Panics
+    ///
+    /// Where the system has no room for a thread with the stack that is needed; so do the other calls.
     pub fn start(text: &[u8], sizes: Sizes) -> Result<Board, Refusal> {
         let mut list = vec![0; LIST_WORDS];
         let mut buffers = Buffers::new(sizes);

@@ -1,5 +1,7 @@
 //! What a board has, and how long the buffers of a call are for it.
 
+use crate::answer::Bounds;
+
 /// Heap cells, environment slots and calls of stack.
 #[derive(Clone, Copy, Debug, PartialEq, Eq)]
 pub struct Sizes {
@@ -25,6 +27,17 @@ pub const CELL_WORDS: usize = 2 + FIELDS;
 
 /// The least that is lent as scratch, in words.
 pub const SCRATCH_WORDS: usize = 2_048;
+
+/// The board that has exactly what a file needs.
+impl From<Bounds> for Sizes {
+    fn from(needed: Bounds) -> Sizes {
+        Sizes {
+            cells: needed.heap,
+            slots: needed.environment,
+            calls: needed.stack,
+        }
+    }
+}
 
 impl Sizes {
     /// The largest board; one that has more of anything is refused with 18.

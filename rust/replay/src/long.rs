@@ -10,7 +10,7 @@ use generator::mixture::Mixture;
 use generator::random::Random;
 use generator::values::random_line;
 use generator::writer;
-use paugmeln::{Board, Bounds, Sizes, Value};
+use paugmeln::{Board, Sizes, Value};
 use std::rc::Rc;
 
 /// How many of the files are generated; the others are listing 3 and top10sum.
@@ -76,16 +76,7 @@ pub fn run(file: &File, lines: usize, seed: u64) -> Taken {
 /// The board that has exactly what the file needs.
 fn started(text: &[u8]) -> Board {
     let largest = Board::start(text, Sizes::LARGEST).expect("an accepted file");
-    Board::start(text, exact(largest.numbers())).expect("a board that has what is needed")
-}
-
-/// The sizes of a board that has exactly what is needed.
-pub fn exact(needed: Bounds) -> Sizes {
-    Sizes {
-        cells: needed.heap,
-        slots: needed.environment,
-        calls: needed.stack,
-    }
+    Board::start(text, largest.numbers().into()).expect("a board that has what is needed")
 }
 
 fn any_line(random: &mut Random, file: &File) -> Vec<u8> {

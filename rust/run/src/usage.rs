@@ -3,7 +3,7 @@
 //! The proved iteration does not say how many cells, slots and calls it took. So it is found by trying: the least number of
 //! each with which the same line, in the same state, is still taken, while of the other two as much is lent as the file needs.
 
-use paugmeln::{Board, Bounds, Sizes};
+use paugmeln::{Board, Sizes};
 
 /// The most that was used so far.
 pub struct Usage {
@@ -14,17 +14,8 @@ pub struct Usage {
 impl Usage {
     /// A start takes the cells that it keeps.
     pub fn new(board: &Board) -> Usage {
-        let Bounds {
-            heap,
-            environment,
-            stack,
-        } = board.numbers();
         Usage {
-            needed: Sizes {
-                cells: heap,
-                slots: environment,
-                calls: stack,
-            },
+            needed: board.numbers().into(),
             most: Sizes {
                 cells: board.cells_kept(),
                 slots: 0,
