@@ -1,10 +1,12 @@
-//! Starts the file named by the first argument on the largest board and gives it the lines of the file named by the second, with
-//! the proved library and with the Rust evaluator, for an instruction counter. Writes how many lines there were.
+//! Starts the file named by the first argument on the largest board and gives it those lines of the file named by the second
+//! that it allows, with the proved library and with the Rust evaluator, for an instruction counter. Writes how many there were.
 
 use evaluator::answer::{Answer, Board};
 use evaluator::instances::Instance;
 use evaluator::limits::{state_words, INSTANCES};
+use evaluator::line;
 use evaluator::machine;
+use evaluator::reader;
 use evaluator::stack::{with_deep_stack, STACK_BYTES};
 use paugmeln::{iterate_on_this_stack, start_on_this_stack, LIST_WORDS, STACK_NEEDED};
 use replay::engine::Buffers;
@@ -73,8 +75,10 @@ fn both(text: &[u8], lines: &[u8]) -> usize {
         started,
         counted_reference_start(text, &mut records, &mut rust)
     );
+    let file = reader::read(text).expect("a readable file");
     let lines = lines.split_inclusive(|character| *character == b'\n');
-    lines
+    let allowed = lines.filter(|line| line::read(&file, line).is_some());
+    allowed
         .map(|line| {
             // SAFETY: the same.
             let found = unsafe { counted_library_line(text, line, &mut proved) };
