@@ -5,7 +5,7 @@
  * them during the call.
  *
  * A buffer is a pointer and a length in elements, and nothing beyond it is read or written. The pointer must be aligned as C
- * asks for its type: a text may start at any address, a list at one that is right for a uint32_t. Where the length is 0,
+ * asks for its type: a text or a line may start at any address, words at one that is right for a uint32_t. Where the length is 0,
  * nothing is read or written through the pointer, which may then be NULL; with any other length it must not be. The proofs
  * speak of the elements that are there and know no pointers, so this much is tried and not proved (tools/lent-buffers.c).
  */
@@ -36,11 +36,31 @@ extern "C" {
 #define PAUGMELN_LIST_RECORDS 1024
 #define PAUGMELN_LIST_WORDS (PAUGMELN_LIST_RECORDS * PAUGMELN_RECORD_WORDS)
 
-/* The stack, in bytes, that a thread is to have on which paugmeln_check is given any rule file: the checker goes as deep as
- * 1,024 bodies, each nested 32. Set by measurement (tools/measure-checking): the deepest files that were tried took 39 MiB.
- * Nothing is proved of the real stack, and the checker does not look how much of it is left. A file that is not so deep needs
- * far less; paugmeln_read needs no more than a thread usually has. */
+/* The state, in words: one for the cells used, one for each of 24 channels (inputs first, then nodes), and six for each cell of
+ * the board. docs/FORMAT.md says what they hold: word 0 the number of cells in use, word 1 + i the cell of channel i, counted
+ * from 0. Cell n starts at word PAUGMELN_CELL_AT(n): a tag (1 Bool, 2 Int, or 256 * (t + 1) + c for constructor c of type t),
+ * then the Bool (0 or 1), the bits of the Int or the size of the value, then the cells of up to four fields, unused 0. */
+#define PAUGMELN_CHANNELS_MOST 24
+#define PAUGMELN_HEADER_WORDS (1 + PAUGMELN_CHANNELS_MOST)
+#define PAUGMELN_CELL_FIELDS 4
+#define PAUGMELN_CELL_WORDS (2 + PAUGMELN_CELL_FIELDS)
+#define PAUGMELN_CELL_AT(cell) (PAUGMELN_HEADER_WORDS + PAUGMELN_CELL_WORDS * (size_t)(cell))
+
+/* The least that is lent to start and iteration, in words, for a board of so many cells and slots. A shorter buffer is refused
+ * with 18. */
+#define PAUGMELN_STATE_WORDS(cells) PAUGMELN_CELL_AT(cells)
+#define PAUGMELN_SCRATCH_WORDS 2048
+#define PAUGMELN_ENVIRONMENT_WORDS(slots) ((size_t)(slots))
+
+/* The stack, in bytes, that a thread is to have on which paugmeln_check or paugmeln_start is given any rule file: the checker
+ * goes as deep as 1,024 bodies, each nested 32. Set by measurement (tools/measure-checking): the deepest files that were tried
+ * took 39 MiB. Nothing is proved of the real stack, and the checker does not look how much of it is left. A file that is not so
+ * deep needs far less; paugmeln_read needs no more than a thread usually has. */
 #define PAUGMELN_STACK_BYTES 268435456
+
+/* The same for paugmeln_iterate: an evaluation goes as deep as 64 calls, each nested 32, which was measured to take 960 KiB
+ * (docs/PERFORMANCE.md); with the rest of the call about 1 MiB at most. tools/measure-running measures the whole call. */
+#define PAUGMELN_ITERATE_STACK_BYTES 4194304
 
 /* Number and frame of an answer: 0 where all is well, else why and in which line of the rule file it is refused. Lines
  * count from 1; frame 0 names none.
@@ -60,12 +80,18 @@ extern "C" {
  *   13  the measure of a self-call does not fall
  *   14  there would be a 1,025th instance
  *   15, 16, 17  heap, environment or stack needed is above the board's
- *   18  the board is over its maximum, or the list is too short
+ *   18  the board is over its maximum, a buffer is too short, or the state is not one of this file
+ *   19  the input line is wrong
+ *   20, 21, 22  heap, environment or stack is spent
+ *   23  a value is too large
  *
- * The reader answers 1 to 8, the checker all of them. Of several the first in this order is answered, but 18 follows 9.
+ * The reader answers 1 to 8, checker and start 1 to 18, an iteration 1 to 9 and 18 to 23. Of several the first in this order is
+ * answered, but 18 follows 9; 20 to 23 where the evaluation meets them, with the line of the channel that is being given its
+ * value. A file that start accepts answers every line with 0 or 19, whatever it holds, as long as the board has what the file
+ * needs.
  *
  * The bounds are the cells, slots and calls that a board needs at most, whatever the inputs. They stop at 65,535, and are 0
- * where the file is refused, except with 15 to 17, and in all answers of the reader. */
+ * except on acceptance by checker or start and with 15 to 17. */
 struct paugmeln_answer {
     uint32_t number;
     uint32_t frame;
@@ -87,6 +113,27 @@ struct paugmeln_answer paugmeln_read(const uint8_t *text, size_t length);
  * unused one. */
 struct paugmeln_answer paugmeln_check(const uint8_t *text, size_t length, uint32_t cells, uint32_t slots, uint32_t calls,
                                       uint32_t *list, size_t words);
+
+/* Checks a rule file as paugmeln_check does and starts it: the state is filled with the initial values of its channels.
+ *
+ * Lent are the text and the list as above, and for writing the state (PAUGMELN_STATE_WORDS of the cells), scratch
+ * (PAUGMELN_SCRATCH_WORDS) and the environment's slots (PAUGMELN_ENVIRONMENT_WORDS of the slots). What any of them holds before
+ * is not looked at, and each may be longer. The list ends as after a check. The state is filled on acceptance and left as it was
+ * on refusal; the rest of a longer one is neither read nor written. Scratch and slots end 0 in their whole length, however the
+ * answer. */
+struct paugmeln_answer paugmeln_start(const uint8_t *text, size_t length, uint32_t cells, uint32_t slots, uint32_t calls,
+                                      uint32_t *list, size_t list_words, uint32_t *state, size_t state_words,
+                                      uint32_t *scratch, size_t scratch_words, uint32_t *environment, size_t environment_words);
+
+/* Takes one input line: gives the inputs its values, then each node the value of its update.
+ *
+ * Text, state, scratch and environment are lent as to start, the state as start or the last iteration left it; the line with its
+ * line feed, of any length. The board may be another one from line to line, as long as it has no more cells than that of the
+ * start. On acceptance the state holds the new values; a refusal leaves it as it was. The rest of a longer state is neither read
+ * nor written. Scratch and slots end 0 in their whole length, however the answer. */
+struct paugmeln_answer paugmeln_iterate(const uint8_t *text, size_t length, uint32_t cells, uint32_t slots, uint32_t calls,
+                                        uint32_t *state, size_t state_words, uint32_t *scratch, size_t scratch_words,
+                                        uint32_t *environment, size_t environment_words, const uint8_t *line, size_t line_length);
 
 #ifdef __cplusplus
 }

@@ -1,6 +1,7 @@
 /* Tries what include/paugmeln.h says of lent buffers: that nothing is touched beyond them, nothing at all through a pointer
- * with length 0, and that the old contents of the list are not looked at. Pages that may not be touched stand before and
- * behind each buffer. Answers 0 where all holds; run under valgrind it also shows that nothing unset is used. */
+ * with length 0, and that the old contents of the list, of scratch and slots, and at a start of the state are not looked at.
+ * Pages that may not be touched stand before and behind each buffer. Answers 0 where all holds; run under valgrind it also shows
+ * that nothing unset is used. */
 #define _GNU_SOURCE
 #include <paugmeln.h>
 #include <stdio.h>
@@ -94,6 +95,85 @@ static void try_short_list(void)
     expect(is_zero(list, words), "a list too short is zero");
 }
 
+/* The board that the two lines need, a line for them, and what start and iteration are lent. */
+enum { CELLS = 4, SLOTS = 0, CALLS = 0 };
+static const char input_5[] = "051100000005\n";
+
+struct lent {
+    uint32_t *list, *state, *scratch, *environment;
+    size_t list_words, state_words, scratch_words, environment_words;
+};
+
+static uint32_t *fenced_words(size_t words)
+{
+    return (uint32_t *)fenced(words * sizeof(uint32_t));
+}
+
+/* Exactly what is asked for with so many slots, unset. */
+static struct lent fenced_lent(uint32_t slots)
+{
+    struct lent of = {NULL, NULL, NULL, NULL, PAUGMELN_LIST_WORDS, PAUGMELN_STATE_WORDS(CELLS), PAUGMELN_SCRATCH_WORDS,
+                      PAUGMELN_ENVIRONMENT_WORDS(slots)};
+    of.list = fenced_words(of.list_words);
+    of.state = fenced_words(of.state_words);
+    of.scratch = fenced_words(of.scratch_words);
+    of.environment = fenced_words(of.environment_words);
+    return of;
+}
+
+static struct paugmeln_answer start(const struct lent *of, uint32_t slots)
+{
+    return paugmeln_start((const uint8_t *)two_lines, LENGTH, CELLS, slots, CALLS, of->list, of->list_words, of->state,
+                          of->state_words, of->scratch, of->scratch_words, of->environment, of->environment_words);
+}
+
+static struct paugmeln_answer iterate(const struct lent *of, uint32_t slots, const uint8_t *line, size_t length)
+{
+    return paugmeln_iterate((const uint8_t *)two_lines, LENGTH, CELLS, slots, CALLS, of->state, of->state_words, of->scratch,
+                            of->scratch_words, of->environment, of->environment_words, line, length);
+}
+
+static void expect_cleared(const struct lent *of, const char *where)
+{
+    expect(is_zero(of->scratch, of->scratch_words) && is_zero(of->environment, of->environment_words), where);
+}
+
+/* Start, then a line at every place in a word, then lines of length 0, with buffers between fences. */
+static void try_run(struct lent of, const char *where)
+{
+    size_t length = sizeof input_5 - 1;
+    expect(start(&of, SLOTS).number == 0, where);
+    expect_cleared(&of, "scratch and slots after a start");
+    for (uint32_t cut = 0; cut < 8; cut++) {
+        const uint8_t *line = fenced_text(input_5, length - cut);
+        expect(iterate(&of, SLOTS, line, length - cut).number == (cut == 0 ? 0 : 19), where);
+        expect_cleared(&of, "scratch and slots after a line");
+    }
+    expect(of.state[PAUGMELN_CELL_AT(of.state[2]) + 1] == 5, "the node is 5");
+    expect(iterate(&of, SLOTS, NULL, 0).number == 19, "line NULL, length 0");
+    expect(iterate(&of, SLOTS, fenced(0), 0).number == 19, "line that may not be touched, length 0");
+}
+
+/* A buffer one word too short is refused with 18; scratch and slots are cleared as far as they go, the state is left. */
+static void try_short(size_t *words, const struct lent *of, const char *which)
+{
+    of->state[0] = 7;
+    *words -= 1;
+    expect(start(of, 1).number == 18, which);
+    expect(of->state[0] == 7, "a refused start leaves the state");
+    expect_cleared(of, which);
+    *words += 1;
+}
+
+static void try_short_buffers(void)
+{
+    struct lent of = fenced_lent(1);
+    try_short(&of.list_words, &of, "list too short");
+    try_short(&of.state_words, &of, "state too short");
+    try_short(&of.scratch_words, &of, "scratch too short");
+    try_short(&of.environment_words, &of, "slots too short");
+}
+
 int main(void)
 {
     try_empty_text(NULL, "text NULL, length 0");
@@ -102,5 +182,10 @@ int main(void)
     try_empty_list((uint32_t *)fenced(0), "list that may not be touched, length 0");
     try_exact_buffers();
     try_short_list();
+    struct lent exact = fenced_lent(SLOTS);
+    try_run(exact, "start and lines between fences");
+    exact.environment = NULL;
+    try_run(exact, "no slots, NULL");
+    try_short_buffers();
     return wrong;
 }

@@ -1,11 +1,12 @@
 //! Files that take a checker deepest: as many bodies inside one another as
-//! there may be instances, each nested as deep as an expression may be.
+//! there may be instances, each nested as deep as an expression may be. And
+//! files that take an evaluator deepest, in as many calls as a board may have.
 
 use crate::build::{
     adjust, call, case, constant, construction, declared, definition, fit, if_then, let_in,
     operation, variable, written,
 };
-use evaluator::limits::{INSTANCES, LARGEST_SIZE, NESTING};
+use evaluator::limits::{BOARD_CALLS, BOARD_SLOTS, INSTANCES, LARGEST_SIZE, NESTING};
 use evaluator::syntax::{
     Expression, Field, File, Function, Node, Operator, PlainType, SizedType, TypeDefinition,
     WrittenType,
@@ -161,7 +162,7 @@ fn around(level: Level, bound: usize, inner: Expression) -> Expression {
         Level::Operand => operation(Operator::And, inner, leaf(level)),
         Level::Bound => let_in(inner, leaf(level)),
         Level::Under => let_in(leaf(level), inner),
-        Level::Arm => if_then(leaf(level), inner, leaf(level)),
+        Level::Arm => if_then(Expression::Bool(true), inner, leaf(level)),
         Level::Branch => case(UNIT, unit(), WrittenType::Bool, vec![inner]),
         Level::Field => {
             let boxed = construction(BOX, 0, vec![inner]);
@@ -170,4 +171,52 @@ fn around(level: Level, bound: usize, inner: Expression) -> Expression {
         Level::Fitting => fit(1, unit(), inner, leaf(level)),
         Level::Adjusted => adjust(constant(1), inner),
     }
+}
+
+const ENDLESS: usize = 1;
+
+/// The slots that each of so many bodies may take.
+const SLOTS_A_BODY: usize = BOARD_SLOTS as usize / BOARD_CALLS as usize;
+
+/// A file whose function calls itself, nested so, until no call is left. The
+/// checker refuses it; an iteration judges no sizes and evaluates it. Its one
+/// node is a Bool.
+pub fn endless_calls(level: Level) -> File {
+    let around = match takes_slot(level) {
+        true => SLOTS_A_BODY - 1,
+        false => NESTING - 1,
+    };
+    let inner = nested(level, around, 0, call(ENDLESS, vec![]));
+    let operands = NESTING - 1 - around;
+    let endless = Function {
+        parameters: vec![],
+        result: result(level),
+        conditions: vec![],
+        measure: vec![],
+        body: nested(Level::Operand, operands, 0, inner),
+    };
+    let update = match level {
+        Level::Adjusted => case(
+            UNIT,
+            call(ENDLESS, vec![]),
+            WrittenType::Bool,
+            vec![Expression::Bool(false)],
+        ),
+        _ => nested(Level::Operand, NESTING - 1, 0, call(ENDLESS, vec![])),
+    };
+    File {
+        types: types(),
+        functions: vec![identity(), endless],
+        nodes: vec![Node {
+            declared: SizedType::Bool,
+            initial: Expression::Bool(false),
+            update,
+        }],
+        ..File::default()
+    }
+}
+
+/// Whether the next level is evaluated while a slot of this one is taken.
+fn takes_slot(level: Level) -> bool {
+    matches!(level, Level::Argument | Level::Under | Level::Fitting)
 }

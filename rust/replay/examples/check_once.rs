@@ -5,8 +5,8 @@ use evaluator::instances::Instance;
 use evaluator::limits::INSTANCES;
 use evaluator::machine;
 use evaluator::stack::{with_deep_stack, STACK_BYTES};
-use library::{check_on_this_stack, LIST_WORDS, STACK_NEEDED};
-use replay::checking::{answer, lent};
+use paugmeln::{check_on_this_stack, LIST_WORDS, STACK_NEEDED};
+use replay::library::{answer, sizes};
 use replay::report;
 use std::hint::black_box;
 
@@ -19,7 +19,7 @@ const _: () = assert!(STACK_BYTES > STACK_NEEDED + (1 << 20));
 #[no_mangle]
 unsafe fn counted_library(text: &[u8], list: &mut [u32]) -> Answer {
     // SAFETY: the caller has seen to the stack.
-    answer(unsafe { check_on_this_stack(black_box(text), lent(Board::LARGEST), list) })
+    answer(unsafe { check_on_this_stack(black_box(text), sizes(Board::LARGEST), list) })
 }
 
 #[inline(never)]

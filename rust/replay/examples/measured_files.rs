@@ -1,7 +1,7 @@
-//! Writes the rule files that checking is measured on into the folder named by the argument.
+//! Writes the rule files that checking and running are measured on into the folder named by the argument.
 
 use evaluator::syntax::File;
-use generator::depths::{deepest_bodies, Level};
+use generator::depths::{deepest_bodies, endless_calls, Level};
 use generator::{edges, growth, writer};
 use std::fs;
 use std::io;
@@ -10,7 +10,7 @@ use std::path::Path;
 /// The size at which a branch is split.
 const SPLIT_SIZE: usize = 16;
 
-/// The names are what `tools/measure-checking` looks for.
+/// The names are what `tools/measure-checking` and `tools/measure-running` look for.
 fn files() -> Vec<(String, File)> {
     let sums = [("sums".to_string(), growth::sums(7, 9))];
     let sides = [(2, 5), (10, 10), (25, 40)];
@@ -26,8 +26,12 @@ fn files() -> Vec<(String, File)> {
         let name = format!("deepest-{level:?}").to_lowercase();
         (name, deepest_bodies(level))
     });
+    let endless = Level::ALL.map(|level| {
+        let name = format!("endless-{level:?}").to_lowercase();
+        (name, endless_calls(level))
+    });
     let all = sums.into_iter().chain(instances).chain(splits);
-    all.chain(deepest).collect()
+    all.chain(deepest).chain(endless).collect()
 }
 
 fn main() -> io::Result<()> {

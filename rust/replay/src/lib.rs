@@ -2,7 +2,11 @@
 
 pub mod checking;
 pub mod engine;
+pub mod entered;
 pub mod format;
+pub mod library;
+pub mod long;
 pub mod reading;
+pub mod reference;
 pub mod report;
 pub mod run;

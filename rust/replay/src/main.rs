@@ -1,29 +1,39 @@
 //! Answers cases, or writes fresh ones:
 //!
 //! ```text
-//! replay --rust < cases > answers
-//! replay --read < cases > answers
-//! replay --check < cases > answers
+//! replay < cases > answers              by the proved library
+//! replay --rust < cases > answers       by the Rust evaluator
+//! replay --both < cases                 says which cases the two answer differently
+//! replay --read < cases > answers       number and frame by the proved reader
+//! replay --check < cases > answers      the first two parts by the proved checker
 //! replay --generate <count> <seed> > cases
 //! ```
+//!
+//! Exit status: 0, 1 where `--both` found a difference, 2 where there is no answer (the input holds no case, say).
 
 use evaluator::stack::with_deep_stack;
 use generator::case::Case;
 use generator::mixture::Mixture;
-use replay::engine::Reference;
-use replay::run::run;
+use replay::engine::Engine;
+use replay::library::Library;
+use replay::reference::Reference;
+use replay::run::{difference, run};
 use replay::{checking, format, reading};
 
 use std::io::{self, BufRead, BufWriter, Write};
 use std::process::ExitCode;
 
 const USAGE: &str =
-    "usage: replay --rust | --read | --check < cases, or replay --generate <count> <seed>";
+    "usage: replay [--rust | --both | --read | --check] < cases, or replay --generate <count> <seed>";
+
+const DIFFERENT: u8 = 1;
+const NO_ANSWER: u8 = 2;
 
 /// What the arguments ask for.
 enum Task {
-    AnswerByReference,
     AnswerByLibrary,
+    AnswerByReference,
+    Compare,
     ReadByLibrary,
     CheckByLibrary,
     Generate { count: usize, seed: u64 },
@@ -33,14 +43,13 @@ fn main() -> ExitCode {
     let arguments: Vec<String> = std::env::args().skip(1).collect();
     let done = match task(&arguments) {
         None => Err(io::Error::other(USAGE)),
-        Some(Task::AnswerByLibrary) => return library_is_absent(),
         Some(task) => with_deep_stack(move || perform(task)).and_then(|done| done),
     };
     match done {
-        Ok(()) => ExitCode::SUCCESS,
+        Ok(status) => status,
         Err(error) => {
             eprintln!("replay: {error}");
-            ExitCode::FAILURE
+            ExitCode::from(NO_ANSWER)
         }
     }
 }
@@ -50,6 +59,7 @@ fn task(arguments: &[String]) -> Option<Task> {
     match arguments[..] {
         [] => Some(Task::AnswerByLibrary),
         ["--rust"] => Some(Task::AnswerByReference),
+        ["--both"] => Some(Task::Compare),
         ["--read"] => Some(Task::ReadByLibrary),
         ["--check"] => Some(Task::CheckByLibrary),
         ["--generate", count, seed] => Some(Task::Generate {
@@ -60,47 +70,71 @@ fn task(arguments: &[String]) -> Option<Task> {
     }
 }
 
-fn perform(task: Task) -> io::Result<()> {
+fn perform(task: Task) -> io::Result<ExitCode> {
     match task {
-        Task::AnswerByReference => {
-            let mut engine = Reference::new();
-            answer(|case| run(&mut engine, case))
-        }
+        Task::AnswerByLibrary => answer_by(&mut Library),
+        Task::AnswerByReference => answer_by(&mut Reference::new()),
+        Task::Compare => compare(),
         Task::ReadByLibrary => {
             answer(|case| reading::report(reading::by_library(reading::text(case))))
         }
         Task::CheckByLibrary => answer(checking::report_by_library),
         Task::Generate { count, seed } => generate(count, seed),
-        Task::AnswerByLibrary => Ok(()),
     }
 }
 
-/// Without a flag the proved library answers all; its start and iteration are not part of this delivery.
-fn library_is_absent() -> ExitCode {
-    eprintln!(
-        "replay: the proved start and iteration come with a later delivery, use --rust or --check"
-    );
-    ExitCode::from(2)
-}
-
-fn answer(mut by: impl FnMut(&Case) -> String) -> io::Result<()> {
-    let mut out = BufWriter::new(io::stdout().lock());
+/// Hands on each case of standard input with its line.
+fn for_each_case(mut look: impl FnMut(usize, &Case) -> io::Result<()>) -> io::Result<()> {
     for (before, line) in io::stdin().lock().lines().enumerate() {
-        let case = format::parse(&line?).ok_or_else(|| not_a_case(before + 1))?;
-        writeln!(out, "{}", by(&case))?;
+        let number = before + 1;
+        let case = format::parse(&line?).ok_or_else(|| not_a_case(number))?;
+        look(number, &case)?;
     }
-    out.flush()
+    Ok(())
 }
 
 fn not_a_case(line: usize) -> io::Error {
     io::Error::other(format!("line {line} is no case"))
 }
 
-fn generate(count: usize, seed: u64) -> io::Result<()> {
+fn answer_by(engine: &mut dyn Engine) -> io::Result<ExitCode> {
+    answer(|case| run(engine, case))
+}
+
+fn answer(mut by: impl FnMut(&Case) -> String) -> io::Result<ExitCode> {
+    let mut out = BufWriter::new(io::stdout().lock());
+    for_each_case(|_, case| writeln!(out, "{}", by(case)))?;
+    out.flush()?;
+    Ok(ExitCode::SUCCESS)
+}
+
+/// Writes both answers where they differ, then how many cases there were and how many differ.
+fn compare() -> io::Result<ExitCode> {
+    let mut out = BufWriter::new(io::stdout().lock());
+    let mut rust = Reference::new();
+    let (mut cases, mut different) = (0, 0);
+    for_each_case(|line, case| {
+        cases += 1;
+        let Some(answers) = difference(&mut Library, &mut rust, case) else {
+            return Ok(());
+        };
+        different += 1;
+        writeln!(out, "line {line} differs\n{answers}")
+    })?;
+    writeln!(out, "{cases} cases, {different} differ")?;
+    out.flush()?;
+    Ok(match different {
+        0 => ExitCode::SUCCESS,
+        _ => ExitCode::from(DIFFERENT),
+    })
+}
+
+fn generate(count: usize, seed: u64) -> io::Result<ExitCode> {
     let mut out = BufWriter::new(io::stdout().lock());
     let mut mixture = Mixture::new(seed);
     for _ in 0..count {
         writeln!(out, "{}", format::write(&mixture.next_case()))?;
     }
-    out.flush()
+    out.flush()?;
+    Ok(ExitCode::SUCCESS)
 }

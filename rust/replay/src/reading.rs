@@ -12,7 +12,7 @@ pub fn text(case: &Case) -> &[u8] {
 
 /// Number and frame by the proved reader, 0 and 0 for a text that it reads.
 pub fn by_library(text: &[u8]) -> (u32, u32) {
-    let answer = library::read(text);
+    let answer = paugmeln::read(text);
     (answer.number, answer.frame)
 }
 

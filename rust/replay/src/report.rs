@@ -1,6 +1,6 @@
 //! The format of the answers.
 
-use crate::engine::Entered;
+use crate::entered::Entered;
 use crate::format::join;
 use evaluator::answer::Answer;
 
@@ -12,10 +12,10 @@ pub fn answer(answer: &Answer) -> String {
     format!("{number},{frame},{heap},{environment},{stack}")
 }
 
-/// `<f>:<sizes>:<env>:<heap>:<stack>|...`
-pub fn instances(entered: &[Entered]) -> String {
+/// `check:<answer>;inst:<f>:<sizes>:<env>:<heap>:<stack>|...`
+pub fn check(checked: &Answer, entered: &[Entered]) -> String {
     let listed: Vec<String> = entered.iter().map(instance).collect();
-    listed.join("|")
+    format!("check:{};inst:{}", answer(checked), listed.join("|"))
 }
 
 fn instance(entered: &Entered) -> String {
@@ -23,6 +23,15 @@ fn instance(entered: &Entered) -> String {
     let (environment, heap, stack) = (entered.environment, entered.heap, entered.stack);
     let (function, sizes) = (entered.function, sizes.join(","));
     format!("{function}:{sizes}:{environment}:{heap}:{stack}")
+}
+
+/// `start:<answer>;state:<words>`, no words where it is refused.
+pub fn start(started: &Answer, words: &[u32]) -> String {
+    let state = match started.number {
+        0 => join(words),
+        _ => String::new(),
+    };
+    format!("start:{};state:{state}", answer(started))
 }
 
 /// `it:<num>,<frame>:<words>`

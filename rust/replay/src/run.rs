@@ -1,11 +1,12 @@
 //! One case after another.
 
-use crate::engine::{lendable_cells, Buffers, Engine};
-use crate::format::join;
+use crate::engine::{lendable_cells, Buffers, Engine, UNTOUCHED};
+use crate::entered::entered;
 use crate::report;
-use evaluator::answer::{Answer, Board};
+use evaluator::answer::Board;
 use evaluator::limits::state_words;
 use generator::case::Case;
+use paugmeln::LIST_WORDS;
 
 /// The answer to a case, one line without its end.
 pub fn run(engine: &mut dyn Engine, case: &Case) -> String {
@@ -23,32 +24,37 @@ pub fn run(engine: &mut dyn Engine, case: &Case) -> String {
     }
 }
 
+/// Both answers to a case where they differ, one a line.
+pub fn difference(library: &mut dyn Engine, rust: &mut dyn Engine, case: &Case) -> Option<String> {
+    let (library, rust) = (run(library, case), run(rust, case));
+    (library != rust).then(|| format!("library {library}\nrust {rust}"))
+}
+
 fn run_lines(engine: &mut dyn Engine, board: Board, text: &[u8], lines: &[Vec<u8>]) -> String {
     let words = lendable_cells(board).map_or(0, state_words);
     let mut buffers = Buffers::new(board, vec![0; words]);
-    let (checked, entered) = engine.check(text, board);
-    let started = started(engine, board, text, &mut buffers);
-    let state = match started.number {
-        0 => join(&buffers.state),
-        _ => String::new(),
-    };
-    let mut parts = vec![
-        format!("check:{}", report::answer(&checked)),
-        format!("inst:{}", report::instances(&entered)),
-        format!("start:{}", report::answer(&started)),
-        format!("state:{state}"),
-    ];
+    let mut parts = vec![checked_and_started(engine, board, text, &mut buffers)];
     for line in lines {
         parts.push(iteration(engine, board, text, line, &mut buffers));
     }
     parts.join(";")
 }
 
-fn started(engine: &mut dyn Engine, board: Board, text: &[u8], buffers: &mut Buffers) -> Answer {
+fn checked_and_started(
+    engine: &mut dyn Engine,
+    board: Board,
+    text: &[u8],
+    buffers: &mut Buffers,
+) -> String {
+    let [mut list, mut again] = [(); 2].map(|()| vec![UNTOUCHED; LIST_WORDS]);
+    let checked = engine.check(text, board, &mut list);
     buffers.soil();
-    let answer = engine.start(text, board, buffers);
+    let started = engine.start(text, board, &mut again, buffers);
     assert!(buffers.are_clean(), "start left scratch or slots not zero");
-    answer
+    assert!(list == again, "check and start left unlike lists");
+    let checked = report::check(&checked, &entered(text, board, &list));
+    let started = report::start(&started, &buffers.state);
+    format!("{checked};{started}")
 }
 
 fn iteration(

@@ -1,31 +1,33 @@
-//! Agreement with cases whose answers are on file.
+//! Agreement of both engines with cases whose answers are on file.
 
 mod support;
 
 use evaluator::stack::with_deep_stack;
-use replay::engine::Reference;
+use replay::engine::Engine;
 use replay::format;
+use replay::library::Library;
+use replay::reference::Reference;
 use replay::run::run;
-use std::fs;
 use std::path::Path;
-use support::{own_folder, say, shared_folder};
+use support::{own_folder, say, shared_folder, stored};
 
-/// Answers every case of a file and compares; gives the number of cases.
+/// Answers every case of a file by the library and by Rust and compares; gives the number of cases.
 fn agree(folder: &Path, name: &str) -> usize {
-    let read = |file: String| fs::read_to_string(folder.join(file)).expect("a readable file");
-    let cases = read(format!("{name}.txt"));
-    let answers = read(format!("{name}.answers.txt"));
-    assert_eq!(cases.lines().count(), answers.lines().count());
+    let cases = stored(folder, &format!("{name}.txt"));
+    let answers = stored(folder, &format!("{name}.answers.txt"));
+    assert_eq!(cases.len(), answers.len());
     let name = name.to_string();
     with_deep_stack(move || {
-        let mut engine = Reference::new();
-        let pairs = cases.lines().zip(answers.lines());
-        for (before, (line, expected)) in pairs.enumerate() {
-            let case = format::parse(line).expect("a case");
-            let found = run(&mut engine, &case);
-            assert_eq!(found, expected, "{name}.txt, line {}", before + 1);
+        let mut rust = Reference::new();
+        let engines: [&mut dyn Engine; 2] = [&mut Library, &mut rust];
+        for engine in engines {
+            for (before, (line, expected)) in cases.iter().zip(&answers).enumerate() {
+                let case = format::parse(line).expect("a case");
+                let found = run(engine, &case);
+                assert_eq!(&found, expected, "{name}.txt, line {}", before + 1);
+            }
         }
-        cases.lines().count()
+        cases.len()
     })
     .expect("every case agrees")
 }

@@ -1,24 +1,24 @@
 //! The C example, compiled with the header and the archive, answers as the Rust checker does; and the header's numbers are those of Rust.
 
-use evaluator::answer::{Answer, Board};
+mod support;
+
+use evaluator::answer::{Answer, Board, Refusal};
 use evaluator::limits::{
-    BOARD_CALLS, BOARD_CELLS, BOARD_SLOTS, INSTANCES, PARAMETERS, TEXT_CHARACTERS,
+    BOARD_CALLS, BOARD_CELLS, BOARD_SLOTS, CHANNELS, FIELDS, INSTANCES, PARAMETERS, SCRATCH_WORDS,
+    TEXT_CHARACTERS,
 };
 use evaluator::stack::with_deep_stack;
 use generator::depths::{deepest_bodies, Level};
 use generator::{edges, writer};
-use library::{LIST_WORDS, STACK_NEEDED};
+use paugmeln::{Bounds, ITERATION_STACK_NEEDED, LIST_WORDS, STACK_NEEDED};
 use replay::checking::{by_reference, Checked};
 use std::fs;
 use std::io::Write;
 use std::path::{Path, PathBuf};
 use std::process::{Command, Output, Stdio};
+use support::{example, root};
 
 const STRICT: [&str; 5] = ["-std=c11", "-Wall", "-Wextra", "-Wpedantic", "-Werror"];
-
-fn root() -> PathBuf {
-    Path::new(env!("CARGO_MANIFEST_DIR")).join("../..")
-}
 
 /// The example, compiled as its own comment says, with all warnings on.
 fn compiled() -> PathBuf {
@@ -61,9 +61,7 @@ fn line(answer: Answer) -> String {
 }
 
 fn texts() -> Vec<Vec<u8>> {
-    let names = ["accumulate.rules", "listing3.rules", "top10sum.rules"];
-    let examples = names.map(|name| root().join("examples").join(name));
-    let examples = examples.map(|path| fs::read(path).expect("the rule file is there"));
+    let examples = ["accumulate", "listing3", "top10sum"].map(example);
     let deepest = Level::ALL.map(|level| writer::text(&deepest_bodies(level)));
     let empty = vec![vec![]];
     [examples.to_vec(), deepest.to_vec(), edges::all(), empty].concat()
@@ -79,7 +77,7 @@ fn the_example_answers_as_the_rust_checker_does() {
         assert_eq!(String::from_utf8_lossy(&output.stdout), line(answer));
         assert_eq!(output.status.code(), Some(i32::from(answer.number != 0)));
         let listed = String::from_utf8_lossy(&output.stderr).lines().count();
-        assert_eq!(listed, library::instances(&list).len());
+        assert_eq!(listed, paugmeln::instances(&list).len());
     }
 }
 
@@ -100,7 +98,11 @@ fn the_numbers_of_the_header_and_of_the_script_are_those_of_rust() {
         ("PAUGMELN_CALLS_MOST", BOARD_CALLS as usize),
         ("PAUGMELN_RECORD_SIZES", PARAMETERS),
         ("PAUGMELN_LIST_RECORDS", INSTANCES),
+        ("PAUGMELN_CHANNELS_MOST", CHANNELS),
+        ("PAUGMELN_CELL_FIELDS", FIELDS),
+        ("PAUGMELN_SCRATCH_WORDS", SCRATCH_WORDS),
         ("PAUGMELN_STACK_BYTES", STACK_NEEDED),
+        ("PAUGMELN_ITERATE_STACK_BYTES", ITERATION_STACK_NEEDED),
     ];
     for (name, number) in expected {
         assert_eq!(defined(&header, name), Some(number), "{name}");
@@ -110,4 +112,35 @@ fn the_numbers_of_the_header_and_of_the_script_are_those_of_rust() {
     assert!(script.contains(&kibibytes));
     let characters = format!("readonly characters_read={}\n", TEXT_CHARACTERS + 1);
     assert!(script.contains(&characters));
+}
+
+/// The refusals that share a line of the tables with others.
+const TOGETHER: [u32; 6] = [15, 16, 17, 20, 21, 22];
+
+#[test]
+fn the_example_and_the_tables_have_the_sentences_of_rust() {
+    let read = |name| fs::read_to_string(root().join(name)).expect("a readable file");
+    let (example, header, page) = (
+        read("examples/c/run.c"),
+        read("include/paugmeln.h"),
+        read("README.md"),
+    );
+    for number in 1..=Refusal::ValueTooLarge.number() {
+        let bounds = Bounds {
+            heap: 0,
+            environment: 0,
+            stack: 0,
+        };
+        let sentence = paugmeln::Refusal {
+            number,
+            frame: 0,
+            bounds,
+        }
+        .sentence();
+        assert!(example.contains(&format!("    \"{sentence}\",\n")));
+        if !TOGETHER.contains(&number) {
+            assert!(header.contains(&format!("{number}  {sentence}\n")));
+            assert!(page.contains(&format!("| {number} | {sentence} |")));
+        }
+    }
 }

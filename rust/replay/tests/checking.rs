@@ -6,16 +6,11 @@ use evaluator::answer::Board;
 use evaluator::stack::with_deep_stack;
 use generator::case::Case;
 use generator::mixture::Mixture;
-use library::LIST_WORDS;
+use paugmeln::LIST_WORDS;
 use replay::checking::{asked, by_library, by_reference, report_by_library};
 use replay::format;
-use std::collections::BTreeMap;
-use std::fs;
 use std::path::Path;
-use support::{own_folder, say, shared_folder};
-
-/// How often each number was answered.
-type Counts = BTreeMap<u32, usize>;
+use support::{own_folder, say, shared_folder, stored, Counts};
 
 /// Compares the two on one file; gives the number answered.
 fn compared(board: Board, text: &[u8]) -> u32 {
@@ -51,11 +46,6 @@ fn generated_and_damaged_files_agree() {
     assert!((0..=18).all(|number| counts.contains_key(&number)));
 }
 
-fn lines(folder: &Path, name: &str) -> Vec<String> {
-    let content = fs::read_to_string(folder.join(name)).expect("a readable file");
-    content.lines().map(str::to_string).collect()
-}
-
 /// The parts of an answer that the checker gives; none for an iteration.
 fn check_of(answer: &str) -> Option<String> {
     let parts: Vec<&str> = answer.split(';').take(2).collect();
@@ -64,8 +54,8 @@ fn check_of(answer: &str) -> Option<String> {
 
 /// Compares the two on the cases of a file, and the reports with the answers on file.
 fn agree(folder: &Path, name: &str) {
-    let cases = lines(folder, &format!("{name}.txt"));
-    let answers = lines(folder, &format!("{name}.answers.txt"));
+    let cases = stored(folder, &format!("{name}.txt"));
+    let answers = stored(folder, &format!("{name}.answers.txt"));
     assert_eq!(cases.len(), answers.len());
     let counts = with_deep_stack(move || {
         let cases: Vec<Case> = cases

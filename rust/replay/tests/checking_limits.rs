@@ -11,8 +11,9 @@ use generator::case::Case;
 use generator::depths::{deepest_bodies, Level};
 use generator::examples::{listing3, top10sum};
 use generator::{edges, growth, writer};
-use library::{LIST_RECORDS, LIST_WORDS, RECORD_WORDS};
-use replay::checking::{answer, by_library, by_reference, lent, report_by_library, Checked};
+use paugmeln::{LIST_RECORDS, LIST_WORDS, RECORD_WORDS};
+use replay::checking::{by_library, by_reference, report_by_library, Checked};
+use replay::library::{answer, sizes};
 
 /// What both checkers leave.
 fn checked(text: &[u8], board: Board, words: usize) -> Checked {
@@ -55,7 +56,7 @@ fn a_file_enters_1024_instances_and_not_1025() {
     let side = 32;
     let full = on_largest(&edges::instances(side, INSTANCES / side));
     assert_eq!(number_and_frame(full.answer), (0, 0));
-    assert_eq!(library::instances(&full.list).len(), INSTANCES);
+    assert_eq!(paugmeln::instances(&full.list).len(), INSTANCES);
     let over = on_largest(&edges::instances(side + 1, INSTANCES / side));
     assert_eq!(number_and_frame(over.answer), (14, 2));
     assert!(is_zero(&over.list));
@@ -217,7 +218,7 @@ fn what_the_list_held_before_does_not_matter() {
         earlier,
     ];
     for mut list in fillings {
-        let found = answer(library::check(&text, lent(Board::LARGEST), &mut list));
+        let found = answer(paugmeln::check(&text, sizes(Board::LARGEST), &mut list));
         assert_eq!(found, expected.answer);
         assert!(list == expected.list);
     }
@@ -234,11 +235,11 @@ fn listing_3_has_ten_instances() {
             calls: 5
         }
     );
-    assert_eq!(library::instances(&found.list).len(), 10);
+    assert_eq!(paugmeln::instances(&found.list).len(), 10);
     // insert at 4, tail at 5 and search at 5, each with environment, heap and stack
     for (function, size, numbers) in [(0, 4, [12, 5, 3]), (2, 5, [2, 1, 0]), (1, 5, [16, 5, 4])] {
         let known =
-            library::records(&found.list).find(|r| r.function == function && r.sizes[0] == size);
+            paugmeln::records(&found.list).find(|r| r.function == function && r.sizes[0] == size);
         let known = known.expect("an instance of that size");
         assert_eq!([known.environment, known.heap, known.stack], numbers);
     }
@@ -270,7 +271,7 @@ fn an_instance_of_zeros_keeps_its_place_and_is_entered_once() {
     let again = call(0, vec![call(0, vec![variable(0)])]);
     let found = on_largest(&calling_twice([variable(0), again]));
     assert_eq!(number_and_frame(found.answer), (0, 0));
-    let entered: Vec<u32> = library::instances(&found.list)
+    let entered: Vec<u32> = paugmeln::instances(&found.list)
         .iter()
         .map(|known| known.function)
         .collect();

@@ -1,29 +1,23 @@
 //! The generated mixture meets every refusal.
 
+mod support;
+
 use evaluator::answer::Refusal;
 use evaluator::stack::with_deep_stack;
 use generator::mixture::Mixture;
-use replay::engine::Reference;
 use replay::format;
+use replay::reference::Reference;
 use replay::run::run;
-use std::collections::BTreeMap;
-
-/// The numbers that a report gives to check, start and iterations.
-fn numbers(report: &str) -> Vec<u32> {
-    let parts = report.split(';').filter_map(|part| part.split_once(':'));
-    let answers = parts.filter(|(name, _)| matches!(*name, "check" | "start" | "it"));
-    let number = |(_, rest): (&str, &str)| rest.split(',').next()?.parse().ok();
-    answers.filter_map(number).collect()
-}
+use support::{numbers, Counts};
 
 /// How often each number is given in so many generated cases.
-fn counted(cases: usize, seed: u64) -> BTreeMap<u32, usize> {
+fn counted(cases: usize, seed: u64) -> Counts {
     let mut mixture = Mixture::new(seed);
     let mut engine = Reference::new();
     let reports = (0..cases).map(|_| run(&mut engine, &mixture.next_case()));
-    let mut counts = BTreeMap::new();
-    for number in reports.flat_map(|report| numbers(&report)) {
-        *counts.entry(number).or_default() += 1;
+    let mut counts = Counts::new();
+    for report in reports {
+        numbers(&report).for_each(|number| *counts.entry(number).or_default() += 1);
     }
     counts
 }

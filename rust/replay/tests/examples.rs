@@ -1,18 +1,14 @@
 //! The rule files of `examples/` are accepted with the numbers that their page states.
 
+mod support;
+
 use evaluator::answer::{Answer, Board, Bounds};
 use evaluator::instances::Instance;
 use evaluator::limits::INSTANCES;
 use evaluator::machine::check;
 use generator::examples::{listing3, top10sum};
 use generator::writer;
-use std::fs;
-use std::path::Path;
-
-fn example(name: &str) -> Vec<u8> {
-    let path = Path::new(env!("CARGO_MANIFEST_DIR")).join("../../examples");
-    fs::read(path.join(name)).expect("the rule file is there")
-}
+use support::example;
 
 fn checked(text: &[u8]) -> Answer {
     let mut instances = vec![Instance::default(); INSTANCES];
@@ -29,12 +25,12 @@ fn accepted(heap: u32, environment: u32, stack: u32) -> Answer {
 
 #[test]
 fn the_two_frame_file() {
-    assert_eq!(checked(&example("accumulate.rules")), accepted(4, 0, 0));
+    assert_eq!(checked(&example("accumulate")), accepted(4, 0, 0));
 }
 
 #[test]
 fn listing_3() {
-    let text = example("listing3.rules");
+    let text = example("listing3");
     assert_eq!(checked(&text), accepted(25, 18, 5));
     assert_eq!(text, writer::text(&listing3()));
 }
@@ -42,6 +38,6 @@ fn listing_3() {
 #[test]
 fn top_10_sum() {
     // its sum `1 + n + m` is grouped from the left, the built one's from the right
-    assert_eq!(checked(&example("top10sum.rules")), accepted(217, 126, 12));
+    assert_eq!(checked(&example("top10sum")), accepted(217, 126, 12));
     assert_eq!(checked(&writer::text(&top10sum())), accepted(217, 126, 12));
 }

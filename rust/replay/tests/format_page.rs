@@ -1,19 +1,17 @@
 //! What `docs/FORMAT.md` shows: the bytes of listing 3, the limits, and the state after a line.
 
+mod support;
+
 use evaluator::limits;
-use evaluator::stack::with_deep_stack;
 use generator::case::Case;
 use replay::checking::report_by_library;
-use replay::engine::Reference;
+use replay::library::Library;
 use replay::run::run;
 use std::fs;
-use std::path::Path;
+use support::root;
 
 fn of_repository(name: &str) -> String {
-    let path = Path::new(env!("CARGO_MANIFEST_DIR"))
-        .join("../..")
-        .join(name);
-    fs::read_to_string(path).expect("a readable file")
+    fs::read_to_string(root().join(name)).expect("a readable file")
 }
 
 /// The lines below a heading, as far as the next of its level.
@@ -136,11 +134,10 @@ fn state_shown(table: &[Vec<&str>], column: usize) -> String {
 }
 
 #[test]
-fn the_states_are_those_of_the_rust_evaluator() {
+fn the_states_are_those_of_the_proved_library() {
     let page = of_repository("docs/FORMAT.md");
     let table = rows(&section(&page, "## Listing 3: what it needs"));
-    let report = with_deep_stack(|| run(&mut Reference::new(), &listing3_and_a_line()));
-    let report = report.expect("an answer");
+    let report = run(&mut Library, &listing3_and_a_line());
     let expected = [
         format!("state:{}", state_shown(&table, 1)),
         format!("it:0,0:{}", state_shown(&table, 3)),

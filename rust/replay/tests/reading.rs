@@ -6,14 +6,12 @@ use evaluator::stack::with_deep_stack;
 use generator::mixture::Mixture;
 use replay::format;
 use replay::reading::{by_library, by_reference, text};
-use std::collections::BTreeMap;
-use std::fs;
 use std::path::Path;
-use support::{own_folder, say, shared_folder};
+use support::{own_folder, say, shared_folder, stored, Counts};
 
 /// Compares the two on texts; gives how often each number was answered.
-fn compared(texts: impl Iterator<Item = Vec<u8>>) -> BTreeMap<u32, usize> {
-    let mut counts = BTreeMap::new();
+fn compared(texts: impl Iterator<Item = Vec<u8>>) -> Counts {
+    let mut counts = Counts::new();
     for text in texts {
         let found = by_library(&text);
         let shown = String::from_utf8_lossy(&text);
@@ -23,10 +21,9 @@ fn compared(texts: impl Iterator<Item = Vec<u8>>) -> BTreeMap<u32, usize> {
     counts
 }
 
-fn cases_of(file: &Path) -> Vec<Vec<u8>> {
-    let lines = fs::read_to_string(file).expect("a readable file");
-    let case = |line: &str| text(&format::parse(line).expect("a case")).to_vec();
-    lines.lines().map(case).collect()
+fn texts_of(folder: &Path, name: &str) -> Vec<Vec<u8>> {
+    let case = |line: &String| text(&format::parse(line).expect("a case")).to_vec();
+    stored(folder, name).iter().map(case).collect()
 }
 
 #[test]
@@ -43,8 +40,8 @@ fn generated_and_damaged_texts_agree() {
 
 /// Compares the two on the cases of a file.
 fn agree(folder: &Path, name: &str) {
-    let file = folder.join(name);
-    let counts = with_deep_stack(move || compared(cases_of(&file).into_iter()));
+    let texts = texts_of(folder, name);
+    let counts = with_deep_stack(move || compared(texts.into_iter()));
     say(&format!(
         "{name}: {:?} read alike",
         counts.expect("every text agrees")

@@ -1,14 +1,30 @@
-//! Where the cases are.
+//! Where the cases and the example files are, and what tests say of answers.
 
+// Each test takes what it needs.
+#![allow(dead_code)]
+
+use std::collections::BTreeMap;
+use std::fs;
 use std::io::{self, Write};
 use std::path::{Path, PathBuf};
 
 /// Names the folder of the shared cases where it is not beside the repository.
 const FOLDER_VARIABLE: &str = "PAUGMELN_CASES";
 
+/// The folder of the whole repository.
+pub fn root() -> PathBuf {
+    Path::new(env!("CARGO_MANIFEST_DIR")).join("../..")
+}
+
+/// A rule file of `examples/`.
+pub fn example(name: &str) -> Vec<u8> {
+    let path = root().join("examples").join(format!("{name}.rules"));
+    fs::read(path).expect("the rule file is there")
+}
+
 /// The cases of this repository.
 pub fn own_folder() -> PathBuf {
-    Path::new(env!("CARGO_MANIFEST_DIR")).join("../cases")
+    root().join("rust/cases")
 }
 
 /// The shared cases, of which this repository has a part. Tests that ask for them are ignored unless they are asked for.
@@ -19,7 +35,7 @@ pub fn own_folder() -> PathBuf {
 pub fn shared_folder() -> PathBuf {
     let folder = match std::env::var_os(FOLDER_VARIABLE) {
         Some(folder) => PathBuf::from(folder),
-        None => Path::new(env!("CARGO_MANIFEST_DIR")).join("../../../shared/cases"),
+        None => root().join("../shared/cases"),
     };
     let shown = folder.display();
     assert!(
@@ -27,6 +43,22 @@ pub fn shared_folder() -> PathBuf {
         "no shared cases: {shown} is no folder (set {FOLDER_VARIABLE} to name it)"
     );
     folder
+}
+
+/// The lines of a file.
+pub fn stored(folder: &Path, name: &str) -> Vec<String> {
+    let content = fs::read_to_string(folder.join(name)).expect("a readable file");
+    content.lines().map(str::to_string).collect()
+}
+
+/// How often each number was answered.
+pub type Counts = BTreeMap<u32, usize>;
+
+/// The numbers that a report gives to check, start and iterations.
+pub fn numbers(report: &str) -> impl Iterator<Item = u32> + '_ {
+    let parts = report.split(';').filter_map(|part| part.split_once(':'));
+    let answers = parts.filter(|(name, _)| matches!(*name, "check" | "start" | "it"));
+    answers.filter_map(|(_, rest)| rest.split(',').next()?.parse().ok())
 }
 
 /// Writes past the capture of passing tests, so that it is always seen.

@@ -1,6 +1,6 @@
 //! The proved reader.
 
-use crate::Answer;
+use crate::answer::Answer;
 
 extern "C" {
     fn paugmeln_read(text: *const u8, length: usize) -> Answer;
