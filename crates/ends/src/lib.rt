@@ -103,7 +103,13 @@ fn lines_ends(
 {
     let mut k: u32 = 0;
     while k < n {
-        line_ends(text, index, ends, first + k, part_start(index, part, from + k));
+        line_ends(
+            text,
+            index,
+            ends,
+            first + k,
+            part_start(index, part, from + k),
+        );
         k += 1;
     }
 }
@@ -125,5 +131,6 @@ pub fn find_initial_ends(text: &[u8], index: &[u32; INDEX_WORDS], ends: &mut [u1
     let c = frame_counts(index);
     lines_ends(text, index, ends, Part::Body, c.types, 0, c.functions);
     let before = c.types + c.functions;
-    lines_ends(text, index, ends, Part::Initial, before, 0, c.inputs + c.nodes);
+    let n = c.inputs + c.nodes;
+    lines_ends(text, index, ends, Part::Initial, before, 0, n);
 }

@@ -12,13 +12,7 @@ use new_cells::Value;
 use text::Cursor;
 
 // Where what starts at a place of the line of channel c is evaluated.
-fn channel_context(
-    index: &[u32; INDEX_WORDS],
-    c: u32,
-    at: Cursor,
-    used: u32,
-    calls: u32,
-) -> Context
+fn channel_context(index: &[u32; INDEX_WORDS], c: u32, at: Cursor, used: u32, calls: u32) -> Context
     ensures { λ r. ⌜ r ≡ channelContext (now (index .entry)) c at used calls ⌝ }
 {
     let line = channel_line(index, c);

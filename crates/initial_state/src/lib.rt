@@ -32,7 +32,18 @@ fn lay_initial_values(
     let mut c: u32 = 0;
     while c < n {
         let at = initial_start(index, c);
-        let x = channel_value(text, index, ends, &channels, state, slots, c, at, used, calls);
+        let x = channel_value(
+            text,
+            index,
+            ends,
+            &channels,
+            state,
+            slots,
+            c,
+            at,
+            used,
+            calls,
+        );
         let Value::Is(cell, more) = x else {
             return used;
         };

@@ -62,7 +62,18 @@ fn update_node(
     ensures { λ r. ⌜ UpdatesNode (now (text .entry)) (now (index .entry)) (now (ends .entry)) (now (channels .entry)) c used calls (now (state .entry)) (now (slots .entry)) r (now (state .exit)) (now (slots .exit)) ⌝ }
 {
     let at = update_start(index, c);
-    let x = channel_value(text, index, ends, channels, state, slots, c, at, used, calls);
+    let x = channel_value(
+        text,
+        index,
+        ends,
+        channels,
+        state,
+        slots,
+        c,
+        at,
+        used,
+        calls,
+    );
     let Value::Is(cell, more) = x else {
         return x;
     };

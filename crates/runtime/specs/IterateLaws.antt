@@ -30,7 +30,6 @@ use Rattle.checker.specs.declared.Answer.{Answer}
 use Rattle.checker.specs.Checks.{boardOf, said, refusalOf, readAnswer, ReadHeld}
 use Rattle.checker.specs.ReadLaws.{read-fault}
 use Rattle.runtime.specs.Runs.{Iterates, frameAt, answerOf, lengthsLent, LendsAll, Cleared, Told, told-done, told-refused, onState, Lent, IteratesLent, IteratesRead}
-
 use Rattle.runtime.specs.BufferLaws.{Enough, enough-is, lent-is}
 
 -- ---- answers

@@ -74,9 +74,15 @@ fn start_read(
     if r.number != NO_REFUSAL {
         return r;
     }
-    let words = state_length(b.cells);
-    let free = b.slots as usize;
-    put_initial_state(text, index, &mut state[..words], &mut slots[..free], b.calls);
+    let state_words = state_length(b.cells);
+    let slot_words = b.slots as usize;
+    put_initial_state(
+        text,
+        index,
+        &mut state[..state_words],
+        &mut slots[..slot_words],
+        b.calls,
+    );
     r
 }
 

@@ -14,8 +14,8 @@ lines-ends-requires c κs = search needs
 add-before : tie.Need-add-before
 add-before c = search needs
 
-add-lines-ends : tie.Need-add-lines-ends
-add-lines-ends c = search needs
+add-n : tie.Need-add-n
+add-n c = search needs
 
 lines-ends-requires-2 : tie.Need-lines-ends-requires-2
 lines-ends-requires-2 c κs = search needs
@@ -30,6 +30,6 @@ find-initial-ends-spec =
     frame-counts-requires
     lines-ends-requires
     add-before
-    add-lines-ends
+    add-n
     lines-ends-requires-2
     returns)

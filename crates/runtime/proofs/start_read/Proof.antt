@@ -20,8 +20,8 @@ returns c = start-refused _ _ _ _ _ (c .before .before .before .before .before .
 state-length-requires : tie.Need-state-length-requires
 state-length-requires c κs = tt
 
-cast-free : tie.Need-cast-free
-cast-free c = search needs
+cast-slot-words : tie.Need-cast-slot-words
+cast-slot-words c = search needs
 
 slice-relend-prefix-put-initial-state : tie.Need-slice-relend-prefix-put-initial-state
 slice-relend-prefix-put-initial-state c = words-there _ (c .before .before .before .before .before .before .before .before .before .before .before .before .before .before .args .list .now) (c .before .before .before .before .before .before .before .before .before .before .before .before .before .before .args .state .now) (c .before .before .before .before .before .before .before .before .before .before .before .before .before .before .args .scratch .now) (c .before .before .before .before .before .before .before .before .before .before .before .before .before .before .args .slots .now) (c .before .before .before .before .before .before .before .before .all-lent .ensures) (c .before .before .before .before .before .before .check-read .ensures) (omega (arith, (c .before .before .if1 .left))) (c .before .state-length .ensures)
@@ -59,7 +59,7 @@ start-read-spec =
     same-length
     returns
     state-length-requires
-    cast-free
+    cast-slot-words
     slice-relend-prefix-put-initial-state
     slice-aggregate-put-initial-state
     slice-relend-prefix-put-initial-state-2
