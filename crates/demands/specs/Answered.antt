@@ -1,0 +1,62 @@
+-- Demand 1 of the delivered calls, from their promises and the theorem on the machine.
+use Prim.Native.Nat.{ℕ, _/_}
+use mathlib.Core.List.{List}
+use mathlib.Core.Path.{_≡_, refl, sym, ap, _∙_, subst}
+use lib.ListN.{length, replicate, length-replicate}
+use Rattle.language.specs.Machine.{Iterated, Record, emptyRecord, Answer as MachineAnswer, iterate}
+use Rattle.language.specs.Answers.{Refused, FileAnswer, IterateAnswers}
+use Rattle.theory.specs.Padding.{padded-length}
+use Rattle.theory.specs.FileAnswers.{check-answers, start-answers}
+use Rattle.theory.specs.LineAnswers.{iterate-answers}
+use Rattle.instances.specs.Listed.{instanceWordsCount}
+use Rattle.checker.specs.declared.Board.{Board}
+use Rattle.checker.specs.declared.Answer.{Answer}
+use Rattle.checker.specs.Checks.{boardOf, said, recordsOf, wordsOf, Checks}
+use Rattle.checker.specs.FinalLists.{cleared}
+use Rattle.runtime.specs.Starts.{started, Starts}
+use Rattle.runtime.specs.Runs.{Iterates}
+use Rattle.demands.specs.Delivered.{CheckLeaves, StartLeaves, Delivered1}
+
+-- ---- the list in words
+list-as-long : (words : ℕ) (rs : List Record) {list′ : List ℕ} → list′ ≡ wordsOf words rs → length list′ ≡ words
+list-as-long words rs e = ap length e ∙ padded-length words _
+
+list-cleared : (list : List ℕ) (rs : List Record) {list′ : List ℕ} → list′ ≡ wordsOf (length list) rs → rs ≡ replicate (length (recordsOf (length list))) emptyRecord → list′ ≡ replicate (length list) 0
+list-cleared list rs e none = e ∙ ap (wordsOf (length list)) (none ∙ ap (λ n. replicate n emptyRecord) (length-replicate (length list / instanceWordsCount) emptyRecord)) ∙ sym (cleared (length list))
+
+-- an answer is the machine's
+same-file-answer : {text : List ℕ} {r : Answer} {a : MachineAnswer} → said r ≡ a → FileAnswer text a → FileAnswer text (said r)
+same-file-answer {text} e x = subst (FileAnswer text) (sym e) x
+
+same-refused : {r : Answer} {a : MachineAnswer} → said r ≡ a → Refused (said r) → Refused a
+same-refused e x = subst Refused e x
+
+check-leaves : {text list list′ : List ℕ} {b : Board} {r : Answer} → Checks text b list r list′ → CheckLeaves text list r list′
+check-leaves {text} {list} {b = b} c =
+    let m = check-answers text (boardOf b) (recordsOf (length list)) in
+    record {
+      answers = same-file-answer (c .answer) (m .answers);
+      list-long = list-as-long (length list) _ (c .instances);
+      refused-list = λ no. list-cleared list _ (c .instances) (m .refused-list (same-refused (c .answer) no));
+    }
+
+start-leaves : {text list state scratch slots list′ state′ scratch′ slots′ : List ℕ} {b : Board} {r : Answer} → Starts text b list state scratch slots r list′ state′ scratch′ slots′ → StartLeaves text b list state scratch slots r list′ state′ scratch′ slots′
+start-leaves {text} {list} {state} {scratch} {slots} {b = b} s =
+    let m = start-answers text (boardOf b) (recordsOf (length list)) state scratch slots in
+    record {
+      answers = same-file-answer (s .answer-is) (m .answers);
+      list-long = list-as-long (length list) _ (s .list-is);
+      state-long = ap length (s .state-is) ∙ m .state-long;
+      refused-list = λ no. list-cleared list _ (s .list-is) (m .refused-list (same-refused (s .answer-is) no));
+      refused-state = λ no. s .state-is ∙ m .refused-state (same-refused (s .answer-is) no);
+      beyond = rw (s .state-is) (m .beyond);
+      scratch-clear = s .scratch-is ∙ m .scratch-clear;
+      slots-clear = s .slots-is ∙ m .slots-clear;
+    }
+
+iterate-leaves : {text state scratch slots line state′ scratch′ slots′ : List ℕ} {b : Board} {r : Answer} → Iterates text b state scratch slots line r state′ scratch′ slots′ →
+    IterateAnswers text (boardOf b) state scratch slots (record { answer = said r; state = state′; scratch = scratch′; slots = slots′ })
+iterate-leaves {text} {state} {scratch} {slots} {line} {b = b} i = subst (IterateAnswers text (boardOf b) state scratch slots) (sym (i .is)) (iterate-answers text (boardOf b) state scratch slots line)
+
+pub delivered-1 : Delivered1
+delivered-1 = record { checks = check-leaves; starts = start-leaves; iterates = iterate-leaves }

@@ -1,0 +1,4 @@
+pub mod Delivered
+pub mod Answered
+pub mod Judged
+pub mod RunsGo
