@@ -26,10 +26,10 @@ use Rattle.text.specs.declared.Found.{Found}
 use Rattle.text.specs.declared.Number.{Number}
 use Rattle.text.specs.declared.Number.the-variants.{Is, Refused}
 use Rattle.text.specs.declared.Step.the-variants.{Next}
-use Rattle.text.specs.declared.lines.LineEnd.{LineEnd}
-use Rattle.text.specs.declared.lines.LineEnd.the-variants.{At, Bad}
+use Rattle.text_lines.specs.declared.LineEnd.{LineEnd}
+use Rattle.text_lines.specs.declared.LineEnd.the-variants.{At, Bad}
 use Rattle.text.specs.Bytes.{bytesOf, bytesFrom, bytesLeft, Moved, ReadsNumber, Below}
-use Rattle.text.specs.Lines.{isSome, lineEnd}
+use Rattle.text_lines.specs.Lines.{isSome, lineEnd}
 use Rattle.text.specs.Places.{bytes-start}
 use Rattle.text.specs.StepLaws.{number-bad, number-moved, ends-within, moved-none, moved-on}
 use Rattle.index.specs.Sections.{countsIn}

@@ -32,8 +32,8 @@ use text::Cursor;
 use text::Found;
 use text::Number;
 use text::Step;
-use text::lines::LineEnd;
-use text::lines::line_end;
+use text_lines::LineEnd;
+use text_lines::line_end;
 
 // The forms of a value, counted from the first code of an expression.
 const BOOL: u32 = EXPR_BOOL - EXPR_FIRST;
