@@ -1,6 +1,4 @@
 // Written sizes worked out at the sizes of their variables; types with sizes, conditions and measures.
-pub mod rows;
-
 ghost use mathlib.Core.Path.{_≡_};
 ghost use Prim.Native.Nat.{_<_, _≤_};
 ghost use Rattle.language.specs.Limits.{byteRange, nestingMost};

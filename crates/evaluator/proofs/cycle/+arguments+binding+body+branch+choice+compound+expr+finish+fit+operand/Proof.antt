@@ -68,11 +68,11 @@ use Rattle.evaluator.proofs.contexts.moved.Reads as moved-reads
 use Rattle.evaluator.proofs.slots.push.Reads as push-reads
 use Rattle.evaluator.proofs.slots.push_fields.Reads as push-fields-reads
 use Rattle.evaluator.proofs.slots.variable.Reads as variable-reads
-use Rattle.new_cells.proofs.constructors.construct.Reads as construct-reads
+use Rattle.construction.proofs.construct.Reads as construct-reads
 use Rattle.ends.proofs.end_of.Reads as end-of-reads
 use Rattle.new_cells.proofs.new_bool.Reads as new-bool-reads
 use Rattle.new_cells.proofs.new_int.Reads as new-int-reads
-use Rattle.new_cells.proofs.operators.operate.Reads as operate-reads
+use Rattle.operators.proofs.operate.Reads as operate-reads
 use Rattle.heads.proofs.head_at.Reads as head-at-reads
 use Rattle.heads.proofs.variable_at.Reads as variable-at-reads
 use Rattle.index.proofs.frames.frame_line.Reads as frame-line-reads

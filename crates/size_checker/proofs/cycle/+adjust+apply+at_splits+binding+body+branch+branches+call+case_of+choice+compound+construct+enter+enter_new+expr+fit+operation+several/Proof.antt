@@ -142,8 +142,8 @@ use Rattle.size_steps.proofs.sites.body_site.Reads as body-site-reads
 use Rattle.size_steps.proofs.sites.down.Reads as down-reads
 use Rattle.size_steps.proofs.sites.moved_on.Reads as moved-on-reads
 use Rattle.size_steps.proofs.sites.widen.Reads as widen-reads
-use Rattle.sizes.proofs.rows.bind_fields.Reads as bind-fields-reads
-use Rattle.sizes.proofs.rows.named_sizes.Reads as named-sizes-reads
+use Rattle.type_rows.proofs.bind_fields.Reads as bind-fields-reads
+use Rattle.type_rows.proofs.named_sizes.Reads as named-sizes-reads
 use Rattle.sizes.proofs.size_at.Reads as size-at-reads
 use Rattle.sizes.proofs.type_at.Reads as type-at-reads
 use Rattle.sizes.proofs.word_of.Reads as word-of-reads
