@@ -1,5 +1,5 @@
 -- A constructor's cell: what the index tells of its fields, the loop over them, and what its size decides.
-use Prim.Native.Nat.{ℕ, zero, suc, _+_, _*_, _%_, _≤_, _<_}
+use Prim.Native.Nat.{ℕ, suc, _+_, _*_, _%_, _≤_, _<_}
 use mathlib.Core.List.{List, [], _∷_}
 use mathlib.Core.Bool.{Bool, true, false}
 use mathlib.Core.Path.{_≡_, refl, sym, ap, _∙_}
@@ -12,8 +12,8 @@ use borrow.Author.Tests.{lt-ltb, le-ltb, ltb-true}
 use Rattle.language.specs.Limits.{byteRange, fieldsMost, parametersMost, sizeMost}
 use Rattle.language.specs.Refusals.{heapSpent, valueTooLarge}
 use Rattle.language.specs.Result.{both, choose}
-use Rattle.language.specs.Syntax.{fbool, TypeDef, File, constructorsOf, fieldsOf}
-use Rattle.language.specs.Within.{WithinField, WithinType, WithinTypes, wt-nil, wt-cons}
+use Rattle.language.specs.Syntax.{fbool, File, constructorsOf, fieldsOf}
+use Rattle.language.specs.Within.{WithinField}
 use Rattle.language.specs.Heap.{Cell, con, fieldsIn, ownSum, fieldsWithin}
 use Rattle.language.specs.Layout.{tagStep, padded, cellTag, cellValue, wordsOf, stateLength}
 use Rattle.language.specs.Evaluator.{needs}
@@ -22,6 +22,7 @@ use Rattle.theory.specs.Lists.{look-inner-less, both-left}
 use Rattle.theory.specs.Places.{look-at}
 use Rattle.theory.specs.CellWords.{con-writable}
 use Rattle.text.specs.Bytes.{fieldWord}
+use Rattle.encoding.specs.WithinParts.{type-within}
 use Rattle.index.specs.Sections.{typesOf}
 use Rattle.index.specs.Indexed.{fieldAt}
 use Rattle.state_words.specs.RowLaws.{row-are, row-length, row-at}
@@ -34,11 +35,6 @@ use Rattle.new_cells.specs.declared.Value.{Value}
 use Rattle.new_cells.specs.declared.Value.the-variants.{Refused}
 
 -- ---- what the index tells of the constructor
-type-within : {earlier : ℕ} {ds : List TypeDef} → WithinTypes earlier ds → (t : ℕ) → t < length ds → WithinType (earlier + t) (getD ds t [])
-type-within wt-nil t less = absurd (omega arith)
-type-within (wt-cons {earlier} w ws) zero less = let same : earlier + 0 ≡ earlier = omega arith in rw same w
-type-within (wt-cons {earlier} w ws) (suc t) less = let on : earlier + suc t ≡ suc earlier + t = omega arith in rw on (type-within ws t (omega arith))
-
 module _ {index values : List ℕ} {t c n : ℕ} {P : File} {ls : List ℕ} (a : Applied index values t c n P ls) where
   named : t < length (P .types)
   named = look-inner-less (P .types) t c (look-at (constructorsOf P t) c [] (a .known))
@@ -58,9 +54,7 @@ module _ {index values : List ℕ} {t c n : ℕ} {P : File} {ls : List ℕ} (a :
 
   field-within : (j : ℕ) → j < n → WithinField t (getD (fieldsOf P t c) j fbool)
   field-within j less =
-      let zeroth : 0 + t ≡ t = omega arith in
-      let d = rw zeroth at (type-within (a .indexed .within .types) t named) in
-      all-getD (all-getD (d .constructors) c [] (a .known) .fields) j fbool (omega (arith, a .count))
+      all-getD (all-getD (type-within (a .indexed .within) t named .constructors) c [] (a .known) .fields) j fbool (omega (arith, a .count))
 
   as-many : length ls ≡ n
   as-many = ap length (a .given) ∙ row-length (λ j. getD values j 0) n

@@ -1,5 +1,5 @@
 // The index that the reader leaves for later passes: one row of words, the counts of the file and a section each for its frames,
-// types, functions and channels. Only this crate knows where a word stands.
+// types, functions and channels. Where a word stands is said here; index_writer and signatures write by it, all else asks the accessors.
 pub mod channels;
 pub mod frames;
 pub mod functions;
@@ -8,6 +8,7 @@ pub mod types;
 ghost use mathlib.Core.Path.{_≡_};
 ghost use Prim.Native.Nat.{_+_, _<_, _≤_};
 ghost use lib.ListN.{length, getD, set, replicate};
+ghost use Rattle.language.specs.Limits.{byteRange};
 ghost use Rattle.language.specs.Format.{bit};
 ghost use Rattle.index.specs.Sections.{section, indexWords, countsIn, SmallCounts};
 use language::limits::BYTE_RANGE;
@@ -97,6 +98,16 @@ pub fn word_at(row: &[u32], i: usize) -> u32
 {
     if i < row.len() {
         return row[i];
+    }
+    0
+}
+
+// A byte of a row; 0 beyond it.
+pub fn byte_at(row: &[u8], i: usize) -> u32
+    ensures { λ r. ⌜ (r ≡ getD (now (row .entry)) i 0) × (r < byteRange) ⌝ }
+{
+    if i < row.len() {
+        return row[i] as u32;
     }
     0
 }

@@ -2,10 +2,10 @@
 use Prim.Native.Nat.{ℕ, zero, suc, _+_, _-_, _≤_, _<_}
 use mathlib.Core.List.{List, [], _∷_}
 use mathlib.Core.Bool.{false}
-use mathlib.Core.Path.{_≡_, refl, sym, ap, _∙_}
+use mathlib.Core.Path.{_≡_, refl, sym, _∙_}
 use native.Mathlib.Omega.{arith}
 use lib.ListN.{length, getD, drop, length-append}
-use lib.Seq.{sets, drop-drop}
+use lib.Seq.{sets}
 use Rattle.language.specs.Limits.{byteRange, fieldsMost}
 use Rattle.language.specs.Codes.{boolFirst}
 use Rattle.language.specs.Syntax.{File}
@@ -17,7 +17,7 @@ use Rattle.language.specs.Parser.{got, bad, Parser}
 use Rattle.language.specs.ReadExpr.{Form, boolForm, intForm, bools, int}
 use Rattle.language.specs.Line.{valueBehind}
 use Rattle.language.specs.Machine.{newCell, build}
-use Rattle.theory.specs.Lists.{take-fewer}
+use Rattle.theory.specs.Lists.{take-fewer, drop-more}
 use Rattle.theory.specs.Places.{look-at}
 use Rattle.text.specs.declared.Cursor.{Cursor}
 use Rattle.text.specs.declared.Found.{Found}
@@ -41,15 +41,11 @@ use Rattle.input_cells.specs.Lays.{Kept, LeafPut, leaf-put, leaf-full, L
 pub kept-none : (cells used : ℕ) (words : List ℕ) → Kept cells used words words
 kept-none cells used words = record { long = refl; below = refl; above = refl }
 
-pub drop-further : (m n : ℕ) (l k : List ℕ) → m ≤ n → drop m l ≡ drop m k → drop n l ≡ drop n k
-drop-further m n l k le e = let on : m + (n - m) ≡ n = omega arith in
-    ap (λ i. drop i l) (sym on) ∙ sym (drop-drop (n - m) m l) ∙ ap (drop (n - m)) e ∙ drop-drop (n - m) m k ∙ ap (λ i. drop i k) on
-
 pub kept-written : {cells used : ℕ} {words row words′ : List ℕ} → used < cells → Written words used row words′ → Kept cells used words words′
 kept-written {cells} {used} {words} {row} {words′} less w = record {
   long = written-long w;
   below = written-below w;
-  above = drop-further (stateLength (used + 1)) (stateLength cells) words′ words (omega arith) (written-above w);
+  above = drop-more (stateLength (used + 1)) (stateLength cells) words′ words (omega arith) (written-above w);
 }
 
 pub kept-then : {cells used top : ℕ} {words words₁ words₂ : List ℕ} → used ≤ top → Kept cells used words words₁ → Kept cells top words₁ words₂ → Kept cells used words words₂
@@ -61,7 +57,7 @@ kept-then {cells} {used} {top} {words} {words₁} {words₂} le a b = record {
 
 -- beyond the cells used in the end: a later step that uses no fewer
 pub high-then : (top n : ℕ) (words words₁ words₂ : List ℕ) → top ≤ n → drop (stateLength top) words₁ ≡ drop (stateLength top) words → drop (stateLength n) words₂ ≡ drop (stateLength n) words₁ → drop (stateLength n) words₂ ≡ drop (stateLength n) words
-high-then top n words words₁ words₂ le a b = b ∙ drop-further (stateLength top) (stateLength n) words₁ words (omega arith) a
+high-then top n words words₁ words₂ le a b = b ∙ drop-more (stateLength top) (stateLength n) words₁ words (omega arith) a
 
 pub full-is-not-done : {B : Type 0} {b : Laid} → Full ≡ Done b → B
 full-is-not-done e = absurd (let z : _≡_ {A = ℕ} 0 1 = cc in omega arith)

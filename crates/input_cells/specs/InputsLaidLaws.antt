@@ -19,7 +19,7 @@ use Rattle.language.specs.Layout.{stateLength}
 use Rattle.language.specs.Parser.{Read, got, bad, Parser, byte, many}
 use Rattle.language.specs.Line.{valueAt, allRead, inputTrees, treesFit, lineTrees}
 use Rattle.language.specs.Machine.{build, putInputs}
-use Rattle.theory.specs.Lists.{none-is-not-some, false-is-not-true}
+use Rattle.theory.specs.Lists.{none-is-not-some, false-is-not-true, drop-more}
 use Rattle.theory.specs.HeldChannels.{inputTypes}
 use Rattle.text.specs.declared.Cursor.{Cursor}
 use Rattle.text.specs.declared.Found.{Found}
@@ -45,7 +45,7 @@ use Rattle.input_cells.specs.declared.Inputs.the-variants.{Used, Full as
 use Rattle.input_line.specs.InputLaws.{inputs-counted, no-bytes, bytes-are}
 use Rattle.input_line.specs.LineLaws.{line-bad, line-longer, line-read}
 use Rattle.input_cells.specs.Lays.{Kept, Lays, put-all, put-full, within, beyond, ValuesLaid, InputsLaid}
-use Rattle.input_cells.specs.CellLaws.{drop-further, kept-none, kept-then, high-then}
+use Rattle.input_cells.specs.CellLaws.{kept-none, kept-then, high-then}
 use Rattle.input_cells.specs.FieldsLaidLaws.{last-cell, done-as, full-more, grows-done}
 
 -- ---- values that were read: the first, and the others behind it
@@ -102,7 +102,7 @@ module _ {line index : List ℕ} {cells used n i top : ℕ} {words₀ roots₀ w
         low = omega (arith, v .low, input-grows e .0);
         high = input-grows e .1 .0;
         wide = ap length put ∙ length-set roots i (b .used - 1) ∙ v .wide;
-        others = ap (λ j. drop j roots′) on ∙ ap (drop (suc i)) put ∙ drop-set-lt (suc i) roots i (b .used - 1) (omega arith) ∙ drop-further i (suc i) roots roots₀ (omega arith) (v .others) ∙ ap (λ j. drop j roots₀) (sym on);
+        others = ap (λ j. drop j roots′) on ∙ ap (drop (suc i)) put ∙ drop-set-lt (suc i) roots i (b .used - 1) (omega arith) ∙ drop-more i (suc i) roots roots₀ (omega arith) (v .others) ∙ ap (λ j. drop j roots₀) (sym on);
         says = λ text P x h hs wide m {vs} {rest} read.
             let q = v .says text P x h hs wide m read in
             let w = next-value P q in

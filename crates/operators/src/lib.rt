@@ -13,16 +13,13 @@ use language::codes::OPERATOR_EQUAL;
 use language::codes::OPERATOR_LESS;
 use language::codes::OPERATOR_MINUS;
 use language::codes::OPERATOR_PLUS;
+use language::limits::INT_RANGE;
+use language::limits::SIGN_BIT;
 use new_cells::Value;
 use new_cells::new_bool;
 use new_cells::new_int;
 use state_words::reads::number;
 use state_words::reads::truth;
-
-// "Int is 32 bits": they are below this; the place of the sign.
-const INT_RANGE: u64 = 0x1_0000_0000;
-
-const SIGN_BIT: u32 = 0x8000_0000;
 
 // The product of two Ints.
 fn times(a: u32, b: u32) -> u32

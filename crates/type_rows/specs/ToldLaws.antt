@@ -1,5 +1,5 @@
 -- What is told of a constructor's fields and of a row, word by word; and that the tables of a text that was read tell it.
-use Prim.Native.Nat.{ℕ, zero, suc, _+_, _*_, _%_, _<_}
+use Prim.Native.Nat.{ℕ, _+_, _*_, _%_, _<_}
 use mathlib.Core.List.{List, [], map}
 use mathlib.Core.Option.{some}
 use mathlib.Core.Path.{_≡_, sym, ap, subst, _∙_}
@@ -7,9 +7,10 @@ use native.Mathlib.Omega.{arith}
 use lib.ListN.{length, getD, getElem? as look, List·getD-map}
 use lib.Seq.{getD-take}
 use Rattle.language.specs.Limits.{byteRange}
-use Rattle.language.specs.Syntax.{Field, fbool, TypeDef, Constructor, constructorsOf, Ty, tbool, File}
-use Rattle.language.specs.Within.{WithinField, WithinType, WithinTypes, wt-nil, wt-cons}
+use Rattle.language.specs.Syntax.{Field, fbool, Constructor, constructorsOf, Ty, tbool, File}
+use Rattle.language.specs.Within.{WithinField}
 use Rattle.text.specs.Bytes.{declaredWord, fieldWord}
+use Rattle.encoding.specs.WithinParts.{type-within}
 use Rattle.theory.specs.Lists.{look-getD, look-less}
 use Rattle.theory.specs.Alls.{all-getD, all-at}
 use Rattle.index.specs.Tables.{constructorWords, typeWords}
@@ -41,17 +42,12 @@ module _ {row : List ℕ} {n : ℕ} {τs : List Ty} (q : ToldRow row n τs) wher
   word-small {i} less = all-getD (q .small) i tbool (omega (arith, q .long))
 
 -- ---- a text that was read
-type-at : {earlier : ℕ} {ds : List TypeDef} → WithinTypes earlier ds → (j t : ℕ) → j < length ds → earlier + j ≡ t → WithinType t (getD ds j [])
-type-at wt-nil j t less e = absurd (omega arith)
-type-at (wt-cons {d} w ws) zero t less e = subst (λ n. WithinType n d) (omega arith) w
-type-at (wt-cons w ws) (suc j) t less e = type-at ws j t (omega arith) (omega arith)
-
 pub told-fields : {text index : List ℕ} {P : File} → Indexed text index P → (t c : ℕ) {fs : Constructor} → t < length (P .types) → look (constructorsOf P t) c ≡ some fs → ToldFields (typesOf index) t c fs
 told-fields {text} {index} {P} indexed t c {fs} less e = record {
   count = told .tells .fields c there ∙ ap length is;
   few = omega (arith, told .tells .fewFields c there, ap length is);
   each = subst (λ gs. (i : ℕ) → i < length gs → fieldAt (typesOf index) t c i ≡ getD (map fieldWord gs) i 0) is (told .fields c there);
-  within = all-at (type-at (indexed .within .types) t t less (omega arith) .constructors) c e .fields;
+  within = all-at (type-within (indexed .within) t less .constructors) c e .fields;
   small = omega (arith, indexed .within .fewTypes);
 }
   where

@@ -1,11 +1,12 @@
 // Rows of type words, as the size checker keeps them: the fields of a constructor, the types of values, their sizes.
 ghost use mathlib.Core.Path.{_≡_};
 ghost use Prim.Native.Nat.{_<_};
-ghost use lib.ListN.{getD, set};
+ghost use lib.ListN.{set};
 ghost use Rattle.language.specs.Limits.{byteRange};
 ghost use Rattle.index.specs.Sections.{typesOf};
 ghost use Rattle.type_rows.specs.Rows.{sizeIn, fieldAgrees, boundWord, NamedSizes, OwnSum, FieldsAgree, FieldsBound};
 use index::INDEX_WORDS;
+use index::byte_at;
 use index::one_if;
 use index::put;
 use index::types::OWN_FIELD;
@@ -21,16 +22,6 @@ fn put_size(sizes: &mut [u8], i: usize, size: u8)
     if i < sizes.len() {
         sizes[i] = size;
     }
-}
-
-// A size; 0 beyond the sizes.
-fn nth_size(sizes: &[u8], i: usize) -> u8
-    ensures { λ r. ⌜ r ≡ getD (now (sizes .entry)) i 0 ⌝ }
-{
-    if i < sizes.len() {
-        return sizes[i];
-    }
-    0
 }
 
 // The size in the word of a type, 0 of Bool and Int.
@@ -54,11 +45,12 @@ fn field_agrees(field: u32, word: u32, t: u32) -> bool
 }
 
 // The word of the type of a field, one of the type t itself at a size.
-fn bound_word(field: u32, t: u32, size: u8) -> u32
+fn bound_word(field: u32, t: u32, size: u32) -> u32
+    requires { ⌜ size < byteRange ⌝ }
     ensures { λ r. ⌜ r ≡ boundWord field t size ⌝ }
 {
     if field == OWN_FIELD {
-        return TYPE_STEP * (t % TYPE_STEP + 1) + (size as u32);
+        return TYPE_STEP * (t % TYPE_STEP + 1) + size;
     }
     field
 }
@@ -130,7 +122,7 @@ pub fn bind_fields(
     let mut i: u32 = 0;
     while i < n {
         let field = field_word(index, t, c, i);
-        let size = nth_size(sizes, (from as usize) + (next as usize));
+        let size = byte_at(sizes, (from as usize) + (next as usize));
         let word = bound_word(field, t, size);
         put(scope, (to as usize) + (i as usize), word);
         next += one_if(field == OWN_FIELD);

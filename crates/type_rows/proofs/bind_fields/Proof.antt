@@ -21,17 +21,17 @@ loop-holds c = binding-start _ _ _ _ _ _ _ _
 field-word-requires : tie.Need-field-word-requires Inv-loop μ-loop
 field-word-requires c κs = tt
 
-cast-nth-size : tie.Need-cast-nth-size Inv-loop μ-loop
-cast-nth-size c = omega arith
+cast-byte-at : tie.Need-cast-byte-at Inv-loop μ-loop
+cast-byte-at c = omega arith
 
-add-nth-size : tie.Need-add-nth-size Inv-loop μ-loop
-add-nth-size c = omega arith
+add-byte-at : tie.Need-add-byte-at Inv-loop μ-loop
+add-byte-at c = omega arith
 
-nth-size-requires : tie.Need-nth-size-requires Inv-loop μ-loop
-nth-size-requires c κs = tt
+byte-at-requires : tie.Need-byte-at-requires Inv-loop μ-loop
+byte-at-requires c κs = tt
 
 bound-word-requires : tie.Need-bound-word-requires Inv-loop μ-loop
-bound-word-requires c κs = tt
+bound-word-requires c κs = (c .byte-at .ensures .1)
 
 cast-put : tie.Need-cast-put Inv-loop μ-loop
 cast-put c = omega arith
@@ -55,7 +55,7 @@ loop-less : tie.Need-loop-less Inv-loop μ-loop
 loop-less c = omega arith
 
 loop-again : tie.Need-loop-again Inv-loop μ-loop
-loop-again c = rw (c .before .before .before .put .ensures) (binding-on (c .before .before .before .before .before .before .before .before .before .before .fields .ensures) (c .before .before .before .before .before .before .before .before .before .loop .inv) (c .before .before .before .before .before .before .before .before .loop-test .taken) (c .before .before .before .before .before .before .before .field-word .ensures) (c .before .before .before .before .before .before .nth-size .ensures) (c .before .before .before .before .before .bound-word .ensures) (c .one-if .ensures))
+loop-again c = rw (c .before .before .before .put .ensures) (binding-on (c .before .before .before .before .before .before .before .before .before .before .fields .ensures) (c .before .before .before .before .before .before .before .before .before .loop .inv) (c .before .before .before .before .before .before .before .before .loop-test .taken) (c .before .before .before .before .before .before .before .field-word .ensures) (c .before .before .before .before .before .before .byte-at .ensures .0) (c .before .before .before .before .before .bound-word .ensures) (c .one-if .ensures))
 
 same-length : tie.Need-same-length Inv-loop μ-loop
 same-length c = (c .before .loop .inv .long)
@@ -72,9 +72,9 @@ bind-fields-spec =
     fields-requires
     loop-holds
     field-word-requires
-    cast-nth-size
-    add-nth-size
-    nth-size-requires
+    cast-byte-at
+    add-byte-at
+    byte-at-requires
     bound-word-requires
     cast-put
     add-put

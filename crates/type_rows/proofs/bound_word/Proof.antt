@@ -1,4 +1,5 @@
 -- The word of a field's type, its size filled in.
+use native.Mathlib.Omega.{arith}
 use borrow.Author.Needs.{needs}
 use Rattle.type_rows.specs.RowWordLaws.{bound-own, bound-other}
 use Rattle.type_rows.proofs.bound_word.Statement.{statement}
@@ -11,7 +12,7 @@ mul-result : tie.Need-mul-result
 mul-result c = search needs
 
 add-result-2 : tie.Need-add-result-2
-add-result-2 c = search needs
+add-result-2 c = omega (arith, (c .before .pre))
 
 returns : tie.Need-returns
 returns c = bound-own _ _ (c .if1 .taken)
