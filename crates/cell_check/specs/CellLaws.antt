@@ -18,7 +18,7 @@ use Rattle.language.specs.Values.{constantFits, namedAs, isConstructor}
 use Rattle.language.specs.Layout.{boolTag, intTag, tagStep, allZero, constructorOfWords, cellOfWords, cellFits, locationFits, fieldsRight, cellRight}
 use Rattle.theory.specs.Lists.{look-less, look-getD, look-inner-less, both-never}
 use Rattle.theory.specs.Places.{below-or-not, look-at}
-use Rattle.text.specs.Lines.{isSome}
+use Rattle.text_lines.specs.Lines.{isSome}
 use Rattle.index.specs.Sections.{typesOf}
 use Rattle.index.specs.Tables.{typeWords}
 use Rattle.index.specs.Indexed.{Indexed}

@@ -1,5 +1,5 @@
 -- Fields against their types: what a word and a cell's tag and value say, and what is left of a constructor's size.
-use Prim.Native.Nat.{ℕ, zero, suc, _+_, _-_, _*_, _/_, _%_, _≤_, _<_}
+use Prim.Native.Nat.{ℕ, suc, _+_, _-_, _*_, _/_, _%_, _≤_, _<_}
 use mathlib.Core.List.{List, []}
 use mathlib.Core.Bool.{Bool, true, false}
 use mathlib.Core.Path.{_≡_, refl, sym, ap, _∙_}
@@ -12,8 +12,8 @@ use borrow.Author.Tests.{eqb-true, eqb-false, eq-eqb, ne-eqb, lt-ltb, le-ltb}
 use Rattle.language.specs.Limits.{intRange}
 use Rattle.language.specs.Codes.{fieldBool, fieldInt, fieldOwn}
 use Rattle.language.specs.Result.{both, choose}
-use Rattle.language.specs.Syntax.{Field, fbool, fint, own, other, Constructor, TypeDef, Ty, tbool, tint, tnamed, File, constructorsOf}
-use Rattle.language.specs.Within.{All, WithinField, w-fbool, w-fint, w-own, w-other, WithinDeclared, w-tbool, w-tint, w-tnamed, WithinType, WithinTypes, wt-nil, wt-cons, Within}
+use Rattle.language.specs.Syntax.{Field, fbool, fint, own, other, Constructor, Ty, tbool, tint, tnamed, File, constructorsOf}
+use Rattle.language.specs.Within.{All, WithinField, w-fbool, w-fint, w-own, w-other, WithinDeclared, w-tbool, w-tint, w-tnamed, Within}
 use Rattle.language.specs.Heap.{kbool, Cell, leaf, con, cellAt, sizeIn}
 use Rattle.language.specs.Values.{constantFits, namedAs}
 use Rattle.language.specs.Layout.{boolTag, intTag, tagStep, cellTag, cellValue, cellFits, locationFits}
@@ -21,6 +21,7 @@ use Rattle.theory.specs.Lists.{look-less, look-getD, look-inner-less}
 use Rattle.theory.specs.Alls.{all-getD}
 use Rattle.theory.specs.CellWords.{Writable, bool-writable, int-writable, con-writable}
 use Rattle.text.specs.Bytes.{declaredWord, fieldWord}
+use Rattle.encoding.specs.WithinParts.{type-within}
 use Rattle.index.specs.Sections.{typesOf}
 use Rattle.index.specs.Indexed.{Indexed, fieldAt as fieldWordAt}
 use Rattle.state_words.specs.Words.{tagAt, valueAt, fieldAt, rowOf}
@@ -140,11 +141,6 @@ other-field h t l left w-fint ne = as-type tint w-tint refl refl
 other-field h t l left w-own ne = absurd (ne refl)
 other-field h t l left (w-other {t = u} {k} less bound) ne = as-type (tnamed u k) (w-tnamed less bound) refl refl
 
-type-within : {earlier : ℕ} {ds : List TypeDef} → WithinTypes earlier ds → (t : ℕ) → t < length ds → WithinType (earlier + t) (getD ds t [])
-type-within wt-nil t h = absurd (omega arith)
-type-within (wt-cons {earlier} w ws) zero h = let same : earlier + 0 ≡ earlier = omega arith in rw same w
-type-within (wt-cons {earlier} w ws) (suc t) h = let on : earlier + suc t ≡ suc earlier + t = omega arith in rw on (type-within ws t (omega arith))
-
 -- the word of field j and its cell, as they are read
 pub record FieldRead (index words : List ℕ) (cell tag j word l : ℕ) : Type 0 where
   pub told : word ≡ fieldWordAt (typesOf index) (tag / tagStep - 1) (tag % tagStep) j
@@ -155,8 +151,7 @@ field-read index words cell tag j p q e m = record { told = e ∙ rw (p, q); at 
 
 field-within : {P : File} {tag j : ℕ} → Within P → (t c : ℕ) {fs : Constructor} → TagOf P tag t c fs → j < length fs → WithinField t (getD fs j fbool)
 field-within {P} {tag} {j} w t c {fs} g less =
-    let zeroth : 0 + t ≡ t = omega arith in
-    let d = rw zeroth at (type-within (w .types) t (look-inner-less (P .types) t c (g .known))) in
+    let d = type-within w t (look-inner-less (P .types) t c (g .known)) in
     let same : getD (constructorsOf P t) c [] ≡ fs = look-getD (constructorsOf P t) c [] (g .known) in
     all-getD (rw same at (all-getD (d .constructors) c [] (look-less (constructorsOf P t) c (g .known)) .fields)) j fbool less
 

@@ -22,7 +22,7 @@ use Rattle.theory.specs.Tests.{Whenever, w-some, w-none, whenever, whenever-cha
 use Rattle.theory.specs.Choices.{whenever-choose}
 use Rattle.theory.specs.CellWords.{Writable, bool-writable, int-writable, con-writable}
 use Rattle.theory.specs.HeapWords.{cells-read}
-use Rattle.text.specs.Lines.{isSome}
+use Rattle.text_lines.specs.Lines.{isSome}
 use Rattle.index.specs.Indexed.{Indexed}
 use Rattle.state_words.specs.Words.{tagAt, valueAt, fieldAt, rowOf}
 use Rattle.state_words.specs.RowLaws.{row-taken}

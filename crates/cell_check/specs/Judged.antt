@@ -15,7 +15,7 @@ use Rattle.language.specs.Heap.{Cell, leaf, con, cellAt, sizeIn}
 use Rattle.language.specs.Layout.{boolTag, intTag, tagStep, allZero, cellOfWords, locationFits, cellRight, stateLength}
 use Rattle.theory.specs.CellWords.{Writable}
 use Rattle.text.specs.Bytes.{declaredWord}
-use Rattle.text.specs.Lines.{isSome}
+use Rattle.text_lines.specs.Lines.{isSome}
 use Rattle.index.specs.Indexed.{Indexed}
 use Rattle.state_words.specs.Words.{tagAt, valueAt, fieldAt, rowOf}
 use Rattle.state_words.specs.Holds.{Holds}

@@ -1,15 +1,16 @@
 -- What the section of types says of a file's constructors and fields, the fields' words among it; and which fields a file within the
 -- limits has.
-use Prim.Native.Nat.{ℕ, zero, suc, _+_, _*_, _%_, _≤_, _<_}
+use Prim.Native.Nat.{ℕ, suc, _+_, _*_, _%_, _≤_, _<_}
 use mathlib.Core.List.{List, [], map}
 use mathlib.Core.Path.{_≡_, ap, _∙_}
 use native.Mathlib.Omega.{arith}
 use lib.ListN.{length, getD, List·getD-map}
 use Rattle.language.specs.Limits.{byteRange, typesMost, constructorsMost, fieldsMost}
 use Rattle.language.specs.Syntax.{fbool, Constructor, TypeDef, File, constructorsOf, fieldsOf, owns}
-use Rattle.language.specs.Within.{WithinField, WithinType, WithinTypes, wt-nil, wt-cons}
+use Rattle.language.specs.Within.{WithinField, WithinTypes}
 use Rattle.theory.specs.Alls.{all-getD}
 use Rattle.text.specs.Bytes.{fieldWord}
+use Rattle.encoding.specs.WithinParts.{type-within}
 use Rattle.index.specs.Tables.{constructorWords, typeWords, constructorEntry, typeEntry, typeTable}
 use Rattle.index.specs.Sections.{typesOf}
 use Rattle.index.specs.Indexed.{fieldAt}
@@ -20,12 +21,6 @@ use Rattle.index.specs.FreeLaws.{owns-fewer}
 use Rattle.index.specs.TypeEntry.{constructor-wide}
 use Rattle.index.specs.TypeTable.{type-wide, tells-type, each-within-few}
 use Rattle.cells.specs.Counts.{Right, Made, FieldOf}
-
--- ---- elements that are within the limits
-type-within : {earlier : ℕ} {ds : List TypeDef} → WithinTypes earlier ds → (t : ℕ) → t < length ds → WithinType (earlier + t) (getD ds t [])
-type-within wt-nil t h = absurd (omega arith)
-type-within (wt-cons {earlier} w ws) zero h = let same : earlier + 0 ≡ earlier = omega arith in rw same w
-type-within (wt-cons {earlier} w ws) (suc t) h = let on : earlier + suc t ≡ suc earlier + t = omega arith in rw on (type-within ws t (omega arith))
 
 -- ---- a field's word in the entries
 field-entry : (fs : Constructor) (i : ℕ) → length fs ≤ fieldsMost → i < length fs → getD (constructorEntry fs) (2 + i) 0 ≡ fieldWord (getD fs i fbool)
@@ -80,6 +75,4 @@ module _ {index table : List ℕ} {P : File} (h : Right index table P) where
 
     pub field-within : WithinField t (getD (fieldsOf P t c) i fbool)
     field-within =
-        let zeroth : 0 + t ≡ t = omega arith in
-        let d = rw zeroth at (type-within (h .within .types) t (a .made .named)) in
-        all-getD (all-getD (d .constructors) c [] (a .made .there) .fields) i fbool (a .field)
+        all-getD (all-getD (type-within (h .within) t (a .made .named) .constructors) c [] (a .made .there) .fields) i fbool (a .field)

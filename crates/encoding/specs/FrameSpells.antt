@@ -10,8 +10,8 @@ use Rattle.language.specs.Syntax.{TypeDef, Function, Input, Node, File, functio
 use Rattle.language.specs.Format.{fileFrames, fileText}
 use Rattle.language.specs.Reader.{readFile}
 use Rattle.text.specs.Bytes.{bytesOf}
-use Rattle.text.specs.Lines.{firstLine, lineStart, framesFrom}
-use Rattle.text.specs.LinesWalk.{line-frame}
+use Rattle.text_lines.specs.Lines.{firstLine, lineStart, framesFrom}
+use Rattle.text_lines.specs.LinesWalk.{line-frame}
 use Rattle.theory.specs.Lists.{look-getD, look-less, look-append, look-past, look-map}
 use Rattle.theory.specs.ExactText.{text-back}
 use Rattle.theory.specs.FileFrames.{frameOfType, frameOfFunction, frameOfInput, frameOfNode}

@@ -9,7 +9,7 @@ use Rattle.language.specs.Syntax.{Expr, File}
 use Rattle.language.specs.Format.{exprBytes}
 use Rattle.language.specs.Scope.{Scope}
 use Rattle.language.specs.Within.{WithinExpr}
-use Rattle.text.specs.Lines.{lineStart}
+use Rattle.text_lines.specs.Lines.{lineStart}
 use Rattle.encoding.specs.Spells.{Spells}
 use Rattle.encoding.specs.FrameSpells.{lineAt}
 use Rattle.index.specs.Sections.{framesOf, typesOf, functionsOf, channelsOf}

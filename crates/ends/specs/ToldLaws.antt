@@ -12,8 +12,8 @@ use Rattle.language.specs.Syntax.{Expr, ebool, Function, Node, File, initialVal
 use Rattle.theory.specs.Lists.{look-less, look-map}
 use Rattle.theory.specs.Places.{below-or-last, look-at, look-mapped}
 use Rattle.text.specs.declared.Cursor.{Cursor}
-use Rattle.text.specs.Lines.{lineStart}
-use Rattle.text.specs.LinesWalk.{line-start-next}
+use Rattle.text_lines.specs.Lines.{lineStart}
+use Rattle.text_lines.specs.LinesWalk.{line-start-next}
 use Rattle.text.specs.Places.{place-most}
 use Rattle.encoding.specs.Spells.{spells-left, spells-within}
 use Rattle.encoding.specs.FrameSpells.{lineAt}

@@ -22,14 +22,13 @@ use Rattle.encoding.specs.FrameSpells.{lineAt}
 use Rattle.encoding.specs.ExprLists.{exprCount}
 use Rattle.heads.specs.declared.Form.{Form}
 use Rattle.heads.specs.declared.Form.the-variants.{Adjust}
-use Rattle.heads.specs.Heads.{Heads}
+use Rattle.heads.specs.Heads.{Heads, hasParts}
 use Rattle.index.specs.Sections.{framesOf}
 use Rattle.index.specs.Indexed.{framePlace}
 use Rattle.ends.specs.Ended.{EndAt, EndedAll}
 use Rattle.new_cells.specs.declared.Value.{Value}
 use Rattle.evaluator.specs.declared.Context.{Context}
 use Rattle.evaluator.specs.Operands.{operandsOf, finished}
-use Rattle.evaluator.specs.Forms.{hasParts}
 use Rattle.evaluator.specs.Promises.{Stands, Evals, cellsIn}
 
 module _ (text index ends slots : List ℕ) (p : Context) where

@@ -15,7 +15,7 @@ use Rattle.heads.specs.declared.Form.the-variants.{Bool as BoolForm, Int, Varia
 use Rattle.heads.specs.declared.Head.{Head}
 use Rattle.heads.specs.declared.VariableAt.{VariableAt}
 use Rattle.heads.specs.declared.VariableAt.the-variants.{Is as IsVariable}
-use Rattle.heads.specs.Heads.{Heads, Shows}
+use Rattle.heads.specs.Heads.{Heads, Shows, hasParts}
 use Rattle.heads.specs.HeadForms.{no-missing, bool-head, int-head, var-head, now-head, last-head}
 use Rattle.heads.specs.Variables.{VariableRead, is-variable}
 use Rattle.index.specs.Sections.{framesOf}
@@ -26,7 +26,6 @@ use Rattle.new_cells.specs.declared.Value.the-variants.{Is, Refused}
 use Rattle.new_cells.specs.Steps.{Board, Lies, Agrees, is-value, is-refused, Kept, Gives}
 use Rattle.new_cells.specs.Asked.{MakesBool, MakesInt}
 use Rattle.evaluator.specs.declared.Context.{Context}
-use Rattle.evaluator.specs.Forms.{hasParts}
 use Rattle.evaluator.specs.Contexts.{movedTo}
 use Rattle.evaluator.specs.Promises.{Room, Stage}
 use Rattle.evaluator.specs.Asks.{AskExpr, EvalsExpr, EvalsForm}

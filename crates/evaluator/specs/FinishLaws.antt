@@ -20,7 +20,7 @@ use Rattle.encoding.specs.FrameSpells.{lineAt}
 use Rattle.encoding.specs.ExprLists.{exprCount, exprs-counted}
 use Rattle.heads.specs.declared.Form.{Form}
 use Rattle.heads.specs.declared.Form.the-variants.{Let, If, Operator, Call, Construct, Case, Adjust, Fit}
-use Rattle.heads.specs.Heads.{shown}
+use Rattle.heads.specs.Heads.{shown, hasParts}
 use Rattle.heads.specs.HeadForms.{let-head, if-head, op-head, call-head, con-head, case-head, adj-head, fit-head}
 use Rattle.heads.specs.PartLaws.{one-ends}
 use Rattle.index.specs.Sections.{framesOf}
@@ -33,7 +33,6 @@ use Rattle.new_cells.specs.Steps.{Gives}
 use Rattle.new_cells.specs.Asked.{Operates, Constructs}
 use Rattle.evaluator.specs.declared.Context.{Context}
 use Rattle.evaluator.specs.Operands.{operandsOf, finished}
-use Rattle.evaluator.specs.Forms.{hasParts}
 use Rattle.evaluator.specs.Promises.{Room, Stage, Stands, Asked, Evals, cellsIn}
 use Rattle.evaluator.specs.Asks.{AskFinish, Finishes, EvalsBound, EvalsChoice, EvalsFit, EvalsBranch, EvalsBody}
 use Rattle.evaluator.specs.KeepLaws.{below-same}

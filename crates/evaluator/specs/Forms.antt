@@ -1,7 +1,6 @@
 -- What a form asks of the index, and a refusal handed on.
 use Prim.Native.Nat.{ℕ, zero, suc, _+_, _*_, _%_}
 use mathlib.Core.List.{List}
-use mathlib.Core.Bool.{Bool, true, false}
 use lib.ListN.{getD}
 use Rattle.language.specs.Limits.{byteRange}
 use Rattle.language.specs.Refusals.{noRefusal}
@@ -46,23 +45,6 @@ reservedCount functions (Case t) = 0
 reservedCount functions Adjust = 0
 reservedCount functions (Fit k) = 0
 reservedCount functions Missing = 0
-
--- whether a form has parts
-abbrev pub hasParts : Form → Bool
-hasParts (BoolForm b) = false
-hasParts (Int n) = false
-hasParts (Variable v) = false
-hasParts (Now c) = false
-hasParts (Last c) = false
-hasParts Let = true
-hasParts If = true
-hasParts (Operator o) = true
-hasParts (Call f) = true
-hasParts (Construct t c) = true
-hasParts (Case t) = true
-hasParts Adjust = true
-hasParts (Fit k) = true
-hasParts Missing = false
 
 -- where the first operand starts: that of an adj behind its size
 abbrev pub firstAt : List ℕ → ℕ → Form → ℕ → ℕ

@@ -5,7 +5,7 @@ use mathlib.Core.Path.{_≡_, refl, sym, ap, _∙_, subst}
 use native.Mathlib.Omega.{arith}
 use native.Mathlib.Nat.{le-refl}
 use lib.ListN.{length, getD, take, drop, length-drop}
-use lib.Seq.{length-take-le, drop-drop, getD-take}
+use lib.Seq.{length-take-le, getD-take}
 use Rattle.language.specs.Limits.{channelsMost}
 use Rattle.language.specs.Syntax.{File}
 use Rattle.language.specs.Scope.{Scope}
@@ -13,7 +13,7 @@ use Rattle.language.specs.Within.{All}
 use Rattle.language.specs.Heap.{Cell}
 use Rattle.language.specs.Layout.{stateLength}
 use Rattle.language.specs.Evaluator.{Channels}
-use Rattle.theory.specs.Lists.{take-fewer}
+use Rattle.theory.specs.Lists.{take-fewer, drop-more}
 use Rattle.theory.specs.CellWords.{Writable}
 use Rattle.text.specs.declared.Cursor.{Cursor}
 use Rattle.state_words.specs.Words.{channelAt}
@@ -24,13 +24,6 @@ use Rattle.new_cells.specs.Steps.{Board, Grown, has-grown, not-grown, Kept}
 use Rattle.evaluator.specs.declared.Context.{Context}
 use Rattle.evaluator.specs.Contexts.{movedTo, boundTo, bodyContext}
 use Rattle.evaluator.specs.Promises.{Room, Below, Stage}
-
--- ---- words
-pub drop-more : (m n : ℕ) (x y : List ℕ) → m ≤ n → drop m x ≡ drop m y → drop n x ≡ drop n y
-drop-more m n x y le e =
-    let there : m + (n - m) ≡ n = omega arith in
-    let split : (z : List ℕ) → drop (n - m) (drop m z) ≡ drop n z = λ z. drop-drop (n - m) m z ∙ ap (λ i. drop i z) there in
-    sym (split x) ∙ ap (drop (n - m)) e ∙ split y
 
 -- what a step that gave a value leaves
 pub record Moved (words : List ℕ) (used : ℕ) (words′ : List ℕ) (used′ : ℕ) : Type 0 where

@@ -12,7 +12,7 @@ use Rattle.text.specs.Places.{bytesLeft, left-later, left-most}
 use Rattle.heads.specs.declared.Form.{Form}
 use Rattle.heads.specs.declared.Form.the-variants.{Bool as BoolForm, Int, Variable, Now, Last, Let, If, Operator, Call, Construct, Case, Adjust, Fit, Missing}
 use Rattle.heads.specs.declared.Head.{Head}
-use Rattle.heads.specs.Heads.{Heads, shown}
+use Rattle.heads.specs.Heads.{Heads, shown, hasParts}
 use Rattle.heads.specs.HeadLaws.{left-behind}
 use Rattle.index.specs.Sections.{framesOf}
 use Rattle.index.specs.Indexed.{framePlace, frameLength, framePart}
@@ -20,7 +20,7 @@ use Rattle.evaluator.specs.declared.Context.{Context}
 use Rattle.ends.specs.EndOf.{endOf, end-least}
 use Rattle.evaluator.specs.declared.Values.{Values}
 use Rattle.evaluator.specs.declared.Values.the-variants.{Are}
-use Rattle.evaluator.specs.Forms.{hasParts, firstAt, endAfter}
+use Rattle.evaluator.specs.Forms.{firstAt, endAfter}
 use Rattle.evaluator.specs.Contexts.{movedTo, boundTo, bodyContext}
 use Rattle.evaluator.specs.Promises.{Onward, goes-on}
 

@@ -18,7 +18,7 @@ use Rattle.encoding.specs.FrameSpells.{lineAt}
 use Rattle.encoding.specs.Known.{Known}
 use Rattle.heads.specs.declared.Form.{Form}
 use Rattle.heads.specs.declared.Form.the-variants.{Bool as BoolForm, Int, Variable, Now, Last, Let, If, Operator, Call, Construct, Case, Adjust, Fit, Missing}
-use Rattle.heads.specs.Heads.{Heads, shown}
+use Rattle.heads.specs.Heads.{Heads, shown, hasParts}
 use Rattle.heads.specs.HeadForms.{let-head, if-head, op-head, call-head, con-head, case-head, adj-head, fit-head}
 use Rattle.heads.specs.PartLaws.{list-one, list-more}
 use Rattle.heads.specs.ScopeShapes.{known-shapes}
@@ -27,7 +27,7 @@ use Rattle.index.specs.Indexed.{framePlace, Indexed}
 use Rattle.ends.specs.Ended.{EndAt, Ended, d-let, d-if, d-op, d-call, d-con, d-case, d-adj, d-fit, EndedAll, ds-nil, ds-cons}
 use Rattle.ends.specs.EndOf.{endOf, end-told}
 use Rattle.evaluator.specs.Operands.{operandsOf, reservedFor, Compound, c-let, c-if, c-op, c-call, c-con, c-case, c-adj, c-fit}
-use Rattle.evaluator.specs.Forms.{operandCount, reservedCount, firstAt, hasParts}
+use Rattle.evaluator.specs.Forms.{operandCount, reservedCount, firstAt}
 use Rattle.evaluator.specs.Promises.{Stands, StandsAll}
 
 -- ---- the ends of the parts, form by form

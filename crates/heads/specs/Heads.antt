@@ -2,6 +2,7 @@
 -- behind the code, and the parts start behind those; where none is read, the line ends too early or the code is of no form.
 use Prim.Native.Nat.{ℕ, _≤_, _<_}
 use mathlib.Core.List.{List}
+use mathlib.Core.Bool.{Bool, true, false}
 use mathlib.Core.Path.{_≡_, subst}
 use Rattle.language.specs.Limits.{byteRange}
 use Rattle.text.specs.Places.{past, bytesLeft, byteAt}
@@ -9,6 +10,23 @@ use Rattle.encoding.specs.Forms.{fourAt}
 use Rattle.heads.specs.declared.Form.{Form}
 use Rattle.heads.specs.declared.Form.the-variants.{Bool as BoolForm, Int, Variable, Now, Last, Let, If, Operator, Call, Construct, Case, Adjust, Fit, Missing}
 use Rattle.heads.specs.declared.Head.{Head}
+
+-- whether a form that was read has parts
+abbrev pub hasParts : Form → Bool
+hasParts (BoolForm b) = false
+hasParts (Int n) = false
+hasParts (Variable v) = false
+hasParts (Now c) = false
+hasParts (Last c) = false
+hasParts Let = true
+hasParts If = true
+hasParts (Operator o) = true
+hasParts (Call f) = true
+hasParts (Construct t c) = true
+hasParts (Case t) = true
+hasParts Adjust = true
+hasParts (Fit k) = true
+hasParts Missing = false
 
 -- the code stands at the place, and the line has the bytes of the head, up to next
 pub record Coded (line : List ℕ) (at first long next : ℕ) : Type 0 where

@@ -12,7 +12,7 @@ use Rattle.language.specs.Format.{spellAll, resultBytes, conditionBytes, exprBy
 use Rattle.language.specs.Reader.{readFile}
 use Rattle.language.specs.Within.{Within}
 use Rattle.text.specs.Bytes.{fieldWord, declaredWord}
-use Rattle.text.specs.Lines.{lineStart}
+use Rattle.text_lines.specs.Lines.{lineStart}
 use Rattle.text.specs.Places.{past, byteAt}
 use Rattle.index.specs.Tables.{frameWords, constructorWords, typeWords, functionWords, channelWords}
 use Rattle.index.specs.Enters.{TellsType, TellsParameters}

@@ -11,8 +11,6 @@ pub mod ClearLaws
 pub mod CountLaws
 pub mod FreeLaws
 pub mod TypeEntry
-pub mod FunctionEntry
-pub mod PassLaws
 pub mod TypeTable
 pub mod FunctionTable
 pub mod FrameTable

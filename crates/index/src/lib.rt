@@ -1,5 +1,5 @@
 // The index that the reader leaves for later passes: one row of words, the counts of the file and a section each for its frames,
-// types, functions and channels. Only this crate knows where a word stands.
+// types, functions and channels. Where a word stands is said here; index_writer and signatures write by it, all else asks the accessors.
 pub mod channels;
 pub mod frames;
 pub mod functions;
@@ -8,9 +8,9 @@ pub mod types;
 ghost use mathlib.Core.Path.{_≡_};
 ghost use Prim.Native.Nat.{_+_, _<_, _≤_};
 ghost use lib.ListN.{length, getD, set, replicate};
+ghost use Rattle.language.specs.Limits.{byteRange};
 ghost use Rattle.language.specs.Format.{bit};
 ghost use Rattle.index.specs.Sections.{section, indexWords, countsIn, SmallCounts};
-ghost use Rattle.index.specs.SectionLaws.{CountsPut};
 use language::limits::BYTE_RANGE;
 use language::limits::CHANNELS_MOST;
 use language::limits::CONSTRUCTORS_MOST;
@@ -22,46 +22,46 @@ use language::limits::PARAMETERS_MOST;
 use language::limits::TYPES_MOST;
 
 // The words of an entry. A frame: where its line starts, and how long it is.
-const FRAME_WORDS: usize = 2;
+pub const FRAME_WORDS: usize = 2;
 
 // A constructor: how many fields it has, how many of the type itself, and the word of each.
-const CONSTRUCTOR_HEAD: usize = 2;
+pub const CONSTRUCTOR_HEAD: usize = 2;
 
-const CONSTRUCTOR_WORDS: usize = CONSTRUCTOR_HEAD + FIELDS_MOST;
+pub const CONSTRUCTOR_WORDS: usize = CONSTRUCTOR_HEAD + FIELDS_MOST;
 
 // A type: how many constructors it has, and the entry of each.
 const TYPE_HEAD: usize = 1;
 
-const TYPE_WORDS: usize = TYPE_HEAD + CONSTRUCTORS_MOST * CONSTRUCTOR_WORDS;
+pub const TYPE_WORDS: usize = TYPE_HEAD + CONSTRUCTORS_MOST * CONSTRUCTOR_WORDS;
 
 // A function: how many parameters it has, the word of each, and where its result, conditions, measure and body start.
-const HEAD_WORDS: usize = 1 + PARAMETERS_MOST;
+pub const HEAD_WORDS: usize = 1 + PARAMETERS_MOST;
 
 const RESULT_PART: usize = 0;
 
-const CONDITIONS_PART: usize = 1;
+pub const CONDITIONS_PART: usize = 1;
 
-const MEASURE_PART: usize = 2;
+pub const MEASURE_PART: usize = 2;
 
-const BODY_PART: usize = 3;
+pub const BODY_PART: usize = 3;
 
-const FUNCTION_WORDS: usize = HEAD_WORDS + BODY_PART + 1;
+pub const FUNCTION_WORDS: usize = HEAD_WORDS + BODY_PART + 1;
 
 // A channel: the word of its declared type, and where its initial value and its update start.
-const INITIAL_WORD: usize = 1;
+pub const INITIAL_WORD: usize = 1;
 
-const UPDATE_WORD: usize = 2;
+pub const UPDATE_WORD: usize = 2;
 
-const CHANNEL_WORDS: usize = UPDATE_WORD + 1;
+pub const CHANNEL_WORDS: usize = UPDATE_WORD + 1;
 
 // The words of the counts.
-const TYPE_COUNT: usize = 0;
+pub const TYPE_COUNT: usize = 0;
 
-const FUNCTION_COUNT: usize = 1;
+pub const FUNCTION_COUNT: usize = 1;
 
-const INPUT_COUNT: usize = 2;
+pub const INPUT_COUNT: usize = 2;
 
-const NODE_COUNT: usize = 3;
+pub const NODE_COUNT: usize = 3;
 
 // How long the sections are, and where they start.
 const COUNT_WORDS: usize = NODE_COUNT + 1;
@@ -74,13 +74,13 @@ const FUNCTION_TABLE: usize = FUNCTIONS_MOST * FUNCTION_WORDS;
 
 const CHANNEL_TABLE: usize = CHANNELS_MOST * CHANNEL_WORDS;
 
-const FRAMES_FROM: usize = COUNT_WORDS;
+pub const FRAMES_FROM: usize = COUNT_WORDS;
 
-const TYPES_FROM: usize = FRAMES_FROM + FRAME_TABLE;
+pub const TYPES_FROM: usize = FRAMES_FROM + FRAME_TABLE;
 
-const FUNCTIONS_FROM: usize = TYPES_FROM + TYPE_TABLE;
+pub const FUNCTIONS_FROM: usize = TYPES_FROM + TYPE_TABLE;
 
-const CHANNELS_FROM: usize = FUNCTIONS_FROM + FUNCTION_TABLE;
+pub const CHANNELS_FROM: usize = FUNCTIONS_FROM + FUNCTION_TABLE;
 
 pub const INDEX_WORDS: usize = CHANNELS_FROM + CHANNEL_TABLE;
 
@@ -98,6 +98,16 @@ pub fn word_at(row: &[u32], i: usize) -> u32
 {
     if i < row.len() {
         return row[i];
+    }
+    0
+}
+
+// A byte of a row; 0 beyond it.
+pub fn byte_at(row: &[u8], i: usize) -> u32
+    ensures { λ r. ⌜ (r ≡ getD (now (row .entry)) i 0) × (r < byteRange) ⌝ }
+{
+    if i < row.len() {
+        return row[i] as u32;
     }
     0
 }
@@ -153,15 +163,4 @@ pub fn frame_counts(index: &[u32; INDEX_WORDS]) -> Counts
         inputs: section_word(index, 0, COUNT_WORDS, INPUT_COUNT) % BYTE_RANGE,
         nodes: section_word(index, 0, COUNT_WORDS, NODE_COUNT) % BYTE_RANGE,
     }
-}
-
-// Writes the counts.
-pub fn put_counts(index: &mut [u32], n: Counts)
-    requires { ⌜ length (now index) ≡ indexWords ⌝ }
-    ensures { λ _. ⌜ CountsPut n (now (index .entry)) (now (index .exit)) ⌝ }
-{
-    put(index, TYPE_COUNT, n.types);
-    put(index, FUNCTION_COUNT, n.functions);
-    put(index, INPUT_COUNT, n.inputs);
-    put(index, NODE_COUNT, n.nodes);
 }

@@ -17,7 +17,7 @@ use Rattle.language.specs.Layout.{padded, stateLength}
 use Rattle.language.specs.Evaluator.{value, noChannels, eval, run}
 use Rattle.language.specs.Machine.{Board}
 use Rattle.language.specs.InitialValues.{Begins, begins-none, begins-next}
-use Rattle.theory.specs.Lists.{take-fewer}
+use Rattle.theory.specs.Lists.{take-fewer, drop-more}
 use Rattle.theory.specs.Places.{look-at}
 use Rattle.theory.specs.RulesGive.{runs-eval, value-refused}
 use Rattle.text.specs.declared.Cursor.{Cursor}
@@ -31,7 +31,7 @@ use Rattle.new_cells.specs.declared.Value.{Value}
 use Rattle.new_cells.specs.declared.Value.the-variants.{Is, Refused}
 use Rattle.new_cells.specs.Steps.{Board as BoardHas, Lies, Agrees}
 use Rattle.ends.specs.Initials.{initial-known, initials-long}
-use Rattle.evaluator.specs.KeepLaws.{Moved, moved-by, drop-more}
+use Rattle.evaluator.specs.KeepLaws.{Moved, moved-by}
 use Rattle.evaluator.specs.ArgumentLaws.{Valued, valued, not-valued}
 use Rattle.evaluator.specs.ChannelValues.{boardLent, OfChannel, EvalsChannel}
 use Rattle.initial_state.specs.Promises.{AtStart, Laid, LaysInitials}

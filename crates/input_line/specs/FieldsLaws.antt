@@ -33,7 +33,7 @@ use Rattle.text.specs.StepLaws.{ends-within, moved-none, moved-on, moved-left, 
 use Rattle.index.specs.Tables.{typeWords, constructorWords}
 use Rattle.index.specs.Sections.{typesOf}
 use Rattle.index.specs.Indexed.{Indexed, fieldAt}
-use Rattle.sizes.specs.ToldLaws.{fields-counted, field-told, field-within, told-fields}
+use Rattle.type_rows.specs.ToldLaws.{fields-counted, field-told, field-within, told-fields}
 use Rattle.input_line.specs.Judges.{sized, sizedFields, Asked, asks-bool, asks-int, asks-named, ownPart, wantedWord, ConstructorAt, Judges}
 use Rattle.input_line.specs.SizedLaws.{con-sized, fieldType, fieldAdds, fields-step, fields-end}
 

@@ -30,7 +30,7 @@ use Rattle.text.specs.declared.Number.the-variants.{Is, Refused}
 use Rattle.text.specs.declared.Step.the-variants.{Next}
 use Rattle.text.specs.Bytes.{bytesOf, bytesFrom, bytesLeft, given, Moved, ReadsNumber, Below, declaredWord}
 use Rattle.text.specs.Places.{bytes-start}
-use Rattle.text.specs.Lines.{isSome}
+use Rattle.text_lines.specs.Lines.{isSome}
 use Rattle.text.specs.StepLaws.{number-got, number-bad, number-moved, ends-within, moved-none, moved-on, moved-left}
 use Rattle.index.specs.Sections.{countsIn, channelsOf}
 use Rattle.index.specs.Indexed.{Indexed, declaredAt}

@@ -21,7 +21,7 @@ use Rattle.text.specs.declared.Found.{Found}
 use Rattle.text.specs.declared.Number.{Number}
 use Rattle.text.specs.declared.Number.the-variants.{Is, Refused}
 use Rattle.text.specs.Bytes.{bytesOf, bytesFrom, bytesLeft, given, Moved, stepOf, Below, declaredWord}
-use Rattle.text.specs.Lines.{isSome}
+use Rattle.text_lines.specs.Lines.{isSome}
 use Rattle.index.specs.Indexed.{Indexed}
 
 -- the size of a value read, where it is of a type; 19 where it is of another or too large, or none was read

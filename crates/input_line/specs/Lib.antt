@@ -7,9 +7,3 @@ pub mod ValueLaws
 pub mod FieldsLaws
 pub mod InputLaws
 pub mod LineLaws
-pub mod Lays
-pub mod CellLaws
-pub mod LayLaws
-pub mod FieldsLaidLaws
-pub mod ConstructorLaidLaws
-pub mod InputsLaidLaws

@@ -16,13 +16,13 @@ use Rattle.language.specs.Heap.{Tree}
 use Rattle.language.specs.Reader.{Lines, linesOf, longer, lineBytes}
 use Rattle.language.specs.Line.{inputTrees, treesFit, oneLine, lineTrees}
 use Rattle.theory.specs.HeldChannels.{inputTypes}
-use Rattle.text.specs.declared.lines.LineEnd.{LineEnd}
-use Rattle.text.specs.declared.lines.LineEnd.the-variants.{At, Bad}
+use Rattle.text_lines.specs.declared.LineEnd.{LineEnd}
+use Rattle.text_lines.specs.declared.LineEnd.the-variants.{At, Bad}
 use Rattle.text.specs.Bytes.{bytesOf}
-use Rattle.text.specs.Lines.{isSome, firstLine, lineEnd}
-use Rattle.text.specs.LinesEnd.{behind, first-line-ended, first-line-last}
-use Rattle.text.specs.LinesSpell.{line-bytes-read}
-use Rattle.text.specs.LinesJudge.{line-ended}
+use Rattle.text_lines.specs.Lines.{isSome, firstLine, lineEnd}
+use Rattle.text_lines.specs.LinesEnd.{behind, first-line-ended, first-line-last}
+use Rattle.text_lines.specs.LinesSpell.{line-bytes-read}
+use Rattle.text_lines.specs.LinesJudge.{line-ended}
 use Rattle.input_line.specs.Judges.{InputsJudged, LineJudged}
 
 -- ---- one line

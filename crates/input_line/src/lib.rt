@@ -1,7 +1,5 @@
 // The input line: whether it is one that the file allows (document 01, "Estimation and memory"). It is judged whole before any cell is
 // made.
-pub mod laying;
-
 ghost use mathlib.Core.Path.{_≡_};
 ghost use Prim.Native.Nat.{_≤_};
 ghost use Rattle.language.specs.Line.{valueAt, valueBehind};
@@ -32,18 +30,18 @@ use text::Cursor;
 use text::Found;
 use text::Number;
 use text::Step;
-use text::lines::LineEnd;
-use text::lines::line_end;
+use text_lines::LineEnd;
+use text_lines::line_end;
 
 // The forms of a value, counted from the first code of an expression.
-const BOOL: u32 = EXPR_BOOL - EXPR_FIRST;
+pub const BOOL: u32 = EXPR_BOOL - EXPR_FIRST;
 
-const INT: u32 = EXPR_INT - EXPR_FIRST;
+pub const INT: u32 = EXPR_INT - EXPR_FIRST;
 
-const CONSTRUCT: u32 = EXPR_CONSTRUCT - EXPR_FIRST;
+pub const CONSTRUCT: u32 = EXPR_CONSTRUCT - EXPR_FIRST;
 
 // The size of a Bool or an Int.
-const NO_SIZE: u32 = 0;
+pub const NO_SIZE: u32 = 0;
 
 // What stands behind the code of a Bool, where a Bool is wanted: its size, or 19.
 fn bool_behind(line: &[u8], c: Cursor, word: u32) -> Number
@@ -119,7 +117,7 @@ fn wanted(kind: u32, word: u32, size: u32) -> u32
 }
 
 // What a field of some size adds to its constructor's.
-fn own_part(kind: u32, size: u32) -> u32
+pub fn own_part(kind: u32, size: u32) -> u32
     ensures { λ r. ⌜ r ≡ ownPart kind size ⌝ }
 {
     if kind == OWN_FIELD {

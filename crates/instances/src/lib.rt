@@ -1,7 +1,7 @@
 // The lent list of instances, as words: a record is the function, its sizes and its three numbers.
 ghost use mathlib.Core.Path.{_≡_};
 ghost use Prim.Native.Nat.{_+_, _^_, _<_, _≤_};
-ghost use lib.ListN.{length, getD, replicate};
+ghost use lib.ListN.{length, replicate};
 ghost use lib.Seq.{sets};
 ghost use Rattle.language.specs.Limits.{parametersMost};
 ghost use Rattle.language.specs.Layout.{padded};
@@ -9,6 +9,7 @@ ghost use Rattle.instances.specs.Listed.{hintWords, resultWord, Finds, N
 ghost use Rattle.instances.specs.Matches.{Compared, Matches, Numbers};
 use estimate::Estimate;
 use estimate::nothing;
+use index::byte_at;
 use index::clear as clear_words;
 use index::put;
 use index::word_at;
@@ -41,16 +42,6 @@ pub enum Search {
     Absent,
 }
 
-// A size; 0 beyond those given.
-fn size_at(sizes: &[u8], j: usize) -> u32
-    ensures { λ r. ⌜ r ≡ getD (now (sizes .entry)) j 0 ⌝ }
-{
-    if j < sizes.len() {
-        return sizes[j] as u32;
-    }
-    0
-}
-
 // Whether the words from a place on are these sizes; the list has them.
 fn same_sizes(list: &[u32], from: usize, sizes: &[u8]) -> bool
     requires { ⌜ from + parametersMost ≤ length (now list) ⌝ }
@@ -58,7 +49,7 @@ fn same_sizes(list: &[u32], from: usize, sizes: &[u8]) -> bool
 {
     let mut j: usize = 0;
     while j < PARAMETERS_MOST {
-        if list[from + j] != size_at(sizes, j) {
+        if list[from + j] != byte_at(sizes, j) {
             return false;
         }
         j += 1;
@@ -102,7 +93,7 @@ fn hint_place(f: u32, sizes: &[u8]) -> usize
     let mut h: usize = (f as usize) % HINT_WORDS;
     let mut j: usize = 0;
     while j < PARAMETERS_MOST {
-        h = (h * HINT_FACTOR + size_at(sizes, j) as usize) % HINT_WORDS;
+        h = (h * HINT_FACTOR + byte_at(sizes, j) as usize) % HINT_WORDS;
         j += 1;
     }
     h
@@ -146,7 +137,7 @@ fn put_sizes(list: &mut [u32], from: usize, sizes: &[u8])
 {
     let mut j: usize = 0;
     while j < PARAMETERS_MOST {
-        let size = size_at(sizes, j);
+        let size = byte_at(sizes, j);
         put(list, from + j, size);
         j += 1;
     }

@@ -35,9 +35,9 @@ use Rattle.state_words.specs.StateLaws.{HoldsState, loaded-held, loaded-writabl
 use Rattle.state_check.specs.LoadLaws.{channel-count}
 use Rattle.theory.specs.StateWords.{state-loaded}
 use Rattle.theory.specs.HeapValues.{env-length}
-use Rattle.input_line.specs.declared.laying.Inputs.{Inputs}
-use Rattle.input_line.specs.declared.laying.Inputs.the-variants.{Used as FedUsed, Full}
-use Rattle.input_line.specs.Lays.{InputsLaid, PutAs, put-all, put-full, within, Within as FedWithin}
+use Rattle.input_cells.specs.declared.Inputs.{Inputs}
+use Rattle.input_cells.specs.declared.Inputs.the-variants.{Used as FedUsed, Full}
+use Rattle.input_cells.specs.Lays.{InputsLaid, PutAs, put-all, put-full, within, Within as FedWithin}
 use Rattle.new_cells.specs.Steps.{Board as BoardHas, not-grown}
 use Rattle.ends.specs.Told.{TellsUpdates}
 use Rattle.evaluator.specs.KeepLaws.{Moved, kept-then, channel-kept}

@@ -19,8 +19,8 @@ use Rattle.language.specs.Machine.{written, putInputs, updateNodes, iterateStat
 use Rattle.index.specs.Sections.{countsIn}
 use Rattle.index.specs.Indexed.{Indexed}
 use Rattle.state_words.specs.Words.{usedIn, channelAt, rowOf}
-use Rattle.input_line.specs.declared.laying.Inputs.{Inputs}
-use Rattle.input_line.specs.declared.laying.Inputs.the-variants.{Used as FedUsed, Full}
+use Rattle.input_cells.specs.declared.Inputs.{Inputs}
+use Rattle.input_cells.specs.declared.Inputs.the-variants.{Used as FedUsed, Full}
 use Rattle.new_cells.specs.Steps.{Kept}
 use Rattle.evaluator.specs.ChannelValues.{boardLent}
 use Rattle.iteration.specs.declared.nodes.Updated.{Updated}

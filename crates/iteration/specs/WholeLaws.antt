@@ -18,7 +18,7 @@ use Rattle.language.specs.Slide.{State, slide}
 use Rattle.language.specs.Layout.{padded, stateLength, stateWords, allZero}
 use Rattle.language.specs.Machine.{written, putInputs, updateNodes, iterateState}
 use Rattle.theory.specs.FrameNumbers.{channelTotal}
-use Rattle.theory.specs.Lists.{both-right, take-fewer}
+use Rattle.theory.specs.Lists.{both-right, take-fewer, drop-more}
 use Rattle.theory.specs.Places.{below-or-not}
 use Rattle.theory.specs.Padding.{padded-rest}
 use Rattle.theory.specs.HeapValues.{env-length}
@@ -37,7 +37,7 @@ use Rattle.state_words.specs.StateLaws.{HoldsState, loaded-held}
 use Rattle.state_words.specs.WriteLaws.{drop-of-take, channels-tested}
 use Rattle.state_check.specs.LoadLaws.{channel-count}
 use Rattle.sliding.specs.Sliding.{Unslid, Collects}
-use Rattle.evaluator.specs.KeepLaws.{Moved, moved-by, drop-more}
+use Rattle.evaluator.specs.KeepLaws.{Moved, moved-by}
 use Rattle.evaluator.specs.ChannelValues.{boardLent}
 use Rattle.iteration.specs.declared.nodes.Updated.{Updated}
 use Rattle.iteration.specs.declared.nodes.Updated.the-variants.{Used, Refused}

@@ -9,7 +9,7 @@ use Rattle.language.specs.declared.codes.SizeCodes.{SizeCodes}
 use Rattle.language.specs.declared.codes.ExpressionCodes.{ExpressionCodes}
 use Rattle.language.specs.declared.codes.OperandCodes.{OperandCodes}
 use Rattle.language.specs.declared.codes.TextCodes.{TextCodes}
-use Rattle.language.specs.Limits.{byteRange, textMost, typesMost, functionsMost, inputsMost, nodesMost, channelsMost, constructorsMost, fieldsMost, sizeMost, parametersMost, conditionsMost, measuresMost, variablesMost, sizeVariablesMost, nestingMost, instancesMost, numberMost, cellsMost, slotsMost, callsMost, headerWords, cellWords, scratchWords}
+use Rattle.language.specs.Limits.{byteRange, intRange, signBit, textMost, typesMost, functionsMost, inputsMost, nodesMost, channelsMost, constructorsMost, fieldsMost, sizeMost, parametersMost, conditionsMost, measuresMost, variablesMost, sizeVariablesMost, nestingMost, instancesMost, numberMost, cellsMost, slotsMost, callsMost, headerWords, cellWords, scratchWords}
 use Rattle.language.specs.ReadExpr.{fieldForms, typeForms, sizeForms, forms, ops, bools}
 use Rattle.language.specs.Reader.{relations}
 use Rattle.language.specs.Refusals.{noRefusal, noFrame, textTooLong, badLine, badFrame, badLength, badCode, badIndex, outsideLimits, noBaseConstructor, typesDisagree, sizeOutside, sizesDisagree, conditionFails, measureNotLess, tooManyInstances, heapShort, environmentShort, stackShort, notLent, badInputLine, heapSpent, environmentSpent, stackSpent, valueTooLarge}
@@ -21,7 +21,7 @@ use Rattle.language.specs.Codes.{operatorPlus, operatorMinus, operatorTi
 use Rattle.language.specs.Codes.{digitBase, lineFeed}
 
 abbrev pub fileLimits : FileLimits
-fileLimits = record { «byte_range» = byteRange; text = textMost; types = typesMost; functions = functionsMost; inputs = inputsMost; nodes = nodesMost; channels = channelsMost; constructors = constructorsMost; fields = fieldsMost; size = sizeMost; parameters = parametersMost; conditions = conditionsMost; measures = measuresMost; variables = variablesMost; «size_variables» = sizeVariablesMost; nesting = nestingMost }
+fileLimits = record { «byte_range» = byteRange; «int_range» = intRange; «sign_bit» = signBit; text = textMost; types = typesMost; functions = functionsMost; inputs = inputsMost; nodes = nodesMost; channels = channelsMost; constructors = constructorsMost; fields = fieldsMost; size = sizeMost; parameters = parametersMost; conditions = conditionsMost; measures = measuresMost; variables = variablesMost; «size_variables» = sizeVariablesMost; nesting = nestingMost }
 
 abbrev pub boardLimits : BoardLimits
 boardLimits = record { instances = instancesMost; number = numberMost; cells = cellsMost; slots = slotsMost; calls = callsMost; «header_words» = headerWords; «cell_words» = cellWords; «scratch_words» = scratchWords }

@@ -145,9 +145,12 @@ startWords done r cells ws = ws
 startWords (refusal m frame) r cells ws = ws
 startWords (short m x) r cells ws = ws
 
--- "a buffer too short": the state, the scratch and the environment slots
-unfoldable pub buffersLent : Board → List ℕ → List ℕ → List ℕ → Bool
-buffersLent b state scratch slots = both (boardAllowed b) (both (leb (stateLength (b .cells)) (length state)) (both (leb scratchWords (length scratch)) (leb (b .slots) (length slots))))
+-- "a buffer too short": the state, the scratch and the environment slots, by their lengths
+unfoldable pub lengthsLent : Board → ℕ → ℕ → ℕ → Bool
+lengthsLent b state scratch slots = both (boardAllowed b) (both (leb (stateLength (b .cells)) state) (both (leb scratchWords scratch) (leb (b .slots) slots)))
+
+abbrev pub buffersLent : Board → List ℕ → List ℕ → List ℕ → Bool
+buffersLent b state scratch slots = lengthsLent b (length state) (length scratch) (length slots)
 
 abbrev pub zeros : List ℕ → List ℕ
 zeros ws = replicate (length ws) 0

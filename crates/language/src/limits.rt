@@ -4,6 +4,11 @@ ghost use Rattle.language.specs.Constants.{fileLimits, boardLimits};
 // Two hexadecimal digits spell a number below this.
 pub const BYTE_RANGE: u32 = 256;
 
+// "Int is 32 bits": they are below this; the place of the sign.
+pub const INT_RANGE: u64 = 0x1_0000_0000;
+
+pub const SIGN_BIT: u32 = 0x8000_0000;
+
 pub const TEXT_MOST: usize = 16384;
 
 pub const TYPES_MOST: usize = 8;
@@ -53,6 +58,8 @@ pub const SCRATCH_WORDS: usize = 2048;
 // The limits of a file, and of a board with its buffers.
 pub struct FileLimits {
     pub byte_range: u32,
+    pub int_range: u64,
+    pub sign_bit: u32,
     pub text: usize,
     pub types: usize,
     pub functions: usize,
@@ -87,6 +94,8 @@ pub fn file_limits() -> FileLimits
 {
     FileLimits {
         byte_range: BYTE_RANGE,
+        int_range: INT_RANGE,
+        sign_bit: SIGN_BIT,
         text: TEXT_MOST,
         types: TYPES_MOST,
         functions: FUNCTIONS_MOST,

@@ -1,7 +1,4 @@
-// New cells: constants, what an operator gives, a constructor. Each is written above the used ones, or refused: 20, 23.
-pub mod constructors;
-pub mod operators;
-
+// A new cell for a constant: written above the used ones, or refused with 20. What any step that makes a cell promises is in specs/.
 ghost use mathlib.Core.List.{[], _∷_};
 ghost use Rattle.language.specs.Limits.{fieldsMost};
 ghost use Rattle.language.specs.Layout.{padded};

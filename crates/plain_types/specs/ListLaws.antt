@@ -12,7 +12,7 @@ use Rattle.language.specs.Result.{both, when}
 use Rattle.language.specs.Syntax.{Field, TypeDef, Plain, pbool, pnamed, Expr, Exprs, enil, econs, Function, File, constructorsOf}
 use Rattle.language.specs.Format.{exprBytes, exprsBytes}
 use Rattle.language.specs.Scope.{Scope}
-use Rattle.language.specs.Within.{All, all-nil, all-cons, WithinField, WithinPlain, WithinType, WithinTypes, wt-nil, wt-cons, WithinExpr, WithinExprs, ws-nil, ws-cons}
+use Rattle.language.specs.Within.{All, all-nil, all-cons, WithinField, WithinPlain, WithinExpr, WithinExprs, ws-nil, ws-cons}
 use Rattle.language.specs.Layout.{tagStep}
 use Rattle.language.specs.PlainTypes.{plainField, plainFields, plainResult, isPlain, arePlain, plainOf, plainsOf}
 use Rattle.theory.specs.Alls.{all-map, all-to-map, all-getD, all-at}
@@ -23,7 +23,7 @@ use Rattle.text.specs.Places.{past}
 use Rattle.encoding.specs.Spells.{Spells}
 use Rattle.encoding.specs.ExprLists.{first-of-exprs}
 use Rattle.encoding.specs.FrameSpells.{lineAt}
-use Rattle.encoding.specs.WithinParts.{function-within}
+use Rattle.encoding.specs.WithinParts.{type-within, function-within}
 use Rattle.heads.specs.SkipHeads.{count-same}
 use Rattle.heads.specs.PartLaws.{none-ends, more-ends}
 use Rattle.index.specs.Sections.{typesOf, functionsOf}
@@ -45,13 +45,6 @@ use Rattle.plain_types.specs.PlainLaws.{are-none, are-more, plain-call, 
 use Rattle.plain_types.specs.FormLaws.{met, unmet}
 
 -- ---- fields of a constructor of a type
-type-at : {earlier : ℕ} {ds : List TypeDef} → WithinTypes earlier ds → (t : ℕ) → t < length ds → WithinType (earlier + t) (getD ds t [])
-type-at wt-nil t less = absurd (omega (arith, less))
-type-at {earlier} (wt-cons w ws) zero less = rw (add-zero earlier) w
-type-at {earlier} (wt-cons {ds} w ws) (suc t) less =
-    let same : suc earlier + t ≡ earlier + suc t = omega arith in
-    subst (λ n. WithinType n (getD ds t [])) same (type-at ws t (omega (arith, less)))
-
 fields-types : {types : ℕ} (t : ℕ) {fs : List Field} → t < tagStep → types ≤ tagStep → All (WithinField types) fs → (j : ℕ) → j < length fs → meaning (ownOrOther t (getD (map fieldWord fs) j 0)) ≡ getD (plainFields t fs) j pbool
 fields-types t small few all-nil j less = absurd (omega (arith, less))
 fields-types t small few (all-cons w ws) zero less = field-plain t small few w
@@ -67,8 +60,8 @@ module _ {text index : List ℕ} {P : File} (h : Indexed text index P) (t c : �
   pub field-count : {n : ℕ} → (n ≡ getD (typesOf index) (typeWords * t + 1 + constructorWords * c) 0 % byteRange) × (n < byteRange) → n ≡ length fieldsAt
   field-count k = let tells = h .eachType t less .tells in count-same k (tells .fields c less₂) (omega (arith, tells .fewFields c less₂))
 
-  fields-within : All (WithinField (0 + t)) fieldsAt
-  fields-within = all-at (type-at (h .within .types) t less .constructors) c (look-at (constructorsOf P t) c [] less₂) .fields
+  fields-within : All (WithinField t) fieldsAt
+  fields-within = all-at (type-within (h .within) t less .constructors) c (look-at (constructorsOf P t) c [] less₂) .fields
 
   pub fields-small : All (WithinPlain tagStep) (plainFields t fieldsAt)
   fields-small = all-to-map (plainField t) (all-map (λ f w. field-small t small-type (omega (arith, small-type)) w) fields-within)

@@ -9,9 +9,9 @@ use Rattle.language.specs.Result.{ok}
 use Rattle.language.specs.Syntax.{File}
 use Rattle.language.specs.Format.{fileFrames}
 use Rattle.language.specs.Reader.{readFile}
-use Rattle.text.specs.Lines.{lineStart, framesFrom}
-use Rattle.text.specs.LinesJudge.{first-line-taken}
-use Rattle.text.specs.LinesWalk.{line-frame, line-start-next}
+use Rattle.text_lines.specs.Lines.{lineStart, framesFrom}
+use Rattle.text_lines.specs.LinesJudge.{first-line-taken}
+use Rattle.text_lines.specs.LinesWalk.{line-frame, line-start-next}
 use Rattle.theory.specs.FileFrames.{frameOfType, frameOfFunction, frameOfInput, frameOfNode}
 use Rattle.index.specs.Tables.{framesMost, frameTable}
 use Rattle.index.specs.FrameTable.{placeBehind, frame-at}

@@ -7,13 +7,13 @@ use lib.ListN.{length, set, take, drop, replicate, length-drop}
 use Rattle.language.specs.Limits.{textMost}
 use Rattle.language.specs.Result.{ok}
 use Rattle.language.specs.Layout.{padded}
-use Rattle.text.specs.declared.lines.Judged.the-variants.{Channels, Refused}
-use Rattle.text.specs.declared.lines.LineEnd.{LineEnd}
-use Rattle.text.specs.declared.lines.LineEnd.the-variants.{At, Bad}
+use Rattle.text_lines.specs.declared.Judged.the-variants.{Channels, Refused}
+use Rattle.text_lines.specs.declared.LineEnd.{LineEnd}
+use Rattle.text_lines.specs.declared.LineEnd.the-variants.{At, Bad}
 use Rattle.text.specs.Bytes.{bytesOf}
-use Rattle.text.specs.Lines.{firstLine, lineEnd, channelsOf, judgement}
-use Rattle.text.specs.LinesEnd.{first-line-fits}
-use Rattle.text.specs.LinesJudge.{first-line-taken, line-ended, Counted, counted-start, counted-on, frames-are, judged-bad, judged-end, judged-too-long}
+use Rattle.text_lines.specs.Lines.{firstLine, lineEnd, channelsOf, judgement}
+use Rattle.text_lines.specs.LinesEnd.{first-line-fits}
+use Rattle.text_lines.specs.LinesJudge.{first-line-taken, line-ended, Counted, counted-start, counted-on, frames-are, judged-bad, judged-end, judged-too-long}
 use Rattle.index.specs.Tables.{frameWords, placesFrom}
 use Rattle.index.specs.Sections.{framesFrom as framesStart, frameTableWords, indexWords, framesOf}
 use Rattle.index.specs.SectionLaws.{Outside, outside-then, section-zero}

@@ -14,7 +14,7 @@ use Rattle.theory.specs.Outcomes.{Outcome, accepted, refused, when-refused, bin
 use Rattle.theory.specs.ReaderExact.{reader-forth}
 use Rattle.theory.specs.ExactText.{text-back}
 use Rattle.theory.specs.SmallFrames.{file-lines}
-use Rattle.text.specs.Lines.{framesFrom}
+use Rattle.text_lines.specs.Lines.{framesFrom}
 
 -- ---- a line has two characters a byte, and some byte
 pairs-long : (l bs : List ℕ) → pairs l ≡ some bs → length l ≡ 2 * length bs

@@ -14,8 +14,8 @@ use Rattle.language.specs.Result.{Result, ok, no}
 use Rattle.language.specs.Syntax.{File}
 use Rattle.language.specs.Layout.{padded}
 use Rattle.language.specs.Reader.{readFrame, readFrames, readFile, emptyFile}
-use Rattle.text.specs.Lines.{firstLine, framesFrom}
-use Rattle.text.specs.LinesWalk.{FramesLeft, NextFrame, frames-left-start, frame-there, frames-over}
+use Rattle.text_lines.specs.Lines.{firstLine, framesFrom}
+use Rattle.text_lines.specs.LinesWalk.{FramesLeft, NextFrame, frames-left-start, frame-there, frames-over}
 use Rattle.index.specs.Tables.{frameWords, placesFrom, frameTable}
 use Rattle.index.specs.Sections.{framesFrom as framesStart, typesFrom, functionsFrom, channelsFrom, frameTableWords, typeTableWords, functionTableWords, channelTableWords, indexWords, framesOf}
 use Rattle.index.specs.SectionLaws.{CountsPut, kept-behind}

@@ -7,9 +7,9 @@ use lib.ListN.{replicate}
 use Rattle.language.specs.Result.{Result}
 use Rattle.language.specs.Syntax.{File}
 use Rattle.language.specs.Reader.{readFile}
-use Rattle.text.specs.declared.lines.Judged.{Judged}
-use Rattle.text.specs.declared.lines.Judged.the-variants.{Channels, Refused}
-use Rattle.text.specs.LinesJudge.{judged-accepted, judged-refused}
+use Rattle.text_lines.specs.declared.Judged.{Judged}
+use Rattle.text_lines.specs.declared.Judged.the-variants.{Channels, Refused}
+use Rattle.text_lines.specs.LinesJudge.{judged-accepted, judged-refused}
 use Rattle.index.specs.Sections.{typesFrom, functionsFrom, channelsFrom, typeTableWords, functionTableWords, channelTableWords, indexWords, section}
 use Rattle.index.specs.SectionLaws.{kept-behind, section-zero}
 use Rattle.reader.specs.declared.Reading.{Reading}

@@ -6,10 +6,10 @@ use lib.ListN.{length, drop, replicate}
 use Rattle.language.specs.Result.{Result, ok, no}
 use Rattle.language.specs.Syntax.{File}
 use Rattle.language.specs.Layout.{padded}
-use Rattle.text.specs.declared.lines.Judged.{Judged}
-use Rattle.text.specs.declared.lines.Judged.the-variants.{Channels, Refused as TextRefused}
-use Rattle.text.specs.Lines.{firstLine, framesFrom, judgement}
-use Rattle.text.specs.LinesJudge.{Accepted}
+use Rattle.text_lines.specs.declared.Judged.{Judged}
+use Rattle.text_lines.specs.declared.Judged.the-variants.{Channels, Refused as TextRefused}
+use Rattle.text_lines.specs.Lines.{firstLine, framesFrom, judgement}
+use Rattle.text_lines.specs.LinesJudge.{Accepted}
 use Rattle.index.specs.Tables.{placesFrom}
 use Rattle.index.specs.Sections.{framesFrom as framesStart, frameTableWords, typeTableWords, functionTableWords, channelTableWords, indexWords, framesOf, typesOf, functionsOf, channelsOf}
 use Rattle.index.specs.SectionLaws.{Outside, CountsPut}

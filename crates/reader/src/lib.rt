@@ -11,11 +11,11 @@ use frames::frame;
 use index::Counts;
 use index::INDEX_WORDS;
 use index::clear;
-use index::put_counts;
+use index_writer::put_counts;
 use language::refusals::BAD_FRAME;
 use lines::judge;
 use lines::line_of;
-use text::lines::Judged;
+use text_lines::Judged;
 
 // A frame that was taken, with the counts then; or the number of the refusal.
 pub enum Frame {

@@ -1,21 +1,21 @@
 // The lines of a text: judged as a whole, where their places are written, and taken one by one.
 ghost use mathlib.Core.Path.{_≡_};
 ghost use lib.ListN.{drop, replicate};
-ghost use Rattle.text.specs.Lines.{firstLine};
+ghost use Rattle.text_lines.specs.Lines.{firstLine};
 ghost use Rattle.index.specs.Sections.{indexWords};
 ghost use Rattle.reader.specs.Texts.{Judges, Listed};
 use index::INDEX_WORDS;
 use index::frames::frame_length;
-use index::frames::put_frame;
+use index_writer::put_frame;
 use language::limits::TEXT_MOST;
 use language::refusals::BAD_LINE;
 use language::refusals::NO_FRAME;
 use language::refusals::TEXT_TOO_LONG;
-use text::lines::Judged;
-use text::lines::LineEnd;
-use text::lines::channel;
-use text::lines::line_at;
-use text::lines::line_end;
+use text_lines::Judged;
+use text_lines::LineEnd;
+use text_lines::channel;
+use text_lines::line_at;
+use text_lines::line_end;
 
 // Refusal 1 for a text too long, 2 with the first bad line; else how many lines are channels. Where each line starts and how long
 // it is goes into the index, as far as its frames have room.

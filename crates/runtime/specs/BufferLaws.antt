@@ -10,11 +10,11 @@ use borrow.Author.Tests.{le-leb, lt-leb, leb-true}
 use Rattle.language.specs.Limits.{cellsMost, scratchWords}
 use Rattle.language.specs.Result.{both}
 use Rattle.language.specs.Layout.{stateLength}
-use Rattle.language.specs.Machine.{boardAllowed, buffersLent}
+use Rattle.language.specs.Machine.{boardAllowed, lengthsLent}
 use Rattle.theory.specs.Lists.{both-left, both-right}
 use Rattle.checker.specs.declared.Board.{Board}
 use Rattle.checker.specs.Checks.{boardOf, Allows}
-use Rattle.runtime.specs.Runs.{lengthsLent, LendsAll}
+use Rattle.runtime.specs.Runs.{LendsAll}
 
 -- ---- what is lent, test by test
 module _ {b : Board} {state scratch slots : ℕ} {allowed : Bool} (a : Allows b allowed) where
@@ -55,8 +55,3 @@ enough-is b state scratch slots e =
       marks = leb-true scratchWords scratch (both-left _ _ rest);
       free = leb-true (b .slots) slots (both-right _ _ rest);
     }
-
--- ---- of the buffers themselves
-pub lent-is : (b : Board) (state scratch slots : List ℕ) → buffersLent (boardOf b) state scratch slots ≡ lengthsLent (boardOf b) (length state) (length scratch) (length slots)
-unfolding buffersLent lengthsLent
-lent-is b state scratch slots = refl

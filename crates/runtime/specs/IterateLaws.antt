@@ -15,7 +15,7 @@ use Rattle.language.specs.PlainTyping.{WellPlain}
 use Rattle.language.specs.Slide.{State}
 use Rattle.language.specs.Layout.{stateLength, stateWords, loadState}
 use Rattle.language.specs.Line.{lineTrees}
-use Rattle.language.specs.Machine.{Iterated, answer, written, zeros, buffersLent, iterateState, iterateFile, iterated, iterate}
+use Rattle.language.specs.Machine.{Iterated, answer, written, zeros, lengthsLent, buffersLent, iterateState, iterateFile, iterated, iterate}
 use Rattle.theory.specs.Unread.{load-same}
 use Rattle.reader.specs.declared.Reading.{Reading}
 use Rattle.reader.specs.declared.Reading.the-variants.{Fault}
@@ -29,8 +29,8 @@ use Rattle.checker.specs.declared.Board.{Board}
 use Rattle.checker.specs.declared.Answer.{Answer}
 use Rattle.checker.specs.Checks.{boardOf, said, refusalOf, readAnswer, ReadHeld}
 use Rattle.checker.specs.ReadLaws.{read-fault}
-use Rattle.runtime.specs.Runs.{Iterates, frameAt, answerOf, lengthsLent, LendsAll, Cleared, Told, told-done, told-refused, onState, Lent, IteratesLent, IteratesRead}
-use Rattle.runtime.specs.BufferLaws.{Enough, enough-is, lent-is}
+use Rattle.runtime.specs.Runs.{Iterates, frameAt, answerOf, LendsAll, Cleared, Told, told-done, told-refused, onState, Lent, IteratesLent, IteratesRead}
+use Rattle.runtime.specs.BufferLaws.{Enough, enough-is}
 
 -- ---- answers
 pub frame-is : (index : List ℕ) (c : ℕ) {line : ℕ} → line ≡ channelLineOf index c → line + 1 ≡ frameAt index c
@@ -159,6 +159,6 @@ module _ (text : List ℕ) (b : Board) (state scratch slots line : List ℕ) {sc
       Iterates text b state scratch slots line r state′ scratch₂ slots′
   unfolding iterate
   iterate-done {state′} {r = r} i l = record {
-    is = told-whole scratch slots (subst (λ d. Told (b .cells) state r state′ (iterateFile text (boardOf b) d state line)) (ap (λ n. lengthsLent (boardOf b) (length state) n (length slots)) (scratch-long scratch cleared) ∙ sym (lent-is b state scratch slots)) (i .says))
+    is = told-whole scratch slots (subst (λ d. Told (b .cells) state r state′ (iterateFile text (boardOf b) d state line)) (ap (λ n. lengthsLent (boardOf b) (length state) n (length slots)) (scratch-long scratch cleared)) (i .says))
         (i .clean ∙ cleared) (l ∙ ap (λ n. replicate n 0) (i .long));
   }

@@ -18,7 +18,7 @@ use Rattle.theory.specs.FrameNumbers.{channelTotal}
 use Rattle.theory.specs.IterationAgrees.{refused-iff-rules, iteration-numbered}
 use Rattle.theory.specs.StateWords.{state-loaded}
 use Rattle.theory.specs.LineExact.{line-forth-exact, inputs-count}
-use Rattle.text.specs.Lines.{isSome}
+use Rattle.text_lines.specs.Lines.{isSome}
 use Rattle.heads.specs.Places.{channel-line}
 use Rattle.index.specs.Indexed.{Indexed}
 use Rattle.state_words.specs.StateLaws.{loaded-held}

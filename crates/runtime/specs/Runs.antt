@@ -13,7 +13,7 @@ use Rattle.language.specs.Slide.{State}
 use Rattle.language.specs.Layout.{stateLength, loadState}
 use Rattle.language.specs.Line.{lineTrees}
 use Rattle.language.specs.PlainTyping.{WellPlain}
-use Rattle.language.specs.Machine.{Board as MachineBoard, Iterated, boardAllowed, written, iterateState, iterateFile, iterate}
+use Rattle.language.specs.Machine.{Board as MachineBoard, Iterated, lengthsLent, written, iterateState, iterateFile, iterate}
 use Rattle.index.specs.Indexed.{Indexed}
 use Rattle.heads.specs.Places.{channelLineOf}
 use Rattle.iteration.specs.declared.Iteration.{Iteration}
@@ -28,10 +28,6 @@ pub record Iterates (text : List ℕ) (b : Board) (state scratch slots line : Li
   pub is : _≡_ {A = Iterated} (record { answer = said r; state = state′; scratch = scratch′; slots = slots′ }) (iterate text (boardOf b) state scratch slots line)
 
 -- ---- the parts
--- the machine's `buffersLent`, of lengths
-unfoldable pub lengthsLent : MachineBoard → ℕ → ℕ → ℕ → Bool
-lengthsLent b state scratch slots = both (boardAllowed b) (both (leb (stateLength (b .cells)) state) (both (leb scratchWords scratch) (leb (b .slots) slots)))
-
 pub record LendsAll (b : Board) (state scratch slots : ℕ) (r : Bool) : Type 0 where
   pub is : r ≡ lengthsLent (boardOf b) state scratch slots
 

@@ -13,7 +13,7 @@ use Rattle.language.specs.Reader.{readFile}
 use Rattle.language.specs.PlainTypes.{plainTypes}
 use Rattle.language.specs.Layout.{stateLength, stateWords}
 use Rattle.language.specs.InitialValues.{FileBegins}
-use Rattle.language.specs.Machine.{Accepted, answer, checkFile, verdictOf, finalList, listLent, buffersLent, startState, written, startWords, start}
+use Rattle.language.specs.Machine.{Accepted, answer, checkFile, verdictOf, finalList, listLent, lengthsLent, buffersLent, startState, written, startWords, start}
 use Rattle.theory.specs.Lists.{both-left, both-right}
 use Rattle.theory.specs.StateWords.{state-loaded}
 use Rattle.theory.specs.Starts.{start-writes, starts}
@@ -32,9 +32,9 @@ use Rattle.checker.specs.Checks.{boardOf, said, recordsOf, wordsOf, readAnswer,
 use Rattle.checker.specs.VerdictLaws.{list-room}
 use Rattle.checker.specs.ReadLaws.{read-fault, reading-refused}
 use Rattle.checker.specs.Outcomes.{sizesOf}
-use Rattle.runtime.specs.Runs.{lengthsLent, LendsAll}
+use Rattle.runtime.specs.Runs.{LendsAll}
 use Rattle.runtime.specs.Starts.{started, LendsList, StartsRead, Starts}
-use Rattle.runtime.specs.BufferLaws.{Enough, enough-is, lent-is}
+use Rattle.runtime.specs.BufferLaws.{Enough, enough-is}
 
 -- ---- what is lent
 module _ {b : Board} {list state scratch slots : ℕ} {given : Bool} (l : Lends b list given) where
@@ -53,7 +53,7 @@ module _ (b : Board) (list state scratch slots : List ℕ) {given : Bool} (g : L
 
   -- what the machine tests
   tested : given ≡ both (listLent (boardOf b) (recordsOf (length list))) (buffersLent (boardOf b) state scratch slots)
-  tested = g .is ∙ ap (both (listLent (boardOf b) (recordsOf (length list)))) (sym (lent-is b state scratch slots))
+  tested = g .is
 
   module _ {text : List ℕ} {r : Answer} {list′ : List ℕ} (c : ChecksGiven text b given list r list′) where
     here : ChecksGiven text b (both (listLent (boardOf b) (recordsOf (length list))) (buffersLent (boardOf b) state scratch slots)) list r list′
@@ -83,7 +83,7 @@ module _ (b : Board) (list state scratch slots : List ℕ) {given : Bool} (g : L
       accepts = zero-is-accepted text (boardOf b) (recordsOf (length list)) state scratch slots (sym number-is ∙ none)
 
       enough : Enough b (length state) (length scratch) (length slots)
-      enough = enough-is b (length state) (length scratch) (length slots) (sym (lent-is b state scratch slots) ∙ accepts .allowed .buffers)
+      enough = enough-is b (length state) (length scratch) (length slots) (accepts .allowed .buffers)
 
       abbrev file : File
       file = accepts .accepts .file
@@ -134,7 +134,7 @@ module _ (text : List ℕ) (b : Board) (list state scratch slots : List ℕ) {sc
 
   -- the scratch counts by its length alone
   same-lent : buffersLent (boardOf b) state scratch₁ slots ≡ buffersLent (boardOf b) state scratch slots
-  same-lent = lent-is b state scratch₁ slots ∙ ap (λ n. lengthsLent (boardOf b) (length state) n (length slots)) (ap length cleared ∙ length-replicate (length scratch) 0) ∙ sym (lent-is b state scratch slots)
+  same-lent = ap (λ n. lengthsLent (boardOf b) (length state) n (length slots)) (ap length cleared ∙ length-replicate (length scratch) 0)
 
   -- all passes, by what is lent
   abbrev outcome : Bool → Result Accepted

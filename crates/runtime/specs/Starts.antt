@@ -5,11 +5,10 @@ use mathlib.Core.Bool.{Bool}
 use mathlib.Core.Path.{_≡_}
 use lib.ListN.{length}
 use Rattle.language.specs.Result.{both}
-use Rattle.language.specs.Machine.{Started, listLent, start}
+use Rattle.language.specs.Machine.{Started, listLent, lengthsLent, start}
 use Rattle.checker.specs.declared.Board.{Board}
 use Rattle.checker.specs.declared.Answer.{Answer}
 use Rattle.checker.specs.Checks.{boardOf, said, recordsOf, wordsOf}
-use Rattle.runtime.specs.Runs.{lengthsLent}
 
 -- the machine's start; the list is lent in words
 abbrev pub started : List ℕ → Board → List ℕ → List ℕ → List ℕ → List ℕ → Started

@@ -78,13 +78,13 @@ use size_steps::sites::widen;
 use sizes::SizeAt;
 use sizes::SizedType;
 use sizes::TypeAt;
-use sizes::rows::bind_fields;
-use sizes::rows::named_sizes;
 use sizes::size_at;
 use sizes::type_at;
 use sizes::word_of;
 use splits::first_split;
 use splits::next_split;
+use type_rows::bind_fields;
+use type_rows::named_sizes;
 
 // An expression.
 pub fn expr(

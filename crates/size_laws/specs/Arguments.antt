@@ -24,7 +24,7 @@ use Rattle.text.specs.Bytes.{declaredWord}
 use Rattle.theory.specs.Alls.{all-map}
 use Rattle.encoding.specs.FrameSpells.{lineAt}
 use Rattle.instances.specs.ListLaws.{sizes-taken}
-use Rattle.sizes.specs.Rows.{NamedSizes}
+use Rattle.type_rows.specs.Rows.{NamedSizes}
 use Rattle.index.specs.Sections.{functionsOf}
 use Rattle.size_steps.specs.declared.Site.{Site}
 use Rattle.size_steps.specs.declared.Counted.{Counted}

@@ -15,7 +15,7 @@ use Rattle.language.specs.Typing.{Place as Stand, frameAt, falls}
 use Rattle.language.specs.Checker.{Sized, Sizeds, Counted as CountedDef, Enter, sized}
 use Rattle.estimate.specs.declared.Estimate.{Estimate}
 use Rattle.estimate.specs.Stands.{Stands, Changes, Combines}
-use Rattle.sizes.specs.Rows.{NamedSizes}
+use Rattle.type_rows.specs.Rows.{NamedSizes}
 use Rattle.index.specs.Sections.{functionsOf}
 use Rattle.size_steps.specs.declared.Site.{Site}
 use Rattle.size_steps.specs.declared.Checked.{Checked}

@@ -20,7 +20,7 @@ use Rattle.estimate.specs.Stands.{Makes}
 use Rattle.heads.specs.declared.Form.{Form}
 use Rattle.heads.specs.declared.Form.the-variants.{Bool as BoolForm, Int, Variable, Now, Last, Let, If, Operator, Call, Construct, Case, Adjust, Fit, Missing}
 use Rattle.heads.specs.declared.Head.{Head}
-use Rattle.heads.specs.Heads.{Heads, shown}
+use Rattle.heads.specs.Heads.{Heads, shown, hasParts}
 use Rattle.heads.specs.HeadForms.{LetHead, IfHead, OpHead, CallHead, ConHead, CaseHead, AdjHead, FitHead, no-missing, bool-head, int-head, var-head, now-head, last-head, let-head, if-head, op-head, call-head, con-head, case-head, adj-head, fit-head}
 use Rattle.sizes.specs.declared.SizedType.{SizedType}
 use Rattle.sizes.specs.declared.SizedType.the-variants.{Bool as BoolIs, Int as IntIs}
@@ -36,7 +36,7 @@ use Rattle.size_steps.specs.Leaves.{leafOf, Typed, ChannelTyped, Operands}
 use Rattle.size_laws.specs.HereLaws.{here-down}
 use Rattle.size_laws.specs.TypesTold.{variable-told, channel-bounded, channel-typed}
 
--- ---- forms with parts, and leaves; Missing is neither
+-- ---- leaves; Missing is none, and has no parts
 abbrev pub isLeaf : Form → Bool
 isLeaf (BoolForm v) = true
 isLeaf (Int v) = true
@@ -52,22 +52,6 @@ isLeaf (Case y) = false
 isLeaf Adjust = false
 isLeaf (Fit n) = false
 isLeaf Missing = false
-
-abbrev pub hasParts : Form → Bool
-hasParts (BoolForm v) = false
-hasParts (Int v) = false
-hasParts (Variable v) = false
-hasParts (Now c) = false
-hasParts (Last c) = false
-hasParts Let = true
-hasParts If = true
-hasParts (Operator o) = true
-hasParts (Call f) = true
-hasParts (Construct y c) = true
-hasParts (Case y) = true
-hasParts Adjust = true
-hasParts (Fit n) = true
-hasParts Missing = false
 
 -- ---- an expression takes a level
 pub some-level : {n : ℕ} {S : Scope} {e : Expr} → WithinExpr n S e → 0 < n

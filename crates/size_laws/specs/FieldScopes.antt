@@ -16,8 +16,8 @@ use Rattle.language.specs.Checker.{Instance}
 use Rattle.theory.specs.Alls.{all-append}
 use Rattle.text.specs.Bytes.{declaredWord}
 use Rattle.encoding.specs.Known.{wider-known}
-use Rattle.sizes.specs.Rows.{ToldFields, FieldsBound}
-use Rattle.sizes.specs.ToldLaws.{told-fields}
+use Rattle.type_rows.specs.Rows.{ToldFields, FieldsBound}
+use Rattle.type_rows.specs.ToldLaws.{told-fields}
 use Rattle.index.specs.Sections.{typesOf}
 use Rattle.size_steps.specs.declared.Site.{Site}
 use Rattle.size_steps.specs.Sites.{Bounded, bounded-bool, bounded-int, bounded-named, widenedBy, Sited}

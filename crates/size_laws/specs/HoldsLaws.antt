@@ -14,6 +14,7 @@ use Rattle.language.specs.Estimate.{Estimate as Exact, nothing}
 use Rattle.language.specs.Checker.{Instance, find}
 use Rattle.theory.specs.Alls.{all-append, all-snoc, all-left, all-right, all-rest, all-first}
 use Rattle.theory.specs.Lists.{none-is-not-some, look-less, look-append, look-new, look-past}
+use Rattle.theory.specs.Places.{look-append-cases}
 use Rattle.theory.specs.Different.{Distinct, distinct-append}
 use Rattle.theory.specs.Instances.{entered, keyOf, keysOf}
 use Rattle.theory.specs.InstanceList.{not-found-is-new}
@@ -24,7 +25,6 @@ use Rattle.instances.specs.Listed.{instanceWordsCount, numbersFrom, keyWords, r
 use Rattle.instances.specs.ListLaws.{key-wide}
 use Rattle.size_steps.specs.Agreement.{Row, Met, Table, table, Holds}
 use Rattle.size_laws.specs.ListKept.{Extends, filled-in}
-use Rattle.size_laws.specs.TypesTold.{look-either}
 
 -- behind what is written all stays 0
 zeros-behind : {words words′ ws : List ℕ} (from used used′ : ℕ) → Writes words from ws words′ → from + length ws ≤ used′ → used ≤ used′ →
@@ -48,7 +48,7 @@ Entrant P r word = (F : Function) → look (P .functions) (r .function) ≡ some
 
 met-added : (P : File) {memo memo′ : List ℕ} {word : ℕ} (L : List Instance) (r : Instance) → ((i : ℕ) (x : Instance) → look L i ≡ some x → Entrant P x (resultWord memo i)) → Notes memo (length L) word memo′ → length L < instancesMost → Entrant P r word →
     (i : ℕ) (x : Instance) → look (L ++ (r ∷ [])) i ≡ some x → Entrant P x (resultWord memo′ i)
-met-added P {memo} {memo′} {word} L r before n room new i x there F is = look-either L (r ∷ []) i there
+met-added P {memo} {memo′} {word} L r before n room new i x there F is = look-append-cases L (r ∷ []) i there
     (λ e. subst (Met F (x .sizes)) (sym (n .kept i (look-less L i e))) (before i x e F is)) last
   where
     last : (j : ℕ) → i ≡ length L + j → look (r ∷ []) j ≡ some x → Met F (x .sizes) (resultWord memo′ i)
@@ -60,7 +60,7 @@ met-added P {memo} {memo′} {word} L r before n room new i x there F is = look-
 
 met-finished : (P : File) (memo : List ℕ) {L : List Instance} (M : List Instance) (r : Instance) (n : Exact) (g : Extends (M ++ (r ∷ [])) L) → ((i : ℕ) (x : Instance) → look L i ≡ some x → Entrant P x (resultWord memo i)) →
     (i : ℕ) (x : Instance) → look (M ++ (entered (r .function) (r .sizes) n ∷ g .more)) i ≡ some x → Entrant P x (resultWord memo i)
-met-finished P memo {L} M r n g before i x there F is = look-either M (entered (r .function) (r .sizes) n ∷ g .more) i there (λ e. was x (look-append M (r ∷ g .more) i e) F is) behind
+met-finished P memo {L} M r n g before i x there F is = look-append-cases M (entered (r .function) (r .sizes) n ∷ g .more) i there (λ e. was x (look-append M (r ∷ g .more) i e) F is) behind
   where
     was : (y : Instance) → look (M ++ (r ∷ g .more)) i ≡ some y → Entrant P y (resultWord memo i)
     was y e = before i y (ap (λ l. look l i) (g .is ∙ append-assoc M (r ∷ []) (g .more)) ∙ e)

@@ -27,8 +27,8 @@ use Rattle.sizes.specs.Promises.{meaning}
 use Rattle.splits.specs.Next.{Chain, last, more}
 use Rattle.splits.specs.Moves.{Moves}
 use Rattle.splits.specs.Walks.{moves-keep, walk-moves, walk-ends}
-use Rattle.sizes.specs.Rows.{FieldsBound}
-use Rattle.sizes.specs.ToldLaws.{told-fields, fields-counted}
+use Rattle.type_rows.specs.Rows.{FieldsBound}
+use Rattle.type_rows.specs.ToldLaws.{told-fields, fields-counted}
 use Rattle.index.specs.Sections.{typesOf}
 use Rattle.size_steps.specs.declared.Site.{Site}
 use Rattle.size_steps.specs.declared.Checked.{Checked}

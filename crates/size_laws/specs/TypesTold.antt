@@ -1,10 +1,9 @@
 -- The types of the variables that may be named stand as words in the scope, those of channels in the index.
-use Prim.Native.Nat.{ℕ, zero, suc, _+_, _≤_, _<_}
-use mathlib.Core.List.{List, [], _∷_, _++_, map}
+use Prim.Native.Nat.{ℕ, _+_, _≤_, _<_}
+use mathlib.Core.List.{List, map}
 use mathlib.Core.Option.{some}
 use mathlib.Core.Path.{_≡_, sym, ap, _∙_, subst}
 use native.Mathlib.Omega.{arith}
-use native.Mathlib.Nat.{zero-add}
 use lib.ListN.{length, getD, length-map, getElem? as look}
 use lib.Seq.{getD-take}
 use Rattle.language.specs.Limits.{typesMost}
@@ -13,7 +12,7 @@ use Rattle.language.specs.Scope.{Scope}
 use Rattle.language.specs.Within.{WithinDeclared, w-tbool, w-tint, w-tnamed}
 use Rattle.language.specs.Typing.{Place as Stand}
 use Rattle.theory.specs.Lists.{look-getD, look-less, look-map}
-use Rattle.theory.specs.Places.{Mapped, look-mapped}
+use Rattle.theory.specs.Places.{look-append-cases, Mapped, look-mapped}
 use Rattle.theory.specs.Alls.{all-at}
 use Rattle.text.specs.Bytes.{declaredWord}
 use Rattle.index.specs.Sections.{channelsOf}
@@ -38,12 +37,6 @@ variable-told {Γ} {scope} {p} s v e =
     record { is = sym (sym (getD-take (p .place .variables) scope v 0 less) ∙ ap (λ l. getD l v 0) (s .types) ∙ look-getD (map declaredWord Γ) v 0 (look-map declaredWord Γ v e)); small = all-at (s .small) v e }
 
 -- ---- channels
--- what stands at a place of two lists
-pub look-either : {A X : Type 0} (l m : List A) (i : ℕ) {a : A} → look (l ++ m) i ≡ some a → (look l i ≡ some a → X) → ((j : ℕ) → i ≡ length l + j → look m j ≡ some a → X) → X
-look-either [] m i e first second = second i (sym (zero-add i)) e
-look-either (x ∷ l) m zero e first second = first e
-look-either (x ∷ l) m (suc i) e first second = look-either l m i e first (λ j is z. second j (omega (arith, is)) z)
-
 bounded-declared : {types : ℕ} {τ : Ty} → types ≤ typesMost → WithinDeclared types τ → Bounded τ
 bounded-declared few w-tbool = bounded-bool
 bounded-declared few w-tint = bounded-int
@@ -62,7 +55,7 @@ module _ {t : Lent} {P : File} (h : IndexedFile t P) where
   node-declared m n = rw (n .is) (record { told = h .eachNode m (n .at) .channel .declared; within = node-within (h .within) m (n .at) .declared })
 
   declared-in : (c : ℕ) {τ : Ty} → look (declaredTypes P) c ≡ some τ → DeclaredIn (t .index) P c τ
-  declared-in c {τ} e = look-either (map (λ (i : Input). i .declared) (P .inputs)) (map (λ (n : Node). n .declared) (P .nodes)) c e
+  declared-in c {τ} e = look-append-cases (map (λ (i : Input). i .declared) (P .inputs)) (map (λ (n : Node). n .declared) (P .nodes)) c e
       (λ z. input-declared c (look-mapped (λ (i : Input). i .declared) (P .inputs) c z))
       (λ m is z. let place : length (P .inputs) + m ≡ c = omega (arith, is, length-map (P .inputs) (λ (i : Input). i .declared)) in subst (λ k. DeclaredIn (t .index) P k τ) place (node-declared m (look-mapped (λ (n : Node). n .declared) (P .nodes) m z)))
 

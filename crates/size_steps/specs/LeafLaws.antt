@@ -36,8 +36,8 @@ use Rattle.sizes.specs.declared.TypeAt.the-variants.{Is as TypeIs, Outside as T
 use Rattle.sizes.specs.Promises.{meaning, FromWord, Hold, SumsMeasure, AgreesType, TypeGiven}
 use Rattle.sizes.specs.Prefixes.{type-in-scope, conditions-in-scope, measure-in-scope}
 use Rattle.sizes.specs.TypeLaws.{type-given, type-not-given, type-within}
-use Rattle.sizes.specs.Rows.{ToldRow, OwnSum, FieldsAgree}
-use Rattle.sizes.specs.ToldLaws.{told-fields}
+use Rattle.type_rows.specs.Rows.{ToldRow, OwnSum, FieldsAgree}
+use Rattle.type_rows.specs.ToldLaws.{told-fields}
 use Rattle.index.specs.Sections.{framesOf, typesOf, functionsOf}
 use Rattle.heads.specs.Places.{lineBehindTypes, function-line}
 use Rattle.size_steps.specs.declared.Site.{Site}

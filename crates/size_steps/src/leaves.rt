@@ -34,11 +34,11 @@ use language::refusals::SIZES_DISAGREE;
 use sizes::SizedType;
 use sizes::TypeAt;
 use sizes::conditions_hold;
-use sizes::rows::fields_agree;
-use sizes::rows::own_sum;
 use sizes::summed_measure;
 use sizes::type_at;
 use sizes::type_of;
+use type_rows::fields_agree;
+use type_rows::own_sum;
 
 // The type whose word stands in a row, 0 beyond it.
 pub fn type_in(row: &[u32], i: usize) -> SizedType

@@ -4,10 +4,3 @@ pub mod SizeLaws
 pub mod TypeLaws
 pub mod WordLaws
 pub mod ConditionLaws
-pub mod Rows
-pub mod RowWordLaws
-pub mod ToldLaws
-pub mod NamedLaws
-pub mod SumLaws
-pub mod AgreeLaws
-pub mod BindLaws

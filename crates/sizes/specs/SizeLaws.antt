@@ -4,7 +4,7 @@ use mathlib.Core.List.{List}
 use mathlib.Core.Path.{_≡_, refl, sym, ap, ap₂, _∙_, subst}
 use native.Mathlib.Omega.{arith}
 use native.Mathlib.Nat.{two-pow-succ, pow-le-pow-right, lt-of-lt-of-le}
-use lib.ListN.{length, getD, List·getD-eq-default}
+use lib.ListN.{length, getD}
 use Rattle.language.specs.Limits.{byteRange, nestingMost}
 use Rattle.language.specs.Syntax.{Size, lit, svar, plus, minus}
 use Rattle.language.specs.Format.{sizeBytes}
@@ -49,9 +49,6 @@ module _ (line : List ℕ) (c : Cursor) {x : Number} (v : ReadsNumber line (c .a
   }
 
 -- ---- a variable
-pub variable-none : (Δ : List ℕ) {i : ℕ} → length Δ ≤ i → Told Δ i 0
-variable-none Δ le = record { is = sym (List·getD-eq-default Δ 0 le); less = omega arith }
-
 pub variable-told : (Δ : List ℕ) {i k : ℕ} → k ≡ getD Δ i 0 → k < byteRange → Told Δ i k
 variable-told Δ e less = record { is = e; less = less }
 

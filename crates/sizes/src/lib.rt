@@ -1,11 +1,10 @@
 // Written sizes worked out at the sizes of their variables; types with sizes, conditions and measures.
-pub mod rows;
-
 ghost use mathlib.Core.Path.{_≡_};
 ghost use Prim.Native.Nat.{_<_, _≤_};
 ghost use Rattle.language.specs.Limits.{byteRange, nestingMost};
 ghost use Rattle.language.specs.Sizes.{sameType};
 ghost use Rattle.sizes.specs.Promises.{Reads, Told, LeafWorked, WorksOut, SizeGiven, TypeGiven, Compares, Judges, HoldAll, Hold, SumsMeasure, SumsMeasures, meaning, WordOf, FromWord};
+use index::byte_at;
 use language::codes::RELATION_EQUAL;
 use language::codes::RELATION_LESS;
 use language::codes::SIZE_NUMBER;
@@ -66,11 +65,7 @@ fn read(line: &[u8], c: Cursor) -> Found
 fn size_of(sizes: &[u8], i: u32) -> u32
     ensures { λ r. ⌜ Told (now (sizes .entry)) i r ⌝ }
 {
-    let at = i as usize;
-    if sizes.len() <= at {
-        return 0;
-    }
-    sizes[at] as u32
+    byte_at(sizes, i as usize)
 }
 
 // `01` and `02`: a number or a variable; c stands behind the code.

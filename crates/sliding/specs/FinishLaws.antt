@@ -14,7 +14,7 @@ use Rattle.language.specs.Heap.{Cell, cellAt}
 use Rattle.language.specs.Slide.{State, reached, slide}
 use Rattle.language.specs.Layout.{padded, stateLength, allZero}
 use Rattle.language.specs.Machine.{written}
-use Rattle.theory.specs.Lists.{take-fewer}
+use Rattle.theory.specs.Lists.{take-fewer, drop-more}
 use Rattle.theory.specs.Padding.{zeros-zero, zero-joined, filled-up}
 use Rattle.theory.specs.Alls.{all-both}
 use Rattle.theory.specs.Members.{map-same}
@@ -29,7 +29,6 @@ use Rattle.state_words.specs.HoldLaws.{holds-kept}
 use Rattle.state_words.specs.StateLaws.{held-written}
 use Rattle.marking.specs.Marks.{Marking, MarksReached}
 use Rattle.sliding.specs.Sliding.{Slid, Sweeps, Unslid, KeepsReached, Collects}
-use Rattle.sliding.specs.SlideLaws.{drop-more}
 use Rattle.sliding.specs.SweepLaws.{row-mapped}
 
 -- ---- the channels renumbered one by one

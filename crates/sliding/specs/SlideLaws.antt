@@ -5,7 +5,7 @@ use mathlib.Core.Path.{_≡_, refl, sym, ap, _∙_, subst}
 use native.Mathlib.Numerals.{add-one}
 use native.Mathlib.Omega.{arith}
 use lib.ListN.{length, getD, take, drop, set, length-set, drop-of-length-le}
-use lib.Seq.{sets, drop-drop, getD-drop}
+use lib.Seq.{sets, getD-drop}
 use Rattle.language.specs.Limits.{fieldsMost}
 use Rattle.language.specs.Layout.{padded, stateLength, allZero}
 use Rattle.theory.specs.Padding.{padded-length, filled-up}
@@ -17,11 +17,6 @@ use Rattle.state_words.specs.RowLaws.{row-length}
 use Rattle.sliding.specs.Sliding.{Filled, movedWords, Moved, moves-down}
 
 -- ---- lists that agree from a place on
-pub drop-more : (m n : ℕ) (l k : List ℕ) → m ≤ n → drop m l ≡ drop m k → drop n l ≡ drop n k
-drop-more m n l k le e =
-    let place : m + (n - m) ≡ n = omega arith in
-    rw (← place) (sym (drop-drop (n - m) m l) ∙ ap (drop (n - m)) e ∙ drop-drop (n - m) m k)
-
 pub same-from : (m i : ℕ) (l k : List ℕ) → m ≤ i → drop m l ≡ drop m k → getD l i 0 ≡ getD k i 0
 same-from m i l k le e =
     let place : m + (i - m) ≡ i = omega arith in

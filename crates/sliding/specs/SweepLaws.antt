@@ -12,7 +12,7 @@ use Rattle.language.specs.Format.{spellAll}
 use Rattle.language.specs.Heap.{kbool, Cell, leaf, con, cellAt, fieldsIn}
 use Rattle.language.specs.Slide.{State, mem, reached, renumber, renumberCell}
 use Rattle.language.specs.Layout.{padded, cellTag, cellValue, wordsOf, stateLength}
-use Rattle.theory.specs.Lists.{take-fewer, false-is-not-true}
+use Rattle.theory.specs.Lists.{take-fewer, false-is-not-true, drop-more}
 use Rattle.theory.specs.Padding.{padded-length}
 use Rattle.theory.specs.Places.{below-or-last, look-at}
 use Rattle.theory.specs.Alls.{all-map}
@@ -28,7 +28,7 @@ use Rattle.state_words.specs.ReadLaws.{fields-held}
 use Rattle.marking.specs.Marks.{Marks, Marking}
 use Rattle.marking.specs.MarkLaws.{not-marked, marked}
 use Rattle.sliding.specs.Sliding.{movedWords, Moved, stays-out, moves-down, Slid, Sweeps}
-use Rattle.sliding.specs.SlideLaws.{drop-more, same-from}
+use Rattle.sliding.specs.SlideLaws.{same-from}
 
 -- ---- the words of a cell that is renumbered
 renumbered-words : (ns : List ℕ) (c : Cell) → wordsOf (renumberCell ns c) ≡ cellTag c ∷ cellValue c ∷ padded fieldsMost (map (renumber ns) (fieldsIn c))

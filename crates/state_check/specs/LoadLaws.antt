@@ -23,7 +23,7 @@ use Rattle.theory.specs.Alls.{all-map, all-to-map, all-append, all-getD}
 use Rattle.theory.specs.CellWords.{Writable}
 use Rattle.theory.specs.StateWritable.{channels-few}
 use Rattle.text.specs.Bytes.{declaredWord}
-use Rattle.text.specs.Lines.{isSome}
+use Rattle.text_lines.specs.Lines.{isSome}
 use Rattle.index.specs.declared.Counts.{Counts}
 use Rattle.index.specs.Sections.{countsIn, channelsOf}
 use Rattle.index.specs.Indexed.{Indexed, declaredAt}

@@ -14,7 +14,7 @@ use Rattle.language.specs.Heap.{Cell}
 use Rattle.language.specs.Slide.{State, reached}
 use Rattle.language.specs.Layout.{stateLength, allZero, rootsRight, allReached, loadState}
 use Rattle.theory.specs.CellWords.{Writable}
-use Rattle.text.specs.Lines.{isSome}
+use Rattle.text_lines.specs.Lines.{isSome}
 use Rattle.index.specs.Indexed.{Indexed}
 use Rattle.state_words.specs.Words.{channelAt, rowOf}
 use Rattle.state_words.specs.Holds.{Holds}

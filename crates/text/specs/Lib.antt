@@ -9,9 +9,3 @@ pub mod CodeLaws
 pub mod IntLaws
 pub mod SizeLaws
 pub mod TypeLaws
-pub mod Lines
-pub mod LinesEnd
-pub mod LinesSpell
-pub mod LinesEights
-pub mod LinesWalk
-pub mod LinesJudge

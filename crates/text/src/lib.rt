@@ -1,6 +1,4 @@
-// Hexadecimal text: digits, lines, and a cursor over the bytes that a line spells.
-pub mod lines;
-
+// Hexadecimal text: digits, and a cursor over the bytes that a line spells.
 ghost use mathlib.Core.Path.{_≡_};
 ghost use Prim.Native.Nat.{_<_, _^_};
 ghost use lib.Dec.{ltb};
@@ -32,7 +30,7 @@ use language::refusals::OUTSIDE_LIMITS;
 pub const TYPE_STEP: u32 = 256;
 
 // A byte is spelled by so many digits, and an Int takes so many bytes.
-const BYTE_DIGITS: usize = 2;
+pub const BYTE_DIGITS: usize = 2;
 
 const INT_BYTES: usize = 4;
 

@@ -1,13 +1,13 @@
 -- Looking into lists, and tests that hold.
-use Prim.Native.Nat.{ℕ, zero, suc, _+_, _≤_, _<_}
+use Prim.Native.Nat.{ℕ, zero, suc, _+_, _-_, _≤_, _<_}
 use mathlib.Core.List.{List, [], _∷_, _++_, map}
 use mathlib.Core.Bool.{Bool, true, false}
 use mathlib.Core.Option.{none, some}
 use mathlib.Core.Path.{_≡_, refl, sym, ap, _∙_}
 use native.Mathlib.Omega.{arith}
 use native.Mathlib.Nat.{zero-add, suc-add}
-use lib.ListN.{length, getD, take, getElem? as look}
-use lib.Seq.{take-take}
+use lib.ListN.{length, getD, take, drop, getElem? as look}
+use lib.Seq.{take-take, drop-drop}
 use Rattle.language.specs.Result.{both}
 
 pub none-is-not-some : {A B : Type 0} {a : A} → none ≡ some a → B
@@ -54,6 +54,12 @@ look-map f (x ∷ l) (suc i) e = look-map f l i e
 -- lists that agree up to a place agree up to an earlier one
 pub take-fewer : {A : Type 0} (m n : ℕ) (l k : List A) → m ≤ n → take n l ≡ take n k → take m l ≡ take m k
 take-fewer m n l k le e = sym (take-take m n l le) ∙ ap (take m) e ∙ take-take m n k le
+
+-- lists that agree from a place on agree from a later one
+pub drop-more : {A : Type 0} (m n : ℕ) (l k : List A) → m ≤ n → drop m l ≡ drop m k → drop n l ≡ drop n k
+drop-more m n l k le e =
+    let place : m + (n - m) ≡ n = omega arith in
+    rw (← place) (sym (drop-drop (n - m) m l) ∙ ap (drop (n - m)) e ∙ drop-drop (n - m) m k)
 
 -- ---- tests
 pub both-left : (a b : Bool) → both a b ≡ true → a ≡ true

@@ -22,7 +22,7 @@ use Rattle.language.specs.Layout.{cellTag, cellValue, padded, wordsOf, stateWor
 use Rattle.language.specs.Line.{valueTrees, valueBehind, valueAt, allRead, inputTrees, treesFit, oneLine, lineTrees}
 use Rattle.language.specs.Evaluator.{bindOut, bindOuts, first, rest, needs, alloc, parameterCount, eval, evals, evalBranch, enterBody, run}
 use Rattle.language.specs.PlainMachine.{initialTree, initialFields}
-use Rattle.language.specs.Machine.{boardAllowed, recordOf, answer, checkFile, judge, judged, verdictOf, finalList, listLent, check, newCell, build, buildFields, buildAll, startState, written, startWords, buffersLent, start, channelValue, putInputs, updateNodes, iterateState, iterateFile, iterated, iterate}
+use Rattle.language.specs.Machine.{boardAllowed, recordOf, answer, checkFile, judge, judged, verdictOf, finalList, listLent, check, newCell, build, buildFields, buildAll, startState, written, startWords, lengthsLent, start, channelValue, putInputs, updateNodes, iterateState, iterateFile, iterated, iterate}
 
 -- reader
 unfoldable pub reading : ℕ
@@ -36,5 +36,5 @@ sizing = 0
 
 -- the state, the line, the evaluator and the calls
 unfoldable pub running : ℕ
-unfolding spellAll intBytes fieldBytes plainBytes declaredBytes sizeBytes resultBytes exprBytes exprsBytes conditionBytes constructorBytes typeBytes functionBytes inputBytes nodeBytes fileFrames pickDigit digitOf pairOf lineText fileText constantType truth number signedLess applyOp constantIn constructorIn sizeIn fieldsIn ownSum fieldsWithin treesAt treeOf grow trees valueBytes valuesBytes mem reachedFrom reached numbersFrom renumberCell keepFrom slide cellTag cellValue padded wordsOf stateWords allZero constructorOfWords cellOfWords cellsOfWords stateOfWords cellFits locationFits fieldsRight cellRight cellsRight rootsRight allReached stateRight loadState valueTrees valueBehind valueAt allRead inputTrees treesFit oneLine lineTrees bindOut bindOuts first rest needs alloc parameterCount eval evals evalBranch enterBody run initialTree initialFields boardAllowed recordOf answer checkFile judge judged verdictOf finalList listLent check newCell build buildFields buildAll startState written startWords buffersLent start channelValue putInputs updateNodes iterateState iterateFile iterated iterate
+unfolding spellAll intBytes fieldBytes plainBytes declaredBytes sizeBytes resultBytes exprBytes exprsBytes conditionBytes constructorBytes typeBytes functionBytes inputBytes nodeBytes fileFrames pickDigit digitOf pairOf lineText fileText constantType truth number signedLess applyOp constantIn constructorIn sizeIn fieldsIn ownSum fieldsWithin treesAt treeOf grow trees valueBytes valuesBytes mem reachedFrom reached numbersFrom renumberCell keepFrom slide cellTag cellValue padded wordsOf stateWords allZero constructorOfWords cellOfWords cellsOfWords stateOfWords cellFits locationFits fieldsRight cellRight cellsRight rootsRight allReached stateRight loadState valueTrees valueBehind valueAt allRead inputTrees treesFit oneLine lineTrees bindOut bindOuts first rest needs alloc parameterCount eval evals evalBranch enterBody run initialTree initialFields boardAllowed recordOf answer checkFile judge judged verdictOf finalList listLent check newCell build buildFields buildAll startState written startWords lengthsLent start channelValue putInputs updateNodes iterateState iterateFile iterated iterate
 running = 0

@@ -3,12 +3,13 @@ use Prim.Native.Nat.{ℕ, zero, suc, _+_, _-_, _≤_, _<_}
 use mathlib.Core.List.{List, [], _∷_, _++_, map}
 use mathlib.Core.Bool.{Bool, true, false}
 use mathlib.Core.Option.{some}
-use mathlib.Core.Path.{_≡_, refl, sym, ap, _∙_}
+use mathlib.Core.Path.{_≡_, refl, sym}
 use native.Mathlib.Omega.{arith}
+use native.Mathlib.Nat.{zero-add}
 use lib.ListN.{length, getD, getElem? as look}
 use lib.Dec.{ltb}
 use borrow.Author.Tests.{ltb-true, ltb-false}
-use Rattle.theory.specs.Lists.{none-is-not-some, look-past}
+use Rattle.theory.specs.Lists.{none-is-not-some}
 
 pub below-or-not : {X : Type 0} (i n : ℕ) → (i < n → X) → (n ≤ i → X) → X
 below-or-not {X} i n below above = cases (ltb i n) refl
@@ -32,23 +33,17 @@ module _ {A : Type 0} where
   look-at (x ∷ l) (suc i) d less = look-at l i d (omega arith)
 
   -- the place of a longer list is one of the first list or of the second
-  look-front : (l m : List A) (i : ℕ) → i < length l → look (l ++ m) i ≡ look l i
-  look-front [] m i less = absurd (omega arith)
-  look-front (x ∷ l) m zero less = refl
-  look-front (x ∷ l) m (suc i) less = look-front l m i (omega arith)
-
-  look-back : (l m : List A) (i : ℕ) → length l ≤ i → look (l ++ m) i ≡ look m (i - length l)
-  look-back l m i le = let e : length l + (i - length l) ≡ i = omega arith in ap (look (l ++ m)) (sym e) ∙ look-past l m (i - length l)
-
-  look-append-cases : {X : Type 0} (l m : List A) (i : ℕ) {a : A} → look (l ++ m) i ≡ some a → (look l i ≡ some a → X) → (length l ≤ i → look m (i - length l) ≡ some a → X) → X
-  look-append-cases l m i e first second = below-or-not i (length l) (λ less. first (sym (look-front l m i less) ∙ e)) (λ le. second le (sym (look-back l m i le) ∙ e))
+  pub look-append-cases : {X : Type 0} (l m : List A) (i : ℕ) {a : A} → look (l ++ m) i ≡ some a → (look l i ≡ some a → X) → ((j : ℕ) → i ≡ length l + j → look m j ≡ some a → X) → X
+  look-append-cases [] m i e first second = second i (sym (zero-add i)) e
+  look-append-cases (x ∷ l) m zero e first second = first e
+  look-append-cases (x ∷ l) m (suc i) e first second = look-append-cases l m i e first (λ j is z. second j (omega (arith, is)) z)
 
   pub look-snoc-cases : {X : Type 0} (l : List A) (b : A) (i : ℕ) {a : A} → look (l ++ (b ∷ [])) i ≡ some a → (look l i ≡ some a → X) → (i ≡ length l → b ≡ a → X) → X
-  look-snoc-cases {X} l b i {a} e before last = look-append-cases l (b ∷ []) i e before (λ le z. at-end (i - length l) refl le z)
+  look-snoc-cases {X} l b i {a} e before last = look-append-cases l (b ∷ []) i e before at-end
     where
-      at-end : (j : ℕ) → i - length l ≡ j → length l ≤ i → look (b ∷ []) j ≡ some a → X
-      at-end zero q le z = last (omega arith) (cc)
-      at-end (suc j) q le z = none-is-not-some z
+      at-end : (j : ℕ) → i ≡ length l + j → look (b ∷ []) j ≡ some a → X
+      at-end zero q z = last (omega (arith, q)) (cc)
+      at-end (suc j) q z = none-is-not-some z
 
 -- what stands at a place of a mapped list is a mapped one
 pub record Mapped {A B : Type 0} (f : A → B) (l : List A) (i : ℕ) (b : B) : Type 0 where

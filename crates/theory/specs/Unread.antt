@@ -15,7 +15,7 @@ use Rattle.language.specs.PlainTypes.{plainTypes}
 use Rattle.language.specs.Slide.{State}
 use Rattle.language.specs.Layout.{stateLength, stateWords, loadState}
 use Rattle.language.specs.Line.{lineTrees}
-use Rattle.language.specs.Machine.{Board, Record, buffersLent, start, iterateState, iterateFile, iterated, iterate}
+use Rattle.language.specs.Machine.{Board, Record, lengthsLent, buffersLent, start, iterateState, iterateFile, iterated, iterate}
 use Rattle.theory.specs.Lists.{none-is-not-some}
 use Rattle.theory.specs.ReaderExact.{reader-forth}
 use Rattle.theory.specs.StateWords.{state-loaded, state-load-back}
@@ -42,7 +42,7 @@ module _ {P : File} (within : Within P) (cells : ℕ) where
       by-both (some s) d p e = sym (load-from v w same long d) ∙ e
 
 lent-same : (b : Board) (v w scratch slots : List ℕ) → length v ≡ length w → buffersLent b v scratch slots ≡ buffersLent b w scratch slots
-unfolding buffersLent
+unfolding lengthsLent
 lent-same b v w scratch slots long = rw long
 
 -- ---- start

@@ -18,8 +18,8 @@ loop-holds c = omega arith
 mul-h : tie.Need-mul-h Inv-loop μ-loop
 mul-h c = omega arith
 
-size-at-requires : tie.Need-size-at-requires Inv-loop μ-loop
-size-at-requires c κs = tt
+byte-at-requires : tie.Need-byte-at-requires Inv-loop μ-loop
+byte-at-requires c κs = tt
 
 cast-h : tie.Need-cast-h Inv-loop μ-loop
 cast-h c = omega arith
@@ -47,7 +47,7 @@ hint-place-spec =
     μ-loop
     loop-holds
     mul-h
-    size-at-requires
+    byte-at-requires
     cast-h
     add-h
     add-j

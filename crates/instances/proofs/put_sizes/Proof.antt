@@ -15,8 +15,8 @@ abbrev μ-loop : tie.MeasureT-loop
 loop-holds : tie.Need-loop-holds Inv-loop μ-loop
 loop-holds c = stored-start _ _ _
 
-size-at-requires : tie.Need-size-at-requires Inv-loop μ-loop
-size-at-requires c κs = tt
+byte-at-requires : tie.Need-byte-at-requires Inv-loop μ-loop
+byte-at-requires c κs = tt
 
 add-put : tie.Need-add-put Inv-loop μ-loop
 add-put c = omega (arith, (c .before .before .before .before .before .before .pre))
@@ -31,7 +31,7 @@ loop-less : tie.Need-loop-less Inv-loop μ-loop
 loop-less c = omega arith
 
 loop-again : tie.Need-loop-again Inv-loop μ-loop
-loop-again c = stored-on (c .before .before .before .before .before .before .loop .inv) (c .before .before .before .before .before .loop-test .taken) (c .before .before .before .before .size-at .ensures) (c .before .before .put .ensures)
+loop-again c = stored-on (c .before .before .before .before .before .before .loop .inv) (c .before .before .before .before .before .loop-test .taken) (c .before .before .before .before .byte-at .ensures .0) (c .before .before .put .ensures)
 
 same-length : tie.Need-same-length Inv-loop μ-loop
 same-length c = stored-long (c .before .loop .inv)
@@ -46,7 +46,7 @@ put-sizes-spec =
     Inv-loop
     μ-loop
     loop-holds
-    size-at-requires
+    byte-at-requires
     add-put
     put-requires
     add-j

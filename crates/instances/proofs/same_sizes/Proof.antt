@@ -24,11 +24,11 @@ mul-if1 c = omega (arith, (c .before .before .before .before .pre))
 shared-slice-read-if1 : tie.Need-shared-slice-read-if1 Inv-loop μ-loop
 shared-slice-read-if1 c = omega (arith, (c .before .before .before .before .before .pre))
 
-size-at-requires : tie.Need-size-at-requires Inv-loop μ-loop
-size-at-requires c κs = tt
+byte-at-requires : tie.Need-byte-at-requires Inv-loop μ-loop
+byte-at-requires c κs = tt
 
 returns : tie.Need-returns Inv-loop μ-loop
-returns c = same-not (c .before .before .before .loop-test .taken) (c .before .size-at .ensures) (c .if1 .taken)
+returns c = same-not (c .before .before .before .loop-test .taken) (c .before .byte-at .ensures .0) (c .if1 .taken)
 
 add-j : tie.Need-add-j Inv-loop μ-loop
 add-j c = omega arith
@@ -37,7 +37,7 @@ loop-less : tie.Need-loop-less Inv-loop μ-loop
 loop-less c = omega arith
 
 loop-again : tie.Need-loop-again Inv-loop μ-loop
-loop-again c = same-on (c .before .before .before .before .loop .inv) (c .before .size-at .ensures) (c .if1 .left)
+loop-again c = same-on (c .before .before .before .before .loop .inv) (c .before .byte-at .ensures .0) (c .if1 .left)
 
 returns-2 : tie.Need-returns-2 Inv-loop μ-loop
 returns-2 c = same-end (c .before .loop .inv) (c .loop-test .left)
@@ -52,7 +52,7 @@ same-sizes-spec =
     add-if1
     mul-if1
     shared-slice-read-if1
-    size-at-requires
+    byte-at-requires
     returns
     add-j
     loop-less

@@ -8,7 +8,7 @@ use Rattle.iteration.proofs.feed_and_update.Tie as tie
 use Rattle.iteration.proofs.feed_and_update.Reads as reads
 use Rattle.iteration.proofs.feed_and_update.Lts as lts
 use Rattle.ends.proofs.find_ends.Reads as find-ends-reads
-use Rattle.input_line.proofs.laying.put_inputs.Reads as put-inputs-reads
+use Rattle.input_cells.proofs.put_inputs.Reads as put-inputs-reads
 use Rattle.iteration.proofs.full_at.Reads as full-at-reads
 use Rattle.iteration.proofs.nodes.update_nodes.Reads as update-nodes-reads
 use Rattle.state_words.proofs.used_cells.Reads as used-cells-reads

@@ -13,7 +13,7 @@ use Rattle.heads.specs.declared.Form.{Form}
 use Rattle.heads.specs.declared.Form.the-variants.{Bool as BoolForm, Int, Variable, Now, Last, Let, If, Operator, Call, Construct, Case, Adjust, Fit, Missing}
 use Rattle.index.specs.Sections.{framesOf}
 use Rattle.index.specs.Indexed.{framePlace}
-use Rattle.evaluator.specs.Forms.{hasParts, handedOnAll}
+use Rattle.evaluator.specs.Forms.{handedOnAll}
 use Rattle.evaluator.specs.Measures.{measureOf, falls-here, falls-moved, falls-bound, falls-head, falls-body, head-shorter, shorter-behind, later-end, later-branch, later-first, later-all, later-two}
 use Rattle.evaluator.specs.KeepLaws.{room-at, room-bound, room-body, room-cut, room-next}
 use Rattle.evaluator.specs.ExprLaws.{expr-bool, expr-int, expr-variable, expr-now, expr-last, expr-missing, expr-compound, operand-variable}
@@ -68,13 +68,14 @@ use Rattle.evaluator.proofs.contexts.moved.Reads as moved-reads
 use Rattle.evaluator.proofs.slots.push.Reads as push-reads
 use Rattle.evaluator.proofs.slots.push_fields.Reads as push-fields-reads
 use Rattle.evaluator.proofs.slots.variable.Reads as variable-reads
-use Rattle.new_cells.proofs.constructors.construct.Reads as construct-reads
+use Rattle.construction.proofs.construct.Reads as construct-reads
 use Rattle.ends.proofs.end_of.Reads as end-of-reads
 use Rattle.new_cells.proofs.new_bool.Reads as new-bool-reads
 use Rattle.new_cells.proofs.new_int.Reads as new-int-reads
-use Rattle.new_cells.proofs.operators.operate.Reads as operate-reads
+use Rattle.operators.proofs.operate.Reads as operate-reads
 use Rattle.heads.proofs.head_at.Reads as head-at-reads
 use Rattle.heads.proofs.variable_at.Reads as variable-at-reads
+use Rattle.heads.specs.Heads.{hasParts}
 use Rattle.index.proofs.frames.frame_line.Reads as frame-line-reads
 use Rattle.index.proofs.put.Reads as put-reads
 use Rattle.index.proofs.types.constructors.Reads as constructors-reads

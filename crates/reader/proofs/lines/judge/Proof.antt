@@ -2,7 +2,7 @@
 use Prim.Native.Nat.{_-_}
 use native.Mathlib.Omega.{arith}
 use lib.ListN.{length}
-use Rattle.text.specs.LinesJudge.{one-at-most}
+use Rattle.text_lines.specs.LinesJudge.{one-at-most}
 use Rattle.reader.specs.JudgeLaws.{JudgedTo, judged-start, too-long-judges, end-behind, end-within, bad-judges, judged-on, all-judges}
 use Rattle.reader.proofs.lines.judge.Statement.{statement}
 use Rattle.reader.proofs.lines.judge.Tie as tie

@@ -19,7 +19,7 @@ use Rattle.sizes.specs.declared.SizedType.{SizedType}
 use Rattle.size_laws.specs.NamedTypes.{NotNamed}
 use Rattle.size_steps.specs.Leaves.{Operands}
 use Rattle.language.specs.Limits.{byteRange}
-use Rattle.size_laws.specs.ExprLaws.{isLeaf, hasParts, expr-deep, expr-bool, expr-int, expr-variable, expr-now, expr-last, expr-compound, compound-is, compound-none, operands-of}
+use Rattle.size_laws.specs.ExprLaws.{isLeaf, expr-deep, expr-bool, expr-int, expr-variable, expr-now, expr-last, expr-compound, compound-is, compound-none, operands-of}
 use Rattle.size_laws.specs.SeveralLaws.{Turned, turned-start, turned-variable, turned-expr, several-part, several-done}
 use Rattle.size_laws.specs.CallLaws.{call-arguments, call-applied, apply-refused, apply-done}
 use Rattle.size_laws.specs.EnterLaws.{enter-found, enter-absent, new-refused, new-entered, entry-numbers}
@@ -100,6 +100,7 @@ use Rattle.estimate.proofs.one_cell.Reads as one-cell-reads
 use Rattle.heads.proofs.head_at.Reads as head-at-reads
 use Rattle.heads.proofs.skip.skip.Reads as skip-reads
 use Rattle.heads.proofs.variable_at.Reads as variable-at-reads
+use Rattle.heads.specs.Heads.{hasParts}
 use Rattle.index.proofs.frames.frame_line.Reads as frame-line-reads
 use Rattle.index.proofs.functions.arity.Reads as arity-reads
 use Rattle.index.proofs.put.Reads as put-reads
@@ -142,8 +143,8 @@ use Rattle.size_steps.proofs.sites.body_site.Reads as body-site-reads
 use Rattle.size_steps.proofs.sites.down.Reads as down-reads
 use Rattle.size_steps.proofs.sites.moved_on.Reads as moved-on-reads
 use Rattle.size_steps.proofs.sites.widen.Reads as widen-reads
-use Rattle.sizes.proofs.rows.bind_fields.Reads as bind-fields-reads
-use Rattle.sizes.proofs.rows.named_sizes.Reads as named-sizes-reads
+use Rattle.type_rows.proofs.bind_fields.Reads as bind-fields-reads
+use Rattle.type_rows.proofs.named_sizes.Reads as named-sizes-reads
 use Rattle.sizes.proofs.size_at.Reads as size-at-reads
 use Rattle.sizes.proofs.type_at.Reads as type-at-reads
 use Rattle.sizes.proofs.word_of.Reads as word-of-reads

@@ -1,0 +1,2 @@
+pub mod FunctionEntry
+pub mod PassLaws

@@ -1,0 +1,6 @@
+pub mod Lines
+pub mod LinesEnd
+pub mod LinesSpell
+pub mod LinesEights
+pub mod LinesWalk
+pub mod LinesJudge
