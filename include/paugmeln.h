@@ -58,8 +58,8 @@ extern "C" {
  * deep needs far less; paugmeln_read needs no more than a thread usually has. */
 #define PAUGMELN_STACK_BYTES 268435456
 
-/* The same for paugmeln_iterate: an evaluation goes as deep as 64 calls, each nested 32, which was measured to take 960 KiB
- * (docs/PERFORMANCE.md); with the rest of the call about 1 MiB at most. tools/measure-running measures the whole call. */
+/* The same for paugmeln_iterate: an evaluation goes as deep as 64 calls, each nested 32. The whole call was then measured to
+ * take 1,052 KiB (tools/measure-running, docs/PERFORMANCE.md). */
 #define PAUGMELN_ITERATE_STACK_BYTES 4194304
 
 /* Number and frame of an answer: 0 where all is well, else why and in which line of the rule file it is refused. Lines

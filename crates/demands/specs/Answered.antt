@@ -1,9 +1,9 @@
 -- Demand 1 of the delivered calls, from their promises and the theorem on the machine.
 use Prim.Native.Nat.{ℕ, _/_}
 use mathlib.Core.List.{List}
-use mathlib.Core.Path.{_≡_, refl, sym, ap, _∙_, subst}
+use mathlib.Core.Path.{_≡_, sym, ap, _∙_, subst}
 use lib.ListN.{length, replicate, length-replicate}
-use Rattle.language.specs.Machine.{Iterated, Record, emptyRecord, Answer as MachineAnswer, iterate}
+use Rattle.language.specs.Machine.{Record, emptyRecord, Answer as MachineAnswer}
 use Rattle.language.specs.Answers.{Refused, FileAnswer, IterateAnswers}
 use Rattle.theory.specs.Padding.{padded-length}
 use Rattle.theory.specs.FileAnswers.{check-answers, start-answers}
@@ -13,7 +13,7 @@ use Rattle.checker.specs.declared.Board.{Board}
 use Rattle.checker.specs.declared.Answer.{Answer}
 use Rattle.checker.specs.Checks.{boardOf, said, recordsOf, wordsOf, Checks}
 use Rattle.checker.specs.FinalLists.{cleared}
-use Rattle.runtime.specs.Starts.{started, Starts}
+use Rattle.runtime.specs.Starts.{Starts}
 use Rattle.runtime.specs.Runs.{Iterates}
 use Rattle.demands.specs.Delivered.{CheckLeaves, StartLeaves, Delivered1}
 

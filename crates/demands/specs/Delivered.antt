@@ -17,7 +17,7 @@ use Rattle.language.specs.Heap.{Tree, vnil}
 use Rattle.language.specs.Slide.{State}
 use Rattle.language.specs.Layout.{stateLength, loadState}
 use Rattle.language.specs.Line.{lineTrees}
-use Rattle.language.specs.Machine.{Iterated, accepted, refusal, answer, zeros, written, listLent, buffersLent}
+use Rattle.language.specs.Machine.{accepted, refusal, answer, zeros, written, listLent, buffersLent}
 use Rattle.language.specs.PlainMachine.{noTrees, Derives, Step, initialTree, initialTrees}
 use Rattle.language.specs.InitialValues.{FileBegins}
 use Rattle.language.specs.Answers.{Refused, FileAnswer, IterateAnswers}

@@ -1,18 +1,18 @@
 -- Demand 2 of the delivered calls, from their promises and the theorems on the machine.
 use Prim.Native.Nat.{ℕ}
 use mathlib.Core.List.{List}
-use mathlib.Core.Path.{_≡_, sym, ap, _∙_, subst, subst₂}
+use mathlib.Core.Path.{_≡_, sym, ap, _∙_, subst}
 use lib.ListN.{length}
 use Rattle.language.specs.Refusals.{noRefusal}
 use Rattle.language.specs.Result.{both}
 use Rattle.language.specs.Layout.{loadState}
-use Rattle.language.specs.Machine.{Answer as MachineAnswer, Iterated, listLent, buffersLent, iterate}
+use Rattle.language.specs.Machine.{Iterated, listLent, buffersLent, iterate}
 use Rattle.language.specs.Acceptance.{CheckerDemand}
 use Rattle.theory.specs.CheckerDemands.{start-demand}
 use Rattle.theory.specs.StartSteps.{evaluator-demand}
 use Rattle.checker.specs.declared.Board.{Board}
 use Rattle.checker.specs.declared.Answer.{Answer}
-use Rattle.checker.specs.Checks.{boardOf, said, recordsOf, Checks}
+use Rattle.checker.specs.Checks.{boardOf, said, recordsOf}
 use Rattle.checker.specs.AcceptsExactly.{checked-demand}
 use Rattle.runtime.specs.Starts.{Starts}
 use Rattle.runtime.specs.Runs.{Iterates}

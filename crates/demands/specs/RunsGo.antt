@@ -2,14 +2,11 @@
 use Prim.Native.Nat.{ℕ}
 use mathlib.Core.List.{List, [], _∷_, map}
 use mathlib.Core.Path.{_≡_, refl, sym, ap, _∙_, subst}
-use native.Mathlib.Omega.{arith}
 use lib.ListN.{length}
-use Rattle.language.specs.Result.{ok}
 use Rattle.language.specs.Syntax.{File}
-use Rattle.language.specs.Reader.{readFile}
 use Rattle.language.specs.Estimate.{Estimate}
 use Rattle.language.specs.Heap.{Tree}
-use Rattle.language.specs.Machine.{accepted, answer}
+use Rattle.language.specs.Machine.{answer}
 use Rattle.language.specs.PlainMachine.{initialTrees}
 use Rattle.language.specs.Run.{FirstCall, Call, Reported, begun, called, Goes, ends, goes, CallsAllowed, no-call, a-call, Run, Alike, both-end, both-go, linesIn}
 use Rattle.theory.specs.Demand.{demand-3}

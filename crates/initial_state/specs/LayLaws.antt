@@ -1,5 +1,5 @@
 -- The initial values one after the other: what is left leads to the state, turn by turn.
-use Prim.Native.Nat.{ℕ, suc, _+_, _-_, _*_, _≤_, _<_}
+use Prim.Native.Nat.{ℕ, suc, _+_, _*_, _≤_, _<_}
 use mathlib.Core.List.{List, [], _∷_, _++_}
 use mathlib.Core.Bool.{true}
 use mathlib.Core.Option.{some}
@@ -34,7 +34,7 @@ use Rattle.ends.specs.Initials.{initial-known, initials-long}
 use Rattle.evaluator.specs.KeepLaws.{Moved, moved-by}
 use Rattle.evaluator.specs.ArgumentLaws.{Valued, valued, not-valued}
 use Rattle.evaluator.specs.ChannelValues.{boardLent, OfChannel, EvalsChannel}
-use Rattle.initial_state.specs.Promises.{AtStart, Laid, LaysInitials}
+use Rattle.initial_state.specs.Promises.{AtStart, LaysInitials}
 
 -- ---- so many zeros
 abbrev pub zerosOf : ℕ → List ℕ

@@ -1,5 +1,5 @@
 -- What laying the state at the start promises: wherever the rules lead from a file's initial values to a state, the words are that state's.
-use Prim.Native.Nat.{ℕ, _≤_}
+use Prim.Native.Nat.{ℕ}
 use mathlib.Core.List.{List}
 use mathlib.Core.Path.{_≡_}
 use lib.ListN.{length, drop, take, replicate}

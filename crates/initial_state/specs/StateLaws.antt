@@ -4,11 +4,10 @@ use mathlib.Core.List.{List}
 use mathlib.Core.Path.{_≡_, sym, ap, _∙_, subst}
 use native.Mathlib.Omega.{arith}
 use lib.ListN.{length, take, drop, set, replicate, length-set, length-replicate}
-use lib.Seq.{take-all, drop-set-lt, drop-set-add, getD-set-same}
+use lib.Seq.{take-all, drop-set-lt, getD-set-same}
 use Rattle.language.specs.Limits.{channelsMost, cellWords}
-use Rattle.language.specs.Syntax.{File, initialValues}
-use Rattle.language.specs.Slide.{State}
-use Rattle.language.specs.Layout.{padded, stateLength, stateWords, allZero}
+use Rattle.language.specs.Syntax.{File}
+use Rattle.language.specs.Layout.{stateLength, allZero}
 use Rattle.theory.specs.Padding.{zeros-zero}
 use Rattle.index.specs.declared.Counts.{Counts}
 use Rattle.index.specs.Sections.{countsIn}
@@ -19,7 +18,7 @@ use Rattle.state_words.specs.StateLaws.{HoldsState, held-words}
 use Rattle.new_cells.specs.Steps.{Board as BoardHas}
 use Rattle.ends.specs.Told.{TellsInitials}
 use Rattle.ends.specs.Initials.{initials-long}
-use Rattle.initial_state.specs.Promises.{LaysState, AtStart, Laid, LaysInitials}
+use Rattle.initial_state.specs.Promises.{LaysState, AtStart, LaysInitials}
 use Rattle.initial_state.specs.LayLaws.{zerosOf, zeros-back}
 
 pub cleared-board : {words words₀ : List ℕ} → words₀ ≡ replicate (length words) 0 → BoardHas words 0 → BoardHas words₀ 0

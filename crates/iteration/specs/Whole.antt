@@ -25,8 +25,6 @@ use Rattle.new_cells.specs.Steps.{Kept}
 use Rattle.evaluator.specs.ChannelValues.{boardLent}
 use Rattle.iteration.specs.declared.nodes.Updated.{Updated}
 use Rattle.iteration.specs.declared.nodes.Updated.the-variants.{Used, Refused}
-use Rattle.iteration.specs.declared.Iteration.{Iteration}
-use Rattle.iteration.specs.declared.Iteration.the-variants.{Done, Refused as RefusedAt}
 use Rattle.iteration.specs.Promises.{AgreesNodes, asValue}
 
 -- ---- what may be rested on: a board's words, with so many cells used, and few channels
@@ -47,10 +45,6 @@ abbrev pub fullAt : Inputs → Updated
 fullAt (FedUsed used) = Refused noRefusal 0
 fullAt (Full c) = Refused heapSpent c
 
-abbrev pub endedBy : Updated → Iteration
-endedBy (Used used) = RefusedAt noRefusal 0
-endedBy (Refused n c) = RefusedAt n c
-
 -- ---- a valid state and an allowed line of a file that the index tells
 pub record Given (text index line : List ℕ) (cells : ℕ) (words : List ℕ) (P : File) (s : State) (vs : List Tree) : Type 0 where
   pub indexed : Indexed text index P
@@ -64,11 +58,11 @@ pub record FeedsAndUpdates (text index line : List ℕ) (cells calls : ℕ) (row
   pub kept : Kept words words′ (usedIn words) (asValue r)
   pub long : length slots′ ≡ length slots
 
-pub data AgreesIteration (P : File) (cells : ℕ) (words words′ : List ℕ) : Iteration → Result State → Type 0 where
-  is-done : {after : State} → words′ ≡ written cells after words → AgreesIteration P cells words words′ Done (ok after)
-  is-refused : {n c : ℕ} → words′ ≡ words → AgreesIteration P cells words words′ (RefusedAt n c) (no n (channelFrame P c))
+pub data AgreesIteration (P : File) (cells : ℕ) (words words′ : List ℕ) : Updated → Result State → Type 0 where
+  is-done : {after : State} {used : ℕ} → words′ ≡ written cells after words → AgreesIteration P cells words words′ (Used used) (ok after)
+  is-refused : {n c : ℕ} → words′ ≡ words → AgreesIteration P cells words words′ (Refused n c) (no n (channelFrame P c))
 
-pub record IteratesState (text index line : List ℕ) (cells calls : ℕ) (words scratch slots : List ℕ) (r : Iteration) (words′ scratch′ slots′ : List ℕ) : Type 0 where
+pub record IteratesState (text index line : List ℕ) (cells calls : ℕ) (words scratch slots : List ℕ) (r : Updated) (words′ scratch′ slots′ : List ℕ) : Type 0 where
   pub says : {P : File} {s : State} {vs : List Tree} → Given text index line cells words P s vs → scratch ≡ replicate (length scratch) 0 → AgreesIteration P cells words words′ r (iterateState P (boardLent cells slots calls) s vs)
   pub clean : scratch ≡ replicate (length scratch) 0 → scratch′ ≡ scratch
   pub long : length slots′ ≡ length slots

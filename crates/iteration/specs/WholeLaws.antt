@@ -41,10 +41,8 @@ use Rattle.evaluator.specs.KeepLaws.{Moved, moved-by}
 use Rattle.evaluator.specs.ChannelValues.{boardLent}
 use Rattle.iteration.specs.declared.nodes.Updated.{Updated}
 use Rattle.iteration.specs.declared.nodes.Updated.the-variants.{Used, Refused}
-use Rattle.iteration.specs.declared.Iteration.{Iteration}
-use Rattle.iteration.specs.declared.Iteration.the-variants.{Done, Refused as RefusedAt}
 use Rattle.iteration.specs.Promises.{RowIs, AgreesNodes, are-updated, not-updated, asValue}
-use Rattle.iteration.specs.Whole.{Begun, ChannelsTaken, ChannelsPut, endedBy, Given, FeedsAndUpdates, is-done, is-refused, IteratesState}
+use Rattle.iteration.specs.Whole.{Begun, ChannelsTaken, ChannelsPut, Given, FeedsAndUpdates, is-done, is-refused, IteratesState}
 
 -- ---- taken
 pub record TakenTo (words row : List ℕ) (c : ℕ) : Type 0 where
@@ -179,11 +177,10 @@ module _ (text index line : List ℕ) (cells calls : ℕ) (words scratch slots :
   nothing-behind : (words₂ : List ℕ) → length words₂ ≡ length words → drop (stateLength cells) words₂ ≡ []
   nothing-behind words₂ long = ap (λ n. drop n words₂) (sym (b .board) ∙ sym long) ∙ drop-length words₂
 
-  pub iterates-refused : {used n c : ℕ} {words₂ : List ℕ} {r : Iteration} → used ≡ usedIn words → x ≡ Refused n c → words₂ ≡ cleared words₁ used cells → r ≡ endedBy x → IteratesState text index line cells calls words scratch slots r words₂ scratch slots₁
+  pub iterates-refused : {used n c : ℕ} {words₂ : List ℕ} → used ≡ usedIn words → x ≡ Refused n c → words₂ ≡ cleared words₁ used cells → IteratesState text index line cells calls words scratch slots x words₂ scratch slots₁
   unfolding bind
-  iterates-refused {used} {n} {c} {words₂} {r} u d w q =
-      let told : r ≡ RefusedAt n c = q ∙ ap endedBy d in
-      rw told (record {
+  iterates-refused {used} {n} {c} {words₂} u d w =
+      subst (λ r. IteratesState text index line cells calls words scratch slots r words₂ scratch slots₁) (sym d) (record {
         says = λ {P} {s} {vs} g zero. rw (whole-is P cells (length slots) calls s vs, not-full (f .says g taken) d) (is-refused (w ∙ cleared-restores words words₁ used cells (omega (arith, u, b .used)) (omega (arith, b .board))
             (ap (λ m. allZero (take (cellWords * (cells - m)) (drop (stateLength m) words))) (u ∙ held g .used) ∙ held g .beyond)
             (ap (λ m. take (stateLength m) words₁) u ∙ f .kept .low ∙ ap (λ m. take (stateLength m) words) (sym u))
@@ -274,7 +271,7 @@ module _ (text index line : List ℕ) (cells calls : ℕ) (words scratch slots :
           beyond = beyond;
         }
 
-      pub iterates-done : {words₃ scratch₃ : List ℕ} → Collects index n top words₂ scratch words₃ scratch₃ → IteratesState text index line cells calls words scratch slots Done words₃ scratch₃ slots₁
+      pub iterates-done : {words₃ scratch₃ : List ℕ} → Collects index n top words₂ scratch words₃ scratch₃ → IteratesState text index line cells calls words scratch slots (Used top) words₃ scratch₃ slots₁
       unfolding bind written
       iterates-done {words₃} {scratch₃} c = record {
         says = λ {P} {s} {vs} g zero. rw (whole-is P cells (length slots) calls s vs, last g .is) (is-done (c .says cells (last g .full .heap) (unslid g) zero ∙

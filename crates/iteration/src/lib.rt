@@ -4,7 +4,7 @@ pub mod nodes;
 ghost use mathlib.Core.Path.{_≡_};
 ghost use Prim.Native.Nat.{_≤_};
 ghost use lib.ListN.{length};
-ghost use Rattle.iteration.specs.Whole.{ChannelsTaken, ChannelsPut, FeedsAndUpdates, Begun, IteratesState, fullAt, endedBy};
+ghost use Rattle.iteration.specs.Whole.{ChannelsTaken, ChannelsPut, FeedsAndUpdates, Begun, IteratesState, fullAt};
 use ends::find_ends;
 use index::INDEX_WORDS;
 use index::frame_counts;
@@ -23,12 +23,6 @@ use state_words::channel_cell;
 use state_words::clear_cells;
 use state_words::put_channel_cell;
 use state_words::used_cells;
-
-// How an iteration ended: with a new state, or with a refusal at a channel, counted from 0.
-pub enum Iteration {
-    Done,
-    Refused(u32, u32),
-}
 
 // The channels' cells as they are before the line.
 fn take_channels(state: &[u32], channels: &mut [u32; CHANNELS_MOST])
@@ -62,16 +56,6 @@ fn full_at(x: Inputs) -> Updated
     }
 }
 
-// The refusal that ended an iteration.
-fn ended_by(x: Updated) -> Iteration
-    ensures { λ r. ⌜ r ≡ endedBy x ⌝ }
-{
-    match x {
-        Updated::Used(_) => Iteration::Refused(NO_REFUSAL, 0),
-        Updated::Refused(n, c) => Iteration::Refused(n, c),
-    }
-}
-
 // The inputs' values laid, and all nodes updated.
 fn feed_and_update(
     text: &[u8],
@@ -96,7 +80,7 @@ fn feed_and_update(
     update_nodes(text, index, &ends, channels, state, slots, fed, calls)
 }
 
-// The whole: a refusal leaves the state as it was.
+// The whole: a refusal leaves the state as it was; else it is slid.
 pub fn iterate_state(
     text: &[u8],
     index: &[u32; INDEX_WORDS],
@@ -106,7 +90,7 @@ pub fn iterate_state(
     line: &[u8],
     cells: u32,
     calls: u32,
-) -> Iteration
+) -> Updated
     requires { ⌜ Begun (now index) (now state) cells ⌝ }
     requires { ⌜ cells ≤ length (now scratch) ⌝ }
     ensures { λ r. ⌜ IteratesState (now (text .entry)) (now (index .entry)) (now (line .entry)) cells calls (now (state .entry)) (now (scratch .entry)) (now (slots .entry)) r (now (state .exit)) (now (scratch .exit)) (now (slots .exit)) ⌝ }
@@ -117,11 +101,11 @@ pub fn iterate_state(
     let x = feed_and_update(text, index, &mut channels, state, slots, line, cells, calls);
     let Updated::Used(top) = x else {
         clear_cells(state, used, cells);
-        return ended_by(x);
+        return x;
     };
     let counts = frame_counts(index);
     let n = counts.inputs + counts.nodes;
     put_channels(state, &channels, n);
     collect(index, state, scratch, n, top);
-    Iteration::Done
+    x
 }

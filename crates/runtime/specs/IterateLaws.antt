@@ -23,8 +23,8 @@ use Rattle.reader.specs.Texts.{TextRead}
 use Rattle.plain_types.specs.Verdicts.{verdict, JudgesAll}
 use Rattle.plain_types.specs.JudgeLaws.{plain-types-verdict, verdict-refused, verdict-well}
 use Rattle.heads.specs.Places.{channelLineOf}
-use Rattle.iteration.specs.declared.Iteration.{Iteration}
-use Rattle.iteration.specs.declared.Iteration.the-variants.{Done, Refused}
+use Rattle.iteration.specs.declared.nodes.Updated.{Updated}
+use Rattle.iteration.specs.declared.nodes.Updated.the-variants.{Used, Refused}
 use Rattle.checker.specs.declared.Board.{Board}
 use Rattle.checker.specs.declared.Answer.{Answer}
 use Rattle.checker.specs.Checks.{boardOf, said, refusalOf, readAnswer, ReadHeld}
@@ -36,10 +36,10 @@ use Rattle.runtime.specs.BufferLaws.{Enough, enough-is}
 pub frame-is : (index : List ℕ) (c : ℕ) {line : ℕ} → line ≡ channelLineOf index c → line + 1 ≡ frameAt index c
 frame-is index c e = ap (λ i. i + 1) e
 
-pub answer-done : (index : List ℕ) {x : Iteration} {r : Answer} → x ≡ Done → r ≡ refusalOf noRefusal noFrame → r ≡ answerOf index x
+pub answer-done : (index : List ℕ) {x : Updated} {used : ℕ} {r : Answer} → x ≡ Used used → r ≡ refusalOf noRefusal noFrame → r ≡ answerOf index x
 answer-done index d q = q ∙ ap (answerOf index) (sym d)
 
-pub answer-refused : (index : List ℕ) {x : Iteration} {n c frame : ℕ} {r : Answer} → x ≡ Refused n c → frame ≡ frameAt index c → r ≡ refusalOf n frame → r ≡ answerOf index x
+pub answer-refused : (index : List ℕ) {x : Updated} {n c frame : ℕ} {r : Answer} → x ≡ Refused n c → frame ≡ frameAt index c → r ≡ refusalOf n frame → r ≡ answerOf index x
 answer-refused index {n = n} d f q = q ∙ ap (refusalOf n) f ∙ ap (answerOf index) (sym d)
 
 -- ---- the board's words, of a longer buffer

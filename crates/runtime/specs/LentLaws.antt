@@ -25,7 +25,7 @@ use Rattle.state_words.specs.StateLaws.{loaded-held}
 use Rattle.cell_check.specs.CellLaws.{some-of, none-of}
 use Rattle.state_check.specs.Loads.{StateJudged}
 use Rattle.input_line.specs.Judges.{LineJudged}
-use Rattle.iteration.specs.declared.Iteration.{Iteration}
+use Rattle.iteration.specs.declared.nodes.Updated.{Updated}
 use Rattle.iteration.specs.Whole.{Begun, Given, AgreesIteration, is-done, is-refused, IteratesState}
 use Rattle.checker.specs.declared.Answer.{Answer}
 use Rattle.checker.specs.Checks.{refusalOf}
@@ -36,7 +36,7 @@ frame-found : {text index : List ℕ} {P : File} (c : ℕ) → Indexed text inde
 frame-found c x less = omega (arith, channel-line c x less)
 
 -- what an iteration answered
-told-by : {text index line : List ℕ} {cells : ℕ} {words : List ℕ} {P : File} (b : Board) {s : State} {vs : List Tree} {words₂ : List ℕ} {x : Iteration} {o : Result State} {r : Answer} → Given text index line cells words P s vs → iterateState P b s vs ≡ o →
+told-by : {text index line : List ℕ} {cells : ℕ} {words : List ℕ} {P : File} (b : Board) {s : State} {vs : List Tree} {words₂ : List ℕ} {x : Updated} {o : Result State} {r : Answer} → Given text index line cells words P s vs → iterateState P b s vs ≡ o →
     AgreesIteration P cells words words₂ x o → r ≡ answerOf index x → Told cells words r words₂ o
 told-by b g e (is-done w) q = told-done q w
 told-by {line = line} {P = P} b {s} {vs} g e (is-refused {n} {c} w) q =
@@ -84,7 +84,7 @@ module _ (text index line : List ℕ) (cells calls : ℕ) (words scratch slots :
         long = refl;
       }
 
-      pub lent-iterated : {x : Iteration} {words₂ scratch₂ slots₂ : List ℕ} {r : Answer} → allowed ≡ true → IteratesState text index line cells calls words scratch₁ slots x words₂ scratch₂ slots₂ → r ≡ answerOf index x →
+      pub lent-iterated : {x : Updated} {words₂ scratch₂ slots₂ : List ℕ} {r : Answer} → allowed ≡ true → IteratesState text index line cells calls words scratch₁ slots x words₂ scratch₂ slots₂ → r ≡ answerOf index x →
           IteratesLent text index line cells calls words scratch slots r words₂ scratch₂ slots₂
       unfolding from
       lent-iterated {x} good w q =

@@ -4,10 +4,9 @@ use mathlib.Core.List.{List}
 use mathlib.Core.Bool.{Bool}
 use mathlib.Core.Path.{_≡_}
 use lib.ListN.{length, replicate}
-use lib.Dec.{leb}
-use Rattle.language.specs.Limits.{cellsMost, scratchWords}
+use Rattle.language.specs.Limits.{cellsMost}
 use Rattle.language.specs.Refusals.{noRefusal, noFrame, notLent, badInputLine}
-use Rattle.language.specs.Result.{Result, ok, no, from, both}
+use Rattle.language.specs.Result.{Result, ok, no, from}
 use Rattle.language.specs.Syntax.{File}
 use Rattle.language.specs.Slide.{State}
 use Rattle.language.specs.Layout.{stateLength, loadState}
@@ -16,8 +15,8 @@ use Rattle.language.specs.PlainTyping.{WellPlain}
 use Rattle.language.specs.Machine.{Board as MachineBoard, Iterated, lengthsLent, written, iterateState, iterateFile, iterate}
 use Rattle.index.specs.Indexed.{Indexed}
 use Rattle.heads.specs.Places.{channelLineOf}
-use Rattle.iteration.specs.declared.Iteration.{Iteration}
-use Rattle.iteration.specs.declared.Iteration.the-variants.{Done, Refused}
+use Rattle.iteration.specs.declared.nodes.Updated.{Updated}
+use Rattle.iteration.specs.declared.nodes.Updated.the-variants.{Used, Refused}
 use Rattle.evaluator.specs.ChannelValues.{boardLent}
 use Rattle.checker.specs.declared.Board.{Board}
 use Rattle.checker.specs.declared.Answer.{Answer}
@@ -34,8 +33,8 @@ pub record LendsAll (b : Board) (state scratch slots : ℕ) (r : Bool) : Type 0 
 abbrev pub frameAt : List ℕ → ℕ → ℕ
 frameAt index c = channelLineOf index c + 1
 
-abbrev pub answerOf : List ℕ → Iteration → Answer
-answerOf index Done = refusalOf noRefusal noFrame
+abbrev pub answerOf : List ℕ → Updated → Answer
+answerOf index (Used used) = refusalOf noRefusal noFrame
 answerOf index (Refused n c) = refusalOf n (frameAt index c)
 
 pub record Cleared (scratch : List ℕ) : Type 0 where

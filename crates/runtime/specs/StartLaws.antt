@@ -14,7 +14,7 @@ use Rattle.language.specs.PlainTypes.{plainTypes}
 use Rattle.language.specs.Layout.{stateLength, stateWords}
 use Rattle.language.specs.InitialValues.{FileBegins}
 use Rattle.language.specs.Machine.{Accepted, answer, checkFile, verdictOf, finalList, listLent, lengthsLent, buffersLent, startState, written, startWords, start}
-use Rattle.theory.specs.Lists.{both-left, both-right}
+use Rattle.theory.specs.Lists.{both-left}
 use Rattle.theory.specs.StateWords.{state-loaded}
 use Rattle.theory.specs.Starts.{start-writes, starts}
 use Rattle.theory.specs.StartSteps.{start-by-rules}

@@ -16,8 +16,8 @@ use index::clear;
 use initial_state::put_initial_state;
 use input_line::allowed_line;
 use instances::clear as clear_list;
-use iteration::Iteration;
 use iteration::iterate_state;
+use iteration::nodes::Updated;
 use language::limits::SCRATCH_WORDS;
 use language::refusals::BAD_INPUT_LINE;
 use language::refusals::NO_FRAME;
@@ -118,12 +118,12 @@ fn channel_frame(index: &[u32; INDEX_WORDS], c: u32) -> u32
 }
 
 // The answer of an iteration.
-fn iteration_answer(index: &[u32; INDEX_WORDS], x: Iteration) -> Answer
+fn iteration_answer(index: &[u32; INDEX_WORDS], x: Updated) -> Answer
     ensures { λ r. ⌜ r ≡ answerOf (now (index .entry)) x ⌝ }
 {
     match x {
-        Iteration::Done => refusal(NO_REFUSAL, NO_FRAME),
-        Iteration::Refused(n, c) => refusal(n, channel_frame(index, c)),
+        Updated::Used(_) => refusal(NO_REFUSAL, NO_FRAME),
+        Updated::Refused(n, c) => refusal(n, channel_frame(index, c)),
     }
 }
 
