@@ -25,13 +25,13 @@ clear-cells-requires : tie.Need-clear-cells-requires
 clear-cells-requires c κs = (omega (arith, (c .before .before .before .before .before .before .before .before .before .before .before .used-cells .ensures), (c .before .before .before .before .before .before .before .before .before .before .before .before .before .before .before .before .before .before .before .before .before .pre .0 .used)), omega (arith, (c .before .before .before .before .before .before .before .before .before .before .before .before .before .before .before .before .before .before .before .before .before .pre .0 .board), (c .before .before .before .before .before .before .before .feed-and-update .ensures .kept .long)))
 
 same-length : tie.Need-same-length
-same-length c = (c .before .before .before .clear-cells .kept .0) ∙ (c .before .before .before .before .before .before .before .before .before .before .before .feed-and-update .ensures .kept .long)
+same-length c = (c .before .before .clear-cells .kept .0) ∙ (c .before .before .before .before .before .before .before .before .before .before .feed-and-update .ensures .kept .long)
 
 same-length-2 : tie.Need-same-length-2
-same-length-2 c = (c .before .before .before .before .before .before .before .before .before .before .before .feed-and-update .ensures .long)
+same-length-2 c = (c .before .before .before .before .before .before .before .before .before .before .feed-and-update .ensures .long)
 
 returns : tie.Need-returns
-returns c = iterates-refused _ _ _ _ _ _ _ _ (c .before .before .before .before .before .before .before .before .before .before .before .before .before .before .before .before .before .before .before .before .before .before .before .before .before .pre .0) (c .before .before .before .before .before .before .before .before .before .before .before .before .before .before .before .before .before .take-channels .ensures) (c .before .before .before .before .before .before .before .before .before .before .before .feed-and-update .ensures) (c .before .before .before .before .before .before .before .before .before .before .before .before .before .before .before .used-cells .ensures) (c .before .before .before .before .before .enum-told .given .1) (c .before .before .before .clear-cells .ensures) (c .ended-by .ensures)
+returns c = iterates-refused _ _ _ _ _ _ _ _ (c .before .before .before .before .before .before .before .before .before .before .before .before .before .before .before .before .before .before .before .before .before .before .before .before .pre .0) (c .before .before .before .before .before .before .before .before .before .before .before .before .before .before .before .before .take-channels .ensures) (c .before .before .before .before .before .before .before .before .before .before .feed-and-update .ensures) (c .before .before .before .before .before .before .before .before .before .before .before .before .before .before .used-cells .ensures) (c .before .before .before .before .enum-told .given .1) (c .before .before .clear-cells .ensures)
 
 frame-counts-requires : tie.Need-frame-counts-requires
 frame-counts-requires c κs = tt
