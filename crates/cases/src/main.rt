@@ -1,7 +1,7 @@
 // Document 01's cases that are no theorems, and damaged files, each answer on a line. First the reader's, number and frame, on small
 // files and damaged ones; then the checker's, number, frame, heap, environment and stack, on listing 3 with boards that fit and that
 // fall short by one, and on the two-frame file.
-use checker::Board;
+use answers::Board;
 use checker::check;
 use instances::INSTANCE_WORDS;
 use language::limits::CALLS_MOST;

@@ -1,6 +1,6 @@
 // Checks the rule file on standard input with the largest board, and writes the answer on one line.
-use checker::Answer;
-use checker::Board;
+use answers::Answer;
+use answers::Board;
 use checker::check;
 use instances::INSTANCE_WORDS;
 use language::limits::CALLS_MOST;

@@ -7,9 +7,10 @@ use lib.ListN.{length}
 use Rattle.language.specs.Machine.{listLent}
 use Rattle.language.specs.Acceptance.{CheckerDemand}
 use Rattle.theory.specs.CheckerDemands.{check-demand}
-use Rattle.checker.specs.declared.Board.{Board}
-use Rattle.checker.specs.declared.Answer.{Answer}
-use Rattle.checker.specs.Checks.{boardOf, said, recordsOf, Checks}
+use Rattle.answers.specs.declared.Board.{Board}
+use Rattle.answers.specs.declared.Answer.{Answer}
+use Rattle.answers.specs.Boards.{boardOf, said, recordsOf}
+use Rattle.checker.specs.Checks.{Checks}
 
 pub checked-demand : {text : List ℕ} {b : Board} {list list′ : List ℕ} {r : Answer} → Checks text b list r list′ → CheckerDemand text (listLent (boardOf b) (recordsOf (length list))) (boardOf b) (said r)
 checked-demand {text} {b} {list} c = subst (CheckerDemand text _ (boardOf b)) (sym (c .answer)) (check-demand text (boardOf b) (recordsOf (length list)))

@@ -25,9 +25,10 @@ use Rattle.size_steps.specs.declared.Counting.the-variants.{Are, Refused}
 use Rattle.size_steps.specs.Agreement.{table, Holds, Before, before-6, before-9}
 use Rattle.size_laws.specs.Promises.{lent}
 use Rattle.size_laws.specs.FilePromises.{AgreesFile, file-agrees, file-refused, file-beyond, SizesFile}
-use Rattle.checker.specs.declared.Board.{Board}
-use Rattle.checker.specs.declared.Answer.{Answer}
-use Rattle.checker.specs.Checks.{numbersOf, Granted, ChecksGiven, refusalOf, sizingRefusal, ReadHeld, Needs, Judges}
+use Rattle.answers.specs.declared.Board.{Board}
+use Rattle.answers.specs.declared.Answer.{Answer}
+use Rattle.answers.specs.Boards.{numbersOf, Granted, refusalOf, Judges}
+use Rattle.checker.specs.Checks.{ChecksGiven, sizingRefusal, ReadHeld, Needs}
 use Rattle.checker.specs.Outcomes.{sizesOf, refused, not-enough, enough-lent}
 
 -- the numbers and the instances of a file whose sizes agree

@@ -16,7 +16,8 @@ use Rattle.instances.specs.Listed.{instanceWordsCount, flat}
 use Rattle.instances.specs.ListLaws.{flat-length, listed-parts}
 use Rattle.instances.specs.Records.{recordWords, flat-records, empty-records}
 use Rattle.size_steps.specs.Agreement.{table, Holds}
-use Rattle.checker.specs.Checks.{recordsOf, wordsOf}
+use Rattle.answers.specs.Boards.{recordsOf}
+use Rattle.checker.specs.Checks.{wordsOf}
 
 -- zeros filled up with zeros, alone and behind other words
 padded-zeros : (n k : ℕ) → padded n (replicate k 0) ≡ replicate n 0

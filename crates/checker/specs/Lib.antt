@@ -1,6 +1,5 @@
 pub mod Checks
 pub mod FinalLists
-pub mod VerdictLaws
 pub mod NeedLaws
 pub mod Outcomes
 pub mod ReadLaws

@@ -17,7 +17,8 @@ use Rattle.index.specs.Indexed.{Counted}
 use Rattle.cells.specs.Counts.{Right, CountsChannels}
 use Rattle.cells.specs.TableLaws.{right-nothing}
 use Rattle.cells.specs.ChannelLaws.{all-channels-counted, inputs-counted}
-use Rattle.checker.specs.Checks.{numbersOf, Needs}
+use Rattle.answers.specs.Boards.{numbersOf}
+use Rattle.checker.specs.Checks.{Needs}
 
 channel-count : (P : File) → length (declaredTypes P) ≡ length (P .inputs) + length (P .nodes)
 channel-count P = omega (

@@ -13,11 +13,12 @@ use Rattle.language.specs.Machine.{Accepted, accepted, Verdict, answer, judge, 
 use Rattle.estimate.specs.declared.Estimate.{Estimate as Held}
 use Rattle.instances.specs.Listed.{instanceWordsCount}
 use Rattle.size_steps.specs.Agreement.{table, Holds}
-use Rattle.checker.specs.declared.Board.{Board}
-use Rattle.checker.specs.declared.Answer.{Answer}
-use Rattle.checker.specs.Checks.{boardOf, numbersOf, said, recordsOf, wordsOf, ChecksGiven, Checks, refusalOf, Lends, Judges}
+use Rattle.answers.specs.declared.Board.{Board}
+use Rattle.answers.specs.declared.Answer.{Answer}
+use Rattle.answers.specs.Boards.{boardOf, numbersOf, said, recordsOf, refusalOf, Lends, Judges}
+use Rattle.checker.specs.Checks.{wordsOf, ChecksGiven, Checks}
 use Rattle.checker.specs.FinalLists.{cleared, listed}
-use Rattle.checker.specs.VerdictLaws.{number-accepts, number-refuses}
+use Rattle.answers.specs.JudgeLaws.{number-accepts, number-refuses}
 
 -- what the size checker says of a file
 abbrev pub sizesOf : File → Result Accepted

@@ -16,9 +16,10 @@ use Rattle.reader.specs.declared.Reading.{Reading}
 use Rattle.reader.specs.declared.Reading.the-variants.{Done, Fault}
 use Rattle.reader.specs.Texts.{TextRead, done, fault}
 use Rattle.reader.specs.Indexes.{read-indexes}
-use Rattle.checker.specs.declared.Board.{Board}
-use Rattle.checker.specs.declared.Answer.{Answer}
-use Rattle.checker.specs.Checks.{boardOf, recordsOf, ChecksGiven, Checks, readAnswer, ReadHeld}
+use Rattle.answers.specs.declared.Board.{Board}
+use Rattle.answers.specs.declared.Answer.{Answer}
+use Rattle.answers.specs.Boards.{boardOf, recordsOf, readAnswer}
+use Rattle.checker.specs.Checks.{ChecksGiven, Checks, ReadHeld}
 use Rattle.checker.specs.Outcomes.{sizesOf, refused, checked}
 
 -- ---- refused

@@ -1,86 +1,29 @@
 // The checker of rule files: refusals 1 to 18, the three bounds, and the list of instances.
 ghost use mathlib.Core.Path.{_≡_};
-ghost use Rattle.checker.specs.Checks.{refusalOf, boundsOf, readAnswer, sizingRefusal, ReadHeld, Allows, Lends, Granted, Needs, Judges, ChecksGiven, Checks};
+ghost use Rattle.checker.specs.Checks.{sizingRefusal, ReadHeld, Needs, ChecksGiven, Checks};
+ghost use Rattle.answers.specs.Boards.{Granted};
+use answers::Answer;
+use answers::Board;
+use answers::judge;
+use answers::lent;
+use answers::read_answer;
+use answers::refusal;
 use cells::CELLS_TABLE;
 use cells::channels_cells;
 use estimate::Estimate;
 use estimate::capped_sum;
 use index::INDEX_WORDS;
 use index::frame_counts;
-use instances::INSTANCE_WORDS;
 use instances::clear;
-use language::limits::CALLS_MOST;
-use language::limits::CELLS_MOST;
-use language::limits::INSTANCES_MOST;
-use language::limits::SLOTS_MOST;
-use language::refusals::ENVIRONMENT_SHORT;
-use language::refusals::HEAP_SHORT;
 use language::refusals::NO_FRAME;
 use language::refusals::NO_REFUSAL;
 use language::refusals::NOT_LENT;
-use language::refusals::STACK_SHORT;
 use language::refusals::TYPES_DISAGREE;
 use plain_types::plain_types;
 use reader::Reading;
 use reader::read;
 use size_checker::file::sized_file;
 use size_steps::Counting;
-
-// The least words of a list of instances.
-const LIST_LEAST: usize = INSTANCES_MOST * INSTANCE_WORDS;
-
-// What a board has.
-pub struct Board {
-    pub cells: u32,
-    pub slots: u32,
-    pub calls: u32,
-}
-
-// A number (0 where all is well), a frame (from 1; 0 where none is named) and three bounds.
-#[repr(C)]
-pub struct Answer {
-    pub number: u32,
-    pub frame: u32,
-    pub heap: u32,
-    pub environment: u32,
-    pub stack: u32,
-}
-
-// A refusal without bounds.
-pub fn refusal(number: u32, frame: u32) -> Answer
-    ensures { λ r. ⌜ r ≡ refusalOf number frame ⌝ }
-{
-    Answer {
-        number: number,
-        frame: frame,
-        heap: 0,
-        environment: 0,
-        stack: 0,
-    }
-}
-
-// An answer with bounds; it names no frame.
-fn bounds(number: u32, x: Estimate) -> Answer
-    ensures { λ r. ⌜ r ≡ boundsOf number x ⌝ }
-{
-    Answer {
-        number: number,
-        frame: NO_FRAME,
-        heap: x.heap,
-        environment: x.env,
-        stack: x.stack,
-    }
-}
-
-// The answer for a text as far as refusal 8: its refusal, or 0 where it was read.
-pub fn read_answer(x: Reading) -> Answer
-    ensures { λ r. ⌜ r ≡ readAnswer x ⌝ }
-{
-    match x {
-        Reading::Done => refusal(NO_REFUSAL, NO_FRAME),
-        Reading::Fault(n, f) => refusal(n, f),
-    }
-}
 
 // The refusal of a file whose sizes do not agree.
 fn sizing_refusal(x: Counting) -> Answer
@@ -90,29 +33,6 @@ fn sizing_refusal(x: Counting) -> Answer
         Counting::Are(_) => refusal(NO_REFUSAL, NO_FRAME),
         Counting::Refused(n, f) => refusal(n, f),
     }
-}
-
-// Whether the board is within its maximum.
-pub fn board_allowed(b: Board) -> bool
-    ensures { λ r. ⌜ Allows b r ⌝ }
-{
-    if CELLS_MOST < b.cells {
-        return false;
-    }
-    if SLOTS_MOST < b.slots {
-        return false;
-    }
-    b.calls <= CALLS_MOST
-}
-
-// Whether it is, and the list has so many records; else refusal 18.
-pub fn lent(b: Board, words: usize) -> bool
-    ensures { λ r. ⌜ Lends b words r ⌝ }
-{
-    if !board_allowed(b) {
-        return false;
-    }
-    LIST_LEAST <= words
 }
 
 // The numbers that a file needs: to the heap numbers of its updates come the cells of all channels and those of the inputs again.
@@ -130,22 +50,6 @@ fn needed(index: &[u32; INDEX_WORDS], updates: Estimate) -> Estimate
         heap: heap,
         stack: updates.stack,
     }
-}
-
-// Whether the board has what is needed: refusals 15, 16, 17, or acceptance.
-fn judge(b: Board, x: Estimate) -> Answer
-    ensures { λ r. ⌜ Judges b x r ⌝ }
-{
-    if b.cells < x.heap {
-        return bounds(HEAP_SHORT, x);
-    }
-    if b.slots < x.env {
-        return bounds(ENVIRONMENT_SHORT, x);
-    }
-    if b.calls < x.stack {
-        return bounds(STACK_SHORT, x);
-    }
-    bounds(NO_REFUSAL, x)
 }
 
 // Checks a file that was read: plain types, what is lent, sizes, and what the board has. Whether enough is lent was judged before.

@@ -9,9 +9,10 @@ use Rattle.theory.specs.Padding.{padded-length}
 use Rattle.theory.specs.FileAnswers.{check-answers, start-answers}
 use Rattle.theory.specs.LineAnswers.{iterate-answers}
 use Rattle.instances.specs.Listed.{instanceWordsCount}
-use Rattle.checker.specs.declared.Board.{Board}
-use Rattle.checker.specs.declared.Answer.{Answer}
-use Rattle.checker.specs.Checks.{boardOf, said, recordsOf, wordsOf, Checks}
+use Rattle.answers.specs.declared.Board.{Board}
+use Rattle.answers.specs.declared.Answer.{Answer}
+use Rattle.answers.specs.Boards.{boardOf, said, recordsOf}
+use Rattle.checker.specs.Checks.{wordsOf, Checks}
 use Rattle.checker.specs.FinalLists.{cleared}
 use Rattle.runtime.specs.Starts.{Starts}
 use Rattle.runtime.specs.Runs.{Iterates}

@@ -24,9 +24,10 @@ use Rattle.language.specs.Answers.{Refused, FileAnswer, IterateAnswers}
 use Rattle.language.specs.Acceptance.{TextOf, CheckerDemand}
 use Rattle.language.specs.Evaluation.{NotLent, LineWrong, FileIterates, FileMeets}
 use Rattle.language.specs.Run.{channelTrees, Call, StartAllowed, CallAllowed, Holds, lineVerdict}
-use Rattle.checker.specs.declared.Board.{Board}
-use Rattle.checker.specs.declared.Answer.{Answer}
-use Rattle.checker.specs.Checks.{boardOf, said, recordsOf, Checks}
+use Rattle.answers.specs.declared.Board.{Board}
+use Rattle.answers.specs.declared.Answer.{Answer}
+use Rattle.answers.specs.Boards.{boardOf, said, recordsOf}
+use Rattle.checker.specs.Checks.{Checks}
 use Rattle.runtime.specs.Starts.{Starts}
 use Rattle.runtime.specs.Runs.{Iterates}
 

@@ -10,9 +10,9 @@ use Rattle.language.specs.Machine.{Iterated, listLent, buffersLent, iterate}
 use Rattle.language.specs.Acceptance.{CheckerDemand}
 use Rattle.theory.specs.CheckerDemands.{start-demand}
 use Rattle.theory.specs.StartSteps.{evaluator-demand}
-use Rattle.checker.specs.declared.Board.{Board}
-use Rattle.checker.specs.declared.Answer.{Answer}
-use Rattle.checker.specs.Checks.{boardOf, said, recordsOf}
+use Rattle.answers.specs.declared.Board.{Board}
+use Rattle.answers.specs.declared.Answer.{Answer}
+use Rattle.answers.specs.Boards.{boardOf, said, recordsOf}
 use Rattle.checker.specs.AcceptsExactly.{checked-demand}
 use Rattle.runtime.specs.Starts.{Starts}
 use Rattle.runtime.specs.Runs.{Iterates}

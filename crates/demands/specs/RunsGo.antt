@@ -10,9 +10,9 @@ use Rattle.language.specs.Machine.{answer}
 use Rattle.language.specs.PlainMachine.{initialTrees}
 use Rattle.language.specs.Run.{FirstCall, Call, Reported, begun, called, Goes, ends, goes, CallsAllowed, no-call, a-call, Run, Alike, both-end, both-go, linesIn}
 use Rattle.theory.specs.Demand.{demand-3}
-use Rattle.checker.specs.declared.Board.{Board}
-use Rattle.checker.specs.declared.Answer.{Answer}
-use Rattle.checker.specs.Checks.{boardOf, said, recordsOf}
+use Rattle.answers.specs.declared.Board.{Board}
+use Rattle.answers.specs.declared.Answer.{Answer}
+use Rattle.answers.specs.Boards.{boardOf, said, recordsOf}
 use Rattle.runtime.specs.Runs.{Iterates}
 use Rattle.demands.specs.Delivered.{LineCall, lentBy, Called, no-line, a-line, RunOf, GoesOn, at-end, goes-on, SameRuns, both-done, both-on, linesOf, AcceptedWith, Delivered3}
 

@@ -6,9 +6,10 @@ use Rattle.language.specs.Result.{Result, ok, no}
 use Rattle.language.specs.Syntax.{File}
 use Rattle.reader.specs.declared.Reading.{Reading}
 use Rattle.reader.specs.Texts.{TextRead, done, fault}
-use Rattle.checker.specs.declared.Board.{Board}
-use Rattle.checker.specs.declared.Answer.{Answer}
-use Rattle.checker.specs.Checks.{refusalOf, readAnswer, Checks}
+use Rattle.answers.specs.declared.Board.{Board}
+use Rattle.answers.specs.declared.Answer.{Answer}
+use Rattle.answers.specs.Boards.{refusalOf, readAnswer}
+use Rattle.checker.specs.Checks.{Checks}
 use Rattle.runtime.specs.Starts.{Starts}
 use Rattle.runtime.specs.Runs.{Iterates}
 

@@ -25,12 +25,13 @@ use Rattle.plain_types.specs.JudgeLaws.{plain-types-verdict, verdict-refused, v
 use Rattle.heads.specs.Places.{channelLineOf}
 use Rattle.iteration.specs.declared.nodes.Updated.{Updated}
 use Rattle.iteration.specs.declared.nodes.Updated.the-variants.{Used, Refused}
-use Rattle.checker.specs.declared.Board.{Board}
-use Rattle.checker.specs.declared.Answer.{Answer}
-use Rattle.checker.specs.Checks.{boardOf, said, refusalOf, readAnswer, ReadHeld}
+use Rattle.answers.specs.declared.Board.{Board}
+use Rattle.answers.specs.declared.Answer.{Answer}
+use Rattle.answers.specs.Boards.{boardOf, said, refusalOf, readAnswer, LendsAll}
+use Rattle.checker.specs.Checks.{ReadHeld}
 use Rattle.checker.specs.ReadLaws.{read-fault}
-use Rattle.runtime.specs.Runs.{Iterates, frameAt, answerOf, LendsAll, Cleared, Told, told-done, told-refused, onState, Lent, IteratesLent, IteratesRead}
-use Rattle.runtime.specs.BufferLaws.{Enough, enough-is}
+use Rattle.runtime.specs.Runs.{Iterates, frameAt, answerOf, Cleared, Told, told-done, told-refused, onState, Lent, IteratesLent, IteratesRead}
+use Rattle.answers.specs.LendLaws.{Enough, enough-is}
 
 -- ---- answers
 pub frame-is : (index : List ℕ) (c : ℕ) {line : ℕ} → line ≡ channelLineOf index c → line + 1 ≡ frameAt index c

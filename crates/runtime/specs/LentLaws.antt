@@ -27,8 +27,8 @@ use Rattle.state_check.specs.Loads.{StateJudged}
 use Rattle.input_line.specs.Judges.{LineJudged}
 use Rattle.iteration.specs.declared.nodes.Updated.{Updated}
 use Rattle.iteration.specs.Whole.{Begun, Given, AgreesIteration, is-done, is-refused, IteratesState}
-use Rattle.checker.specs.declared.Answer.{Answer}
-use Rattle.checker.specs.Checks.{refusalOf}
+use Rattle.answers.specs.declared.Answer.{Answer}
+use Rattle.answers.specs.Boards.{refusalOf}
 use Rattle.runtime.specs.Runs.{frameAt, answerOf, Told, told-done, told-refused, Lent, IteratesLent}
 
 -- the frame of a channel is found by the index

@@ -1,7 +1,6 @@
 -- What the calls promise that run a rule file: the machine's answer, and every lent buffer as it leaves it.
 use Prim.Native.Nat.{ℕ, _+_, _≤_}
 use mathlib.Core.List.{List}
-use mathlib.Core.Bool.{Bool}
 use mathlib.Core.Path.{_≡_}
 use lib.ListN.{length, replicate}
 use Rattle.language.specs.Limits.{cellsMost}
@@ -18,18 +17,15 @@ use Rattle.heads.specs.Places.{channelLineOf}
 use Rattle.iteration.specs.declared.nodes.Updated.{Updated}
 use Rattle.iteration.specs.declared.nodes.Updated.the-variants.{Used, Refused}
 use Rattle.evaluator.specs.ChannelValues.{boardLent}
-use Rattle.checker.specs.declared.Board.{Board}
-use Rattle.checker.specs.declared.Answer.{Answer}
-use Rattle.checker.specs.Checks.{boardOf, said, refusalOf}
+use Rattle.answers.specs.declared.Board.{Board}
+use Rattle.answers.specs.declared.Answer.{Answer}
+use Rattle.answers.specs.Boards.{boardOf, said, refusalOf}
 
 -- ---- the promise of the public function
 pub record Iterates (text : List ℕ) (b : Board) (state scratch slots line : List ℕ) (r : Answer) (state′ scratch′ slots′ : List ℕ) : Type 0 where
   pub is : _≡_ {A = Iterated} (record { answer = said r; state = state′; scratch = scratch′; slots = slots′ }) (iterate text (boardOf b) state scratch slots line)
 
 -- ---- the parts
-pub record LendsAll (b : Board) (state scratch slots : ℕ) (r : Bool) : Type 0 where
-  pub is : r ≡ lengthsLent (boardOf b) state scratch slots
-
 abbrev pub frameAt : List ℕ → ℕ → ℕ
 frameAt index c = channelLineOf index c + 1
 

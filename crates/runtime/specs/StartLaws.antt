@@ -1,7 +1,7 @@
 -- The start from the text on, return by return.
 use Prim.Native.Nat.{ℕ, _≤_}
 use mathlib.Core.List.{List, _++_}
-use mathlib.Core.Bool.{Bool, true, false}
+use mathlib.Core.Bool.{Bool}
 use mathlib.Core.Path.{_≡_, refl, sym, ap, subst, _∙_}
 use native.Mathlib.Omega.{arith}
 use lib.ListN.{length, take, drop, replicate, length-append, length-drop, length-replicate}
@@ -26,25 +26,15 @@ use Rattle.index.specs.Indexed.{Indexed}
 use Rattle.new_cells.specs.Steps.{Board as BoardHas}
 use Rattle.evaluator.specs.ChannelValues.{boardLent}
 use Rattle.initial_state.specs.Promises.{LaysState}
-use Rattle.checker.specs.declared.Board.{Board}
-use Rattle.checker.specs.declared.Answer.{Answer}
-use Rattle.checker.specs.Checks.{boardOf, said, recordsOf, wordsOf, readAnswer, ReadHeld, Lends, Granted, ChecksGiven}
-use Rattle.checker.specs.VerdictLaws.{list-room}
+use Rattle.answers.specs.declared.Board.{Board}
+use Rattle.answers.specs.declared.Answer.{Answer}
+use Rattle.answers.specs.Boards.{boardOf, said, recordsOf, readAnswer, Granted, LendsList}
+use Rattle.checker.specs.Checks.{wordsOf, ReadHeld, ChecksGiven}
+use Rattle.answers.specs.LendLaws.{list-room}
 use Rattle.checker.specs.ReadLaws.{read-fault, reading-refused}
 use Rattle.checker.specs.Outcomes.{sizesOf}
-use Rattle.runtime.specs.Runs.{LendsAll}
-use Rattle.runtime.specs.Starts.{started, LendsList, StartsRead, Starts}
-use Rattle.runtime.specs.BufferLaws.{Enough, enough-is}
-
--- ---- what is lent
-module _ {b : Board} {list state scratch slots : ℕ} {given : Bool} (l : Lends b list given) where
-  pub list-short : given ≡ false → LendsList b list state scratch slots false
-  unfolding both
-  list-short d = record { is = rw (← (l .is), d) refl }
-
-  pub list-long : {r : Bool} → given ≡ true → LendsAll b state scratch slots r → LendsList b list state scratch slots r
-  unfolding both
-  list-long d a = record { is = rw (← (l .is), d) (a .is) }
+use Rattle.runtime.specs.Starts.{started, StartsRead, Starts}
+use Rattle.answers.specs.LendLaws.{Enough, enough-is}
 
 -- ---- a file that was checked
 module _ (b : Board) (list state scratch slots : List ℕ) {given : Bool} (g : LendsList b (length list) (length state) (length scratch) (length slots) given) where

@@ -1,14 +1,13 @@
 -- What the call `start` promises: the machine's answer, and every lent buffer as it leaves it.
 use Prim.Native.Nat.{ℕ}
 use mathlib.Core.List.{List}
-use mathlib.Core.Bool.{Bool}
 use mathlib.Core.Path.{_≡_}
 use lib.ListN.{length}
-use Rattle.language.specs.Result.{both}
-use Rattle.language.specs.Machine.{Started, listLent, lengthsLent, start}
-use Rattle.checker.specs.declared.Board.{Board}
-use Rattle.checker.specs.declared.Answer.{Answer}
-use Rattle.checker.specs.Checks.{boardOf, said, recordsOf, wordsOf}
+use Rattle.language.specs.Machine.{Started, start}
+use Rattle.answers.specs.declared.Board.{Board}
+use Rattle.answers.specs.declared.Answer.{Answer}
+use Rattle.answers.specs.Boards.{boardOf, said, recordsOf}
+use Rattle.checker.specs.Checks.{wordsOf}
 
 -- the machine's start; the list is lent in words
 abbrev pub started : List ℕ → Board → List ℕ → List ℕ → List ℕ → List ℕ → Started
@@ -23,9 +22,6 @@ pub record Starts (text : List ℕ) (b : Board) (list state scratch slots : List
   pub slots-is : slots′ ≡ started text b list state scratch slots .slots
 
 -- ---- the parts
-pub record LendsList (b : Board) (list state scratch slots : ℕ) (r : Bool) : Type 0 where
-  pub is : r ≡ both (listLent (boardOf b) (recordsOf list)) (lengthsLent (boardOf b) state scratch slots)
-
 pub record StartsRead (text : List ℕ) (b : Board) (list state scratch slots : List ℕ) (r : Answer) (list′ state′ slots′ : List ℕ) : Type 0 where
   pub answer-is : said r ≡ started text b list state scratch slots .answer
   pub list-is : list′ ≡ wordsOf (length list) (started text b list state scratch slots .list)

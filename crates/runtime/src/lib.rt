@@ -1,15 +1,15 @@
 // The calls that run a rule file on a board: the start, and an iteration.
 ghost use mathlib.Core.Path.{_≡_};
 ghost use Rattle.checker.specs.Checks.{ReadHeld};
-ghost use Rattle.runtime.specs.Starts.{LendsList, StartsRead, Starts};
-ghost use Rattle.runtime.specs.Runs.{LendsAll, frameAt, answerOf, Cleared, Lent, IteratesLent, IteratesRead, Iterates};
-use checker::Answer;
-use checker::Board;
-use checker::board_allowed;
+ghost use Rattle.runtime.specs.Starts.{StartsRead, Starts};
+ghost use Rattle.runtime.specs.Runs.{frameAt, answerOf, Cleared, Lent, IteratesLent, IteratesRead, Iterates};
+use answers::Answer;
+use answers::Board;
+use answers::all_lent;
+use answers::buffers_lent;
+use answers::read_answer;
+use answers::refusal;
 use checker::check_read;
-use checker::lent;
-use checker::read_answer;
-use checker::refusal;
 use heads::places::channel_line;
 use index::INDEX_WORDS;
 use index::clear;
@@ -18,7 +18,6 @@ use input_line::allowed_line;
 use instances::clear as clear_list;
 use iteration::iterate_state;
 use iteration::nodes::Updated;
-use language::limits::SCRATCH_WORDS;
 use language::refusals::BAD_INPUT_LINE;
 use language::refusals::NO_FRAME;
 use language::refusals::NO_REFUSAL;
@@ -29,32 +28,6 @@ use reader::Reading;
 use reader::read;
 use state_check::valid_state;
 use state_words::state_length;
-
-// Whether the board is within its maximum and every buffer is long enough; else refusal 18.
-fn buffers_lent(b: Board, state: usize, scratch: usize, slots: usize) -> bool
-    ensures { λ r. ⌜ LendsAll b state scratch slots r ⌝ }
-{
-    if !board_allowed(b) {
-        return false;
-    }
-    if state < state_length(b.cells) {
-        return false;
-    }
-    if scratch < SCRATCH_WORDS {
-        return false;
-    }
-    (b.slots as usize) <= slots
-}
-
-// Whether the list is long enough too.
-fn all_lent(b: Board, list: usize, state: usize, scratch: usize, slots: usize) -> bool
-    ensures { λ r. ⌜ LendsList b list state scratch slots r ⌝ }
-{
-    if !lent(b, list) {
-        return false;
-    }
-    buffers_lent(b, state, scratch, slots)
-}
 
 // The start of a file that was read: 9 to 18 as the checker has them, or the state.
 fn start_read(

@@ -1,6 +1,6 @@
 -- A text that is not read, or what its file's check gives.
 use Rattle.checker.specs.ReadLaws.{check-unread, read-held}
-use Rattle.checker.specs.VerdictLaws.{list-room}
+use Rattle.answers.specs.LendLaws.{list-room}
 use Rattle.checker.specs.Outcomes.{checked}
 use borrow.Author.Needs.{needs}
 use Rattle.checker.proofs.check.Statement.{statement}

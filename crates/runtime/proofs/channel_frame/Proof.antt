@@ -1,5 +1,4 @@
 -- A frame counts from 1.
-use native.Mathlib.Omega.{arith}
 use Rattle.runtime.specs.IterateLaws.{frame-is}
 use borrow.Author.Needs.{needs}
 use Rattle.runtime.proofs.channel_frame.Statement.{statement}

@@ -1,18 +1,16 @@
 -- Each test is one of the definition's.
 use borrow.Author.Tests.{not-true, not-false}
 use mathlib.Core.Path.{refl}
-use Rattle.runtime.specs.BufferLaws.{board-over, state-short, scratch-short, slots-judged}
+use Rattle.answers.specs.LendLaws.{board-too-large, state-short, scratch-short, slots-judged}
 use borrow.Author.Needs.{needs}
-use Rattle.runtime.proofs.buffers_lent.Statement.{statement}
-use Rattle.runtime.proofs.buffers_lent.Tie as tie
-use Rattle.runtime.proofs.buffers_lent.Reads as reads
-use Rattle.runtime.proofs.buffers_lent.Lts as lts
+use Rattle.answers.proofs.buffers_lent.Statement.{statement}
+use Rattle.answers.proofs.buffers_lent.Tie as tie
 
 board-allowed-requires : tie.Need-board-allowed-requires
 board-allowed-requires c κs = search needs
 
 returns : tie.Need-returns
-returns c = board-over (c .before .board-allowed .ensures) (not-true _ (c .if1 .taken))
+returns c = board-too-large (c .before .board-allowed .ensures) (not-true _ (c .if1 .taken))
 
 state-length-requires : tie.Need-state-length-requires
 state-length-requires c κs = search needs

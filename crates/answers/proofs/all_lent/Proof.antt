@@ -1,8 +1,8 @@
 -- The list, then the buffers.
 use borrow.Author.Tests.{not-true, not-false}
-use Rattle.runtime.specs.StartLaws.{list-short, list-long}
-use Rattle.runtime.proofs.all_lent.Statement.{statement}
-use Rattle.runtime.proofs.all_lent.Tie as tie
+use Rattle.answers.specs.LendLaws.{list-short, list-long}
+use Rattle.answers.proofs.all_lent.Statement.{statement}
+use Rattle.answers.proofs.all_lent.Tie as tie
 
 lent-requires : tie.Need-lent-requires
 lent-requires c κs = tt

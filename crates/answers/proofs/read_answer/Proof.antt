@@ -1,8 +1,8 @@
 -- A refusal's number and frame.
-use Rattle.checker.specs.Checks.{readAnswer}
+use Rattle.answers.specs.Boards.{readAnswer}
 use borrow.Author.Needs.{needs}
-use Rattle.checker.proofs.read_answer.Statement.{statement}
-use Rattle.checker.proofs.read_answer.Tie as tie
+use Rattle.answers.proofs.read_answer.Statement.{statement}
+use Rattle.answers.proofs.read_answer.Tie as tie
 
 enum-told : tie.Need-enum-told
 enum-told c = search needs

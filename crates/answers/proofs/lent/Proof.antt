@@ -1,9 +1,9 @@
 -- The board first, then the list.
 use mathlib.Core.Path.{refl}
 use borrow.Author.Tests.{not-true, not-false}
-use Rattle.checker.specs.VerdictLaws.{board-over, list-judged}
-use Rattle.checker.proofs.lent.Statement.{statement}
-use Rattle.checker.proofs.lent.Tie as tie
+use Rattle.answers.specs.LendLaws.{board-over, list-judged}
+use Rattle.answers.proofs.lent.Statement.{statement}
+use Rattle.answers.proofs.lent.Tie as tie
 
 board-allowed-requires : tie.Need-board-allowed-requires
 board-allowed-requires c κs = tt

@@ -1,7 +1,7 @@
 -- Each number that is needed, against the board.
-use Rattle.checker.specs.VerdictLaws.{heap-over, environment-over, stack-over, enough}
-use Rattle.checker.proofs.judge.Statement.{statement}
-use Rattle.checker.proofs.judge.Tie as tie
+use Rattle.answers.specs.JudgeLaws.{heap-over, environment-over, stack-over, enough}
+use Rattle.answers.proofs.judge.Statement.{statement}
+use Rattle.answers.proofs.judge.Tie as tie
 
 bounds-requires : tie.Need-bounds-requires
 bounds-requires c κs = tt

@@ -1,8 +1,8 @@
 -- Each test is one of the definition's.
 use mathlib.Core.Path.{refl}
-use Rattle.checker.specs.VerdictLaws.{cells-over, slots-over, calls-judged}
-use Rattle.checker.proofs.board_allowed.Statement.{statement}
-use Rattle.checker.proofs.board_allowed.Tie as tie
+use Rattle.answers.specs.LendLaws.{cells-over, slots-over, calls-judged}
+use Rattle.answers.proofs.board_allowed.Statement.{statement}
+use Rattle.answers.proofs.board_allowed.Tie as tie
 
 returns : tie.Need-returns
 returns c = cells-over (c .if1 .taken)
