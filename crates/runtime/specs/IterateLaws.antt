@@ -30,7 +30,7 @@ use Rattle.answers.specs.declared.Answer.{Answer}
 use Rattle.answers.specs.Boards.{boardOf, said, refusalOf, readAnswer, LendsAll}
 use Rattle.checker.specs.Checks.{ReadHeld}
 use Rattle.checker.specs.ReadLaws.{read-fault}
-use Rattle.runtime.specs.Runs.{Iterates, frameAt, answerOf, Cleared, Told, told-done, told-refused, onState, Lent, IteratesLent, IteratesRead}
+use Rattle.runtime.specs.Runs.{Iterates, frameAt, answerOf, ClearsBoth, Cleared, Told, told-done, told-refused, onState, Lent, IteratesLent, IteratesRead}
 use Rattle.answers.specs.LendLaws.{Enough, enough-is}
 
 -- ---- answers
@@ -143,23 +143,26 @@ unfolding iterated answer
 told-whole scratch slots (told-done q w) s l = rw (q, w, s, l) refl
 told-whole scratch slots (told-refused q w) s l = rw (q, w, s, l) refl
 
-module _ (scratch : List ℕ) {scratch₁ : List ℕ} (cleared : scratch₁ ≡ replicate (length scratch) 0) where
-  scratch-long : length scratch₁ ≡ length scratch
-  scratch-long = ap length cleared ∙ length-replicate (length scratch) 0
+pub as-long : (l : List ℕ) {m : List ℕ} → m ≡ replicate (length l) 0 → length m ≡ length l
+as-long l e = ap length e ∙ length-replicate (length l) 0
 
-  pub is-clear : Cleared scratch₁
-  is-clear = record { is = cleared ∙ ap (λ n. replicate n 0) (sym scratch-long) }
+pub is-clear : {scratch slots scratch₁ slots₁ : List ℕ} → ClearsBoth scratch slots scratch₁ slots₁ → Cleared scratch₁
+is-clear {scratch} c = record { is = c .first-is ∙ ap (λ n. replicate n 0) (sym (as-long scratch (c .first-is))) }
 
-module _ (text : List ℕ) (b : Board) (state scratch slots line : List ℕ) {scratch₁ : List ℕ} (cleared : scratch₁ ≡ replicate (length scratch) 0) where
-  pub iterate-unread : {index slots′ : List ℕ} {x : Reading} {r : Answer} {m frame : ℕ} → TextRead x index (readFile text) → x ≡ Fault m frame → r ≡ readAnswer x → slots′ ≡ replicate (length slots) 0 →
-      Iterates text b state scratch slots line r state scratch₁ slots′
+-- what is lent counts by its length alone
+pub same-lent : (b : Board) (state : List ℕ) {scratch slots scratch₁ slots₁ : List ℕ} → ClearsBoth scratch slots scratch₁ slots₁ → buffersLent (boardOf b) state scratch₁ slots₁ ≡ buffersLent (boardOf b) state scratch slots
+same-lent b state {scratch} {slots} {scratch₁} {slots₁} c =
+    ap (λ n. lengthsLent (boardOf b) (length state) n (length slots₁)) (as-long scratch (c .first-is)) ∙ ap (λ n. lengthsLent (boardOf b) (length state) (length scratch) n) (as-long slots (c .second-is))
+
+module _ (text : List ℕ) (b : Board) (state scratch slots line : List ℕ) {scratch₁ slots₁ : List ℕ} (cleared : ClearsBoth scratch slots scratch₁ slots₁) where
+  pub iterate-unread : {index : List ℕ} {x : Reading} {r : Answer} {m frame : ℕ} → TextRead x index (readFile text) → x ≡ Fault m frame → r ≡ readAnswer x → Iterates text b state scratch slots line r state scratch₁ slots₁
   unfolding iterate iterateFile bind readAnswer
-  iterate-unread v q e l = record { is = told-whole scratch slots (subst (Told (b .cells) state _ state) (sym (ap (λ u. bind u (λ P. plainTypes P (need (buffersLent (boardOf b) state scratch slots) notLent noFrame (onState P (boardOf b) state line)))) (read-fault v q))) (told-refused (e ∙ ap readAnswer q) refl)) cleared l }
+  iterate-unread v q e = record { is = told-whole scratch slots (subst (Told (b .cells) state _ state) (sym (ap (λ u. bind u (λ P. plainTypes P (need (buffersLent (boardOf b) state scratch slots) notLent noFrame (onState P (boardOf b) state line)))) (read-fault v q))) (told-refused (e ∙ ap readAnswer q) refl)) (cleared .first-is) (cleared .second-is) }
 
-  pub iterate-done : {state′ scratch₂ slots₁ slots′ : List ℕ} {r : Answer} → IteratesRead text line b state scratch₁ slots r state′ scratch₂ slots₁ → slots′ ≡ replicate (length slots₁) 0 →
+  pub iterate-done : {state′ scratch₂ slots₂ slots′ : List ℕ} {r : Answer} → IteratesRead text line b state scratch₁ slots₁ r state′ scratch₂ slots₂ → slots′ ≡ replicate (length slots₂) 0 →
       Iterates text b state scratch slots line r state′ scratch₂ slots′
   unfolding iterate
   iterate-done {state′} {r = r} i l = record {
-    is = told-whole scratch slots (subst (λ d. Told (b .cells) state r state′ (iterateFile text (boardOf b) d state line)) (ap (λ n. lengthsLent (boardOf b) (length state) n (length slots)) (scratch-long scratch cleared)) (i .says))
-        (i .clean ∙ cleared) (l ∙ ap (λ n. replicate n 0) (i .long));
+    is = told-whole scratch slots (subst (λ d. Told (b .cells) state r state′ (iterateFile text (boardOf b) d state line)) (same-lent b state cleared) (i .says)) (i .clean ∙ cleared .first-is)
+        (l ∙ ap (λ n. replicate n 0) (i .long ∙ as-long slots (cleared .second-is)));
   }

@@ -13,7 +13,7 @@ use Rattle.language.specs.Reader.{readFile}
 use Rattle.language.specs.PlainTypes.{plainTypes}
 use Rattle.language.specs.Layout.{stateLength, stateWords}
 use Rattle.language.specs.InitialValues.{FileBegins}
-use Rattle.language.specs.Machine.{Accepted, answer, checkFile, verdictOf, finalList, listLent, lengthsLent, buffersLent, startState, written, startWords, start}
+use Rattle.language.specs.Machine.{Accepted, answer, checkFile, verdictOf, finalList, listLent, buffersLent, startState, written, startWords, start}
 use Rattle.theory.specs.Lists.{both-left}
 use Rattle.theory.specs.StateWords.{state-loaded}
 use Rattle.theory.specs.Starts.{start-writes, starts}
@@ -33,6 +33,8 @@ use Rattle.checker.specs.Checks.{wordsOf, ReadHeld, ChecksGiven}
 use Rattle.answers.specs.LendLaws.{list-room}
 use Rattle.checker.specs.ReadLaws.{read-fault, reading-refused}
 use Rattle.checker.specs.Outcomes.{sizesOf}
+use Rattle.runtime.specs.Runs.{ClearsBoth}
+use Rattle.runtime.specs.IterateLaws.{as-long, same-lent}
 use Rattle.runtime.specs.Starts.{started, StartsRead, Starts}
 use Rattle.answers.specs.LendLaws.{Enough, enough-is}
 
@@ -113,27 +115,23 @@ module _ (b : Board) (list state scratch slots : List ℕ) {given : Bool} (g : L
             }
 
 -- ---- the whole
-module _ (text : List ℕ) (b : Board) (list state scratch slots : List ℕ) {scratch₁ : List ℕ} (cleared : scratch₁ ≡ replicate (length scratch) 0) where
+module _ (text : List ℕ) (b : Board) (list state scratch slots : List ℕ) {scratch₁ slots₁ : List ℕ} (cleared : ClearsBoth scratch slots scratch₁ slots₁) where
   scratch-clear : scratch₁ ≡ started text b list state scratch slots .scratch
   unfolding start
-  scratch-clear = cleared
+  scratch-clear = cleared .first-is
 
   slots-clear : {slots′ : List ℕ} → slots′ ≡ replicate (length slots) 0 → slots′ ≡ started text b list state scratch slots .slots
   unfolding start
   slots-clear e = e
 
-  -- the scratch counts by its length alone
-  same-lent : buffersLent (boardOf b) state scratch₁ slots ≡ buffersLent (boardOf b) state scratch slots
-  same-lent = ap (λ n. lengthsLent (boardOf b) (length state) n (length slots)) (ap length cleared ∙ length-replicate (length scratch) 0)
-
   -- all passes, by what is lent
   abbrev outcome : Bool → Result Accepted
   outcome d = checkFile text (both (listLent (boardOf b) (recordsOf (length list))) d)
 
-  pub start-unread : {index list′ slots′ : List ℕ} {x : Reading} {r : Answer} {m frame : ℕ} → TextRead x index (readFile text) → x ≡ Fault m frame → r ≡ readAnswer x → list′ ≡ replicate (length list) 0 → slots′ ≡ replicate (length slots) 0 →
-      Starts text b list state scratch slots r list′ state scratch₁ slots′
+  pub start-unread : {index list′ : List ℕ} {x : Reading} {r : Answer} {m frame : ℕ} → TextRead x index (readFile text) → x ≡ Fault m frame → r ≡ readAnswer x → list′ ≡ replicate (length list) 0 →
+      Starts text b list state scratch slots r list′ state scratch₁ slots₁
   unfolding start startWords verdictOf checkFile bind
-  start-unread {x = x} v q e z l =
+  start-unread {x = x} v q e z =
       let given = both (listLent (boardOf b) (recordsOf (length list))) (buffersLent (boardOf b) state scratch slots) in
       let c = reading-refused {list = list} {b = b} v q e z given in
       record {
@@ -141,15 +139,15 @@ module _ (text : List ℕ) (b : Board) (list state scratch slots : List ℕ) {sc
         list-is = c .instances;
         state-is = sym (ap (λ u. let o = bind u (λ P. plainTypes P (need given notLent noFrame (sizesOf P))) in startWords (verdictOf (boardOf b) o) o (b .cells) state) (read-fault v q));
         scratch-is = scratch-clear;
-        slots-is = slots-clear l;
+        slots-is = slots-clear (cleared .second-is);
       }
 
-  pub start-from-file : {r : Answer} {list′ state′ slots₁ slots′ : List ℕ} → StartsRead text b list state scratch₁ slots r list′ state′ slots₁ → slots′ ≡ replicate (length slots₁) 0 → Starts text b list state scratch slots r list′ state′ scratch₁ slots′
+  pub start-from-file : {r : Answer} {list′ state′ slots₂ slots′ : List ℕ} → StartsRead text b list state scratch₁ slots₁ r list′ state′ slots₂ → slots′ ≡ replicate (length slots₂) 0 → Starts text b list state scratch slots r list′ state′ scratch₁ slots′
   unfolding start
   start-from-file s l = record {
-    answer-is = s .answer-is ∙ ap (λ d. answer (verdictOf (boardOf b) (outcome d))) same-lent;
-    list-is = s .list-is ∙ ap (λ d. wordsOf (length list) (finalList (verdictOf (boardOf b) (outcome d)) (outcome d) (length (recordsOf (length list))))) same-lent;
-    state-is = s .state-is ∙ ap (λ d. startWords (verdictOf (boardOf b) (outcome d)) (outcome d) (b .cells) state) same-lent;
+    answer-is = s .answer-is ∙ ap (λ d. answer (verdictOf (boardOf b) (outcome d))) (same-lent b state cleared);
+    list-is = s .list-is ∙ ap (λ d. wordsOf (length list) (finalList (verdictOf (boardOf b) (outcome d)) (outcome d) (length (recordsOf (length list))))) (same-lent b state cleared);
+    state-is = s .state-is ∙ ap (λ d. startWords (verdictOf (boardOf b) (outcome d)) (outcome d) (b .cells) state) (same-lent b state cleared);
     scratch-is = scratch-clear;
-    slots-is = slots-clear (l ∙ ap (λ n. replicate n 0) (s .long));
+    slots-is = slots-clear (l ∙ ap (λ n. replicate n 0) (s .long ∙ as-long slots (cleared .second-is)));
   }

@@ -2,7 +2,7 @@
 ghost use mathlib.Core.Path.{_≡_};
 ghost use Rattle.checker.specs.Checks.{ReadHeld};
 ghost use Rattle.runtime.specs.Starts.{StartsRead, Starts};
-ghost use Rattle.runtime.specs.Runs.{frameAt, answerOf, Cleared, Lent, IteratesLent, IteratesRead, Iterates};
+ghost use Rattle.runtime.specs.Runs.{frameAt, answerOf, ClearsBoth, Cleared, Lent, IteratesLent, IteratesRead, Iterates};
 use answers::Answer;
 use answers::Board;
 use answers::all_lent;
@@ -59,6 +59,14 @@ fn start_read(
     r
 }
 
+// Every word of two rows 0.
+fn clear_both(first: &mut [u32], second: &mut [u32])
+    ensures { λ _. ⌜ ClearsBoth (now (first .entry)) (now (second .entry)) (now (first .exit)) (now (second .exit)) ⌝ }
+{
+    clear(first);
+    clear(second);
+}
+
 // Checks a file on a board and starts it. The list ends as `check` leaves it, scratch and slots zero; after a refusal the state is unchanged.
 pub fn start(
     text: &[u8],
@@ -70,12 +78,11 @@ pub fn start(
 ) -> Answer
     ensures { λ r. ⌜ Starts (now (text .entry)) b (now (list .entry)) (now (state .entry)) (now (scratch .entry)) (now (slots .entry)) r (now (list .exit)) (now (state .exit)) (now (scratch .exit)) (now (slots .exit)) ⌝ }
 {
-    clear(scratch);
+    clear_both(scratch, slots);
     let mut index = [0u32; INDEX_WORDS];
     let x = read(text, &mut index);
     let Reading::Done = x else {
         clear_list(list);
-        clear(slots);
         return read_answer(x);
     };
     let r = start_read(text, &index, b, list, state, scratch, slots);
@@ -159,25 +166,24 @@ fn iterate_read(
     )
 }
 
-// One iteration of a file on a board with a line of input. After a refusal the state is unchanged; scratch and slots end zero.
+// One iteration of a file on a board with a line of input. After a refusal the state is unchanged; scratch and environment end zero.
 pub fn iterate(
     text: &[u8],
     b: Board,
     state: &mut [u32],
     scratch: &mut [u32],
-    slots: &mut [u32],
+    environment: &mut [u32],
     line: &[u8],
 ) -> Answer
-    ensures { λ r. ⌜ Iterates (now (text .entry)) b (now (state .entry)) (now (scratch .entry)) (now (slots .entry)) (now (line .entry)) r (now (state .exit)) (now (scratch .exit)) (now (slots .exit)) ⌝ }
+    ensures { λ r. ⌜ Iterates (now (text .entry)) b (now (state .entry)) (now (scratch .entry)) (now (environment .entry)) (now (line .entry)) r (now (state .exit)) (now (scratch .exit)) (now (environment .exit)) ⌝ }
 {
-    clear(scratch);
+    clear_both(scratch, environment);
     let mut index = [0u32; INDEX_WORDS];
     let x = read(text, &mut index);
     let Reading::Done = x else {
-        clear(slots);
         return read_answer(x);
     };
-    let r = iterate_read(text, &index, b, state, scratch, slots, line);
-    clear(slots);
+    let r = iterate_read(text, &index, b, state, scratch, environment, line);
+    clear(environment);
     r
 }

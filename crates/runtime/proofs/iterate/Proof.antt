@@ -4,14 +4,12 @@ use Rattle.runtime.specs.IterateLaws.{is-clear, iterate-unread, iterate-
 use borrow.Author.Needs.{needs}
 use Rattle.runtime.proofs.iterate.Statement.{statement}
 use Rattle.runtime.proofs.iterate.Tie as tie
-use Rattle.runtime.proofs.iterate.Reads as reads
-use Rattle.runtime.proofs.iterate.Lts as lts
 
-clear-requires : tie.Need-clear-requires
-clear-requires c κs = search needs
+clear-both-requires : tie.Need-clear-both-requires
+clear-both-requires c κs = tt
 
 read-requires : tie.Need-read-requires
-read-requires c κs = search needs
+read-requires c κs = tt
 
 enum-told : tie.Need-enum-told
 enum-told c = search needs
@@ -19,11 +17,8 @@ enum-told c = search needs
 enum-told-2 : tie.Need-enum-told-2
 enum-told-2 c = search needs
 
-clear-requires-2 : tie.Need-clear-requires-2
-clear-requires-2 c κs = search needs
-
 read-answer-requires : tie.Need-read-answer-requires
-read-answer-requires c κs = search needs
+read-answer-requires c κs = tt
 
 same-length : tie.Need-same-length
 same-length c = search needs
@@ -32,13 +27,13 @@ same-length-2 : tie.Need-same-length-2
 same-length-2 c = search needs
 
 returns : tie.Need-returns
-returns c = iterate-unread _ _ _ _ _ _ (c .before .before .before .before .before .before .before .before .before .before .before .clear .ensures) (c .before .before .before .before .before .before .before .read .ensures) (c .before .before .before .before .before .enum-told2 .given .1) (c .read-answer .ensures) (c .before .before .before .clear2 .ensures)
+returns c = iterate-unread _ _ _ _ _ _ (c .before .before .before .before .before .before .before .before .before .clear-both .ensures) (c .before .before .before .read .ensures) (c .before .enum-told2 .given .1) (c .read-answer .ensures)
 
 iterate-read-requires : tie.Need-iterate-read-requires
-iterate-read-requires c κs = (read-held (c .before .before .before .before .before .before .read .ensures) (c .before .before .before .before .enum-told .given .1), is-clear (c .before .before .before .before .before .before .before .before .before .before .before .before .before .before .before .before .before .args .scratch .now) (c .before .before .before .before .before .before .before .before .before .before .clear .ensures))
+iterate-read-requires c κs = (read-held (c .before .before .before .before .before .before .read .ensures) (c .before .before .before .before .enum-told .given .1), is-clear (c .before .before .before .before .before .before .before .before .before .before .before .before .clear-both .ensures))
 
-clear-requires-3 : tie.Need-clear-requires-3
-clear-requires-3 c κs = search needs
+clear-requires : tie.Need-clear-requires
+clear-requires c κs = tt
 
 same-length-3 : tie.Need-same-length-3
 same-length-3 c = search needs
@@ -50,23 +45,22 @@ same-length-5 : tie.Need-same-length-5
 same-length-5 c = search needs
 
 returns-2 : tie.Need-returns-2
-returns-2 c = iterate-done _ _ _ _ _ _ (c .before .before .before .before .before .before .before .before .before .before .before .before .before .before .before .before .before .before .before .before .before .clear .ensures) (c .before .before .before .before .before .before .before .before .before .before .iterate-read .ensures) (c .before .before .clear3 .ensures)
+returns-2 c = iterate-done _ _ _ _ _ _ (c .before .before .before .before .before .before .before .before .before .before .before .before .before .before .before .before .before .before .before .before .before .before .before .clear-both .ensures) (c .before .before .before .before .before .before .before .before .before .before .iterate-read .ensures) (c .before .before .clear .ensures)
 
 pub iterate-spec : {M : Type 1} → statement M
 iterate-spec =
     tie.close
     (tie.spec
-    clear-requires
+    clear-both-requires
     read-requires
     enum-told
     enum-told-2
-    clear-requires-2
     read-answer-requires
     same-length
     same-length-2
     returns
     iterate-read-requires
-    clear-requires-3
+    clear-requires
     same-length-3
     same-length-4
     same-length-5

@@ -5,8 +5,8 @@ use borrow.Author.Needs.{needs}
 use Rattle.runtime.proofs.start.Statement.{statement}
 use Rattle.runtime.proofs.start.Tie as tie
 
-clear-requires : tie.Need-clear-requires
-clear-requires c κs = tt
+clear-both-requires : tie.Need-clear-both-requires
+clear-both-requires c κs = tt
 
 read-requires : tie.Need-read-requires
 read-requires c κs = tt
@@ -17,11 +17,8 @@ enum-told c = search needs
 enum-told-2 : tie.Need-enum-told-2
 enum-told-2 c = search needs
 
-clear-requires-2 : tie.Need-clear-requires-2
-clear-requires-2 c κs = tt
-
-clear-requires-3 : tie.Need-clear-requires-3
-clear-requires-3 c κs = tt
+clear-requires : tie.Need-clear-requires
+clear-requires c κs = tt
 
 read-answer-requires : tie.Need-read-answer-requires
 read-answer-requires c κs = tt
@@ -36,13 +33,13 @@ same-length-3 : tie.Need-same-length-3
 same-length-3 c = search needs
 
 returns : tie.Need-returns
-returns c = start-unread _ _ _ _ _ _ (c .before .before .before .before .before .before .before .before .before .before .before .before .before .before .before .clear .ensures) (c .before .before .before .before .before .before .before .before .before .before .before .read .ensures) (c .before .before .before .before .before .before .before .before .before .enum-told2 .given .1) (c .read-answer .ensures) (c .before .before .before .before .before .before .before .clear2 .ensures) (c .before .before .before .clear3 .ensures)
+returns c = start-unread _ _ _ _ _ _ (c .before .before .before .before .before .before .before .before .before .before .before .before .before .clear-both .ensures) (c .before .before .before .before .before .before .before .read .ensures) (c .before .before .before .before .before .enum-told2 .given .1) (c .read-answer .ensures) (c .before .before .before .clear .ensures)
 
 start-read-requires : tie.Need-start-read-requires
 start-read-requires c κs = read-held (c .before .before .before .before .before .before .before .read .ensures) (c .before .before .before .before .before .enum-told .given .1)
 
-clear-requires-4 : tie.Need-clear-requires-4
-clear-requires-4 c κs = tt
+clear-requires-2 : tie.Need-clear-requires-2
+clear-requires-2 c κs = tt
 
 same-length-4 : tie.Need-same-length-4
 same-length-4 c = search needs
@@ -57,25 +54,24 @@ same-length-7 : tie.Need-same-length-7
 same-length-7 c = search needs
 
 returns-2 : tie.Need-returns-2
-returns-2 c = start-from-file _ _ _ _ _ _ (c .before .before .before .before .before .before .before .before .before .before .before .before .before .before .before .before .before .before .before .before .before .before .clear .ensures) (c .before .before .before .before .before .before .before .before .before .before .start-read .ensures) (c .before .before .clear4 .ensures)
+returns-2 c = start-from-file _ _ _ _ _ _ (c .before .before .before .before .before .before .before .before .before .before .before .before .before .before .before .before .before .before .before .before .before .before .before .before .clear-both .ensures) (c .before .before .before .before .before .before .before .before .before .before .start-read .ensures) (c .before .before .clear2 .ensures)
 
 pub start-spec : {M : Type 1} → statement M
 start-spec =
     tie.close
     (tie.spec
-    clear-requires
+    clear-both-requires
     read-requires
     enum-told
     enum-told-2
-    clear-requires-2
-    clear-requires-3
+    clear-requires
     read-answer-requires
     same-length
     same-length-2
     same-length-3
     returns
     start-read-requires
-    clear-requires-4
+    clear-requires-2
     same-length-4
     same-length-5
     same-length-6
