@@ -61,3 +61,8 @@ pub record Granted (given : Bool) (list : List ℕ) : Type 0 where
 -- ---- what the board has
 pub record Judges (b : Board) (x : Held) (r : Answer) : Type 0 where
   pub is : said r ≡ answer (judge (boardOf b) (numbersOf x))
+
+-- ---- two rows cleared
+pub record ClearsBoth (first second first′ second′ : List ℕ) : Type 0 where
+  pub first-is : first′ ≡ replicate (length first) 0
+  pub second-is : second′ ≡ replicate (length second) 0

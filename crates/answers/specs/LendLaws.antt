@@ -2,11 +2,11 @@
 use Prim.Native.Nat.{ℕ, _*_, _/_, _≤_, _<_}
 use mathlib.Core.List.{List}
 use mathlib.Core.Bool.{Bool, true, false}
-use mathlib.Core.Path.{_≡_, refl, sym, _∙_}
-use lib.ListN.{length, length-replicate}
+use mathlib.Core.Path.{_≡_, refl, sym, ap, _∙_}
+use lib.ListN.{length, replicate, length-replicate}
 use Rattle.language.specs.Limits.{instancesMost, cellsMost, scratchWords, slotsMost, callsMost}
 use Rattle.language.specs.Layout.{stateLength}
-use Rattle.language.specs.Machine.{emptyRecord, boardAllowed, listLent, lengthsLent}
+use Rattle.language.specs.Machine.{emptyRecord, boardAllowed, listLent, lengthsLent, buffersLent}
 use Rattle.instances.specs.Listed.{instanceWordsCount}
 use Rattle.language.specs.Result.{both}
 use native.Mathlib.Omega.{arith}
@@ -14,7 +14,7 @@ use lib.Dec.{leb}
 use borrow.Author.Tests.{le-leb, lt-leb, leb-true, leb-false}
 use Rattle.theory.specs.Lists.{both-left, both-right}
 use Rattle.answers.specs.declared.Board.{Board}
-use Rattle.answers.specs.Boards.{boardOf, recordsOf, Allows, Lends, LendsAll, LendsList, Granted}
+use Rattle.answers.specs.Boards.{boardOf, recordsOf, Allows, Lends, LendsAll, LendsList, Granted, ClearsBoth}
 
 -- ---- the board and the list that are lent
 words-of-records : (words : ℕ) → leb (instancesMost * instanceWordsCount) words ≡ leb instancesMost (words / instanceWordsCount)
@@ -105,3 +105,12 @@ module _ {b : Board} {list state scratch slots : ℕ} {given : Bool} (l : Lends 
   pub list-long : {r : Bool} → given ≡ true → LendsAll b state scratch slots r → LendsList b list state scratch slots r
   unfolding both
   list-long d a = record { is = rw (← (l .is), d) (a .is) }
+
+-- ---- buffers cleared: they are as long as they were
+pub as-long : (l : List ℕ) {m : List ℕ} → m ≡ replicate (length l) 0 → length m ≡ length l
+as-long l e = ap length e ∙ length-replicate (length l) 0
+
+-- what is lent counts by its length alone
+pub same-lent : (b : Board) (state : List ℕ) {scratch slots scratch₁ slots₁ : List ℕ} → ClearsBoth scratch slots scratch₁ slots₁ → buffersLent (boardOf b) state scratch₁ slots₁ ≡ buffersLent (boardOf b) state scratch slots
+same-lent b state {scratch} {slots} {scratch₁} {slots₁} c =
+    ap (λ n. lengthsLent (boardOf b) (length state) n (length slots₁)) (as-long scratch (c .first-is)) ∙ ap (λ n. lengthsLent (boardOf b) (length state) (length scratch) n) (as-long slots (c .second-is))

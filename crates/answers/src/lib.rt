@@ -1,7 +1,8 @@
-// Boards and answers: refusals with and without bounds, 15 to 17, and whether a board and its buffers are lent, 18.
+// Boards, their buffers and answers: refusals with and without bounds, 15 to 17, whether enough is lent, 18, and buffers cleared.
 ghost use mathlib.Core.Path.{_≡_};
-ghost use Rattle.answers.specs.Boards.{refusalOf, boundsOf, readAnswer, Allows, Lends, LendsAll, LendsList, Judges};
+ghost use Rattle.answers.specs.Boards.{refusalOf, boundsOf, readAnswer, Allows, Lends, LendsAll, LendsList, Judges, ClearsBoth};
 use estimate::Estimate;
+use index::clear;
 use instances::INSTANCE_WORDS;
 use language::limits::CALLS_MOST;
 use language::limits::CELLS_MOST;
@@ -135,4 +136,12 @@ pub fn judge(b: Board, x: Estimate) -> Answer
         return bounds(STACK_SHORT, x);
     }
     bounds(NO_REFUSAL, x)
+}
+
+// Every word of two rows 0.
+pub fn clear_both(first: &mut [u32], second: &mut [u32])
+    ensures { λ _. ⌜ ClearsBoth (now (first .entry)) (now (second .entry)) (now (first .exit)) (now (second .exit)) ⌝ }
+{
+    clear(first);
+    clear(second);
 }

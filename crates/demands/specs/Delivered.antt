@@ -28,7 +28,7 @@ use Rattle.answers.specs.declared.Board.{Board}
 use Rattle.answers.specs.declared.Answer.{Answer}
 use Rattle.answers.specs.Boards.{boardOf, said, recordsOf}
 use Rattle.checker.specs.Checks.{Checks}
-use Rattle.runtime.specs.Starts.{Starts}
+use Rattle.startup.specs.Starts.{Starts}
 use Rattle.runtime.specs.Runs.{Iterates}
 
 -- ---- demand 1: every call ends with a result or one numbered refusal; what a refused call leaves

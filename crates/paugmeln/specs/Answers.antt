@@ -10,7 +10,7 @@ use Rattle.answers.specs.declared.Board.{Board}
 use Rattle.answers.specs.declared.Answer.{Answer}
 use Rattle.answers.specs.Boards.{refusalOf, readAnswer}
 use Rattle.checker.specs.Checks.{Checks}
-use Rattle.runtime.specs.Starts.{Starts}
+use Rattle.startup.specs.Starts.{Starts}
 use Rattle.runtime.specs.Runs.{Iterates}
 
 pub data Answers (r : Answer) : Result File → Type 0 where

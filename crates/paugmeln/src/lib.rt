@@ -2,7 +2,7 @@
 ghost use mathlib.Core.Path.{_≡_};
 ghost use Rattle.language.specs.Reader.{readFile};
 ghost use Rattle.checker.specs.Checks.{Checks};
-ghost use Rattle.runtime.specs.Starts.{Starts};
+ghost use Rattle.startup.specs.Starts.{Starts};
 ghost use Rattle.runtime.specs.Runs.{Iterates};
 ghost use Rattle.paugmeln.specs.Answers.{Answers, board};
 use answers::Answer;
@@ -12,7 +12,7 @@ use checker::check;
 use index::INDEX_WORDS;
 use reader::read;
 use runtime::iterate;
-use runtime::start;
+use startup::start;
 
 // A board by its numbers.
 fn lent_board(cells: u32, slots: u32, calls: u32) -> Board

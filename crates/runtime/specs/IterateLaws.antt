@@ -5,7 +5,7 @@ use mathlib.Core.Bool.{Bool, true, false}
 use mathlib.Core.Path.{_≡_, refl, sym, ap, subst, _∙_}
 use native.Mathlib.Omega.{arith}
 use native.Mathlib.Nat.{le-refl}
-use lib.ListN.{length, take, drop, replicate, length-append, length-drop, length-replicate, take-append-drop}
+use lib.ListN.{length, take, drop, replicate, length-append, length-drop, take-append-drop}
 use lib.Seq.{length-take-le, drop-length, take-take}
 use Rattle.language.specs.Refusals.{noRefusal, noFrame, typesDisagree, notLent, badInputLine}
 use Rattle.language.specs.Result.{Result, no, bind, need, from}
@@ -27,11 +27,11 @@ use Rattle.iteration.specs.declared.nodes.Updated.{Updated}
 use Rattle.iteration.specs.declared.nodes.Updated.the-variants.{Used, Refused}
 use Rattle.answers.specs.declared.Board.{Board}
 use Rattle.answers.specs.declared.Answer.{Answer}
-use Rattle.answers.specs.Boards.{boardOf, said, refusalOf, readAnswer, LendsAll}
+use Rattle.answers.specs.Boards.{boardOf, said, refusalOf, readAnswer, LendsAll, ClearsBoth}
 use Rattle.checker.specs.Checks.{ReadHeld}
 use Rattle.checker.specs.ReadLaws.{read-fault}
-use Rattle.runtime.specs.Runs.{Iterates, frameAt, answerOf, ClearsBoth, Cleared, Told, told-done, told-refused, onState, Lent, IteratesLent, IteratesRead}
-use Rattle.answers.specs.LendLaws.{Enough, enough-is}
+use Rattle.runtime.specs.Runs.{Iterates, frameAt, answerOf, Cleared, Told, told-done, told-refused, onState, Lent, IteratesLent, IteratesRead}
+use Rattle.answers.specs.LendLaws.{as-long, same-lent, Enough, enough-is}
 
 -- ---- answers
 pub frame-is : (index : List ℕ) (c : ℕ) {line : ℕ} → line ≡ channelLineOf index c → line + 1 ≡ frameAt index c
@@ -143,16 +143,8 @@ unfolding iterated answer
 told-whole scratch slots (told-done q w) s l = rw (q, w, s, l) refl
 told-whole scratch slots (told-refused q w) s l = rw (q, w, s, l) refl
 
-pub as-long : (l : List ℕ) {m : List ℕ} → m ≡ replicate (length l) 0 → length m ≡ length l
-as-long l e = ap length e ∙ length-replicate (length l) 0
-
 pub is-clear : {scratch slots scratch₁ slots₁ : List ℕ} → ClearsBoth scratch slots scratch₁ slots₁ → Cleared scratch₁
 is-clear {scratch} c = record { is = c .first-is ∙ ap (λ n. replicate n 0) (sym (as-long scratch (c .first-is))) }
-
--- what is lent counts by its length alone
-pub same-lent : (b : Board) (state : List ℕ) {scratch slots scratch₁ slots₁ : List ℕ} → ClearsBoth scratch slots scratch₁ slots₁ → buffersLent (boardOf b) state scratch₁ slots₁ ≡ buffersLent (boardOf b) state scratch slots
-same-lent b state {scratch} {slots} {scratch₁} {slots₁} c =
-    ap (λ n. lengthsLent (boardOf b) (length state) n (length slots₁)) (as-long scratch (c .first-is)) ∙ ap (λ n. lengthsLent (boardOf b) (length state) (length scratch) n) (as-long slots (c .second-is))
 
 module _ (text : List ℕ) (b : Board) (state scratch slots line : List ℕ) {scratch₁ slots₁ : List ℕ} (cleared : ClearsBoth scratch slots scratch₁ slots₁) where
   pub iterate-unread : {index : List ℕ} {x : Reading} {r : Answer} {m frame : ℕ} → TextRead x index (readFile text) → x ≡ Fault m frame → r ≡ readAnswer x → Iterates text b state scratch slots line r state scratch₁ slots₁

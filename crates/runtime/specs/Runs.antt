@@ -33,10 +33,6 @@ abbrev pub answerOf : List ℕ → Updated → Answer
 answerOf index (Used used) = refusalOf noRefusal noFrame
 answerOf index (Refused n c) = refusalOf n (frameAt index c)
 
-pub record ClearsBoth (first second first′ second′ : List ℕ) : Type 0 where
-  pub first-is : first′ ≡ replicate (length first) 0
-  pub second-is : second′ ≡ replicate (length second) 0
-
 pub record Cleared (scratch : List ℕ) : Type 0 where
   pub is : scratch ≡ replicate (length scratch) 0
 

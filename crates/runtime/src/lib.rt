@@ -1,21 +1,17 @@
-// The calls that run a rule file on a board: the start, and an iteration.
+// The call that runs with every tin: an iteration.
 ghost use mathlib.Core.Path.{_≡_};
 ghost use Rattle.checker.specs.Checks.{ReadHeld};
-ghost use Rattle.runtime.specs.Starts.{StartsRead, Starts};
-ghost use Rattle.runtime.specs.Runs.{frameAt, answerOf, ClearsBoth, Cleared, Lent, IteratesLent, IteratesRead, Iterates};
+ghost use Rattle.runtime.specs.Runs.{frameAt, answerOf, Cleared, Lent, IteratesLent, IteratesRead, Iterates};
 use answers::Answer;
 use answers::Board;
-use answers::all_lent;
 use answers::buffers_lent;
+use answers::clear_both;
 use answers::read_answer;
 use answers::refusal;
-use checker::check_read;
 use heads::places::channel_line;
 use index::INDEX_WORDS;
 use index::clear;
-use initial_state::put_initial_state;
 use input_line::allowed_line;
-use instances::clear as clear_list;
 use iteration::iterate_state;
 use iteration::nodes::Updated;
 use language::refusals::BAD_INPUT_LINE;
@@ -28,67 +24,6 @@ use reader::Reading;
 use reader::read;
 use state_check::valid_state;
 use state_words::state_length;
-
-// The start of a file that was read: 9 to 18 as the checker has them, or the state.
-fn start_read(
-    text: &[u8],
-    index: &[u32; INDEX_WORDS],
-    b: Board,
-    list: &mut [u32],
-    state: &mut [u32],
-    scratch: &[u32],
-    slots: &mut [u32],
-) -> Answer
-    requires { ⌜ ReadHeld (now text) (now index) ⌝ }
-    ensures { λ r. ⌜ StartsRead (now (text .entry)) b (now (list .entry)) (now (state .entry)) (now (scratch .entry)) (now (slots .entry)) r (now (list .exit)) (now (state .exit)) (now (slots .exit)) ⌝ }
-{
-    let given = all_lent(b, list.len(), state.len(), scratch.len(), slots.len());
-    let r = check_read(text, index, b, given, list);
-    if r.number != NO_REFUSAL {
-        return r;
-    }
-    let state_words = state_length(b.cells);
-    let slot_words = b.slots as usize;
-    put_initial_state(
-        text,
-        index,
-        &mut state[..state_words],
-        &mut slots[..slot_words],
-        b.calls,
-    );
-    r
-}
-
-// Every word of two rows 0.
-fn clear_both(first: &mut [u32], second: &mut [u32])
-    ensures { λ _. ⌜ ClearsBoth (now (first .entry)) (now (second .entry)) (now (first .exit)) (now (second .exit)) ⌝ }
-{
-    clear(first);
-    clear(second);
-}
-
-// Checks a file on a board and starts it. The list ends as `check` leaves it, scratch and slots zero; after a refusal the state is unchanged.
-pub fn start(
-    text: &[u8],
-    b: Board,
-    list: &mut [u32],
-    state: &mut [u32],
-    scratch: &mut [u32],
-    slots: &mut [u32],
-) -> Answer
-    ensures { λ r. ⌜ Starts (now (text .entry)) b (now (list .entry)) (now (state .entry)) (now (scratch .entry)) (now (slots .entry)) r (now (list .exit)) (now (state .exit)) (now (scratch .exit)) (now (slots .exit)) ⌝ }
-{
-    clear_both(scratch, slots);
-    let mut index = [0u32; INDEX_WORDS];
-    let x = read(text, &mut index);
-    let Reading::Done = x else {
-        clear_list(list);
-        return read_answer(x);
-    };
-    let r = start_read(text, &index, b, list, state, scratch, slots);
-    clear(slots);
-    r
-}
 
 // The frame of channel c.
 fn channel_frame(index: &[u32; INDEX_WORDS], c: u32) -> u32

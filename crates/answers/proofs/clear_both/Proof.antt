@@ -1,7 +1,7 @@
 -- Each row by itself.
 use borrow.Author.Needs.{needs}
-use Rattle.runtime.proofs.clear_both.Statement.{statement}
-use Rattle.runtime.proofs.clear_both.Tie as tie
+use Rattle.answers.proofs.clear_both.Statement.{statement}
+use Rattle.answers.proofs.clear_both.Tie as tie
 
 clear-requires : tie.Need-clear-requires
 clear-requires c κs = tt

@@ -1,9 +1,9 @@
 -- A refusal of the checker, or the state at the start in the board's words.
 use native.Mathlib.Omega.{arith}
-use Rattle.runtime.specs.StartLaws.{granted, start-refused, words-there, words-cut, slots-there, slots-cut, board-there, start-done}
+use Rattle.startup.specs.StartLaws.{granted, start-refused, words-there, words-cut, slots-there, slots-cut, board-there, start-done}
 use borrow.Author.Needs.{needs}
-use Rattle.runtime.proofs.start_read.Statement.{statement}
-use Rattle.runtime.proofs.start_read.Tie as tie
+use Rattle.startup.proofs.start_read.Statement.{statement}
+use Rattle.startup.proofs.start_read.Tie as tie
 
 all-lent-requires : tie.Need-all-lent-requires
 all-lent-requires c κs = tt

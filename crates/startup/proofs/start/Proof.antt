@@ -1,9 +1,9 @@
 -- A text that is not read, or what its file's start gives.
 use Rattle.checker.specs.ReadLaws.{read-held}
-use Rattle.runtime.specs.StartLaws.{start-unread, start-from-file}
+use Rattle.startup.specs.StartLaws.{start-unread, start-from-file}
 use borrow.Author.Needs.{needs}
-use Rattle.runtime.proofs.start.Statement.{statement}
-use Rattle.runtime.proofs.start.Tie as tie
+use Rattle.startup.proofs.start.Statement.{statement}
+use Rattle.startup.proofs.start.Tie as tie
 
 clear-both-requires : tie.Need-clear-both-requires
 clear-both-requires c κs = tt

@@ -4,7 +4,7 @@ use mathlib.Core.List.{List, _++_}
 use mathlib.Core.Bool.{Bool}
 use mathlib.Core.Path.{_≡_, refl, sym, ap, subst, _∙_}
 use native.Mathlib.Omega.{arith}
-use lib.ListN.{length, take, drop, replicate, length-append, length-drop, length-replicate}
+use lib.ListN.{length, take, drop, replicate, length-append, length-drop}
 use lib.Seq.{length-take-le}
 use Rattle.language.specs.Refusals.{noFrame, notLent}
 use Rattle.language.specs.Result.{Result, ok, bind, need, both}
@@ -28,14 +28,12 @@ use Rattle.evaluator.specs.ChannelValues.{boardLent}
 use Rattle.initial_state.specs.Promises.{LaysState}
 use Rattle.answers.specs.declared.Board.{Board}
 use Rattle.answers.specs.declared.Answer.{Answer}
-use Rattle.answers.specs.Boards.{boardOf, said, recordsOf, readAnswer, Granted, LendsList}
+use Rattle.answers.specs.Boards.{boardOf, said, recordsOf, readAnswer, Granted, LendsList, ClearsBoth}
 use Rattle.checker.specs.Checks.{wordsOf, ReadHeld, ChecksGiven}
-use Rattle.answers.specs.LendLaws.{list-room}
+use Rattle.answers.specs.LendLaws.{as-long, same-lent, list-room}
 use Rattle.checker.specs.ReadLaws.{read-fault, reading-refused}
 use Rattle.checker.specs.Outcomes.{sizesOf}
-use Rattle.runtime.specs.Runs.{ClearsBoth}
-use Rattle.runtime.specs.IterateLaws.{as-long, same-lent}
-use Rattle.runtime.specs.Starts.{started, StartsRead, Starts}
+use Rattle.startup.specs.Starts.{started, StartsRead, Starts}
 use Rattle.answers.specs.LendLaws.{Enough, enough-is}
 
 -- ---- a file that was checked
