@@ -5,9 +5,9 @@
  * them during the call.
  *
  * A buffer is a pointer and a length in elements, and nothing beyond it is read or written. The pointer must be aligned as C
- * asks for its type: a text or a line may start at any address, words at one that is right for a uint32_t. Where the length is 0,
- * nothing is read or written through the pointer, which may then be NULL; with any other length it must not be. The proofs
- * speak of the elements that are there and know no pointers, so this much is tried and not proved (tools/lent-buffers.c).
+ * asks for its type: a text or a line may start at any address, words and records at one that is right for a uint32_t. Where the
+ * length is 0, nothing is read or written through the pointer, which may then be NULL; with any other length it must not be. The
+ * proofs speak of the elements that are there and know no pointers, so this much is tried and not proved (tools/lent-buffers.c).
  */
 #ifndef PAUGMELN_H
 #define PAUGMELN_H
@@ -27,14 +27,21 @@ extern "C" {
 #define PAUGMELN_SLOTS_MOST 256
 #define PAUGMELN_CALLS_MOST 64
 
-/* A record of the list of instances, in words: the function, its sizes (one for each parameter of a named type, unused
- * ones 0), then environment, heap and stack of its body at these sizes. */
+/* Sizes that a record of the list of instances has room for: a function has at most so many parameters. */
 #define PAUGMELN_RECORD_SIZES 8
-#define PAUGMELN_RECORD_WORDS (1 + PAUGMELN_RECORD_SIZES + 3)
 
-/* The least that is lent as the list of instances: 1,024 records. A shorter list is refused with 18. */
+/* A record: the function, its sizes (one for each parameter of a named type, unused ones 0), then environment, heap and stack
+ * of its body at these sizes. It is empty where all of it is 0. */
+struct paugmeln_instance {
+    uint32_t function;
+    uint32_t sizes[PAUGMELN_RECORD_SIZES];
+    uint32_t environment;
+    uint32_t heap;
+    uint32_t stack;
+};
+
+/* The least that is lent as the list of instances, in records. A shorter list is refused with 18. */
 #define PAUGMELN_LIST_RECORDS 1024
-#define PAUGMELN_LIST_WORDS (PAUGMELN_LIST_RECORDS * PAUGMELN_RECORD_WORDS)
 
 /* The state, in words: one for the cells used, one for each of 24 channels (inputs first, then nodes), and six for each cell of
  * the board. docs/FORMAT.md says what they hold: word 0 the number of cells in use, word 1 + i the cell of channel i, counted
@@ -106,13 +113,13 @@ struct paugmeln_answer paugmeln_read(const uint8_t *text, size_t length);
 
 /* Checks a rule file against a board of so many heap cells, environment slots and calls.
  *
- * The text is lent as above. The list is lent for writing: its start and its length in words, at least
- * PAUGMELN_LIST_WORDS; what it holds before is not looked at. On acceptance it holds a record for each instance, in order
- * of entry, and its rest is 0; on refusal it is 0 in its whole length, however short. One record in use may be 0
+ * The text is lent as above. The list is lent for writing: its start and its length in records, at least
+ * PAUGMELN_LIST_RECORDS; what it holds before is not looked at. On acceptance it holds a record for each instance, in order
+ * of entry, and empty ones behind them; on refusal every record is empty, however short the list. One record in use may be 0
  * throughout: that of function 0 without sizes, where its three numbers are 0. At the end of the list it looks like an
- * unused one. */
+ * empty one. */
 struct paugmeln_answer paugmeln_check(const uint8_t *text, size_t length, uint32_t cells, uint32_t slots, uint32_t calls,
-                                      uint32_t *list, size_t words);
+                                      struct paugmeln_instance *list, size_t records);
 
 /* Checks a rule file as paugmeln_check does and starts it: the state is filled with the initial values of its channels.
  *
@@ -122,7 +129,7 @@ struct paugmeln_answer paugmeln_check(const uint8_t *text, size_t length, uint32
  * on refusal; the rest of a longer one is neither read nor written. Scratch and slots end 0 in their whole length, however the
  * answer. */
 struct paugmeln_answer paugmeln_start(const uint8_t *text, size_t length, uint32_t cells, uint32_t slots, uint32_t calls,
-                                      uint32_t *list, size_t list_words, uint32_t *state, size_t state_words,
+                                      struct paugmeln_instance *list, size_t records, uint32_t *state, size_t state_words,
                                       uint32_t *scratch, size_t scratch_words, uint32_t *environment, size_t environment_words);
 
 /* Takes one input line: gives the inputs its values, then each node the value of its update.

@@ -10,6 +10,16 @@
 #include <sys/mman.h>
 #include <unistd.h>
 
+/* A record is laid out as docs/FORMAT.md says. */
+#define STANDS_AT(field, offset) _Static_assert(offsetof(struct paugmeln_instance, field) == (offset), #field)
+STANDS_AT(function, 0);
+STANDS_AT(sizes, 4);
+STANDS_AT(environment, 36);
+STANDS_AT(heap, 40);
+STANDS_AT(stack, 44);
+_Static_assert(sizeof(struct paugmeln_instance) == 48, "the size of a record");
+_Static_assert(_Alignof(struct paugmeln_instance) == _Alignof(uint32_t), "the alignment of a record");
+
 static const char two_lines[] = "03011100000000\n04011100000000170014011300\n";
 #define LENGTH (sizeof two_lines - 1)
 
@@ -40,32 +50,53 @@ static uint8_t *fenced_text(const char *text, size_t length)
     return memcpy(fenced(length), text, length);
 }
 
-static struct paugmeln_answer check(const uint8_t *text, size_t length, uint32_t *list, size_t words)
+static uint32_t *fenced_words(size_t words)
 {
-    return paugmeln_check(text, length, PAUGMELN_CELLS_MOST, PAUGMELN_SLOTS_MOST, PAUGMELN_CALLS_MOST, list, words);
+    return (uint32_t *)fenced(words * sizeof(uint32_t));
 }
 
-static int is_zero(const uint32_t *list, size_t words)
+static struct paugmeln_instance *fenced_list(size_t records)
 {
-    while (words > 0 && list[words - 1] == 0)
+    return (struct paugmeln_instance *)fenced(records * sizeof(struct paugmeln_instance));
+}
+
+static struct paugmeln_answer check(const uint8_t *text, size_t length, struct paugmeln_instance *list, size_t records)
+{
+    return paugmeln_check(text, length, PAUGMELN_CELLS_MOST, PAUGMELN_SLOTS_MOST, PAUGMELN_CALLS_MOST, list, records);
+}
+
+static int is_zero(const uint32_t *buffer, size_t words)
+{
+    while (words > 0 && buffer[words - 1] == 0)
         words--;
     return words == 0;
+}
+
+static int all_empty(const struct paugmeln_instance *list, size_t records)
+{
+    return is_zero((const uint32_t *)list, records * (sizeof *list / sizeof(uint32_t)));
+}
+
+/* Sets every bit of a list. */
+static void soil(struct paugmeln_instance *list, size_t records)
+{
+    memset(list, 0xFF, records * sizeof *list);
 }
 
 /* An empty text is refused with 3 in frame 1, wherever it stands. */
 static void try_empty_text(const uint8_t *text, const char *where)
 {
-    uint32_t *list = malloc(PAUGMELN_LIST_WORDS * sizeof *list);
+    struct paugmeln_instance *list = malloc(PAUGMELN_LIST_RECORDS * sizeof *list);
     struct paugmeln_answer read = paugmeln_read(text, 0);
     expect(read.number == 3 && read.frame == 1, where);
-    struct paugmeln_answer checked = check(text, 0, list, PAUGMELN_LIST_WORDS);
+    struct paugmeln_answer checked = check(text, 0, list, PAUGMELN_LIST_RECORDS);
     expect(checked.number == 3 && checked.frame == 1, where);
-    expect(is_zero(list, PAUGMELN_LIST_WORDS), "the list is zero after a refusal");
+    expect(all_empty(list, PAUGMELN_LIST_RECORDS), "every record is empty after a refusal");
     free(list);
 }
 
 /* An empty list is too short: 18, for a file that passes plain types; and no other answer changes. */
-static void try_empty_list(uint32_t *list, const char *where)
+static void try_empty_list(struct paugmeln_instance *list, const char *where)
 {
     const uint8_t *text = (const uint8_t *)two_lines;
     expect(check(text, LENGTH, list, 0).number == 18, where);
@@ -75,24 +106,32 @@ static void try_empty_list(uint32_t *list, const char *where)
 /* The text at every place in a word, between fences, and the list between fences, unset before. */
 static void try_exact_buffers(void)
 {
-    uint32_t *list = (uint32_t *)fenced(PAUGMELN_LIST_WORDS * sizeof *list);
+    struct paugmeln_instance *list = fenced_list(PAUGMELN_LIST_RECORDS);
     for (size_t cut = 0; cut < 8; cut++) {
         const uint8_t *text = fenced_text(two_lines, LENGTH - cut);
         uint32_t expected = cut == 0 ? 0 : 2;
         expect(paugmeln_read(text, LENGTH - cut).number == expected, "reading between fences");
-        expect(check(text, LENGTH - cut, list, PAUGMELN_LIST_WORDS).number == expected, "checking between fences");
-        expect(is_zero(list, PAUGMELN_LIST_WORDS), "no instance");
+        expect(check(text, LENGTH - cut, list, PAUGMELN_LIST_RECORDS).number == expected, "checking between fences");
+        expect(all_empty(list, PAUGMELN_LIST_RECORDS), "no instance");
     }
 }
 
-/* A list one word too short is refused with 18, set to 0, and nothing is written behind it. */
-static void try_short_list(void)
+/* A list between fences, every bit of it set before. The two lines have no instance, so its records end empty either way. */
+static void try_list(size_t records, uint32_t expected, const char *which)
 {
-    size_t words = PAUGMELN_LIST_WORDS - 1;
-    uint32_t *list = (uint32_t *)fenced(words * sizeof *list);
-    memset(list, 0xA5, words * sizeof *list);
-    expect(check((const uint8_t *)two_lines, LENGTH, list, words).number == 18, "a list too short");
-    expect(is_zero(list, words), "a list too short is zero");
+    struct paugmeln_instance *list = fenced_list(records);
+    soil(list, records);
+    expect(check((const uint8_t *)two_lines, LENGTH, list, records).number == expected, which);
+    expect(all_empty(list, records), which);
+}
+
+static void try_lists(void)
+{
+    try_list(1, 18, "a list of one record");
+    try_list(PAUGMELN_LIST_RECORDS - 1, 18, "a list one record too short");
+    try_list(PAUGMELN_LIST_RECORDS, 0, "a list as long as is asked");
+    try_list(PAUGMELN_LIST_RECORDS + 1, 0, "a list one record longer");
+    try_list(2 * PAUGMELN_LIST_RECORDS, 0, "a list twice as long");
 }
 
 /* The board that the two lines need, a line for them, and what start and iteration are lent. */
@@ -100,21 +139,17 @@ enum { CELLS = 4, SLOTS = 0, CALLS = 0 };
 static const char input_5[] = "051100000005\n";
 
 struct lent {
-    uint32_t *list, *state, *scratch, *environment;
-    size_t list_words, state_words, scratch_words, environment_words;
+    struct paugmeln_instance *list;
+    uint32_t *state, *scratch, *environment;
+    size_t records, state_words, scratch_words, environment_words;
 };
-
-static uint32_t *fenced_words(size_t words)
-{
-    return (uint32_t *)fenced(words * sizeof(uint32_t));
-}
 
 /* Exactly what is asked for with so many slots, unset. */
 static struct lent fenced_lent(uint32_t slots)
 {
-    struct lent of = {NULL, NULL, NULL, NULL, PAUGMELN_LIST_WORDS, PAUGMELN_STATE_WORDS(CELLS), PAUGMELN_SCRATCH_WORDS,
+    struct lent of = {NULL, NULL, NULL, NULL, PAUGMELN_LIST_RECORDS, PAUGMELN_STATE_WORDS(CELLS), PAUGMELN_SCRATCH_WORDS,
                       PAUGMELN_ENVIRONMENT_WORDS(slots)};
-    of.list = fenced_words(of.list_words);
+    of.list = fenced_list(of.records);
     of.state = fenced_words(of.state_words);
     of.scratch = fenced_words(of.scratch_words);
     of.environment = fenced_words(of.environment_words);
@@ -123,7 +158,7 @@ static struct lent fenced_lent(uint32_t slots)
 
 static struct paugmeln_answer start(const struct lent *of, uint32_t slots)
 {
-    return paugmeln_start((const uint8_t *)two_lines, LENGTH, CELLS, slots, CALLS, of->list, of->list_words, of->state,
+    return paugmeln_start((const uint8_t *)two_lines, LENGTH, CELLS, slots, CALLS, of->list, of->records, of->state,
                           of->state_words, of->scratch, of->scratch_words, of->environment, of->environment_words);
 }
 
@@ -154,21 +189,23 @@ static void try_run(struct lent of, const char *where)
     expect(iterate(&of, SLOTS, fenced(0), 0).number == 19, "line that may not be touched, length 0");
 }
 
-/* A buffer one word too short is refused with 18; scratch and slots are cleared as far as they go, the state is left. */
-static void try_short(size_t *words, const struct lent *of, const char *which)
+/* A buffer one element too short is refused with 18; list, scratch and slots are cleared as far as they go, the state is left. */
+static void try_short(size_t *length, const struct lent *of, const char *which)
 {
     of->state[0] = 7;
-    *words -= 1;
+    *length -= 1;
+    soil(of->list, of->records);
     expect(start(of, 1).number == 18, which);
     expect(of->state[0] == 7, "a refused start leaves the state");
+    expect(all_empty(of->list, of->records), "a refused start leaves empty records");
     expect_cleared(of, which);
-    *words += 1;
+    *length += 1;
 }
 
 static void try_short_buffers(void)
 {
     struct lent of = fenced_lent(1);
-    try_short(&of.list_words, &of, "list too short");
+    try_short(&of.records, &of, "list too short");
     try_short(&of.state_words, &of, "state too short");
     try_short(&of.scratch_words, &of, "scratch too short");
     try_short(&of.environment_words, &of, "slots too short");
@@ -179,9 +216,9 @@ int main(void)
     try_empty_text(NULL, "text NULL, length 0");
     try_empty_text(fenced(0), "text that may not be touched, length 0");
     try_empty_list(NULL, "list NULL, length 0");
-    try_empty_list((uint32_t *)fenced(0), "list that may not be touched, length 0");
+    try_empty_list(fenced_list(0), "list that may not be touched, length 0");
     try_exact_buffers();
-    try_short_list();
+    try_lists();
     struct lent exact = fenced_lent(SLOTS);
     try_run(exact, "start and lines between fences");
     exact.environment = NULL;

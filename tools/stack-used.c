@@ -22,9 +22,9 @@ static struct paugmeln_answer answer;
 
 static void *check(void *unused)
 {
-    static uint32_t list[PAUGMELN_LIST_WORDS];
+    static struct paugmeln_instance list[PAUGMELN_LIST_RECORDS];
     answer = paugmeln_check(text, length, PAUGMELN_CELLS_MOST, PAUGMELN_SLOTS_MOST, PAUGMELN_CALLS_MOST, list,
-                            PAUGMELN_LIST_WORDS);
+                            PAUGMELN_LIST_RECORDS);
     return unused;
 }
 

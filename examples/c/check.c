@@ -10,7 +10,7 @@
 /* What one check is lent, and its answer. */
 struct checking {
     struct rule_file file;
-    uint32_t list[PAUGMELN_LIST_WORDS];
+    struct paugmeln_instance list[PAUGMELN_LIST_RECORDS];
     struct paugmeln_answer answer;
 };
 
@@ -18,7 +18,7 @@ static void *check(void *lent)
 {
     struct checking *of = lent;
     of->answer = paugmeln_check(of->file.text, of->file.length, PAUGMELN_CELLS_MOST, PAUGMELN_SLOTS_MOST,
-                                PAUGMELN_CALLS_MOST, of->list, PAUGMELN_LIST_WORDS);
+                                PAUGMELN_CALLS_MOST, of->list, PAUGMELN_LIST_RECORDS);
     return NULL;
 }
 
@@ -30,23 +30,28 @@ static void print_answer(const struct paugmeln_answer *v)
         printf("REFUSE %u %u %u %u %u\n", v->number, v->frame, v->heap, v->environment, v->stack);
 }
 
-static void print_instance(const uint32_t *record)
+static void print_instance(const struct paugmeln_instance *record)
 {
-    const uint32_t *sizes = record + 1, *numbers = sizes + PAUGMELN_RECORD_SIZES;
-    fprintf(stderr, "function %u at", record[0]);
-    for (int i = 0; i < PAUGMELN_RECORD_SIZES && sizes[i] != 0; i++)
-        fprintf(stderr, " %u", sizes[i]);
-    fprintf(stderr, ": environment %u, heap %u, stack %u\n", numbers[0], numbers[1], numbers[2]);
+    fprintf(stderr, "function %u at", record->function);
+    for (int i = 0; i < PAUGMELN_RECORD_SIZES && record->sizes[i] != 0; i++)
+        fprintf(stderr, " %u", record->sizes[i]);
+    fprintf(stderr, ": environment %u, heap %u, stack %u\n", record->environment, record->heap, record->stack);
 }
 
-/* The list up to its last record that is not 0 throughout. */
-static void print_instances(const uint32_t *list)
+static int is_empty(const struct paugmeln_instance *record)
 {
-    size_t used = PAUGMELN_LIST_WORDS;
-    while (used > 0 && list[used - 1] == 0)
+    static const struct paugmeln_instance empty;
+    return memcmp(record, &empty, sizeof empty) == 0;
+}
+
+/* The list up to its last record that is not empty. */
+static void print_instances(const struct paugmeln_instance *list)
+{
+    size_t used = PAUGMELN_LIST_RECORDS;
+    while (used > 0 && is_empty(&list[used - 1]))
         used--;
-    for (size_t at = 0; at < used; at += PAUGMELN_RECORD_WORDS)
-        print_instance(list + at);
+    for (size_t at = 0; at < used; at++)
+        print_instance(&list[at]);
 }
 
 int main(void)

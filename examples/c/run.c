@@ -27,7 +27,7 @@ enum { BOOL_TAG = 1, INT_TAG = 2, TYPE_STEP = 256 };
 /* All that the calls are lent, and what is known of the file. */
 struct board {
     struct rule_file file;
-    uint32_t list[PAUGMELN_LIST_WORDS];
+    struct paugmeln_instance list[PAUGMELN_LIST_RECORDS];
     uint32_t state[PAUGMELN_STATE_WORDS(PAUGMELN_CELLS_MOST)];
     uint32_t scratch[PAUGMELN_SCRATCH_WORDS];
     uint32_t environment[PAUGMELN_ENVIRONMENT_WORDS(PAUGMELN_SLOTS_MOST)];
@@ -66,7 +66,7 @@ static const char *const sentences[] = {
 static struct paugmeln_answer start(struct board *of)
 {
     return paugmeln_start(of->file.text, of->file.length, PAUGMELN_CELLS_MOST, PAUGMELN_SLOTS_MOST, PAUGMELN_CALLS_MOST,
-                          of->list, PAUGMELN_LIST_WORDS, of->state, PAUGMELN_STATE_WORDS(PAUGMELN_CELLS_MOST), of->scratch,
+                          of->list, PAUGMELN_LIST_RECORDS, of->state, PAUGMELN_STATE_WORDS(PAUGMELN_CELLS_MOST), of->scratch,
                           PAUGMELN_SCRATCH_WORDS, of->environment, PAUGMELN_ENVIRONMENT_WORDS(PAUGMELN_SLOTS_MOST));
 }
 

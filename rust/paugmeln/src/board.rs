@@ -3,7 +3,7 @@
 use crate::answer::{Bounds, Refusal};
 use crate::checking::check;
 use crate::frames::{self, Kind};
-use crate::instances::{instances, Instance, LIST_WORDS};
+use crate::instances::{instances, Instance, LIST_RECORDS};
 use crate::running::{iterate, start, Loan};
 use crate::sizes::{Sizes, SCRATCH_WORDS};
 use crate::value::Value;
@@ -47,7 +47,7 @@ pub struct Board {
     field_counts: Vec<Vec<usize>>,
     inputs: usize,
     channels: usize,
-    list: Vec<u32>,
+    list: Vec<Instance>,
     buffers: Buffers,
 }
 
@@ -96,7 +96,7 @@ impl Board {
     ///
     /// Where the system has no room for a thread with the stack that is needed; so do the other calls.
     pub fn start(text: &[u8], sizes: Sizes) -> Result<Board, Refusal> {
-        let mut list = vec![0; LIST_WORDS];
+        let mut list = vec![Instance::EMPTY; LIST_RECORDS];
         let mut buffers = Buffers::new(sizes);
         let bounds = start(text, sizes, &mut list, buffers.loan()).result()?;
         let inputs = frames::count(text, Kind::Input);
@@ -171,7 +171,7 @@ impl Board {
     /// It is asked of the proved checker: a file of the same types and one channel, kept by a node, needs as much heap as
     /// the channel has cells. So this takes a check for each channel.
     pub fn cells_stated(&self) -> u32 {
-        let mut list = vec![0; LIST_WORDS];
+        let mut list = vec![Instance::EMPTY; LIST_RECORDS];
         let files = frames::channels_alone(&self.text).into_iter();
         files
             .map(|file| check(&file, Sizes::LARGEST, &mut list).heap)
@@ -189,7 +189,7 @@ impl Board {
     }
 
     /// The instances that the checker entered; see [`instances`].
-    pub fn instances(&self) -> Vec<Instance> {
+    pub fn instances(&self) -> &[Instance] {
         instances(&self.list)
     }
 

@@ -1,6 +1,7 @@
 //! The proved checker.
 
 use crate::answer::Answer;
+use crate::instances::Instance;
 use crate::sizes::Sizes;
 use crate::stack::{on_stack, STACK_NEEDED};
 
@@ -11,27 +12,34 @@ extern "C" {
         cells: u32,
         slots: u32,
         calls: u32,
-        list: *mut u32,
-        words: usize,
+        list: *mut Instance,
+        records: usize,
     ) -> Answer;
 }
 
 /// Checks a rule file against a board, on a thread of its own whose stack is large enough for any file.
 ///
-/// The list is lent as words, of any contents, and is refused with 18 under [`LIST_WORDS`](crate::LIST_WORDS). On
-/// acceptance it holds the instances in order of entry and its rest is 0; on refusal all of it is 0.
+/// The list may hold anything before, and is refused with 18 under [`LIST_RECORDS`](crate::LIST_RECORDS). On acceptance it
+/// holds a record for each instance, in order of entry, and empty ones behind them; on refusal every record is empty.
 ///
 /// ```
-/// let text = b"03011100000000\n04011100000000170014011300\n";
-/// let mut list = vec![0; paugmeln::LIST_WORDS];
-/// let answer = paugmeln::check(text, paugmeln::Sizes::LARGEST, &mut list);
-/// assert_eq!((answer.number, answer.heap), (0, 4));
+/// # fn main() -> Result<(), Box<dyn std::error::Error>> {
+/// use paugmeln::{Instance, Sizes, LIST_RECORDS};
+///
+/// let text = std::fs::read("../../examples/listing3.rules")?;
+/// let mut list = vec![Instance::EMPTY; LIST_RECORDS];
+/// let answer = paugmeln::check(&text, Sizes::LARGEST, &mut list);
+/// assert_eq!((answer.number, answer.heap), (0, 25));
+/// assert_eq!((list[0].function, list[0].sizes[0]), (0, 4));
+/// assert_eq!(paugmeln::instances(&list).len(), 10);
+/// # Ok(())
+/// # }
 /// ```
 ///
 /// # Panics
 ///
 /// Where the system has no room for the thread.
-pub fn check(text: &[u8], sizes: Sizes, list: &mut [u32]) -> Answer {
+pub fn check(text: &[u8], sizes: Sizes, list: &mut [Instance]) -> Answer {
     // SAFETY: the thread has the stack that is asked for, and nothing else runs on it.
     on_stack(STACK_NEEDED, || unsafe {
         check_on_this_stack(text, sizes, list)
@@ -48,7 +56,7 @@ pub fn check(text: &[u8], sizes: Sizes, list: &mut [u32]) -> Answer {
 /// ```compile_fail,E0133
 /// paugmeln::check_on_this_stack(b"", paugmeln::Sizes::LARGEST, &mut []);
 /// ```
-pub unsafe fn check_on_this_stack(text: &[u8], sizes: Sizes, list: &mut [u32]) -> Answer {
+pub unsafe fn check_on_this_stack(text: &[u8], sizes: Sizes, list: &mut [Instance]) -> Answer {
     // SAFETY: the text is lent for reading and the list for reading and writing, each with its length. The two cannot
     // overlap, and neither is kept. The caller has seen to the stack.
     unsafe {

@@ -29,7 +29,7 @@ pub mod value;
 pub use answer::{Answer, Bounds, Refusal};
 pub use board::Board;
 pub use checking::{check, check_on_this_stack};
-pub use instances::{instances, records, Instance, LIST_RECORDS, LIST_WORDS, RECORD_WORDS};
+pub use instances::{instances, Instance, LIST_RECORDS};
 pub use reading::read;
 pub use running::{iterate, iterate_on_this_stack, start, start_on_this_stack, Loan};
 pub use sizes::{Sizes, SCRATCH_WORDS, TEXT_CHARACTERS};

@@ -1,6 +1,7 @@
 //! The proved start and iteration, over lent buffers.
 
 use crate::answer::Answer;
+use crate::instances::Instance;
 use crate::sizes::Sizes;
 use crate::stack::{on_stack, ITERATION_STACK_NEEDED, STACK_NEEDED};
 
@@ -11,8 +12,8 @@ extern "C" {
         cells: u32,
         slots: u32,
         calls: u32,
-        list: *mut u32,
-        list_words: usize,
+        list: *mut Instance,
+        records: usize,
         state: *mut u32,
         state_words: usize,
         scratch: *mut u32,
@@ -58,7 +59,7 @@ pub struct Loan<'a> {
 /// # Panics
 ///
 /// Where the system has no room for the thread.
-pub fn start(text: &[u8], sizes: Sizes, list: &mut [u32], loan: Loan) -> Answer {
+pub fn start(text: &[u8], sizes: Sizes, list: &mut [Instance], loan: Loan) -> Answer {
     // SAFETY: the thread has the stack that is asked for, and nothing else runs on it.
     on_stack(STACK_NEEDED, || unsafe {
         start_on_this_stack(text, sizes, list, loan)
@@ -73,7 +74,7 @@ pub fn start(text: &[u8], sizes: Sizes, list: &mut [u32], loan: Loan) -> Answer 
 pub unsafe fn start_on_this_stack(
     text: &[u8],
     sizes: Sizes,
-    list: &mut [u32],
+    list: &mut [Instance],
     loan: Loan,
 ) -> Answer {
     // SAFETY: the text is lent for reading, the others for reading and writing, each with its length. No two of them

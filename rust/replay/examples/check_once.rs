@@ -5,7 +5,7 @@ use evaluator::instances::Instance;
 use evaluator::limits::INSTANCES;
 use evaluator::machine;
 use evaluator::stack::{with_deep_stack, STACK_BYTES};
-use paugmeln::{check_on_this_stack, LIST_WORDS, STACK_NEEDED};
+use paugmeln::{check_on_this_stack, LIST_RECORDS, STACK_NEEDED};
 use replay::library::{answer, sizes};
 use replay::report;
 use std::hint::black_box;
@@ -17,7 +17,7 @@ const _: () = assert!(STACK_BYTES > STACK_NEEDED + (1 << 20));
 /// `STACK_NEEDED` bytes of this stack are free.
 #[inline(never)]
 #[no_mangle]
-unsafe fn counted_library(text: &[u8], list: &mut [u32]) -> Answer {
+unsafe fn counted_library(text: &[u8], list: &mut [paugmeln::Instance]) -> Answer {
     // SAFETY: the caller has seen to the stack.
     answer(unsafe { check_on_this_stack(black_box(text), sizes(Board::LARGEST), list) })
 }
@@ -31,7 +31,7 @@ fn counted_reference(text: &[u8], records: &mut [Instance]) -> Answer {
 /// Both answers, given on a stack deep enough for either.
 fn both(text: Vec<u8>) -> (Answer, Answer) {
     let answers = with_deep_stack(move || {
-        let mut list = vec![0; LIST_WORDS];
+        let mut list = vec![paugmeln::Instance::EMPTY; LIST_RECORDS];
         let mut records = vec![Instance::default(); INSTANCES];
         // SAFETY: this thread has more stack than is needed, by the assertion above.
         let proved = unsafe { counted_library(&text, &mut list) };

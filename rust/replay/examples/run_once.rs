@@ -8,7 +8,7 @@ use evaluator::line;
 use evaluator::machine;
 use evaluator::reader;
 use evaluator::stack::{with_deep_stack, STACK_BYTES};
-use paugmeln::{iterate_on_this_stack, start_on_this_stack, LIST_WORDS, STACK_NEEDED};
+use paugmeln::{iterate_on_this_stack, start_on_this_stack, LIST_RECORDS, STACK_NEEDED};
 use replay::engine::Buffers;
 use replay::library::{answer, loan, sizes};
 use replay::reference;
@@ -21,7 +21,11 @@ const _: () = assert!(STACK_BYTES > STACK_NEEDED + (1 << 20));
 /// `STACK_NEEDED` bytes of this stack are free.
 #[inline(never)]
 #[no_mangle]
-unsafe fn counted_library_start(text: &[u8], list: &mut [u32], buffers: &mut Buffers) -> Answer {
+unsafe fn counted_library_start(
+    text: &[u8],
+    list: &mut [paugmeln::Instance],
+    buffers: &mut Buffers,
+) -> Answer {
     let (text, board) = (black_box(text), sizes(Board::LARGEST));
     // SAFETY: the caller has seen to the stack.
     answer(unsafe { start_on_this_stack(text, board, list, loan(buffers)) })
@@ -67,7 +71,7 @@ fn lent() -> Buffers {
 /// Runs both over the lines and compares what they leave.
 fn both(text: &[u8], lines: &[u8]) -> usize {
     let [mut proved, mut rust] = [lent(), lent()];
-    let mut list = vec![0; LIST_WORDS];
+    let mut list = vec![paugmeln::Instance::EMPTY; LIST_RECORDS];
     let mut records = vec![Instance::default(); INSTANCES];
     // SAFETY: this thread has more stack than is needed, by the assertion above.
     let started = unsafe { counted_library_start(text, &mut list, &mut proved) };

@@ -2,16 +2,18 @@
 
 use evaluator::answer::{Answer, Board};
 use evaluator::limits::{BOARD_CELLS, BOARD_SLOTS, SCRATCH_WORDS};
+use paugmeln::instances::SIZES;
+use paugmeln::Instance;
 
-/// An implementation of check, start and iterate. Every buffer comes from the caller; the list of instances is words, 12 a
-/// record, as the proved library has it.
+/// An implementation of check, start and iterate. Every buffer comes from the caller; the list of instances is as the proved
+/// library has it.
 pub trait Engine {
-    fn check(&mut self, text: &[u8], board: Board, list: &mut [u32]) -> Answer;
+    fn check(&mut self, text: &[u8], board: Board, list: &mut [Instance]) -> Answer;
     fn start(
         &mut self,
         text: &[u8],
         board: Board,
-        list: &mut [u32],
+        list: &mut [Instance],
         buffers: &mut Buffers,
     ) -> Answer;
     fn iterate(&mut self, text: &[u8], board: Board, line: &[u8], buffers: &mut Buffers) -> Answer;
@@ -25,8 +27,22 @@ pub struct Buffers {
     pub slots: Vec<u32>,
 }
 
-/// What list, scratch and slots hold before a call; it is not looked at.
+/// What scratch and slots hold before a call; it is not looked at.
 pub const UNTOUCHED: u32 = 0xA5A5_A5A5;
+
+/// The same for the records of a list.
+pub const UNTOUCHED_RECORD: Instance = filled(UNTOUCHED);
+
+/// A record with the same number everywhere.
+pub const fn filled(number: u32) -> Instance {
+    Instance {
+        function: number,
+        sizes: [number; SIZES],
+        environment: number,
+        heap: number,
+        stack: number,
+    }
+}
 
 impl Buffers {
     /// A state buffer of `words` words, and scratch and slots for a board.

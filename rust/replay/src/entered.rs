@@ -1,4 +1,4 @@
-//! The instances that a list of words shows, as a report has them.
+//! The instances that a lent list shows, as a report has them.
 
 use evaluator::answer::Board;
 use evaluator::instances::Instance;
@@ -18,7 +18,7 @@ pub struct Entered {
 }
 
 /// The instances that a list shows after a check of this text.
-pub fn entered(text: &[u8], board: Board, list: &[u32]) -> Vec<Entered> {
+pub fn entered(text: &[u8], board: Board, list: &[paugmeln::Instance]) -> Vec<Entered> {
     let Ok(file) = reader::read(text) else {
         return vec![];
     };

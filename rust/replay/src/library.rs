@@ -2,12 +2,12 @@
 
 use crate::engine::{Buffers, Engine};
 use evaluator::answer::{Answer, Board, Bounds};
-use paugmeln::{Loan, Sizes};
+use paugmeln::{Instance, Loan, Sizes};
 
 pub struct Library;
 
 impl Engine for Library {
-    fn check(&mut self, text: &[u8], board: Board, list: &mut [u32]) -> Answer {
+    fn check(&mut self, text: &[u8], board: Board, list: &mut [Instance]) -> Answer {
         answer(paugmeln::check(text, sizes(board), list))
     }
 
@@ -15,7 +15,7 @@ impl Engine for Library {
         &mut self,
         text: &[u8],
         board: Board,
-        list: &mut [u32],
+        list: &mut [Instance],
         buffers: &mut Buffers,
     ) -> Answer {
         answer(paugmeln::start(text, sizes(board), list, loan(buffers)))

@@ -4,9 +4,9 @@ use crate::engine::{Buffers, Engine};
 use evaluator::answer::{Answer, Board};
 use evaluator::instances::Instance;
 use evaluator::machine::{self, Loan};
-use paugmeln::RECORD_WORDS;
+use paugmeln::instances::SIZES;
 
-/// Keeps the records that the list is written from.
+/// Keeps the evaluator's own records, from which the list is written.
 #[derive(Default)]
 pub struct Reference {
     records: Vec<Instance>,
@@ -17,39 +17,40 @@ impl Reference {
         Reference::default()
     }
 
-    /// As many records as a list of words has room for.
-    fn lend(&mut self, list: &[u32]) {
-        let count = list.len() / RECORD_WORDS;
-        self.records.resize(count, Instance::default());
+    /// As many records as the list has.
+    fn lend(&mut self, list: &[paugmeln::Instance]) {
+        self.records.resize(list.len(), Instance::default());
     }
 
-    /// Writes the records in use as words, and zeros behind them.
-    fn write(&self, list: &mut [u32]) {
-        list.fill(0);
-        let used = self.records.iter().filter(|it| it.function().is_some());
-        let (places, _) = list.as_chunks_mut::<RECORD_WORDS>();
-        for (place, record) in places.iter_mut().zip(used) {
-            *place = words_of(record);
+    /// Writes all records, used or not.
+    fn write(&self, list: &mut [paugmeln::Instance]) {
+        for (place, record) in list.iter_mut().zip(&self.records) {
+            *place = as_lent(record);
         }
     }
 }
 
-/// A record as the proved library lays it out.
-fn words_of(record: &Instance) -> [u32; RECORD_WORDS] {
-    let mut words = [0; RECORD_WORDS];
-    let (head, numbers) = words.split_at_mut(RECORD_WORDS - 3);
-    let sizes = record.sizes().map(u32::from);
-    let parts = record.function().into_iter().chain(sizes);
-    head.iter_mut()
-        .zip(parts)
-        .for_each(|(word, part)| *word = part);
+/// A record as the proved library has it: an unused one is empty.
+fn as_lent(record: &Instance) -> paugmeln::Instance {
+    let Some(function) = record.function() else {
+        return paugmeln::Instance::EMPTY;
+    };
+    let mut sizes = [0; SIZES];
+    for (place, size) in sizes.iter_mut().zip(record.sizes()) {
+        *place = u32::from(size);
+    }
     let estimate = record.estimate();
-    numbers.copy_from_slice(&[estimate.environment, estimate.heap, estimate.stack]);
-    words
+    paugmeln::Instance {
+        function,
+        sizes,
+        environment: estimate.environment,
+        heap: estimate.heap,
+        stack: estimate.stack,
+    }
 }
 
 impl Engine for Reference {
-    fn check(&mut self, text: &[u8], board: Board, list: &mut [u32]) -> Answer {
+    fn check(&mut self, text: &[u8], board: Board, list: &mut [paugmeln::Instance]) -> Answer {
         self.lend(list);
         let answer = machine::check(text, board, &mut self.records);
         self.write(list);
@@ -60,7 +61,7 @@ impl Engine for Reference {
         &mut self,
         text: &[u8],
         board: Board,
-        list: &mut [u32],
+        list: &mut [paugmeln::Instance],
         buffers: &mut Buffers,
     ) -> Answer {
         self.lend(list);

@@ -1,12 +1,12 @@
 //! One case after another.
 
-use crate::engine::{lendable_cells, Buffers, Engine, UNTOUCHED};
+use crate::engine::{lendable_cells, Buffers, Engine, UNTOUCHED_RECORD};
 use crate::entered::entered;
 use crate::report;
 use evaluator::answer::Board;
 use evaluator::limits::state_words;
 use generator::case::Case;
-use paugmeln::LIST_WORDS;
+use paugmeln::LIST_RECORDS;
 
 /// The answer to a case, one line without its end.
 pub fn run(engine: &mut dyn Engine, case: &Case) -> String {
@@ -46,7 +46,7 @@ fn checked_and_started(
     text: &[u8],
     buffers: &mut Buffers,
 ) -> String {
-    let [mut list, mut again] = [(); 2].map(|()| vec![UNTOUCHED; LIST_WORDS]);
+    let [mut list, mut again] = [(); 2].map(|()| vec![UNTOUCHED_RECORD; LIST_RECORDS]);
     let checked = engine.check(text, board, &mut list);
     buffers.soil();
     let started = engine.start(text, board, &mut again, buffers);

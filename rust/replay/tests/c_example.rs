@@ -10,7 +10,7 @@ use evaluator::limits::{
 use evaluator::stack::with_deep_stack;
 use generator::depths::{deepest_bodies, Level};
 use generator::{edges, writer};
-use paugmeln::{Bounds, ITERATION_STACK_NEEDED, LIST_WORDS, STACK_NEEDED};
+use paugmeln::{Bounds, Instance, ITERATION_STACK_NEEDED, LIST_RECORDS, STACK_NEEDED};
 use replay::checking::{by_reference, Checked};
 use std::fs;
 use std::io::Write;
@@ -60,6 +60,15 @@ fn line(answer: Answer) -> String {
     }
 }
 
+/// The line that the example writes for an instance.
+fn instance_line(known: &Instance) -> String {
+    let sizes = known.sizes.iter().take_while(|size| **size != 0);
+    let sizes: String = sizes.map(|size| format!(" {size}")).collect();
+    let (environment, heap, stack) = (known.environment, known.heap, known.stack);
+    let numbers = format!("environment {environment}, heap {heap}, stack {stack}");
+    format!("function {} at{sizes}: {numbers}\n", known.function)
+}
+
 fn texts() -> Vec<Vec<u8>> {
     let examples = ["accumulate", "listing3", "top10sum"].map(example);
     let deepest = Level::ALL.map(|level| writer::text(&deepest_bodies(level)));
@@ -72,12 +81,13 @@ fn the_example_answers_as_the_rust_checker_does() {
     let program = compiled();
     for text in texts() {
         let output = run(&program, &text);
-        let expected = with_deep_stack(move || by_reference(&text, Board::LARGEST, LIST_WORDS));
+        let expected = with_deep_stack(move || by_reference(&text, Board::LARGEST, LIST_RECORDS));
         let Checked { answer, list } = expected.expect("an answer");
         assert_eq!(String::from_utf8_lossy(&output.stdout), line(answer));
         assert_eq!(output.status.code(), Some(i32::from(answer.number != 0)));
-        let listed = String::from_utf8_lossy(&output.stderr).lines().count();
-        assert_eq!(listed, paugmeln::instances(&list).len());
+        let entered = paugmeln::instances(&list).iter();
+        let listed: String = entered.map(instance_line).collect();
+        assert_eq!(String::from_utf8_lossy(&output.stderr), listed);
     }
 }
 

@@ -1,4 +1,4 @@
-//! The proved checker and the Rust checker give the same answer and leave the same words in the lent list.
+//! The proved checker and the Rust checker give the same answer and leave the same records in the lent list.
 
 mod support;
 
@@ -6,7 +6,7 @@ use evaluator::answer::Board;
 use evaluator::stack::with_deep_stack;
 use generator::case::Case;
 use generator::mixture::Mixture;
-use paugmeln::LIST_WORDS;
+use paugmeln::LIST_RECORDS;
 use replay::checking::{asked, by_library, by_reference, report_by_library};
 use replay::format;
 use std::path::Path;
@@ -14,8 +14,8 @@ use support::{own_folder, say, shared_folder, stored, Counts};
 
 /// Compares the two on one file; gives the number answered.
 fn compared(board: Board, text: &[u8]) -> u32 {
-    let found = by_library(text, board, LIST_WORDS);
-    let expected = by_reference(text, board, LIST_WORDS);
+    let found = by_library(text, board, LIST_RECORDS);
+    let expected = by_reference(text, board, LIST_RECORDS);
     let shown = String::from_utf8_lossy(text);
     let answers = (found.answer, expected.answer);
     assert!(

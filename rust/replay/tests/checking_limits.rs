@@ -1,5 +1,7 @@
 //! The proved checker at the limits, compared with the Rust one each time.
 
+mod support;
+
 use evaluator::answer::{Answer, Board};
 use evaluator::limits::{
     BOARD_CALLS, BOARD_CELLS, BOARD_SLOTS, FIELDS, FUNCTIONS, INSTANCES, LARGEST_NUMBER, VARIABLES,
@@ -11,15 +13,17 @@ use generator::case::Case;
 use generator::depths::{deepest_bodies, Level};
 use generator::examples::{listing3, top10sum};
 use generator::{edges, growth, writer};
-use paugmeln::{LIST_RECORDS, LIST_WORDS, RECORD_WORDS};
-use replay::checking::{by_library, by_reference, report_by_library, Checked};
-use replay::library::{answer, sizes};
+use paugmeln::{Instance, LIST_RECORDS};
+use replay::checking::{self, by_library, by_reference, report_by_library, Checked};
+use replay::library::Library;
+use std::collections::BTreeSet;
+use support::lists;
 
-/// What both checkers leave.
-fn checked(text: &[u8], board: Board, words: usize) -> Checked {
-    let found = by_library(text, board, words);
+/// What both checkers leave, lent a list of so many records.
+fn checked(text: &[u8], board: Board, records: usize) -> Checked {
+    let found = by_library(text, board, records);
     let text = text.to_vec();
-    let expected = with_deep_stack(move || by_reference(&text, board, words));
+    let expected = with_deep_stack(move || by_reference(&text, board, records));
     let expected = expected.expect("an answer");
     assert_eq!(found.answer, expected.answer);
     assert!(found.list == expected.list, "unlike lists");
@@ -27,7 +31,7 @@ fn checked(text: &[u8], board: Board, words: usize) -> Checked {
 }
 
 fn on_largest(file: &File) -> Checked {
-    checked(&writer::text(file), Board::LARGEST, LIST_WORDS)
+    checked(&writer::text(file), Board::LARGEST, LIST_RECORDS)
 }
 
 fn number_and_frame(answer: Answer) -> (u32, u32) {
@@ -38,8 +42,8 @@ fn refusal(file: &File) -> (u32, u32) {
     number_and_frame(on_largest(file).answer)
 }
 
-fn is_zero(words: &[u32]) -> bool {
-    words.iter().all(|word| *word == 0)
+fn all_empty(list: &[Instance]) -> bool {
+    list.iter().all(|record| *record == Instance::EMPTY)
 }
 
 /// The board that lends exactly what is needed.
@@ -59,13 +63,13 @@ fn a_file_enters_1024_instances_and_not_1025() {
     assert_eq!(paugmeln::instances(&full.list).len(), INSTANCES);
     let over = on_largest(&edges::instances(side + 1, INSTANCES / side));
     assert_eq!(number_and_frame(over.answer), (14, 2));
-    assert!(is_zero(&over.list));
+    assert!(all_empty(&over.list));
 }
 
 #[test]
 fn a_longer_list_does_not_make_room_for_a_1025th_instance() {
     let text = writer::text(&edges::instances(33, 32));
-    let found = checked(&text, Board::LARGEST, 2 * LIST_WORDS);
+    let found = checked(&text, Board::LARGEST, 2 * LIST_RECORDS);
     assert_eq!(number_and_frame(found.answer), (14, 2));
 }
 
@@ -91,14 +95,14 @@ fn the_deepest_bodies_are_checked() {
         let found = on_largest(&deepest_bodies(level));
         assert!((15..=17).contains(&found.answer.number), "{level:?}");
         assert!(found.answer.bounds.stack as usize >= INSTANCES - 1);
-        assert!(is_zero(&found.list));
+        assert!(all_empty(&found.list));
     }
 }
 
 #[test]
 fn every_file_at_a_limit_agrees() {
     for text in edges::all() {
-        checked(&text, Board::LARGEST, LIST_WORDS);
+        checked(&text, Board::LARGEST, LIST_RECORDS);
     }
 }
 
@@ -124,7 +128,7 @@ fn altered(part: usize, number: u32) -> Board {
 #[test]
 fn a_board_is_at_most_its_maximum() {
     let text = writer::text(&listing3());
-    let at = |board| number_and_frame(checked(&text, board, LIST_WORDS).answer);
+    let at = |board| number_and_frame(checked(&text, board, LIST_RECORDS).answer);
     assert_eq!(at(Board::LARGEST), (0, 0));
     for (part, most) in [BOARD_CELLS, BOARD_SLOTS, BOARD_CALLS].iter().enumerate() {
         assert_eq!(at(altered(part, most + 1)), (18, 0));
@@ -138,7 +142,7 @@ fn a_board_one_short_is_refused_by_its_own_number() {
     for file in [listing3(), top10sum(), edges::instances(32, 32)] {
         let text = writer::text(&file);
         let board = exact(on_largest(&file).answer);
-        let at = |board| number_and_frame(checked(&text, board, LIST_WORDS).answer);
+        let at = |board| number_and_frame(checked(&text, board, LIST_RECORDS).answer);
         assert_eq!(at(board), (0, 0));
         let Board {
             cells,
@@ -172,24 +176,19 @@ fn a_board_one_short_is_refused_by_its_own_number() {
 #[test]
 fn a_list_has_at_least_1024_records() {
     let text = writer::text(&listing3());
-    let at = |words| number_and_frame(checked(&text, Board::LARGEST, words).answer);
-    let short = (LIST_RECORDS - 1) * RECORD_WORDS;
-    for words in [0, 1, short, LIST_WORDS - 1] {
-        assert_eq!(at(words), (18, 0), "{words} words");
-    }
-    for words in [
-        LIST_WORDS,
-        LIST_WORDS + 1,
-        LIST_WORDS + RECORD_WORDS,
-        2 * LIST_WORDS,
-    ] {
-        assert_eq!(at(words), (0, 0), "{words} words");
+    for records in lists::LENGTHS {
+        let expected = match records < LIST_RECORDS {
+            true => (18, 0),
+            false => (0, 0),
+        };
+        let found = checked(&text, Board::LARGEST, records).answer;
+        assert_eq!(number_and_frame(found), expected, "{records} records");
     }
 }
 
 #[test]
 fn refusal_18_follows_9_and_precedes_10() {
-    let (cells, short) = (BOARD_CELLS + 1, LIST_WORDS - 1);
+    let (cells, short) = (BOARD_CELLS + 1, LIST_RECORDS - 1);
     let over = Board {
         cells,
         ..Board::LARGEST
@@ -197,31 +196,28 @@ fn refusal_18_follows_9_and_precedes_10() {
     // An Int where a Bool is declared, and a list adjusted to size 65.
     let plain = "040010001100000000\n";
     let sized = "010200020102\n040200011900001B0141190000\n";
-    for (board, words) in [(over, LIST_WORDS), (Board::LARGEST, short), (over, short)] {
-        let at = |text: &str| number_and_frame(checked(text.as_bytes(), board, words).answer);
+    for (board, records) in [(over, LIST_RECORDS), (Board::LARGEST, short), (over, short)] {
+        let at = |text: &str| number_and_frame(checked(text.as_bytes(), board, records).answer);
         assert_eq!(at(plain), (9, 1));
         assert_eq!(at(sized), (18, 0));
     }
-    let lent = checked(sized.as_bytes(), Board::LARGEST, LIST_WORDS);
+    let lent = checked(sized.as_bytes(), Board::LARGEST, LIST_RECORDS);
     assert_eq!(number_and_frame(lent.answer), (10, 2));
 }
 
 #[test]
-fn what_the_list_held_before_does_not_matter() {
-    let text = writer::text(&listing3());
-    let expected = checked(&text, Board::LARGEST, LIST_WORDS);
-    let earlier = on_largest(&top10sum()).list;
-    let fillings = [
-        vec![0; LIST_WORDS],
-        vec![1; LIST_WORDS],
-        vec![u32::MAX; LIST_WORDS],
-        earlier,
-    ];
-    for mut list in fillings {
-        let found = answer(paugmeln::check(&text, sizes(Board::LARGEST), &mut list));
-        assert_eq!(found, expected.answer);
-        assert!(list == expected.list);
+fn what_a_list_of_any_length_held_before_does_not_matter() {
+    let mut numbers = BTreeSet::new();
+    for (text, board, records) in lists::trials() {
+        let expected = checked(&text, board, records);
+        for list in lists::filled_before(records) {
+            let found = checking::checked(&mut Library, &text, board, list);
+            let answer = found.answer;
+            assert!(found == expected, "{answer:?} with {records} records");
+        }
+        numbers.insert(expected.answer.number);
     }
+    assert_eq!(numbers, lists::NUMBERS.into());
 }
 
 #[test]
@@ -235,11 +231,12 @@ fn listing_3_has_ten_instances() {
             calls: 5
         }
     );
-    assert_eq!(paugmeln::instances(&found.list).len(), 10);
+    let entered = paugmeln::instances(&found.list);
+    assert_eq!(entered.len(), 10);
     // insert at 4, tail at 5 and search at 5, each with environment, heap and stack
     for (function, size, numbers) in [(0, 4, [12, 5, 3]), (2, 5, [2, 1, 0]), (1, 5, [16, 5, 4])] {
-        let known =
-            paugmeln::records(&found.list).find(|r| r.function == function && r.sizes[0] == size);
+        let mut entered = entered.iter();
+        let known = entered.find(|known| known.function == function && known.sizes[0] == size);
         let known = known.expect("an instance of that size");
         assert_eq!([known.environment, known.heap, known.stack], numbers);
     }
@@ -279,13 +276,13 @@ fn an_instance_of_zeros_keeps_its_place_and_is_entered_once() {
 }
 
 #[test]
-fn an_instance_of_zeros_that_is_the_only_one_leaves_the_list_zero() {
+fn an_instance_of_zeros_that_is_the_only_one_leaves_empty_records() {
     let mut file = calling_twice([variable(0), variable(0)]);
     file.functions.pop();
     file.nodes[0].update = call(0, vec![int(1)]);
     let found = on_largest(&file);
     assert_eq!(number_and_frame(found.answer), (0, 0));
-    assert!(is_zero(&found.list));
+    assert!(all_empty(&found.list));
     // A report shows it nevertheless.
     let report = report_by_library(&Case::Run {
         board: Board::LARGEST,

@@ -1,13 +1,15 @@
-//! What `docs/FORMAT.md` shows: the bytes of listing 3, the limits, and the state after a line.
+//! What `docs/FORMAT.md` shows: the bytes of listing 3 and of a record, the limits, and the state after a line.
 
 mod support;
 
 use evaluator::limits;
 use generator::case::Case;
+use paugmeln::Instance;
 use replay::checking::report_by_library;
 use replay::library::Library;
 use replay::run::run;
 use std::fs;
+use std::mem::offset_of;
 use support::root;
 
 fn of_repository(name: &str) -> String {
@@ -89,6 +91,28 @@ fn the_limits_are_those_of_rust() {
     for (what, limit) in expected {
         assert_eq!(most(&table, what), limit, "{what}");
     }
+}
+
+#[test]
+fn the_bytes_of_a_record_are_those_of_rust() {
+    let page = of_repository("docs/FORMAT.md");
+    let table = rows(&section(&page, "## The instance record"));
+    let shown: Vec<String> = table.iter().skip(1).map(|row| row[..3].join(" ")).collect();
+    let word = size_of::<u32>();
+    let expected = [
+        ("function", offset_of!(Instance, function), word),
+        (
+            "sizes",
+            offset_of!(Instance, sizes),
+            limits::PARAMETERS * word,
+        ),
+        ("environment", offset_of!(Instance, environment), word),
+        ("heap", offset_of!(Instance, heap), word),
+        ("stack", offset_of!(Instance, stack), word),
+    ];
+    let expected = expected.map(|(name, offset, width)| format!("`{name}` {offset} {width}"));
+    assert_eq!(shown, expected);
+    assert!(page.contains(&format!("A record has {} bytes", size_of::<Instance>())));
 }
 
 /// Listing 3 on the board that it needs, and the line that the page shows.

@@ -1,49 +1,56 @@
-//! Start and iteration leave the same words as the Rust evaluator in all that is lent, whatever it holds before, where it is
-//! longer than the board asks and where it is too short.
+//! Start and iteration leave the same as the Rust evaluator in all that is lent, whatever it holds before, where it is longer
+//! than the board asks and where it is too short.
 
-use evaluator::answer::Board;
+mod support;
+
+use evaluator::answer::{Answer, Board};
 use evaluator::limits::state_words;
 use evaluator::stack::with_deep_stack;
 use generator::case::Case;
 use generator::mixture::Mixture;
 use generator::random::Random;
-use paugmeln::LIST_WORDS;
-use replay::engine::{lendable_cells, Buffers, Engine, UNTOUCHED};
+use paugmeln::{Instance, LIST_RECORDS};
+use replay::engine::{lendable_cells, Buffers, Engine, UNTOUCHED, UNTOUCHED_RECORD};
 use replay::library::Library;
 use replay::reference::Reference;
 use std::collections::BTreeSet;
+use support::lists::{self, Trial};
 
 const CASES: usize = 4_000;
 
-/// Words that were not asked for at the end of a buffer, or one that is missing.
-fn change_length(random: &mut Random, words: &mut Vec<u32>) {
+/// Words or records that were not asked for at the end of a buffer, or one that is missing.
+fn change_length<T: Clone>(random: &mut Random, buffer: &mut Vec<T>, untouched: T) {
     let length = match random.below(8) {
-        0 => words.len().saturating_sub(1),
-        1..=4 => words.len() + random.between(1, 7),
-        _ => words.len(),
+        0 => buffer.len().saturating_sub(1),
+        1..=4 => buffer.len() + random.between(1, 7),
+        _ => buffer.len(),
     };
-    words.resize(length, UNTOUCHED);
+    buffer.resize(length, untouched);
 }
 
-/// The list and the other buffers for a case, each now and then longer or too short.
-fn lent(random: &mut Random, board: Board, state: Vec<u32>) -> (Vec<u32>, Buffers) {
-    let mut list = vec![UNTOUCHED; LIST_WORDS];
+/// The list and the other buffers.
+type Lent = (Vec<Instance>, Buffers);
+
+/// What is lent for a case, each buffer now and then longer or too short.
+fn lent(random: &mut Random, board: Board, state: Vec<u32>) -> Lent {
+    let mut list = vec![UNTOUCHED_RECORD; LIST_RECORDS];
+    change_length(random, &mut list, UNTOUCHED_RECORD);
     let mut buffers = Buffers::new(board, state);
-    let all = [
-        &mut list,
-        &mut buffers.state,
-        &mut buffers.scratch,
-        &mut buffers.slots,
-    ];
-    all.into_iter()
-        .for_each(|words| change_length(random, words));
+    let Buffers {
+        state,
+        scratch,
+        slots,
+    } = &mut buffers;
+    for words in [state, scratch, slots] {
+        change_length(random, words, UNTOUCHED);
+    }
     (list, buffers)
 }
 
 /// What a call leaves of copies of what is lent, and the number that it answers.
-type Left = (evaluator::answer::Answer, Vec<u32>, Buffers);
+type Left = (Answer, Vec<Instance>, Buffers);
 
-fn started(engine: &mut dyn Engine, text: &[u8], board: Board, lent: &(Vec<u32>, Buffers)) -> Left {
+fn started(engine: &mut dyn Engine, text: &[u8], board: Board, lent: &Lent) -> Left {
     let (mut list, mut buffers) = lent.clone();
     let answer = engine.start(text, board, &mut list, &mut buffers);
     (answer, list, buffers)
@@ -53,7 +60,7 @@ fn iterated(
     engine: &mut dyn Engine,
     (text, line): (&[u8], &[u8]),
     board: Board,
-    lent: &(Vec<u32>, Buffers),
+    lent: &Lent,
 ) -> Left {
     let (list, mut buffers) = lent.clone();
     let answer = engine.iterate(text, board, line, &mut buffers);
@@ -86,7 +93,7 @@ fn compared(random: &mut Random, rust: &mut Reference, case: &Case) -> u32 {
 }
 
 #[test]
-fn all_words_agree() {
+fn all_words_and_records_agree() {
     let numbers = with_deep_stack(|| {
         let (mut mixture, mut random) = (Mixture::new(97), Random::new(101));
         let mut rust = Reference::new();
@@ -94,6 +101,26 @@ fn all_words_agree() {
         let numbers = cases.map(|case| compared(&mut random, &mut rust, &case));
         numbers.collect::<BTreeSet<u32>>()
     })
-    .expect("every word agrees");
+    .expect("every word and record agrees");
     assert_eq!(numbers, (0..=23).collect());
+}
+
+/// Both engines with lists that hold this and that before; gives the numbers answered.
+fn tried((text, board, records): Trial) -> impl Iterator<Item = u32> {
+    let lists = lists::filled_before(records).into_iter();
+    lists.map(move |list| {
+        let state = vec![UNTOUCHED; state_words(board.cells)];
+        let lent = (list, Buffers::new(board, state));
+        let found = started(&mut Library, &text, board, &lent);
+        let expected = started(&mut Reference::new(), &text, board, &lent);
+        assert!(found == expected, "{:?} with {records} records", found.0);
+        found.0.number
+    })
+}
+
+#[test]
+fn lists_of_all_lengths_agree() {
+    let numbers = with_deep_stack(|| lists::trials().into_iter().flat_map(tried).collect());
+    let numbers: BTreeSet<u32> = numbers.expect("every record agrees");
+    assert_eq!(numbers, lists::NUMBERS.into());
 }

@@ -13,7 +13,7 @@ use generator::mixture::Mixture;
 use generator::random::Random;
 use generator::values::random_line;
 use generator::writer;
-use paugmeln::LIST_WORDS;
+use paugmeln::{Instance, LIST_RECORDS};
 use replay::engine::{Buffers, Engine};
 use replay::library::Library;
 use replay::reference::Reference;
@@ -31,7 +31,7 @@ struct Running<'a> {
 
 impl<'a> Running<'a> {
     fn start(text: &'a [u8]) -> Running<'a> {
-        let mut list = vec![0; LIST_WORDS];
+        let mut list = vec![Instance::EMPTY; LIST_RECORDS];
         let bounds = Library.check(text, Board::LARGEST, &mut list).bounds;
         let needed = Board {
             cells: bounds.heap,

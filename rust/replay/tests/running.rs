@@ -5,6 +5,7 @@ mod support;
 use evaluator::answer::{Answer, Board};
 use evaluator::stack::with_deep_stack;
 use generator::mixture::Mixture;
+use paugmeln::Instance;
 use replay::engine::{Buffers, Engine};
 use replay::format;
 use replay::library::Library;
@@ -38,7 +39,7 @@ fn generated_and_damaged_cases_agree() {
 struct Lazy(Reference);
 
 impl Engine for Lazy {
-    fn check(&mut self, text: &[u8], board: Board, list: &mut [u32]) -> Answer {
+    fn check(&mut self, text: &[u8], board: Board, list: &mut [Instance]) -> Answer {
         self.0.check(text, board, list)
     }
 
@@ -46,7 +47,7 @@ impl Engine for Lazy {
         &mut self,
         text: &[u8],
         board: Board,
-        list: &mut [u32],
+        list: &mut [Instance],
         buffers: &mut Buffers,
     ) -> Answer {
         self.0.start(text, board, list, buffers)

@@ -3,6 +3,8 @@
 // Each test takes what it needs.
 #![allow(dead_code)]
 
+pub mod lists;
+
 use std::collections::BTreeMap;
 use std::fs;
 use std::io::{self, Write};
