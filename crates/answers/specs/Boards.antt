@@ -1,5 +1,5 @@
 -- Boards and answers of the code beside the machine's, and what the small functions promise that judge what is lent and what is needed.
-use Prim.Native.Nat.{ℕ, _*_, _/_, _≤_}
+use Prim.Native.Nat.{ℕ, _≤_}
 use mathlib.Core.List.{List}
 use mathlib.Core.Bool.{Bool, true}
 use mathlib.Core.Path.{_≡_}
@@ -11,7 +11,6 @@ use Rattle.language.specs.Machine.{Board as MachineBoard, Answer as MachineAnsw
 use Rattle.reader.specs.declared.Reading.{Reading}
 use Rattle.reader.specs.declared.Reading.the-variants.{Done, Fault}
 use Rattle.estimate.specs.declared.Estimate.{Estimate as Held}
-use Rattle.instances.specs.Listed.{instanceWordsCount}
 use Rattle.language.specs.Result.{no, both}
 use Rattle.answers.specs.declared.Board.{Board}
 use Rattle.answers.specs.declared.Answer.{Answer}
@@ -26,9 +25,9 @@ numbersOf x = record { env = x .env; heap = x .heap; stack = x .stack }
 abbrev pub said : Answer → MachineAnswer
 said r = record { number = r .number; frame = r .frame; bounds = record { env = r .environment; heap = r .heap; stack = r .stack } }
 
--- the records that so many words are; a rest of them is no record
-abbrev pub recordsOf : ℕ → List Record
-recordsOf words = replicate (words / instanceWordsCount) emptyRecord
+-- so many records, whatever they hold
+abbrev pub lentRecords : ℕ → List Record
+lentRecords n = replicate n emptyRecord
 
 -- ---- answers
 abbrev pub refusalOf : ℕ → ℕ → Answer
@@ -45,18 +44,18 @@ readAnswer (Fault n frame) = refusalOf n frame
 pub record Allows (b : Board) (r : Bool) : Type 0 where
   pub is : r ≡ boardAllowed (boardOf b)
 
-pub record Lends (b : Board) (words : ℕ) (r : Bool) : Type 0 where
-  pub is : r ≡ listLent (boardOf b) (recordsOf words)
+pub record Lends (b : Board) (records : ℕ) (r : Bool) : Type 0 where
+  pub is : r ≡ listLent (boardOf b) (lentRecords records)
 
 pub record LendsAll (b : Board) (state scratch slots : ℕ) (r : Bool) : Type 0 where
   pub is : r ≡ lengthsLent (boardOf b) state scratch slots
 
-pub record LendsList (b : Board) (list state scratch slots : ℕ) (r : Bool) : Type 0 where
-  pub is : r ≡ both (listLent (boardOf b) (recordsOf list)) (lengthsLent (boardOf b) state scratch slots)
+pub record LendsList (b : Board) (records state scratch slots : ℕ) (r : Bool) : Type 0 where
+  pub is : r ≡ both (listLent (boardOf b) (lentRecords records)) (lengthsLent (boardOf b) state scratch slots)
 
 -- then the list has room for all instances
-pub record Granted (given : Bool) (list : List ℕ) : Type 0 where
-  pub room : given ≡ true → instanceWordsCount * instancesMost ≤ length list
+pub record Granted (given : Bool) (records : ℕ) : Type 0 where
+  pub room : given ≡ true → instancesMost ≤ records
 
 -- ---- what the board has
 pub record Judges (b : Board) (x : Held) (r : Answer) : Type 0 where

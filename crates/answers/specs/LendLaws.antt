@@ -1,5 +1,5 @@
 -- Whether board, list and buffers are lent, test by test, and what is known where they are.
-use Prim.Native.Nat.{ℕ, _*_, _/_, _≤_, _<_}
+use Prim.Native.Nat.{ℕ, _≤_, _<_}
 use mathlib.Core.List.{List}
 use mathlib.Core.Bool.{Bool, true, false}
 use mathlib.Core.Path.{_≡_, refl, sym, ap, _∙_}
@@ -7,23 +7,15 @@ use lib.ListN.{length, replicate, length-replicate}
 use Rattle.language.specs.Limits.{instancesMost, cellsMost, scratchWords, slotsMost, callsMost}
 use Rattle.language.specs.Layout.{stateLength}
 use Rattle.language.specs.Machine.{emptyRecord, boardAllowed, listLent, lengthsLent, buffersLent}
-use Rattle.instances.specs.Listed.{instanceWordsCount}
 use Rattle.language.specs.Result.{both}
 use native.Mathlib.Omega.{arith}
 use lib.Dec.{leb}
 use borrow.Author.Tests.{le-leb, lt-leb, leb-true, leb-false}
 use Rattle.theory.specs.Lists.{both-left, both-right}
 use Rattle.answers.specs.declared.Board.{Board}
-use Rattle.answers.specs.Boards.{boardOf, recordsOf, Allows, Lends, LendsAll, LendsList, Granted, ClearsBoth}
+use Rattle.answers.specs.Boards.{boardOf, lentRecords, Allows, Lends, LendsAll, LendsList, Granted, ClearsBoth}
 
 -- ---- the board and the list that are lent
-words-of-records : (words : ℕ) → leb (instancesMost * instanceWordsCount) words ≡ leb instancesMost (words / instanceWordsCount)
-words-of-records words = go (leb (instancesMost * instanceWordsCount) words) refl
-  where
-    go : (d : Bool) → leb (instancesMost * instanceWordsCount) words ≡ d → d ≡ leb instancesMost (words / instanceWordsCount)
-    go true q = sym (le-leb instancesMost (words / instanceWordsCount) (let z = leb-true (instancesMost * instanceWordsCount) words q in omega (arith, z)))
-    go false q = sym (lt-leb instancesMost (words / instanceWordsCount) (let z = leb-false (instancesMost * instanceWordsCount) words q in omega (arith, z)))
-
 module _ {b : Board} where
   pub cells-over : cellsMost < b .cells → Allows b false
   unfolding boardAllowed both
@@ -38,22 +30,22 @@ module _ {b : Board} where
     unfolding boardAllowed both
     calls-judged slots e = record { is = rw (le-leb _ _ cells, le-leb _ _ slots) e }
 
-module _ {b : Board} {words : ℕ} {allowed : Bool} (a : Allows b allowed) where
-  pub board-over : allowed ≡ false → Lends b words false
+module _ {b : Board} {records : ℕ} {allowed : Bool} (a : Allows b allowed) where
+  pub board-over : allowed ≡ false → Lends b records false
   unfolding listLent both
   board-over d = record { is = rw (← (a .is), d) refl }
 
-  pub list-judged : {r : Bool} → allowed ≡ true → r ≡ leb (instancesMost * instanceWordsCount) words → Lends b words r
+  pub list-judged : {r : Bool} → allowed ≡ true → r ≡ leb instancesMost records → Lends b records r
   unfolding listLent both
-  list-judged d e = record { is = rw (← (a .is), d, length-replicate (words / instanceWordsCount) emptyRecord) (e ∙ words-of-records words) }
+  list-judged d e = record { is = rw (← (a .is), d, length-replicate records emptyRecord) e }
 
 -- then there is room for all instances
-pub list-room : {b : Board} (list : List ℕ) {given : Bool} → Lends b (length list) given → Granted given list
+pub list-room : {b : Board} {records : ℕ} {given : Bool} → Lends b records given → Granted given records
 unfolding listLent
-list-room list l = record {
+list-room {records = records} l = record {
   room = λ e.
-      let enough : instancesMost ≤ length (recordsOf (length list)) = leb-true _ _ (both-right _ _ (sym (l .is) ∙ e)) in
-      omega (arith, enough, length-replicate (length list / instanceWordsCount) emptyRecord);
+      let enough : instancesMost ≤ length (lentRecords records) = leb-true _ _ (both-right _ _ (sym (l .is) ∙ e)) in
+      omega (arith, enough, length-replicate records emptyRecord);
 }
 
 -- ---- the buffers
@@ -97,12 +89,12 @@ enough-is b state scratch slots e =
     }
 
 -- ---- the list and the buffers
-module _ {b : Board} {list state scratch slots : ℕ} {given : Bool} (l : Lends b list given) where
-  pub list-short : given ≡ false → LendsList b list state scratch slots false
+module _ {b : Board} {records state scratch slots : ℕ} {given : Bool} (l : Lends b records given) where
+  pub list-short : given ≡ false → LendsList b records state scratch slots false
   unfolding both
   list-short d = record { is = rw (← (l .is), d) refl }
 
-  pub list-long : {r : Bool} → given ≡ true → LendsAll b state scratch slots r → LendsList b list state scratch slots r
+  pub list-long : {r : Bool} → given ≡ true → LendsAll b state scratch slots r → LendsList b records state scratch slots r
   unfolding both
   list-long d a = record { is = rw (← (l .is), d) (a .is) }
 

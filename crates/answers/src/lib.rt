@@ -3,7 +3,6 @@ ghost use mathlib.Core.Path.{_≡_};
 ghost use Rattle.answers.specs.Boards.{refusalOf, boundsOf, readAnswer, Allows, Lends, LendsAll, LendsList, Judges, ClearsBoth};
 use estimate::Estimate;
 use index::clear;
-use instances::INSTANCE_WORDS;
 use language::limits::CALLS_MOST;
 use language::limits::CELLS_MOST;
 use language::limits::INSTANCES_MOST;
@@ -16,9 +15,6 @@ use language::refusals::NO_REFUSAL;
 use language::refusals::STACK_SHORT;
 use reader::Reading;
 use state_words::state_length;
-
-// The least words of a list of instances.
-const LIST_LEAST: usize = INSTANCES_MOST * INSTANCE_WORDS;
 
 // What a board has.
 pub struct Board {
@@ -87,13 +83,13 @@ pub fn board_allowed(b: Board) -> bool
 }
 
 // Whether it is, and the list has so many records; else refusal 18.
-pub fn lent(b: Board, words: usize) -> bool
-    ensures { λ r. ⌜ Lends b words r ⌝ }
+pub fn lent(b: Board, records: usize) -> bool
+    ensures { λ r. ⌜ Lends b records r ⌝ }
 {
     if !board_allowed(b) {
         return false;
     }
-    LIST_LEAST <= words
+    INSTANCES_MOST <= records
 }
 
 // Whether the board is within its maximum and every buffer is long enough; else refusal 18.
@@ -113,10 +109,10 @@ pub fn buffers_lent(b: Board, state: usize, scratch: usize, slots: usize) -> boo
 }
 
 // Whether the list is long enough too.
-pub fn all_lent(b: Board, list: usize, state: usize, scratch: usize, slots: usize) -> bool
-    ensures { λ r. ⌜ LendsList b list state scratch slots r ⌝ }
+pub fn all_lent(b: Board, records: usize, state: usize, scratch: usize, slots: usize) -> bool
+    ensures { λ r. ⌜ LendsList b records state scratch slots r ⌝ }
 {
-    if !lent(b, list) {
+    if !lent(b, records) {
         return false;
     }
     buffers_lent(b, state, scratch, slots)

@@ -2,8 +2,8 @@
 // files and damaged ones; then the checker's, number, frame, heap, environment and stack, on listing 3 with boards that fit and that
 // fall short by one, and on the two-frame file.
 use answers::Board;
-use checker::check;
-use instances::INSTANCE_WORDS;
+use checker::check_words;
+use instance_list::LIST_WORDS;
 use language::limits::CALLS_MOST;
 use language::limits::CELLS_MOST;
 use language::limits::INSTANCES_MOST;
@@ -99,13 +99,13 @@ fn show_number(n: u32, behind: &[u8]) {
 }
 
 fn show_checking(text: &[u8], cells: u32, slots: u32, calls: u32) {
-    let mut list = [0u32; INSTANCES_MOST * INSTANCE_WORDS];
+    let mut words = [0u32; LIST_WORDS];
     let b = Board {
         cells: cells,
         slots: slots,
         calls: calls,
     };
-    let r = check(text, b, &mut list);
+    let r = check_words(text, b, INSTANCES_MOST, &mut words);
     show_number(r.number, b" ");
     show_number(r.frame, b" ");
     show_number(r.heap, b" ");

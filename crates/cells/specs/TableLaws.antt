@@ -21,7 +21,7 @@ pub place-fits : (t r m : ℕ) → t < typesMost → r ≤ fieldsMost → m ≤ 
 place-fits t r m named few low = omega (arith, named, few, low)
 
 -- ---- nothing known
-same-at : (w n i : ℕ) → getD (replicate n w) i w ≡ w
+pub same-at : (w n i : ℕ) → getD (replicate n w) i w ≡ w
 same-at w zero i = refl
 same-at w (suc n) zero = refl
 same-at w (suc n) (suc i) = same-at w n i

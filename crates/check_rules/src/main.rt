@@ -1,8 +1,8 @@
 // Checks the rule file on standard input with the largest board, and writes the answer on one line.
 use answers::Answer;
 use answers::Board;
-use checker::check;
-use instances::INSTANCE_WORDS;
+use checker::check_words;
+use instance_list::LIST_WORDS;
 use language::limits::CALLS_MOST;
 use language::limits::CELLS_MOST;
 use language::limits::INSTANCES_MOST;
@@ -36,12 +36,12 @@ fn show(r: Answer) {
 fn main() {
     let mut text = [0u8; TEXT_MOST + 1];
     let n = io::read_full(STDIN_FILENO, &mut text);
-    let mut list = [0u32; INSTANCES_MOST * INSTANCE_WORDS];
+    let mut words = [0u32; LIST_WORDS];
     let b = Board {
         cells: CELLS_MOST,
         slots: SLOTS_MOST,
         calls: CALLS_MOST,
     };
-    let r = check(&text[..n], b, &mut list);
+    let r = check_words(&text[..n], b, INSTANCES_MOST, &mut words);
     show(r);
 }

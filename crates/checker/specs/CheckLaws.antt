@@ -4,7 +4,7 @@ use mathlib.Core.List.{List}
 use mathlib.Core.Bool.{Bool, true, false}
 use mathlib.Core.Path.{_≡_, refl, sym, ap, subst, _∙_}
 use native.Mathlib.Omega.{arith}
-use lib.ListN.{length, replicate}
+use lib.ListN.{length, set, replicate}
 use Rattle.language.specs.Refusals.{noFrame, typesDisagree, notLent}
 use Rattle.language.specs.Result.{Result, ok, no, bind, need}
 use Rattle.language.specs.Syntax.{File}
@@ -17,6 +17,7 @@ use Rattle.language.specs.PlainTyping.{WellPlain}
 use Rattle.theory.specs.PlainFileSizes.{well-plain-refusals}
 use Rattle.estimate.specs.declared.Estimate.{Estimate as HeldNumbers}
 use Rattle.estimate.specs.Stands.{Stands}
+use Rattle.instance_list.specs.Records.{recordsWords, listWords}
 use Rattle.plain_types.specs.Verdicts.{verdict, JudgesAll}
 use Rattle.plain_types.specs.JudgeLaws.{plain-types-verdict, verdict-refused, verdict-well}
 use Rattle.size_steps.specs.declared.Counted.{Counted as CountedFile}
@@ -27,43 +28,43 @@ use Rattle.size_laws.specs.Promises.{lent}
 use Rattle.size_laws.specs.FilePromises.{AgreesFile, file-agrees, file-refused, file-beyond, SizesFile}
 use Rattle.answers.specs.declared.Board.{Board}
 use Rattle.answers.specs.declared.Answer.{Answer}
-use Rattle.answers.specs.Boards.{numbersOf, Granted, refusalOf, Judges}
+use Rattle.answers.specs.Boards.{numbersOf, refusalOf, Judges}
 use Rattle.checker.specs.Checks.{ChecksGiven, sizingRefusal, ReadHeld, Needs}
 use Rattle.checker.specs.Outcomes.{sizesOf, refused, not-enough, enough-lent}
 
 -- the numbers and the instances of a file whose sizes agree
-record Agreed (text : List ℕ) (given : Bool) (P : File) (list₁ : List ℕ) (k : CountedFile) : Type 0 where
+record Agreed (text : List ℕ) (given : Bool) (P : File) (words₁ : List ℕ) (k : CountedFile) : Type 0 where
   sizes : SizedFile
   memo : List ℕ
   is : checkFile text given ≡ ok (record { file = P; sizes = sizes })
   numbers : Stands (k .numbers) (updatesNumbers (sizes .updates))
-  holds : Holds P (table list₁ memo) (k .used) (sizes .list)
+  holds : Holds P (table words₁ memo) (k .used) (sizes .list)
 
 module _ {text index : List ℕ} (z : ReadHeld text index) where
-  module _ (b : Board) (given : Bool) (list : List ℕ) {frame : ℕ} (v : JudgesAll text index frame) where
+  module _ (b : Board) (given : Bool) (words : List ℕ) {frame : ℕ} (v : JudgesAll text index frame) where
     after-reading : checkFile text given ≡ verdict frame (need given notLent noFrame (sizesOf (z .file)))
     unfolding checkFile bind
     after-reading = ap (λ u. bind u (λ Q. plainTypes Q (need given notLent noFrame (sizesOf Q)))) (z .indexed .read) ∙ plain-types-verdict v (z .indexed) (need given notLent noFrame (sizesOf (z .file)))
 
-    pub types-refused : {r : Answer} {list′ : List ℕ} → (frame ≡ 0 → ⊥) → r ≡ refusalOf typesDisagree frame → list′ ≡ replicate (length list) 0 → ChecksGiven text b given list r list′
-    types-refused some e c = refused text b given list (after-reading ∙ verdict-refused frame _ some) e c
+    pub types-refused : {r : Answer} {words′ : List ℕ} → (frame ≡ 0 → ⊥) → r ≡ refusalOf typesDisagree frame → words′ ≡ replicate (length words) 0 → ChecksGiven text b given r words′
+    types-refused some e c = refused text b given (length words) (after-reading ∙ verdict-refused frame _ some) e c
 
     module _ (agree : frame ≡ 0) where
       after-types : checkFile text given ≡ need given notLent noFrame (sizesOf (z .file))
       unfolding verdict
       after-types = after-reading ∙ ap (λ f. verdict f (need given notLent noFrame (sizesOf (z .file)))) agree
 
-      pub lent-refused : {r : Answer} {list′ : List ℕ} → given ≡ false → r ≡ refusalOf notLent noFrame → list′ ≡ replicate (length list) 0 → ChecksGiven text b given list r list′
+      pub lent-refused : {r : Answer} {words′ : List ℕ} → given ≡ false → r ≡ refusalOf notLent noFrame → words′ ≡ replicate (length words) 0 → ChecksGiven text b given r words′
       unfolding need
-      lent-refused e f c = refused text b given list (after-types ∙ ap (λ d. need d notLent noFrame (sizesOf (z .file))) e) f c
+      lent-refused e f c = refused text b given (length words) (after-types ∙ ap (λ d. need d notLent noFrame (sizesOf (z .file))) e) f c
 
-      module _ (room : Granted given list) (enough : given ≡ true) {x : Counting} {list₁ : List ℕ} (s : SizesFile (lent text index) list x list₁) (kept : length list₁ ≡ length list) where
+      module _ (long : length words ≡ listWords) (enough : given ≡ true) {x : Counting} {words₁ : List ℕ} (s : SizesFile (lent text index) words x words₁) (kept : length words₁ ≡ length words) where
         after-lent : checkFile text given ≡ sizesOf (z .file)
         unfolding need
         after-lent = after-types ∙ ap (λ d. need d notLent noFrame (sizesOf (z .file))) enough
 
-        agreement : AgreesFile (z .file) list₁ x (sizedFile (z .file))
-        agreement = s .says (z .file) (z .indexed) (room .room enough)
+        agreement : AgreesFile (z .file) words₁ x (sizedFile (z .file))
+        agreement = s .says (z .file) (z .indexed) (omega (arith, long))
 
         well : WellPlain (z .file)
         well = verdict-well v (z .indexed) agree
@@ -73,20 +74,20 @@ module _ {text index : List ℕ} (z : ReadHeld text index) where
         not-before q before-6 = absurd (let w = well-plain-refusals well q in omega (arith, w .least))
         not-before q before-9 = absurd (let w = well-plain-refusals well q in omega (arith, w .least))
 
-        pub sizes-refused : {r : Answer} {list′ : List ℕ} {m f : ℕ} → x ≡ Refused m f → r ≡ sizingRefusal x → list′ ≡ replicate (length list₁) 0 → ChecksGiven text b given list r list′
+        pub sizes-refused : {r : Answer} {words′ : List ℕ} {m f : ℕ} → x ≡ Refused m f → r ≡ sizingRefusal x → words′ ≡ replicate (length words₁) 0 → ChecksGiven text b given r words′
         unfolding bind sizingRefusal
-        sizes-refused {r} {list′} {m} {f} told e c = go (sizedFile (z .file)) refl agreement
+        sizes-refused {r} {words′} {m} {f} told e c = go (sizedFile (z .file)) refl agreement
           where
-            go : (y : Result SizedFile) → sizedFile (z .file) ≡ y → AgreesFile (z .file) list₁ x y → ChecksGiven text b given list r list′
+            go : (y : Result SizedFile) → sizedFile (z .file) ≡ y → AgreesFile (z .file) words₁ x y → ChecksGiven text b given r words′
             go y q (file-agrees d _ _) = absurd (let u = sym d ∙ told in let w : _≡_ {A = ℕ} 0 1 = cc in omega arith)
-            go y q (file-refused d) = refused text b given list (after-lent ∙ ap (λ u. bind u (λ w. ok (record { file = z .file; sizes = w }))) q) (e ∙ ap sizingRefusal d) (c ∙ ap (λ m. replicate m 0) kept)
+            go y q (file-refused d) = refused text b given (length words₁) (after-lent ∙ ap (λ u. bind u (λ w. ok (record { file = z .file; sizes = w }))) q) (e ∙ ap sizingRefusal d) c
             go y q (file-beyond w) = not-before q w
 
-        agreed : {k : CountedFile} → x ≡ Are k → Agreed text given (z .file) list₁ k
+        agreed : {k : CountedFile} → x ≡ Are k → Agreed text given (z .file) words₁ k
         unfolding bind
         agreed {k} e = go (sizedFile (z .file)) refl agreement
           where
-            go : (y : Result SizedFile) → sizedFile (z .file) ≡ y → AgreesFile (z .file) list₁ x y → Agreed text given (z .file) list₁ k
+            go : (y : Result SizedFile) → sizedFile (z .file) ≡ y → AgreesFile (z .file) words₁ x y → Agreed text given (z .file) words₁ k
             go y q (file-agrees {k = j} {x = f} {memo = m} d st h) =
                 let same : j ≡ k = (let u : Are j ≡ Are k = sym d ∙ e in cc) in
                 record {
@@ -94,7 +95,7 @@ module _ {text index : List ℕ} (z : ReadHeld text index) where
                   memo = m;
                   is = after-lent ∙ ap (λ u. bind u (λ w. ok (record { file = z .file; sizes = w }))) q;
                   numbers = subst (λ (i : CountedFile). Stands (i .numbers) (updatesNumbers (f .updates))) same st;
-                  holds = subst (λ (i : CountedFile). Holds (z .file) (table list₁ m) (i .used) (f .list)) same h;
+                  holds = subst (λ (i : CountedFile). Holds (z .file) (table words₁ m) (i .used) (f .list)) same h;
                 }
             go y q (file-refused d) = absurd (let u = sym d ∙ e in let c : _≡_ {A = ℕ} 0 1 = cc in omega arith)
             go y q (file-beyond w) = not-before q w
@@ -103,8 +104,8 @@ module _ {text index : List ℕ} (z : ReadHeld text index) where
           numbers-are : numbersOf y ≡ stopped (numbersNeeded (z .file) (agreed e .sizes .updates))
           numbers-are = u .says (z .file) (z .indexed .within) (z .sections) (z .indexed .counted) (agreed e .sizes .updates) (agreed e .numbers)
 
-          pub board-refused : {list′ : List ℕ} → (r .number ≡ 0 → ⊥) → list′ ≡ replicate (length list₁) 0 → ChecksGiven text b given list r list′
-          board-refused some c = not-enough text b given list (agreed e .is) numbers-are j some (c ∙ ap (λ m. replicate m 0) kept)
+          pub board-refused : {words′ : List ℕ} → (r .number ≡ 0 → ⊥) → words′ ≡ replicate (length words₁) 0 → ChecksGiven text b given r words′
+          board-refused some c = not-enough text b given (agreed e .is) numbers-are j (length words₁) some c
 
-          pub board-accepts : r .number ≡ 0 → ChecksGiven text b given list r list₁
-          board-accepts none = enough-lent text b given list (agreed e .is) numbers-are j none (agreed e .holds) kept
+          pub board-accepts : {words′ : List ℕ} → r .number ≡ 0 → words′ ≡ set words₁ recordsWords (k .used) → ChecksGiven text b given r words′
+          board-accepts none put = enough-lent text b given (agreed e .is) numbers-are j enough none (agreed e .holds) (kept ∙ long) put

@@ -1,51 +1,40 @@
--- The list at the end, in words: zeros after a refusal; the records of the instances and zeros behind them on acceptance.
-use Prim.Native.Nat.{ℕ, zero, suc, _-_, _*_, _/_, _≤_}
-use mathlib.Core.List.{List, [], _∷_, _++_, map}
+-- The list that the words fill at the end: empty records after a refusal; the instances' records and empty ones behind them on acceptance.
+use Prim.Native.Nat.{ℕ, _-_, _*_, _≤_}
+use mathlib.Core.List.{List, [], _++_, map}
 use mathlib.Core.Path.{_≡_, refl, sym, ap, _∙_}
 use native.Mathlib.Nat.{sub-zero}
 use native.Mathlib.Omega.{arith}
-use lib.ListN.{length, drop, replicate}
-use Rattle.language.specs.Format.{spellAll}
-use Rattle.language.specs.Layout.{padded}
+use lib.ListN.{length, getD, take, set, replicate, length-set}
+use lib.Seq.{getD-set-same, take-set-le}
+use Rattle.language.specs.Limits.{instancesMost}
 use Rattle.language.specs.Syntax.{File}
-use Rattle.language.specs.Checker.{Instance}
+use Rattle.language.specs.Checker.{Instance as Entered}
 use Rattle.language.specs.Machine.{emptyRecord, recordOf}
-use Rattle.index.specs.Entries.{spell-append}
-use Rattle.index.specs.Padded.{padded-none}
-use Rattle.instances.specs.Listed.{instanceWordsCount, flat}
-use Rattle.instances.specs.ListLaws.{flat-length, listed-parts}
-use Rattle.instances.specs.Records.{recordWords, flat-records, empty-records}
+use Rattle.instances.specs.Listed.{instanceWordsCount, Listed}
+use Rattle.instances.specs.ListLaws.{listed-none}
+use Rattle.instance_list.specs.Records.{recordsOf, recordsWords, listWords, filled}
+use Rattle.instance_list.specs.FillLaws.{filled-shown}
+use Rattle.cells.specs.TableLaws.{same-at}
 use Rattle.size_steps.specs.Agreement.{table, Holds}
-use Rattle.answers.specs.Boards.{recordsOf}
-use Rattle.checker.specs.Checks.{wordsOf}
 
--- zeros filled up with zeros, alone and behind other words
-padded-zeros : (n k : ℕ) → padded n (replicate k 0) ≡ replicate n 0
-unfolding padded
-padded-zeros n zero = padded-none n
-padded-zeros zero (suc k) = refl
-padded-zeros (suc n) (suc k) = ap (λ (l : List ℕ). 0 ∷ l) (padded-zeros n k)
+-- cleared words keep no record
+pub none-kept : {words : List ℕ} (k n : ℕ) → words ≡ replicate k 0 → recordsOf (filled words n) ≡ replicate n emptyRecord
+none-kept {words} k n e =
+    let none : getD words recordsWords 0 ≡ 0 = ap (λ (l : List ℕ). getD l recordsWords 0) e ∙ same-at 0 k recordsWords in
+    filled-shown [] (listed-none words) (omega arith) n (omega arith) none ∙ rw sub-zero refl
 
-padded-front-zeros : (n k : ℕ) (ws : List ℕ) → length ws ≤ n → padded n (ws ++ replicate k 0) ≡ ws ++ replicate (n - length ws) 0
-unfolding padded
-padded-front-zeros n k [] le = rw sub-zero (padded-zeros n k)
-padded-front-zeros zero k (w ∷ ws) le = absurd (omega arith)
-padded-front-zeros (suc n) k (w ∷ ws) le =
-    let on : suc n - suc (length ws) ≡ n - length ws = omega arith in
-    ap (λ (l : List ℕ). w ∷ l) (padded-front-zeros n k ws (omega arith)) ∙ ap (λ m. w ∷ (ws ++ replicate m 0)) (sym on)
+-- the instances' records, their number behind all of them
+module _ {P : File} {words memo words′ : List ℕ} {used : ℕ} (L : List Entered) (h : Holds P (table words memo) used L) (long : length words ≡ listWords) (put : words′ ≡ set words recordsWords used) where
+  few : length L ≤ instancesMost
+  few = omega (arith, h .listed .room, long)
 
--- no record is left
-pub cleared : (words : ℕ) → replicate words 0 ≡ wordsOf words (recordsOf words)
-cleared words = let n = words / instanceWordsCount in sym (ap (padded words) (empty-records n) ∙ padded-zeros words (instanceWordsCount * n))
+  still-listed : Listed words′ L
+  still-listed = record {
+    room = omega (arith, h .listed .room, ap length put, length-set words recordsWords used);
+    is = ap (take (instanceWordsCount * length L)) put ∙ take-set-le (instanceWordsCount * length L) words recordsWords used (omega (arith, few)) ∙ h .listed .is;
+  }
 
--- the instances' records are
-pub listed : {P : File} {list memo : List ℕ} {used : ℕ} (L : List Instance) (n : ℕ) → Holds P (table list memo) used L → list ≡ wordsOf (length list) (map recordOf L ++ replicate (n - length L) emptyRecord)
-listed {list} {used} L n h =
-    let long : length (flat L) ≡ instanceWordsCount * length L = flat-length L in
-    let room : length (flat L) ≤ length list = omega (arith, long, h .listed .room) in
-    let rest : drop (instanceWordsCount * length L) list ≡ replicate (length list - length (flat L)) 0 =
-    ap (λ m. drop (instanceWordsCount * m) list) (sym (h .count)) ∙ h .rest ∙ ap (λ m. replicate (length list - m) 0) (ap (λ m. instanceWordsCount * m) (h .count) ∙ sym long) in
-    let records : spellAll recordWords (map recordOf L ++ replicate (n - length L) emptyRecord) ≡ flat L ++ replicate (instanceWordsCount * (n - length L)) 0 =
-    spell-append recordWords (map recordOf L) (replicate (n - length L) emptyRecord) ∙ ap (λ (l : List ℕ). l ++ spellAll recordWords (replicate (n - length L) emptyRecord)) (sym (flat-records L))
-    ∙ ap (λ (l : List ℕ). flat L ++ l) (empty-records (n - length L)) in
-    listed-parts L (h .listed) ∙ ap (λ (l : List ℕ). flat L ++ l) rest ∙ sym (padded-front-zeros (length list) (instanceWordsCount * (n - length L)) (flat L) room) ∙ ap (padded (length list)) (sym records)
+  pub all-kept : (n : ℕ) → instancesMost ≤ n → recordsOf (filled words′ n) ≡ map recordOf L ++ replicate (n - length L) emptyRecord
+  all-kept n room =
+      filled-shown L still-listed few n (omega (arith, few))
+      (ap (λ (l : List ℕ). getD l recordsWords 0) put ∙ getD-set-same words recordsWords used 0 (omega (arith, long)) ∙ h .count)

@@ -1,43 +1,42 @@
 -- From what the passes over a text say to the machine's answer and list.
-use Prim.Native.Nat.{ℕ, _/_}
+use Prim.Native.Nat.{ℕ}
 use mathlib.Core.List.{List}
-use mathlib.Core.Bool.{Bool}
-use mathlib.Core.Path.{_≡_, sym, ap, subst, _∙_}
-use lib.ListN.{length, replicate, length-replicate}
+use mathlib.Core.Bool.{Bool, true}
+use mathlib.Core.Path.{_≡_, refl, sym, ap, subst, _∙_}
+use lib.ListN.{length, set, replicate, length-replicate, length-map}
 use Rattle.language.specs.Result.{Result, ok, no, bind}
 use Rattle.language.specs.Syntax.{File}
 use Rattle.language.specs.Estimate.{stopped}
 use Rattle.language.specs.Checker.{sizedFile}
 use Rattle.language.specs.Cells.{numbersNeeded}
-use Rattle.language.specs.Machine.{Accepted, accepted, Verdict, answer, judge, judged, verdictOf, finalList, checkFile, listLent, check, emptyRecord}
+use Rattle.language.specs.Machine.{Record, Checked as CheckedBy, Accepted, accepted, Verdict, answer, judge, judged, verdictOf, finalList, checkFile, listLent, check, emptyRecord}
 use Rattle.estimate.specs.declared.Estimate.{Estimate as Held}
-use Rattle.instances.specs.Listed.{instanceWordsCount}
+use Rattle.instance_list.specs.declared.Instance.{Instance}
+use Rattle.instance_list.specs.Records.{shown, recordsOf, recordsWords, listWords, filled}
 use Rattle.size_steps.specs.Agreement.{table, Holds}
 use Rattle.answers.specs.declared.Board.{Board}
 use Rattle.answers.specs.declared.Answer.{Answer}
-use Rattle.answers.specs.Boards.{boardOf, numbersOf, said, recordsOf, refusalOf, Lends, Judges}
-use Rattle.checker.specs.Checks.{wordsOf, ChecksGiven, Checks}
-use Rattle.checker.specs.FinalLists.{cleared, listed}
+use Rattle.answers.specs.Boards.{boardOf, numbersOf, said, lentRecords, refusalOf, Granted, Lends, Judges}
+use Rattle.checker.specs.Checks.{ChecksGiven, ChecksWords, Checks}
+use Rattle.checker.specs.FinalLists.{none-kept, all-kept}
 use Rattle.answers.specs.JudgeLaws.{number-accepts, number-refuses}
+use Rattle.answers.specs.LendLaws.{list-room}
 
 -- what the size checker says of a file
 abbrev pub sizesOf : File → Result Accepted
 sizesOf P = bind (sizedFile P) (λ q. ok (record { file = P; sizes = q }))
 
-module _ (text : List ℕ) (b : Board) (given : Bool) (list : List ℕ) where
-  abbrev finalWords : Verdict → Result Accepted → List ℕ
-  finalWords v x = wordsOf (length list) (finalList v x (length (recordsOf (length list))))
+module _ (text : List ℕ) (b : Board) (given : Bool) where
+  -- the list that the words fill is that of a verdict
+  abbrev Fills : List ℕ → Verdict → Result Accepted → Type 0
+  Fills words v x = (n : ℕ) → Granted given n → recordsOf (filled words n) ≡ finalList v x n
 
-  checks-as : {r : Answer} {list′ : List ℕ} {x : Result Accepted} → checkFile text given ≡ x → said r ≡ answer (verdictOf (boardOf b) x) → list′ ≡ finalWords (verdictOf (boardOf b) x) x → ChecksGiven text b given list r list′
-  checks-as e f g = record { says = f ∙ ap (λ y. answer (verdictOf (boardOf b) y)) (sym e); instances = g ∙ ap (λ y. finalWords (verdictOf (boardOf b) y) y) (sym e) }
+  checks-as : {r : Answer} {words′ : List ℕ} {x : Result Accepted} → checkFile text given ≡ x → said r ≡ answer (verdictOf (boardOf b) x) → Fills words′ (verdictOf (boardOf b) x) x → ChecksGiven text b given r words′
+  checks-as {words′ = words′} e f g = record { says = f ∙ ap (λ y. answer (verdictOf (boardOf b) y)) (sym e); instances = subst (λ y. Fills words′ (verdictOf (boardOf b) y) y) (sym e) g }
 
-  -- no record is left of those lent
-  none-left : {list′ : List ℕ} → list′ ≡ replicate (length list) 0 → list′ ≡ wordsOf (length list) (replicate (length (recordsOf (length list))) emptyRecord)
-  none-left e = e ∙ cleared (length list) ∙ ap (λ m. wordsOf (length list) (replicate m emptyRecord)) (sym (length-replicate (length list / instanceWordsCount) emptyRecord))
-
-  pub refused : {r : Answer} {list′ : List ℕ} {n frame : ℕ} → checkFile text given ≡ no n frame → r ≡ refusalOf n frame → list′ ≡ replicate (length list) 0 → ChecksGiven text b given list r list′
+  pub refused : {r : Answer} {words′ : List ℕ} {n frame : ℕ} (k : ℕ) → checkFile text given ≡ no n frame → r ≡ refusalOf n frame → words′ ≡ replicate k 0 → ChecksGiven text b given r words′
   unfolding verdictOf answer finalList
-  refused e f g = checks-as e (ap (λ (y : Answer). said y) f) (none-left g)
+  refused k e f g = checks-as e (ap (λ (y : Answer). said y) f) (λ m _. none-kept k m g)
 
   -- the sizes agree: a is the file and its numbers
   module _ {r : Answer} {a : Accepted} {x : Held} (e : checkFile text given ≡ ok a) (n : numbersOf x ≡ stopped (numbersNeeded (a .file) (a .sizes .updates))) (j : Judges b x r) where
@@ -48,22 +47,36 @@ module _ (text : List ℕ) (b : Board) (given : Bool) (list : List ℕ) where
     number-is : r .number ≡ answer (judge (boardOf b) (numbersOf x)) .number
     number-is = λ i. j .is i .number
 
-    by-verdict : {list′ : List ℕ} {v : Verdict} → judge (boardOf b) (numbersOf x) ≡ v → list′ ≡ finalWords v (ok a) → ChecksGiven text b given list r list′
-    by-verdict s g = checks-as e (j .is ∙ ap answer judged-as) (g ∙ ap (λ v. finalWords v (ok a)) (sym s ∙ judged-as))
+    by-verdict : {words′ : List ℕ} {v : Verdict} → judge (boardOf b) (numbersOf x) ≡ v → Fills words′ v (ok a) → ChecksGiven text b given r words′
+    by-verdict {words′} s g = checks-as e (j .is ∙ ap answer judged-as) (subst (λ v. Fills words′ v (ok a)) (sym s ∙ judged-as) g)
 
-    pub not-enough : {list′ : List ℕ} → (r .number ≡ 0 → ⊥) → list′ ≡ replicate (length list) 0 → ChecksGiven text b given list r list′
+    pub not-enough : {words′ : List ℕ} (k : ℕ) → (r .number ≡ 0 → ⊥) → words′ ≡ replicate k 0 → ChecksGiven text b given r words′
     unfolding finalList
-    not-enough some g = by-verdict (number-refuses (boardOf b) (numbersOf x) (λ z. some (number-is ∙ z)) .1) (none-left g)
+    not-enough k some g = by-verdict (number-refuses (boardOf b) (numbersOf x) (λ z. some (number-is ∙ z)) .1) (λ m _. none-kept k m g)
 
-    pub enough-lent : {list′ memo : List ℕ} {P : File} {used : ℕ} → r .number ≡ 0 → Holds P (table list′ memo) used (a .sizes .list) → length list′ ≡ length list → ChecksGiven text b given list r list′
+    pub enough-lent : {words words′ memo : List ℕ} {P : File} {used : ℕ} → given ≡ true → r .number ≡ 0 → Holds P (table words memo) used (a .sizes .list) → length words ≡ listWords → words′ ≡ set words recordsWords used →
+        ChecksGiven text b given r words′
     unfolding finalList
-    enough-lent {list′} none h long =
-        by-verdict (number-accepts (boardOf b) (numbersOf x) (sym number-is ∙ none))
-        (subst (λ m. list′ ≡ wordsOf m (finalList (accepted (numbersOf x)) (ok a) (length (recordsOf (length list))))) long (listed (a .sizes .list) (length (recordsOf (length list))) h))
+    enough-lent enough none h long put = by-verdict (number-accepts (boardOf b) (numbersOf x) (sym number-is ∙ none)) (λ m g. all-kept (a .sizes .list) h long put m (g .room enough))
 
--- the call `check`
-pub checked : {text list list′ : List ℕ} {b : Board} {given : Bool} {r : Answer} → Lends b (length list) given → ChecksGiven text b given list r list′ → Checks text b list r list′
+-- ---- the call `check`
+pub checked : {text words′ : List ℕ} {b : Board} {records : ℕ} {given : Bool} {r : Answer} → Lends b records given → ChecksGiven text b given r words′ → ChecksWords text b records r words′
 unfolding check
-checked {text} {list} {list′} {b} {r = r} l c =
-    let here : ChecksGiven text b (listLent (boardOf b) (recordsOf (length list))) list r list′ = subst (λ d. ChecksGiven text b d list r list′) (l .is) c in
-    record { answer = here .says; instances = here .instances }
+checked {text} {words′} {b} {records} {r = r} l c =
+    let v : Bool → Verdict = λ d. verdictOf (boardOf b) (checkFile text d) in
+    let lent = listLent (boardOf b) (lentRecords records) in
+    record {
+      answer = c .says ∙ ap (λ d. answer (v d)) (l .is);
+      instances = c .instances records (list-room l) ∙ ap (λ d. finalList (v d) (checkFile text d) records) (l .is) ∙ ap (finalList (v lent) (checkFile text lent)) (sym (length-replicate records emptyRecord));
+    }
+
+-- what is lent as the list counts by its length alone
+pub check-by-length : (text : List ℕ) (b : Board) (l m : List Record) → length l ≡ length m → check text (boardOf b) l ≡ check text (boardOf b) m
+unfolding check listLent
+check-by-length text b l m e = rw e refl
+
+-- the list that the words fill
+pub delivered : {text words′ : List ℕ} {b : Board} {list list′ : List Instance} {r : Answer} → ChecksWords text b (length list) r words′ → list′ ≡ filled words′ (length list) → Checks text b list r list′
+delivered {text} {b = b} {list = list} c e =
+    let same = check-by-length text b (lentRecords (length list)) (recordsOf list) (length-replicate (length list) emptyRecord ∙ sym (length-map list shown)) in
+    record { answer = c .answer ∙ ap (λ (k : CheckedBy). k .answer) same; instances = ap recordsOf e ∙ c .instances ∙ ap (λ (k : CheckedBy). k .list) same }

@@ -4,7 +4,7 @@ use mathlib.Core.List.{List}
 use mathlib.Core.Bool.{Bool}
 use mathlib.Core.Path.{_≡_, refl, sym, ap, _∙_}
 use native.Mathlib.Omega.{arith}
-use lib.ListN.{length, replicate}
+use lib.ListN.{replicate}
 use Rattle.language.specs.Refusals.{noFrame, notLent}
 use Rattle.language.specs.Result.{Result, ok, no, bind, need}
 use Rattle.language.specs.Syntax.{File}
@@ -18,8 +18,8 @@ use Rattle.reader.specs.Texts.{TextRead, done, fault}
 use Rattle.reader.specs.Indexes.{read-indexes}
 use Rattle.answers.specs.declared.Board.{Board}
 use Rattle.answers.specs.declared.Answer.{Answer}
-use Rattle.answers.specs.Boards.{boardOf, recordsOf, readAnswer}
-use Rattle.checker.specs.Checks.{ChecksGiven, Checks, ReadHeld}
+use Rattle.answers.specs.Boards.{boardOf, lentRecords, readAnswer}
+use Rattle.checker.specs.Checks.{ChecksGiven, ChecksWords, ReadHeld}
 use Rattle.checker.specs.Outcomes.{sizesOf, refused, checked}
 
 -- ---- refused
@@ -27,13 +27,13 @@ pub read-fault : {index : List ℕ} {x : Reading} {m frame : ℕ} {y : Result Fi
 read-fault (done e w) q = absurd (let u = sym e ∙ q in let z : _≡_ {A = ℕ} 0 1 = cc in omega arith)
 read-fault {m} {frame} (fault {m = n} {frame = f} e w) q = let u : Fault n f ≡ Fault m frame = sym e ∙ q in cc
 
-pub reading-refused : {text index list list′ : List ℕ} {b : Board} {x : Reading} {r : Answer} {m frame : ℕ} → TextRead x index (readFile text) → x ≡ Fault m frame → r ≡ readAnswer x →
-    list′ ≡ replicate (length list) 0 → (given : Bool) → ChecksGiven text b given list r list′
+pub reading-refused : {text index words′ : List ℕ} {b : Board} {x : Reading} {r : Answer} {m frame : ℕ} (k : ℕ) → TextRead x index (readFile text) → x ≡ Fault m frame → r ≡ readAnswer x → words′ ≡ replicate k 0 →
+    (given : Bool) → ChecksGiven text b given r words′
 unfolding readAnswer checkFile bind
-reading-refused {text} {list} {b} v q e z given = refused text b given list (ap (λ u. bind u (λ P. plainTypes P (need given notLent noFrame (sizesOf P)))) (read-fault v q)) (e ∙ ap readAnswer q) z
+reading-refused {text} {b = b} k v q e z given = refused text b given k (ap (λ u. bind u (λ P. plainTypes P (need given notLent noFrame (sizesOf P)))) (read-fault v q)) (e ∙ ap readAnswer q) z
 
-pub check-unread : {text index list list′ : List ℕ} {b : Board} {x : Reading} {r : Answer} {m frame : ℕ} → TextRead x index (readFile text) → x ≡ Fault m frame → r ≡ readAnswer x → list′ ≡ replicate (length list) 0 → Checks text b list r list′
-check-unread {list} {b} v q e z = checked (record { is = refl }) (reading-refused v q e z (listLent (boardOf b) (recordsOf (length list))))
+pub check-unread : {text index words′ : List ℕ} {b : Board} {records : ℕ} {x : Reading} {r : Answer} {m frame : ℕ} (k : ℕ) → TextRead x index (readFile text) → x ≡ Fault m frame → r ≡ readAnswer x → words′ ≡ replicate k 0 → ChecksWords text b records r words′
+check-unread {b = b} {records = records} k v q e z = checked (record { is = refl }) (reading-refused k v q e z (listLent (boardOf b) (lentRecords records)))
 
 -- ---- read: the index is the file's
 read-whole : {index : List ℕ} {x : Reading} {y : Result File} {P : File} → TextRead x index y → y ≡ ok P → index ≡ indexOf P

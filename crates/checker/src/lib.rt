@@ -1,7 +1,8 @@
 // The checker of rule files: refusals 1 to 18, the three bounds, and the list of instances.
 ghost use mathlib.Core.Path.{_≡_};
-ghost use Rattle.checker.specs.Checks.{sizingRefusal, ReadHeld, Needs, ChecksGiven, Checks};
-ghost use Rattle.answers.specs.Boards.{Granted};
+ghost use lib.ListN.{length};
+ghost use Rattle.instance_list.specs.Records.{listWords};
+ghost use Rattle.checker.specs.Checks.{sizingRefusal, ReadHeld, Needs, ChecksGiven, ChecksWords};
 use answers::Answer;
 use answers::Board;
 use answers::judge;
@@ -14,6 +15,7 @@ use estimate::Estimate;
 use estimate::capped_sum;
 use index::INDEX_WORDS;
 use index::frame_counts;
+use instance_list::put_used;
 use instances::clear;
 use language::refusals::NO_FRAME;
 use language::refusals::NO_REFUSAL;
@@ -53,49 +55,52 @@ fn needed(index: &[u32; INDEX_WORDS], updates: Estimate) -> Estimate
 }
 
 // Checks a file that was read: plain types, what is lent, sizes, and what the board has. Whether enough is lent was judged before.
+// The words end with the records of the instances in order of entry, and how many they are; after a refusal all are zero.
 pub fn check_read(
     text: &[u8],
     index: &[u32; INDEX_WORDS],
     b: Board,
     given: bool,
-    list: &mut [u32],
+    words: &mut [u32],
 ) -> Answer
     requires { ⌜ ReadHeld (now text) (now index) ⌝ }
-    requires { ⌜ Granted given (now list) ⌝ }
-    ensures { λ r. ⌜ ChecksGiven (now (text .entry)) b given (now (list .entry)) r (now (list .exit)) ⌝ }
+    requires { ⌜ length (now words) ≡ listWords ⌝ }
+    ensures { λ r. ⌜ ChecksGiven (now (text .entry)) b given r (now (words .exit)) ⌝ }
 {
     let frame = plain_types(text, index);
     if frame != NO_FRAME {
-        clear(list);
+        clear(words);
         return refusal(TYPES_DISAGREE, frame);
     }
     if !given {
-        clear(list);
+        clear(words);
         return refusal(NOT_LENT, NO_FRAME);
     }
-    let x = sized_file(text, index, list);
+    let x = sized_file(text, index, words);
     let Counting::Are(k) = x else {
-        clear(list);
+        clear(words);
         return sizing_refusal(x);
     };
     let r = judge(b, needed(index, k.numbers));
     if r.number != NO_REFUSAL {
-        clear(list);
+        clear(words);
+        return r;
     }
+    put_used(words, k.used);
     r
 }
 
-// Checks a text on a board. The list ends with the instances in order of entry, INSTANCE_WORDS each, and zeros behind them;
-// after a refusal every word is zero.
-pub fn check(text: &[u8], b: Board, list: &mut [u32]) -> Answer
-    ensures { λ r. ⌜ Checks (now (text .entry)) b (now (list .entry)) r (now (list .exit)) ⌝ }
+// Checks a text on a board that lends a list of so many records; the list is kept in words.
+pub fn check_words(text: &[u8], b: Board, records: usize, words: &mut [u32]) -> Answer
+    requires { ⌜ length (now words) ≡ listWords ⌝ }
+    ensures { λ r. ⌜ ChecksWords (now (text .entry)) b records r (now (words .exit)) ⌝ }
 {
     let mut index = [0u32; INDEX_WORDS];
     let x = read(text, &mut index);
     let Reading::Done = x else {
-        clear(list);
+        clear(words);
         return read_answer(x);
     };
-    let given = lent(b, list.len());
-    check_read(text, &index, b, given, list)
+    let given = lent(b, records);
+    check_read(text, &index, b, given, words)
 }

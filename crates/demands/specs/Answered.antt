@@ -1,29 +1,26 @@
 -- Demand 1 of the delivered calls, from their promises and the theorem on the machine.
-use Prim.Native.Nat.{ℕ, _/_}
+use Prim.Native.Nat.{ℕ}
 use mathlib.Core.List.{List}
 use mathlib.Core.Path.{_≡_, sym, ap, _∙_, subst}
-use lib.ListN.{length, replicate, length-replicate}
+use lib.ListN.{length, replicate, length-map}
 use Rattle.language.specs.Machine.{Record, emptyRecord, Answer as MachineAnswer}
 use Rattle.language.specs.Answers.{Refused, FileAnswer, IterateAnswers}
-use Rattle.theory.specs.Padding.{padded-length}
 use Rattle.theory.specs.FileAnswers.{check-answers, start-answers}
 use Rattle.theory.specs.LineAnswers.{iterate-answers}
-use Rattle.instances.specs.Listed.{instanceWordsCount}
+use Rattle.instance_list.specs.declared.Instance.{Instance}
+use Rattle.instance_list.specs.Records.{shown, recordsOf, none}
+use Rattle.instance_list.specs.FillLaws.{shown-empties}
 use Rattle.answers.specs.declared.Board.{Board}
 use Rattle.answers.specs.declared.Answer.{Answer}
-use Rattle.answers.specs.Boards.{boardOf, said, recordsOf}
-use Rattle.checker.specs.Checks.{wordsOf, Checks}
-use Rattle.checker.specs.FinalLists.{cleared}
+use Rattle.answers.specs.Boards.{boardOf, said}
+use Rattle.checker.specs.Checks.{Checks}
 use Rattle.startup.specs.Starts.{Starts}
 use Rattle.runtime.specs.Runs.{Iterates}
 use Rattle.demands.specs.Delivered.{CheckLeaves, StartLeaves, Delivered1}
 
--- ---- the list in words
-list-as-long : (words : ℕ) (rs : List Record) {list′ : List ℕ} → list′ ≡ wordsOf words rs → length list′ ≡ words
-list-as-long words rs e = ap length e ∙ padded-length words _
-
-list-cleared : (list : List ℕ) (rs : List Record) {list′ : List ℕ} → list′ ≡ wordsOf (length list) rs → rs ≡ replicate (length (recordsOf (length list))) emptyRecord → list′ ≡ replicate (length list) 0
-list-cleared list rs e none = e ∙ ap (wordsOf (length list)) (none ∙ ap (λ n. replicate n emptyRecord) (length-replicate (length list / instanceWordsCount) emptyRecord)) ∙ sym (cleared (length list))
+-- ---- the list: its records are the machine's
+list-as-long : (list′ : List Instance) {rs : List Record} (n : ℕ) → recordsOf list′ ≡ rs → length rs ≡ n → length list′ ≡ n
+list-as-long list′ n e l = sym (length-map list′ shown) ∙ ap length e ∙ l
 
 -- an answer is the machine's
 same-file-answer : {text : List ℕ} {r : Answer} {a : MachineAnswer} → said r ≡ a → FileAnswer text a → FileAnswer text (said r)
@@ -32,23 +29,23 @@ same-file-answer {text} e x = subst (FileAnswer text) (sym e) x
 same-refused : {r : Answer} {a : MachineAnswer} → said r ≡ a → Refused (said r) → Refused a
 same-refused e x = subst Refused e x
 
-check-leaves : {text list list′ : List ℕ} {b : Board} {r : Answer} → Checks text b list r list′ → CheckLeaves text list r list′
-check-leaves {text} {list} {b = b} c =
-    let m = check-answers text (boardOf b) (recordsOf (length list)) in
+check-leaves : {text : List ℕ} {list list′ : List Instance} {b : Board} {r : Answer} → Checks text b list r list′ → CheckLeaves text list r list′
+check-leaves {text} {list = list} {list′ = list′} {b = b} c =
+    let m = check-answers text (boardOf b) (recordsOf list) in
     record {
       answers = same-file-answer (c .answer) (m .answers);
-      list-long = list-as-long (length list) _ (c .instances);
-      refused-list = λ no. list-cleared list _ (c .instances) (m .refused-list (same-refused (c .answer) no));
+      list-long = list-as-long list′ (length list) (c .instances) (m .list-long ∙ length-map list shown);
+      refused-list = λ no. shown-empties list′ (length list) (c .instances ∙ m .refused-list (same-refused (c .answer) no) ∙ ap (λ n. replicate n emptyRecord) (length-map list shown));
     }
 
-start-leaves : {text list state scratch slots list′ state′ scratch′ slots′ : List ℕ} {b : Board} {r : Answer} → Starts text b list state scratch slots r list′ state′ scratch′ slots′ → StartLeaves text b list state scratch slots r list′ state′ scratch′ slots′
-start-leaves {text} {list} {state} {scratch} {slots} {b = b} s =
-    let m = start-answers text (boardOf b) (recordsOf (length list)) state scratch slots in
+start-leaves : {text state scratch slots state′ scratch′ slots′ : List ℕ} {list list′ : List Instance} {b : Board} {r : Answer} → Starts text b list state scratch slots r list′ state′ scratch′ slots′ → StartLeaves text b list state scratch slots r list′ state′ scratch′ slots′
+start-leaves {text} {state} {scratch} {slots} {list = list} {list′ = list′} {b = b} s =
+    let m = start-answers text (boardOf b) (recordsOf list) state scratch slots in
     record {
       answers = same-file-answer (s .answer-is) (m .answers);
-      list-long = list-as-long (length list) _ (s .list-is);
+      list-long = list-as-long list′ (length list) (s .list-is) (m .list-long ∙ length-map list shown);
       state-long = ap length (s .state-is) ∙ m .state-long;
-      refused-list = λ no. list-cleared list _ (s .list-is) (m .refused-list (same-refused (s .answer-is) no));
+      refused-list = λ no. shown-empties list′ (length list) (s .list-is ∙ m .refused-list (same-refused (s .answer-is) no) ∙ ap (λ n. replicate n emptyRecord) (length-map list shown));
       refused-state = λ no. s .state-is ∙ m .refused-state (same-refused (s .answer-is) no);
       beyond = rw (s .state-is) (m .beyond);
       scratch-clear = s .scratch-is ∙ m .scratch-clear;

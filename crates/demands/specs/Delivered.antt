@@ -6,7 +6,7 @@ use mathlib.Core.Bool.{Bool}
 use mathlib.Core.Logic.{_↔_}
 use mathlib.Core.Option.{some}
 use mathlib.Core.Path.{_≡_}
-use lib.ListN.{length, drop}
+use lib.ListN.{length, drop, replicate}
 use Rattle.language.specs.Refusals.{noRefusal, notLent, badInputLine, heapSpent}
 use Rattle.language.specs.Result.{ok, both}
 use Rattle.language.specs.Syntax.{File, initialValues}
@@ -24,32 +24,34 @@ use Rattle.language.specs.Answers.{Refused, FileAnswer, IterateAnswers}
 use Rattle.language.specs.Acceptance.{TextOf, CheckerDemand}
 use Rattle.language.specs.Evaluation.{NotLent, LineWrong, FileIterates, FileMeets}
 use Rattle.language.specs.Run.{channelTrees, Call, StartAllowed, CallAllowed, Holds, lineVerdict}
+use Rattle.instance_list.specs.declared.Instance.{Instance}
+use Rattle.instance_list.specs.Records.{none, recordsOf}
 use Rattle.answers.specs.declared.Board.{Board}
 use Rattle.answers.specs.declared.Answer.{Answer}
-use Rattle.answers.specs.Boards.{boardOf, said, recordsOf}
+use Rattle.answers.specs.Boards.{boardOf, said}
 use Rattle.checker.specs.Checks.{Checks}
 use Rattle.startup.specs.Starts.{Starts}
 use Rattle.runtime.specs.Runs.{Iterates}
 
 -- ---- demand 1: every call ends with a result or one numbered refusal; what a refused call leaves
-pub record CheckLeaves (text list : List ℕ) (r : Answer) (list′ : List ℕ) : Type 0 where
+pub record CheckLeaves (text : List ℕ) (list : List Instance) (r : Answer) (list′ : List Instance) : Type 0 where
   pub answers : FileAnswer text (said r)
   pub list-long : length list′ ≡ length list
-  pub refused-list : Refused (said r) → list′ ≡ zeros list
+  pub refused-list : Refused (said r) → list′ ≡ replicate (length list) none
 
-pub record StartLeaves (text : List ℕ) (b : Board) (list state scratch slots : List ℕ) (r : Answer) (list′ state′ scratch′ slots′ : List ℕ) : Type 0 where
+pub record StartLeaves (text : List ℕ) (b : Board) (list : List Instance) (state scratch slots : List ℕ) (r : Answer) (list′ : List Instance) (state′ scratch′ slots′ : List ℕ) : Type 0 where
   pub answers : FileAnswer text (said r)
   pub list-long : length list′ ≡ length list
   pub state-long : length state′ ≡ length state
-  pub refused-list : Refused (said r) → list′ ≡ zeros list
+  pub refused-list : Refused (said r) → list′ ≡ replicate (length list) none
   pub refused-state : Refused (said r) → state′ ≡ state
   pub beyond : drop (stateLength (b .cells)) state′ ≡ drop (stateLength (b .cells)) state
   pub scratch-clear : scratch′ ≡ zeros scratch
   pub slots-clear : slots′ ≡ zeros slots
 
 pub record Delivered1 : Type 0 where
-  pub checks : {text list list′ : List ℕ} {b : Board} {r : Answer} → Checks text b list r list′ → CheckLeaves text list r list′
-  pub starts : {text list state scratch slots list′ state′ scratch′ slots′ : List ℕ} {b : Board} {r : Answer} → Starts text b list state scratch slots r list′ state′ scratch′ slots′ →
+  pub checks : {text : List ℕ} {list list′ : List Instance} {b : Board} {r : Answer} → Checks text b list r list′ → CheckLeaves text list r list′
+  pub starts : {text state scratch slots state′ scratch′ slots′ : List ℕ} {list list′ : List Instance} {b : Board} {r : Answer} → Starts text b list state scratch slots r list′ state′ scratch′ slots′ →
       StartLeaves text b list state scratch slots r list′ state′ scratch′ slots′
   pub iterates : {text state scratch slots line state′ scratch′ slots′ : List ℕ} {b : Board} {r : Answer} → Iterates text b state scratch slots line r state′ scratch′ slots′ →
       IterateAnswers text (boardOf b) state scratch slots (record { answer = said r; state = state′; scratch = scratch′; slots = slots′ })
@@ -83,10 +85,10 @@ pub record IterateJudged (text : List ℕ) (b : Board) (lent : Bool) (state line
   pub meets : (n frame : ℕ) → ((said r ≡ answer (refusal n frame)) × (heapSpent ≤ n)) ↔ FileMeets text (boardOf b) lent state line n frame
 
 pub record Delivered2 : Type 0 where
-  pub checks : {text list list′ : List ℕ} {b : Board} {r : Answer} → Checks text b list r list′ → CheckerDemand text (listLent (boardOf b) (recordsOf (length list))) (boardOf b) (said r)
-  pub starts : {text list state scratch slots list′ state′ scratch′ slots′ : List ℕ} {b : Board} {r : Answer} → Starts text b list state scratch slots r list′ state′ scratch′ slots′ →
-      CheckerDemand text (both (listLent (boardOf b) (recordsOf (length list))) (buffersLent (boardOf b) state scratch slots)) (boardOf b) (said r)
-  pub begun : {text list state scratch slots list′ state′ scratch′ slots′ : List ℕ} {b : Board} {r : Answer} → Starts text b list state scratch slots r list′ state′ scratch′ slots′ → r .number ≡ noRefusal → LeftBegun text b state state′
+  pub checks : {text : List ℕ} {list list′ : List Instance} {b : Board} {r : Answer} → Checks text b list r list′ → CheckerDemand text (listLent (boardOf b) (recordsOf list)) (boardOf b) (said r)
+  pub starts : {text state scratch slots state′ scratch′ slots′ : List ℕ} {list list′ : List Instance} {b : Board} {r : Answer} → Starts text b list state scratch slots r list′ state′ scratch′ slots′ →
+      CheckerDemand text (both (listLent (boardOf b) (recordsOf list)) (buffersLent (boardOf b) state scratch slots)) (boardOf b) (said r)
+  pub begun : {text state scratch slots state′ scratch′ slots′ : List ℕ} {list list′ : List Instance} {b : Board} {r : Answer} → Starts text b list state scratch slots r list′ state′ scratch′ slots′ → r .number ≡ noRefusal → LeftBegun text b state state′
   pub iterates : {text state scratch slots line state′ scratch′ slots′ : List ℕ} {b : Board} {r : Answer} → Iterates text b state scratch slots line r state′ scratch′ slots′ →
       IterateJudged text b (buffersLent (boardOf b) state scratch slots) state line r state′
 
@@ -111,14 +113,14 @@ pub data Called (text : List ℕ) (x : Estimate) (cells : ℕ) : List ℕ → Li
 
 -- the start and the calls for the lines; r is its answer, ws the state that it left
 pub record RunOf (text : List ℕ) (x : Estimate) (b : Board) (r : Answer) (ws : List ℕ) (cs : List LineCall) : Type 0 where
-  pub list : List ℕ
+  pub list : List Instance
   pub state : List ℕ
   pub scratch : List ℕ
   pub slots : List ℕ
-  pub list′ : List ℕ
+  pub list′ : List Instance
   pub scratch′ : List ℕ
   pub slots′ : List ℕ
-  pub allowed : StartAllowed x (record { board = boardOf b; list = recordsOf (length list); state = state; scratch = scratch; slots = slots })
+  pub allowed : StartAllowed x (record { board = boardOf b; list = recordsOf list; state = state; scratch = scratch; slots = slots })
   pub starts : Starts text b list state scratch slots r list′ ws scratch′ slots′
   pub calls : Called text x (b .cells) ws cs
 
@@ -140,8 +142,8 @@ linesOf cs = map (λ (c : LineCall). c .line) cs
 -- the checker accepted the text, on some board, with the numbers x
 pub record AcceptedWith (text : List ℕ) (x : Estimate) : Type 0 where
   pub board : Board
-  pub list : List ℕ
-  pub list′ : List ℕ
+  pub list : List Instance
+  pub list′ : List Instance
   pub reply : Answer
   pub checks : Checks text board list reply list′
   pub accepts : said reply ≡ answer (accepted x)

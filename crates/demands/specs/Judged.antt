@@ -10,21 +10,23 @@ use Rattle.language.specs.Machine.{Iterated, listLent, buffersLent, iterate}
 use Rattle.language.specs.Acceptance.{CheckerDemand}
 use Rattle.theory.specs.CheckerDemands.{start-demand}
 use Rattle.theory.specs.StartSteps.{evaluator-demand}
+use Rattle.instance_list.specs.declared.Instance.{Instance}
+use Rattle.instance_list.specs.Records.{recordsOf}
 use Rattle.answers.specs.declared.Board.{Board}
 use Rattle.answers.specs.declared.Answer.{Answer}
-use Rattle.answers.specs.Boards.{boardOf, said, recordsOf}
+use Rattle.answers.specs.Boards.{boardOf, said}
 use Rattle.checker.specs.AcceptsExactly.{checked-demand}
 use Rattle.startup.specs.Starts.{Starts}
 use Rattle.runtime.specs.Runs.{Iterates}
 use Rattle.demands.specs.Delivered.{LeftBegun, LeftIterated, IterateJudged, Delivered2}
 
-started-demand : {text list state scratch slots list′ state′ scratch′ slots′ : List ℕ} {b : Board} {r : Answer} → Starts text b list state scratch slots r list′ state′ scratch′ slots′ →
-    CheckerDemand text (both (listLent (boardOf b) (recordsOf (length list))) (buffersLent (boardOf b) state scratch slots)) (boardOf b) (said r)
-started-demand {text} {list} {state} {scratch} {slots} {b = b} s = subst (CheckerDemand text _ (boardOf b)) (sym (s .answer-is)) (start-demand text (boardOf b) (recordsOf (length list)) state scratch slots)
+started-demand : {text state scratch slots state′ scratch′ slots′ : List ℕ} {list list′ : List Instance} {b : Board} {r : Answer} → Starts text b list state scratch slots r list′ state′ scratch′ slots′ →
+    CheckerDemand text (both (listLent (boardOf b) (recordsOf list)) (buffersLent (boardOf b) state scratch slots)) (boardOf b) (said r)
+started-demand {text} {state} {scratch} {slots} {list = list} {b = b} s = subst (CheckerDemand text _ (boardOf b)) (sym (s .answer-is)) (start-demand text (boardOf b) (recordsOf list) state scratch slots)
 
-left-begun : {text list state scratch slots list′ state′ scratch′ slots′ : List ℕ} {b : Board} {r : Answer} → Starts text b list state scratch slots r list′ state′ scratch′ slots′ → r .number ≡ noRefusal → LeftBegun text b state state′
-left-begun {text} {list} {state} {scratch} {slots} {b = b} s e =
-    let d = evaluator-demand .starts text (boardOf b) (recordsOf (length list)) state scratch slots (sym (λ i. s .answer-is i .number) ∙ e) in
+left-begun : {text state scratch slots state′ scratch′ slots′ : List ℕ} {list list′ : List Instance} {b : Board} {r : Answer} → Starts text b list state scratch slots r list′ state′ scratch′ slots′ → r .number ≡ noRefusal → LeftBegun text b state state′
+left-begun {text} {state} {scratch} {slots} {list = list} {b = b} s e =
+    let d = evaluator-demand .starts text (boardOf b) (recordsOf list) state scratch slots (sym (λ i. s .answer-is i .number) ∙ e) in
     record {
       file = d .file;
       is = d .is;

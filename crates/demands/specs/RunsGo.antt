@@ -10,9 +10,11 @@ use Rattle.language.specs.Machine.{answer}
 use Rattle.language.specs.PlainMachine.{initialTrees}
 use Rattle.language.specs.Run.{FirstCall, Call, Reported, begun, called, Goes, ends, goes, CallsAllowed, no-call, a-call, Run, Alike, both-end, both-go, linesIn}
 use Rattle.theory.specs.Demand.{demand-3}
+use Rattle.instance_list.specs.declared.Instance.{Instance}
+use Rattle.instance_list.specs.Records.{recordsOf}
 use Rattle.answers.specs.declared.Board.{Board}
 use Rattle.answers.specs.declared.Answer.{Answer}
-use Rattle.answers.specs.Boards.{boardOf, said, recordsOf}
+use Rattle.answers.specs.Boards.{boardOf, said}
 use Rattle.runtime.specs.Runs.{Iterates}
 use Rattle.demands.specs.Delivered.{LineCall, lentBy, Called, no-line, a-line, RunOf, GoesOn, at-end, goes-on, SameRuns, both-done, both-on, linesOf, AcceptedWith, Delivered3}
 
@@ -50,13 +52,13 @@ lines-lent (c ∷ cs) = ap (λ (z : List (List ℕ)). c .line ∷ z) (lines-lent
 -- ---- the run
 module _ {text : List ℕ} {x : Estimate} {b : Board} {r : Answer} {ws : List ℕ} {cs : List LineCall} (u : RunOf text x b r ws cs) where
   abbrev first : FirstCall
-  first = record { board = boardOf b; list = recordsOf (length (u .list)); state = u .state; scratch = u .scratch; slots = u .slots }
+  first = record { board = boardOf b; list = recordsOf (u .list); state = u .state; scratch = u .scratch; slots = u .slots }
 
   runs : Run text x first (lentIn cs)
   runs = record { begins = u .allowed; calls = subst (λ z. CallsAllowed text x (b .cells) z (lentIn cs)) (u .starts .state-is) (calls-allowed (u .calls)) }
 
 reported : {text : List ℕ} {x : Estimate} → AcceptedWith text x → Reported text x
-reported a = record { board = boardOf (a .board); list = recordsOf (length (a .list)); is = sym (a .checks .answer) ∙ a .accepts }
+reported a = record { board = boardOf (a .board); list = recordsOf (a .list); is = sym (a .checks .answer) ∙ a .accepts }
 
 pub delivered-3 : Delivered3
 delivered-3 = record {

@@ -17,11 +17,11 @@ use language::limits::INSTANCES_MOST;
 use language::limits::PARAMETERS_MOST;
 
 // Where the numbers of a record start, behind the function and its sizes; the environment is the first of them.
-const NUMBERS_FROM: usize = 1 + PARAMETERS_MOST;
+pub const NUMBERS_FROM: usize = 1 + PARAMETERS_MOST;
 
-const HEAP_WORD: usize = 1;
+pub const HEAP_WORD: usize = 1;
 
-const STACK_WORD: usize = 2;
+pub const STACK_WORD: usize = 2;
 
 // The words of a record: the function, its sizes, environment, heap and stack.
 pub const INSTANCE_WORDS: usize = NUMBERS_FROM + STACK_WORD + 1;

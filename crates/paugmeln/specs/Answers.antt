@@ -9,8 +9,8 @@ use Rattle.reader.specs.Texts.{TextRead, done, fault}
 use Rattle.answers.specs.declared.Board.{Board}
 use Rattle.answers.specs.declared.Answer.{Answer}
 use Rattle.answers.specs.Boards.{refusalOf, readAnswer}
-use Rattle.checker.specs.Checks.{Checks}
-use Rattle.startup.specs.Starts.{Starts}
+use Rattle.checker.specs.Checks.{ChecksWords}
+use Rattle.startup.specs.Starts.{StartsWords}
 use Rattle.runtime.specs.Runs.{Iterates}
 
 pub data Answers (r : Answer) : Result File → Type 0 where
@@ -27,12 +27,12 @@ board cells slots calls = record { cells = cells; slots = slots; calls = calls }
 
 -- ---- the calls, for a board by its numbers
 module _ {cells slots calls : ℕ} {b : Board} (e : b ≡ board cells slots calls) where
-  pub checks-board : {text list list′ : List ℕ} {r : Answer} → Checks text b list r list′ → Checks text (board cells slots calls) list r list′
-  checks-board {text} {list} {list′} {r} c = subst (λ z. Checks text z list r list′) e c
+  pub checks-board : {text words′ : List ℕ} {records : ℕ} {r : Answer} → ChecksWords text b records r words′ → ChecksWords text (board cells slots calls) records r words′
+  checks-board {text} {words′} {records} {r} c = subst (λ z. ChecksWords text z records r words′) e c
 
-  pub starts-board : {text list state scratch environment list′ state′ scratch′ environment′ : List ℕ} {r : Answer} → Starts text b list state scratch environment r list′ state′ scratch′ environment′ →
-      Starts text (board cells slots calls) list state scratch environment r list′ state′ scratch′ environment′
-  starts-board {text} {list} {state} {scratch} {environment} {list′} {state′} {scratch′} {environment′} {r} s = subst (λ z. Starts text z list state scratch environment r list′ state′ scratch′ environment′) e s
+  pub starts-board : {text state scratch environment words′ state′ scratch′ environment′ : List ℕ} {records : ℕ} {r : Answer} → StartsWords text b records state scratch environment r words′ state′ scratch′ environment′ →
+      StartsWords text (board cells slots calls) records state scratch environment r words′ state′ scratch′ environment′
+  starts-board {text} {state} {scratch} {environment} {words′} {state′} {scratch′} {environment′} {records} {r} s = subst (λ z. StartsWords text z records state scratch environment r words′ state′ scratch′ environment′) e s
 
   pub iterates-board : {text state scratch environment line state′ scratch′ environment′ : List ℕ} {r : Answer} → Iterates text b state scratch environment line r state′ scratch′ environment′ →
       Iterates text (board cells slots calls) state scratch environment line r state′ scratch′ environment′

@@ -1,18 +1,24 @@
 // What a program links: the proved calls under plain names.
 ghost use mathlib.Core.Path.{_≡_};
 ghost use Rattle.language.specs.Reader.{readFile};
-ghost use Rattle.checker.specs.Checks.{Checks};
-ghost use Rattle.startup.specs.Starts.{Starts};
+ghost use Rattle.checker.specs.Checks.{ChecksWords, Checks};
+ghost use Rattle.startup.specs.Starts.{StartsWords, Starts};
 ghost use Rattle.runtime.specs.Runs.{Iterates};
+ghost use lib.ListN.{length};
+ghost use Rattle.instance_list.specs.Records.{listWords, FindsPlace};
 ghost use Rattle.paugmeln.specs.Answers.{Answers, board};
 use answers::Answer;
 use answers::Board;
 use answers::read_answer;
-use checker::check;
+use checker::check_words;
 use index::INDEX_WORDS;
+use instance_list::Instance;
+use instance_list::LIST_WORDS;
+use instance_list::fill;
+use instance_list::find;
 use reader::read;
 use runtime::iterate;
-use startup::start;
+use startup::start_words;
 
 // A board by its numbers.
 fn lent_board(cells: u32, slots: u32, calls: u32) -> Board
@@ -35,19 +41,57 @@ pub extern "C" fn paugmeln_read(text: &[u8]) -> Answer
     read_answer(x)
 }
 
-// The checker's answer for a text on a board; the list ends with the instances, or zero.
+// The check on the board of these numbers, which lends a list of so many records.
+fn check_lent(
+    text: &[u8],
+    cells: u32,
+    slots: u32,
+    calls: u32,
+    records: usize,
+    words: &mut [u32],
+) -> Answer
+    requires { ⌜ length (now words) ≡ listWords ⌝ }
+    ensures { λ r. ⌜ ChecksWords (now (text .entry)) (board cells slots calls) records r (now (words .exit)) ⌝ }
+{
+    let b = lent_board(cells, slots, calls);
+    check_words(text, b, records, words)
+}
+
+// The checker's answer for a text on a board; the list ends with the instances, or empty.
 #[no_mangle]
 pub extern "C" fn paugmeln_check(
     text: &[u8],
     cells: u32,
     slots: u32,
     calls: u32,
-    list: &mut [u32],
+    list: &mut [Instance],
 ) -> Answer
     ensures { λ r. ⌜ Checks (now (text .entry)) (board cells slots calls) (now (list .entry)) r (now (list .exit)) ⌝ }
 {
+    let records = list.len();
+    let mut words = [0u32; LIST_WORDS];
+    let r = check_lent(text, cells, slots, calls, records, &mut words);
+    fill(&words, list);
+    r
+}
+
+// The start on the board of these numbers, which lends a list of so many records.
+fn start_lent(
+    text: &[u8],
+    cells: u32,
+    slots: u32,
+    calls: u32,
+    records: usize,
+    words: &mut [u32],
+    state: &mut [u32],
+    scratch: &mut [u32],
+    environment: &mut [u32],
+) -> Answer
+    requires { ⌜ length (now words) ≡ listWords ⌝ }
+    ensures { λ r. ⌜ StartsWords (now (text .entry)) (board cells slots calls) records (now (state .entry)) (now (scratch .entry)) (now (environment .entry)) r (now (words .exit)) (now (state .exit)) (now (scratch .exit)) (now (environment .exit)) ⌝ }
+{
     let b = lent_board(cells, slots, calls);
-    check(text, b, list)
+    start_words(text, b, records, words, state, scratch, environment)
 }
 
 // The start of a text on a board: the list as above; the state of the initial values, or unchanged; scratch and environment zero.
@@ -57,15 +101,36 @@ pub extern "C" fn paugmeln_start(
     cells: u32,
     slots: u32,
     calls: u32,
-    list: &mut [u32],
+    list: &mut [Instance],
     state: &mut [u32],
     scratch: &mut [u32],
     environment: &mut [u32],
 ) -> Answer
     ensures { λ r. ⌜ Starts (now (text .entry)) (board cells slots calls) (now (list .entry)) (now (state .entry)) (now (scratch .entry)) (now (environment .entry)) r (now (list .exit)) (now (state .exit)) (now (scratch .exit)) (now (environment .exit)) ⌝ }
 {
-    let b = lent_board(cells, slots, calls);
-    start(text, b, list, state, scratch, environment)
+    let records = list.len();
+    let mut words = [0u32; LIST_WORDS];
+    let r = start_lent(
+        text,
+        cells,
+        slots,
+        calls,
+        records,
+        &mut words,
+        state,
+        scratch,
+        environment,
+    );
+    fill(&words, list);
+    r
+}
+
+// The place of the first record of a list that has the key's function and sizes, or the list's length.
+#[no_mangle]
+pub extern "C" fn paugmeln_find(list: &[Instance], key: Instance) -> usize
+    ensures { λ r. ⌜ FindsPlace (now (list .entry)) key r ⌝ }
+{
+    find(list, key)
 }
 
 // One iteration with a line of input: the state slid, or unchanged; scratch and environment zero.

@@ -1,6 +1,9 @@
 // The call that starts a rule file on a board.
+ghost use mathlib.Core.Path.{_≡_};
+ghost use lib.ListN.{length};
 ghost use Rattle.checker.specs.Checks.{ReadHeld};
-ghost use Rattle.startup.specs.Starts.{StartsRead, Starts};
+ghost use Rattle.instance_list.specs.Records.{listWords};
+ghost use Rattle.startup.specs.Starts.{StartsRead, StartsWords};
 use answers::Answer;
 use answers::Board;
 use answers::all_lent;
@@ -21,16 +24,18 @@ fn start_read(
     text: &[u8],
     index: &[u32; INDEX_WORDS],
     b: Board,
-    list: &mut [u32],
+    records: usize,
+    words: &mut [u32],
     state: &mut [u32],
     scratch: &[u32],
     slots: &mut [u32],
 ) -> Answer
     requires { ⌜ ReadHeld (now text) (now index) ⌝ }
-    ensures { λ r. ⌜ StartsRead (now (text .entry)) b (now (list .entry)) (now (state .entry)) (now (scratch .entry)) (now (slots .entry)) r (now (list .exit)) (now (state .exit)) (now (slots .exit)) ⌝ }
+    requires { ⌜ length (now words) ≡ listWords ⌝ }
+    ensures { λ r. ⌜ StartsRead (now (text .entry)) b records (now (state .entry)) (now (scratch .entry)) (now (slots .entry)) r (now (words .exit)) (now (state .exit)) (now (slots .exit)) ⌝ }
 {
-    let given = all_lent(b, list.len(), state.len(), scratch.len(), slots.len());
-    let r = check_read(text, index, b, given, list);
+    let given = all_lent(b, records, state.len(), scratch.len(), slots.len());
+    let r = check_read(text, index, b, given, words);
     if r.number != NO_REFUSAL {
         return r;
     }
@@ -46,25 +51,28 @@ fn start_read(
     r
 }
 
-// Checks a file on a board and starts it. The list ends as `check` leaves it, scratch and slots zero; after a refusal the state is unchanged.
-pub fn start(
+// Checks a file on a board that lends a list of so many records, and starts it. The words end as `check_words` leaves them, scratch and
+// slots zero; after a refusal the state is unchanged.
+pub fn start_words(
     text: &[u8],
     b: Board,
-    list: &mut [u32],
+    records: usize,
+    words: &mut [u32],
     state: &mut [u32],
     scratch: &mut [u32],
     slots: &mut [u32],
 ) -> Answer
-    ensures { λ r. ⌜ Starts (now (text .entry)) b (now (list .entry)) (now (state .entry)) (now (scratch .entry)) (now (slots .entry)) r (now (list .exit)) (now (state .exit)) (now (scratch .exit)) (now (slots .exit)) ⌝ }
+    requires { ⌜ length (now words) ≡ listWords ⌝ }
+    ensures { λ r. ⌜ StartsWords (now (text .entry)) b records (now (state .entry)) (now (scratch .entry)) (now (slots .entry)) r (now (words .exit)) (now (state .exit)) (now (scratch .exit)) (now (slots .exit)) ⌝ }
 {
     clear_both(scratch, slots);
     let mut index = [0u32; INDEX_WORDS];
     let x = read(text, &mut index);
     let Reading::Done = x else {
-        clear_list(list);
+        clear_list(words);
         return read_answer(x);
     };
-    let r = start_read(text, &index, b, list, state, scratch, slots);
+    let r = start_read(text, &index, b, records, words, state, scratch, slots);
     clear(slots);
     r
 }

@@ -19,7 +19,7 @@ same-length : tie.Need-same-length
 same-length c = search needs
 
 returns : tie.Need-returns
-returns c = types-refused (c .before .before .before .before .before .before .before .before .before .pre .0) _ _ _ (c .before .before .before .before .before .before .plain-types .ensures) (c .before .before .before .before .before .if1 .taken) (c .refusal .ensures) (c .before .before .before .clear .ensures)
+returns c = types-refused (c .before .before .before .before .before .before .before .before .before .pre .0) _ _ (c .before .before .before .before .before .before .before .before .before .args .words .now) (c .before .before .before .before .before .before .plain-types .ensures) (c .before .before .before .before .before .if1 .taken) (c .refusal .ensures) (c .before .before .before .clear .ensures)
 
 clear-requires-2 : tie.Need-clear-requires-2
 clear-requires-2 c κs = tt
@@ -31,7 +31,7 @@ same-length-2 : tie.Need-same-length-2
 same-length-2 c = search needs
 
 returns-2 : tie.Need-returns-2
-returns-2 c = lent-refused (c .before .before .before .before .before .before .before .before .before .before .pre .0) _ _ _ (c .before .before .before .before .before .before .before .plain-types .ensures) (c .before .before .before .before .before .before .if1 .left) (not-true _ (c .before .before .before .before .before .if2 .taken)) (c .refusal2 .ensures) (c .before .before .before .clear2 .ensures)
+returns-2 c = lent-refused (c .before .before .before .before .before .before .before .before .before .before .pre .0) _ _ (c .before .before .before .before .before .before .before .before .before .before .args .words .now) (c .before .before .before .before .before .before .before .plain-types .ensures) (c .before .before .before .before .before .before .if1 .left) (not-true _ (c .before .before .before .before .before .if2 .taken)) (c .refusal2 .ensures) (c .before .before .before .clear2 .ensures)
 
 sized-file-requires : tie.Need-sized-file-requires
 sized-file-requires c κs = tt
@@ -69,11 +69,14 @@ same-length-4 c = search needs
 returns-4 : tie.Need-returns-4
 returns-4 c = board-refused (c .before .before .before .before .before .before .before .before .before .before .before .before .before .before .before .before .before .before .before .before .pre .0) _ _ _ (c .before .before .before .before .before .before .before .before .before .before .before .before .before .before .before .before .before .plain-types .ensures) (c .before .before .before .before .before .before .before .before .before .before .before .before .before .before .before .before .if1 .left) (c .before .before .before .before .before .before .before .before .before .before .before .before .before .before .before .before .before .before .before .before .pre .1) (not-false _ (c .before .before .before .before .before .before .before .before .before .before .before .before .before .before .before .if2 .left)) (c .before .before .before .before .before .before .before .before .before .before .before .before .before .sized-file .ensures) (c .before .before .before .before .before .before .before .before .before .before .before .before .before .sized-file .kept .1 .1 .0) (c .before .before .before .before .before .before .before .before .before .x .given .1) (c .before .before .before .before .before .before .before .needed .ensures) (c .before .before .before .before .before .before .judge .ensures) (λ z. omega (arith, z, (c .before .before .before .before .if3 .taken))) (c .before .before .clear4 .ensures)
 
+put-used-requires : tie.Need-put-used-requires
+put-used-requires c κs = tt
+
 same-length-5 : tie.Need-same-length-5
 same-length-5 c = search needs
 
 returns-5 : tie.Need-returns-5
-returns-5 c = board-accepts (c .before .before .before .before .before .before .before .before .before .before .before .before .before .before .before .before .pre .0) _ _ _ (c .before .before .before .before .before .before .before .before .before .before .before .before .before .plain-types .ensures) (c .before .before .before .before .before .before .before .before .before .before .before .before .if1 .left) (c .before .before .before .before .before .before .before .before .before .before .before .before .before .before .before .before .pre .1) (not-false _ (c .before .before .before .before .before .before .before .before .before .before .before .if2 .left)) (c .before .before .before .before .before .before .before .before .before .sized-file .ensures) (c .before .before .before .before .before .before .before .before .before .sized-file .kept .1 .1 .0) (c .before .before .before .before .before .x .given .1) (c .before .before .before .needed .ensures) (c .before .before .judge .ensures) (omega (arith, (c .if3 .left)))
+returns-5 c = board-accepts (c .before .before .before .before .before .before .before .before .before .before .before .before .before .before .before .before .before .before .before .before .pre .0) _ _ _ (c .before .before .before .before .before .before .before .before .before .before .before .before .before .before .before .before .before .plain-types .ensures) (c .before .before .before .before .before .before .before .before .before .before .before .before .before .before .before .before .if1 .left) (c .before .before .before .before .before .before .before .before .before .before .before .before .before .before .before .before .before .before .before .before .pre .1) (not-false _ (c .before .before .before .before .before .before .before .before .before .before .before .before .before .before .before .if2 .left)) (c .before .before .before .before .before .before .before .before .before .before .before .before .before .sized-file .ensures) (c .before .before .before .before .before .before .before .before .before .before .before .before .before .sized-file .kept .1 .1 .0) (c .before .before .before .before .before .before .before .before .before .x .given .1) (c .before .before .before .before .before .before .before .needed .ensures) (c .before .before .before .before .before .before .judge .ensures) (omega (arith, (c .before .before .before .before .if3 .left))) (c .before .before .put-used .ensures)
 
 pub check-read-spec : {M : Type 1} → statement M
 check-read-spec =
@@ -100,5 +103,6 @@ check-read-spec =
     clear-requires-4
     same-length-4
     returns-4
+    put-used-requires
     same-length-5
     returns-5)

@@ -1,9 +1,10 @@
 -- A text that is not read, or what its file's start gives.
+use lib.ListN.{length}
 use Rattle.checker.specs.ReadLaws.{read-held}
 use Rattle.startup.specs.StartLaws.{start-unread, start-from-file}
 use borrow.Author.Needs.{needs}
-use Rattle.startup.proofs.start.Statement.{statement}
-use Rattle.startup.proofs.start.Tie as tie
+use Rattle.startup.proofs.start_words.Statement.{statement}
+use Rattle.startup.proofs.start_words.Tie as tie
 
 clear-both-requires : tie.Need-clear-both-requires
 clear-both-requires c κs = tt
@@ -33,10 +34,10 @@ same-length-3 : tie.Need-same-length-3
 same-length-3 c = search needs
 
 returns : tie.Need-returns
-returns c = start-unread _ _ _ _ _ _ (c .before .before .before .before .before .before .before .before .before .before .before .before .before .clear-both .ensures) (c .before .before .before .before .before .before .before .read .ensures) (c .before .before .before .before .before .enum-told2 .given .1) (c .read-answer .ensures) (c .before .before .before .clear .ensures)
+returns c = start-unread _ _ _ _ _ _ (c .before .before .before .before .before .before .before .before .before .before .before .before .before .clear-both .ensures) (length (c .before .before .before .before .before .before .before .before .before .before .before .before .before .before .before .before .before .before .before .before .before .args .words .now)) (c .before .before .before .before .before .before .before .read .ensures) (c .before .before .before .before .before .enum-told2 .given .1) (c .read-answer .ensures) (c .before .before .before .clear .ensures)
 
 start-read-requires : tie.Need-start-read-requires
-start-read-requires c κs = read-held (c .before .before .before .before .before .before .before .read .ensures) (c .before .before .before .before .before .enum-told .given .1)
+start-read-requires c κs = (read-held (c .before .before .before .before .before .before .before .read .ensures) (c .before .before .before .before .before .enum-told .given .1), (c .before .before .before .before .before .before .before .before .before .before .before .before .before .before .before .before .before .before .before .before .before .pre))
 
 clear-requires-2 : tie.Need-clear-requires-2
 clear-requires-2 c κs = tt
@@ -56,8 +57,8 @@ same-length-7 c = search needs
 returns-2 : tie.Need-returns-2
 returns-2 c = start-from-file _ _ _ _ _ _ (c .before .before .before .before .before .before .before .before .before .before .before .before .before .before .before .before .before .before .before .before .before .before .before .before .clear-both .ensures) (c .before .before .before .before .before .before .before .before .before .before .start-read .ensures) (c .before .before .clear2 .ensures)
 
-pub start-spec : {M : Type 1} → statement M
-start-spec =
+pub start-words-spec : {M : Type 1} → statement M
+start-words-spec =
     tie.close
     (tie.spec
     clear-both-requires

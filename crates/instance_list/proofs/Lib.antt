@@ -1,0 +1,3 @@
+pub mod Lends
+pub mod Rows
+pub mod Calls
