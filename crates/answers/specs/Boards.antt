@@ -11,7 +11,7 @@ use Rattle.language.specs.Machine.{Board as MachineBoard, Answer as MachineAnsw
 use Rattle.reader.specs.declared.Reading.{Reading}
 use Rattle.reader.specs.declared.Reading.the-variants.{Done, Fault}
 use Rattle.estimate.specs.declared.Estimate.{Estimate as Held}
-use Rattle.language.specs.Result.{no, both}
+use Rattle.language.specs.Result.{both}
 use Rattle.answers.specs.declared.Board.{Board}
 use Rattle.answers.specs.declared.Answer.{Answer}
 

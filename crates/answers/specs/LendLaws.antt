@@ -10,7 +10,7 @@ use Rattle.language.specs.Machine.{emptyRecord, boardAllowed, listLent, lengths
 use Rattle.language.specs.Result.{both}
 use native.Mathlib.Omega.{arith}
 use lib.Dec.{leb}
-use borrow.Author.Tests.{le-leb, lt-leb, leb-true, leb-false}
+use borrow.Author.Tests.{le-leb, lt-leb, leb-true}
 use Rattle.theory.specs.Lists.{both-left, both-right}
 use Rattle.answers.specs.declared.Board.{Board}
 use Rattle.answers.specs.Boards.{boardOf, lentRecords, Allows, Lends, LendsAll, LendsList, Granted, ClearsBoth}

@@ -9,7 +9,7 @@ use Rattle.language.specs.Syntax.{File}
 use Rattle.language.specs.Estimate.{stopped}
 use Rattle.language.specs.Checker.{sizedFile}
 use Rattle.language.specs.Cells.{numbersNeeded}
-use Rattle.language.specs.Machine.{Record, Checked as CheckedBy, Accepted, accepted, Verdict, answer, judge, judged, verdictOf, finalList, checkFile, listLent, check, emptyRecord}
+use Rattle.language.specs.Machine.{Record, Checked as CheckedBy, Accepted, Verdict, answer, judge, judged, verdictOf, finalList, checkFile, listLent, check, emptyRecord}
 use Rattle.estimate.specs.declared.Estimate.{Estimate as Held}
 use Rattle.instance_list.specs.declared.Instance.{Instance}
 use Rattle.instance_list.specs.Records.{shown, recordsOf, recordsWords, listWords, filled}

@@ -8,7 +8,7 @@ use Rattle.language.specs.Answers.{Refused, FileAnswer, IterateAnswers}
 use Rattle.theory.specs.FileAnswers.{check-answers, start-answers}
 use Rattle.theory.specs.LineAnswers.{iterate-answers}
 use Rattle.instance_list.specs.declared.Instance.{Instance}
-use Rattle.instance_list.specs.Records.{shown, recordsOf, none}
+use Rattle.instance_list.specs.Records.{shown, recordsOf}
 use Rattle.instance_list.specs.FillLaws.{shown-empties}
 use Rattle.answers.specs.declared.Board.{Board}
 use Rattle.answers.specs.declared.Answer.{Answer}

@@ -2,7 +2,6 @@
 use Prim.Native.Nat.{ℕ}
 use mathlib.Core.List.{List}
 use mathlib.Core.Path.{_≡_, sym, ap, _∙_, subst}
-use lib.ListN.{length}
 use Rattle.language.specs.Refusals.{noRefusal}
 use Rattle.language.specs.Result.{both}
 use Rattle.language.specs.Layout.{loadState}

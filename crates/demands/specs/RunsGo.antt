@@ -2,7 +2,6 @@
 use Prim.Native.Nat.{ℕ}
 use mathlib.Core.List.{List, [], _∷_, map}
 use mathlib.Core.Path.{_≡_, refl, sym, ap, _∙_, subst}
-use lib.ListN.{length}
 use Rattle.language.specs.Syntax.{File}
 use Rattle.language.specs.Estimate.{Estimate}
 use Rattle.language.specs.Heap.{Tree}
@@ -10,7 +9,6 @@ use Rattle.language.specs.Machine.{answer}
 use Rattle.language.specs.PlainMachine.{initialTrees}
 use Rattle.language.specs.Run.{FirstCall, Call, Reported, begun, called, Goes, ends, goes, CallsAllowed, no-call, a-call, Run, Alike, both-end, both-go, linesIn}
 use Rattle.theory.specs.Demand.{demand-3}
-use Rattle.instance_list.specs.declared.Instance.{Instance}
 use Rattle.instance_list.specs.Records.{recordsOf}
 use Rattle.answers.specs.declared.Board.{Board}
 use Rattle.answers.specs.declared.Answer.{Answer}

@@ -1,7 +1,7 @@
 -- A record of the list in the machine: its value, and the types of a list that is lent and of a reference into it.
 use Prim.Native.Nat.{ℕ}
 use mathlib.Core.List.{List}
-use mir.Syntax.{Ty, Lifetime, named, erased, imm, mut, w64, tyInt, tyRef}
+use mir.Syntax.{Ty, named, erased, imm, mut, w64, tyInt, tyRef}
 use mir.Val.{Val}
 use denote.Slice.{sliceTy}
 use denote.Memory.{pointee}

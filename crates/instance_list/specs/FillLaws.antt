@@ -4,17 +4,16 @@ use mathlib.Core.List.{List, [], _∷_, _++_, map}
 use mathlib.Core.Path.{_≡_, refl, sym, ap, ap₂, _∙_}
 use native.Mathlib.Nat.{sub-zero}
 use native.Mathlib.Omega.{arith}
-use lib.ListN.{length, getD, take, drop, set, replicate, length-set, length-map, length-replicate, length-append}
+use lib.ListN.{length, getD, take, drop, set, replicate, length-set, length-map, length-replicate}
 use lib.Seq.{take-suc, take-all, length-take-le, set-append-seam, append-snoc, getD-drop, ext-getD}
 use borrow.Author.Tests.{lt-leb}
 use Rattle.language.specs.Limits.{parametersMost, instancesMost}
 use Rattle.language.specs.Result.{choose}
 use Rattle.language.specs.Layout.{padded}
-use Rattle.language.specs.Estimate.{stopped}
 use Rattle.language.specs.Checker.{Instance as Entered}
 use Rattle.language.specs.Machine.{Record, emptyRecord, recordOf}
 use Rattle.theory.specs.Padding.{padded-length}
-use Rattle.index.specs.Padded.{padded-at, padded-none}
+use Rattle.index.specs.Padded.{padded-at}
 use Rattle.instances.specs.Listed.{instanceWordsCount, numbersFrom, Listed}
 use Rattle.instances.specs.ListLaws.{function-word, size-word, number-word}
 use Rattle.instances.specs.Matches.{noInstance, at}

@@ -13,7 +13,6 @@ use borrow.Author.Tests.{eqb-true, eqb-false, eq-eqb, ne-eqb, le-leb, lt-leb}
 use Rattle.language.specs.Limits.{parametersMost, instancesMost}
 use Rattle.language.specs.Result.{both, choose}
 use Rattle.language.specs.Sizes.{sameSizes}
-use Rattle.language.specs.Layout.{padded}
 use Rattle.language.specs.Checker.{find}
 use Rattle.theory.specs.Padding.{padded-length}
 use Rattle.index.specs.Padded.{padded-at}

@@ -1,7 +1,7 @@
 -- The records of the lent list beside the machine's; the words in which the checker keeps them, and the list that they fill.
 use Prim.Native.Nat.{ℕ, zero, suc, _+_, _*_}
 use mathlib.Core.List.{List, [], _∷_, map}
-use mathlib.Core.Bool.{Bool, true, false}
+use mathlib.Core.Bool.{Bool}
 use mathlib.Core.Option.{Option, none as nothing-there, some}
 use mathlib.Core.Path.{_≡_}
 use lib.ListN.{getD, drop, set, replicate}

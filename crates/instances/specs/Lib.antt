@@ -3,4 +3,3 @@ pub mod Matches
 pub mod ListLaws
 pub mod FindLaws
 pub mod WriteLaws
-pub mod Records

@@ -1,4 +1,4 @@
-// The lent list of instances, as words: a record is the function, its sizes and its three numbers.
+// The checker's list of instances, as words: a record is the function, its sizes and its three numbers.
 ghost use mathlib.Core.Path.{_≡_};
 ghost use Prim.Native.Nat.{_+_, _^_, _<_, _≤_};
 ghost use lib.ListN.{length, replicate};

@@ -1,6 +1,6 @@
 -- A record stored where there is room: the function's machine code step by step, as a list of structs has no other proof.
 use mathlib.Core.Path.{_≡_, refl, sym, ap, subst}
-use Prim.Native.Nat.{ℕ, _<_, _≤_, _^_, _*_, _+_}
+use Prim.Native.Nat.{ℕ, _<_, _≤_, _^_, _*_}
 use mathlib.Core.List.{[], _∷_, List}
 use lib.ListN.{length, set, length-set}
 use lib.Seq.{set-out}
