@@ -62,7 +62,7 @@ struct paugmeln_instance {
 /* The stack, in bytes, that a thread is to have on which paugmeln_check or paugmeln_start is given any rule file: the checker
  * goes as deep as 1,024 bodies, each nested 32. Set by measurement (tools/measure-checking): the deepest files that were tried
  * took 39 MiB. Nothing is proved of the real stack, and the checker does not look how much of it is left. A file that is not so
- * deep needs far less; paugmeln_read needs no more than a thread usually has. */
+ * deep needs far less; paugmeln_read and paugmeln_find need no more than a thread usually has. */
 #define PAUGMELN_STACK_BYTES 268435456
 
 /* The same for paugmeln_iterate: an evaluation goes as deep as 64 calls, each nested 32. The whole call was then measured to
@@ -131,6 +131,15 @@ struct paugmeln_answer paugmeln_check(const uint8_t *text, size_t length, uint32
 struct paugmeln_answer paugmeln_start(const uint8_t *text, size_t length, uint32_t cells, uint32_t slots, uint32_t calls,
                                       struct paugmeln_instance *list, size_t records, uint32_t *state, size_t state_words,
                                       uint32_t *scratch, size_t scratch_words, uint32_t *environment, size_t environment_words);
+
+/* Looks up a function at certain sizes: gives the place, from 0, of the first record of a list that has the function and the
+ * sizes of the key, all eight of them, unused ones 0. Where there is none it gives the list's length. The three numbers of the
+ * key do not count.
+ *
+ * The list is lent for reading: its start and its length in records. It may have any length; with length 0 it may be NULL. A
+ * record that is 0 throughout has function 0 and no sizes, whether it is in use or not (see paugmeln_check). So a caller asks
+ * within the records in use: behind them a key with function 0 and no sizes would find an empty one. */
+size_t paugmeln_find(const struct paugmeln_instance *list, size_t records, struct paugmeln_instance key);
 
 /* Takes one input line: gives the inputs its values, then each node the value of its update.
  *

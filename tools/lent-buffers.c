@@ -1,7 +1,7 @@
 /* Tries what include/paugmeln.h says of lent buffers: that nothing is touched beyond them, nothing at all through a pointer
- * with length 0, and that the old contents of the list, of scratch and slots, and at a start of the state are not looked at.
- * Pages that may not be touched stand before and behind each buffer. Answers 0 where all holds; run under valgrind it also shows
- * that nothing unset is used. */
+ * with length 0, and that the old contents of the list, of scratch and slots, and at a start of the state are not looked at;
+ * and that the key of a look-up, which is given by value, arrives whole. Pages that may not be touched stand before and behind
+ * each buffer. Answers 0 where all holds; run under valgrind it also shows that nothing unset is used. */
 #define _GNU_SOURCE
 #include <paugmeln.h>
 #include <stdio.h>
@@ -134,6 +134,50 @@ static void try_lists(void)
     try_list(2 * PAUGMELN_LIST_RECORDS, 0, "a list twice as long");
 }
 
+/* A list between fences, no word of it like another; so many bytes stand between its end and the fence. */
+static struct paugmeln_instance *counted_list(size_t records, size_t before_fence)
+{
+    size_t bytes = records * sizeof(struct paugmeln_instance);
+    uint32_t *words = (uint32_t *)fenced(bytes + before_fence);
+    for (uint32_t at = 0; at < bytes / sizeof *words; at++)
+        words[at] = at + 1;
+    return (struct paugmeln_instance *)words;
+}
+
+/* The record of this place is found by the bytes of its function and sizes; those of its three numbers do not count. */
+static void try_key(const struct paugmeln_instance *list, size_t records, size_t place)
+{
+    expect(paugmeln_find(list, records, list[place]) == place, "a record is found at its place");
+    for (size_t byte = 0; byte < sizeof *list; byte++) {
+        struct paugmeln_instance key = list[place];
+        ((uint8_t *)&key)[byte] ^= 0xFF;
+        int counts = byte < offsetof(struct paugmeln_instance, environment);
+        expect(paugmeln_find(list, records, key) == (counts ? records : place), "a key with one byte changed");
+    }
+}
+
+/* Records of a list between fences, at every place in 16 bytes that is right for a word. */
+static void try_find(size_t records)
+{
+    for (size_t before_fence = 0; before_fence < 16; before_fence += sizeof(uint32_t)) {
+        struct paugmeln_instance *list = counted_list(records, before_fence);
+        try_key(list, records, 0);
+        try_key(list, records, records / 2);
+        try_key(list, records, records - 1);
+        expect(paugmeln_find(list, records / 2, list[records - 1]) == records / 2, "a record behind the list is not found");
+        list[records - 1] = list[0];
+        expect(paugmeln_find(list, records, list[records - 1]) == 0, "the first of two is found");
+    }
+}
+
+/* In an empty list nothing is found, its length is given. */
+static void try_find_in_empty_list(const struct paugmeln_instance *list, const char *where)
+{
+    static const struct paugmeln_instance zero, other = {1, {2, 3}, 4, 5, 6};
+    expect(paugmeln_find(list, 0, zero) == 0, where);
+    expect(paugmeln_find(list, 0, other) == 0, where);
+}
+
 /* The board that the two lines need, a line for them, and what start and iteration are lent. */
 enum { CELLS = 4, SLOTS = 0, CALLS = 0 };
 static const char input_5[] = "051100000005\n";
@@ -219,6 +263,11 @@ int main(void)
     try_empty_list(fenced_list(0), "list that may not be touched, length 0");
     try_exact_buffers();
     try_lists();
+    try_find(1);
+    try_find(3);
+    try_find(PAUGMELN_LIST_RECORDS);
+    try_find_in_empty_list(NULL, "nothing is found in NULL, length 0");
+    try_find_in_empty_list(fenced_list(0), "nothing is found in a list that may not be touched, length 0");
     struct lent exact = fenced_lent(SLOTS);
     try_run(exact, "start and lines between fences");
     exact.environment = NULL;

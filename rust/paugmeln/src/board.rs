@@ -2,6 +2,7 @@
 
 use crate::answer::{Bounds, Refusal};
 use crate::checking::check;
+use crate::finding::find;
 use crate::frames::{self, Kind};
 use crate::instances::{instances, Instance, LIST_RECORDS};
 use crate::running::{iterate, start, Loan};
@@ -191,6 +192,29 @@ impl Board {
     /// The instances that the checker entered; see [`instances`].
     pub fn instances(&self) -> &[Instance] {
         instances(&self.list)
+    }
+
+    /// The instance of a function at these sizes of its named arguments, if the checker entered it; see [`find`].
+    ///
+    /// Function 0 of listing 3 puts a value behind a list. It is called with a list of size 4, never with one of size 5:
+    ///
+    /// ```
+    /// # fn main() -> Result<(), Box<dyn std::error::Error>> {
+    /// use paugmeln::{Board, Sizes};
+    ///
+    /// let text = std::fs::read("../../examples/listing3.rules")?;
+    /// let board = Board::start(&text, Sizes::LARGEST)?;
+    /// let insert = board.instance(0, &[4]).ok_or("not entered")?;
+    /// assert_eq!((insert.environment, insert.heap, insert.stack), (12, 5, 3));
+    /// assert_eq!(board.instance(0, &[5]), None);
+    /// # Ok(())
+    /// # }
+    /// ```
+    ///
+    /// The one instance that [`instances`] may leave out is not found either.
+    pub fn instance(&self, function: u32, sizes: &[u32]) -> Option<&Instance> {
+        let entered = self.instances();
+        find(entered, function, sizes).map(|place| &entered[place])
     }
 
     /// The words of the state, laid out as docs/FORMAT.md says.

@@ -3,6 +3,7 @@
 //! [`Board`] starts a rule file, takes lines and shows the values of the channels; it owns what it needs. Below it stand the
 //! library's own calls over lent buffers: [`read`], [`check`], [`start`] and [`iterate`], each with an [`Answer`]. They are
 //! safe and see to the real stack by a thread of their own; those that end in `_on_this_stack` run where they are called.
+//! [`find`] looks up a function at certain sizes in the list that a check left.
 //!
 //! ```
 //! # fn main() -> Result<(), Box<dyn std::error::Error>> {
@@ -18,6 +19,7 @@
 pub mod answer;
 pub mod board;
 pub mod checking;
+pub mod finding;
 mod frames;
 pub mod instances;
 pub mod reading;
@@ -29,6 +31,7 @@ pub mod value;
 pub use answer::{Answer, Bounds, Refusal};
 pub use board::Board;
 pub use checking::{check, check_on_this_stack};
+pub use finding::{find, place_of};
 pub use instances::{instances, Instance, LIST_RECORDS};
 pub use reading::read;
 pub use running::{iterate, iterate_on_this_stack, start, start_on_this_stack, Loan};
