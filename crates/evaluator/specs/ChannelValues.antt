@@ -22,9 +22,9 @@ use Rattle.state_words.specs.Words.{channelAt}
 use Rattle.new_cells.specs.declared.Value.{Value}
 use Rattle.new_cells.specs.Steps.{Board, Lies, Agrees, Kept}
 use Rattle.ends.specs.Ended.{LineEnded, BodiesTold}
-use Rattle.evaluator.specs.declared.Context.{Context}
-use Rattle.evaluator.specs.Promises.{Room, Stage, Stands}
-use Rattle.evaluator.specs.Asks.{EvalsExpr}
+use Rattle.evaluation_steps.specs.declared.Context.{Context}
+use Rattle.evaluation_steps.specs.Promises.{Room, Stage, Stands}
+use Rattle.evaluation_steps.specs.Asks.{EvalsExpr}
 
 abbrev pub channelContext : List ℕ → ℕ → Cursor → ℕ → ℕ → Context
 channelContext index c at used calls = record { at = at; line = channelLineOf index c; top = 0; used = used; calls = calls }

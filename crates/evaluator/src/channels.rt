@@ -2,8 +2,8 @@
 ghost use mathlib.Core.Path.{_≡_};
 ghost use Rattle.new_cells.specs.Steps.{Board};
 ghost use Rattle.evaluator.specs.ChannelValues.{channelContext, EvalsChannel};
-use super::Context;
 use super::cycle::expr;
+use evaluation_steps::Context;
 use heads::places::channel_line;
 use index::INDEX_WORDS;
 use language::limits::CHANNELS_MOST;

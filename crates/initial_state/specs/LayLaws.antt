@@ -31,8 +31,8 @@ use Rattle.new_cells.specs.declared.Value.{Value}
 use Rattle.new_cells.specs.declared.Value.the-variants.{Is, Refused}
 use Rattle.new_cells.specs.Steps.{Board as BoardHas, Lies, Agrees}
 use Rattle.ends.specs.Initials.{initial-known, initials-long}
-use Rattle.evaluator.specs.KeepLaws.{Moved, moved-by}
-use Rattle.evaluator.specs.ArgumentLaws.{Valued, valued, not-valued}
+use Rattle.evaluation_steps.specs.KeepLaws.{Moved, moved-by}
+use Rattle.evaluation_steps.specs.ArgumentLaws.{Valued, valued, not-valued}
 use Rattle.evaluator.specs.ChannelValues.{boardLent, OfChannel, EvalsChannel}
 use Rattle.initial_state.specs.Promises.{AtStart, LaysInitials}
 

@@ -40,7 +40,7 @@ use Rattle.input_cells.specs.declared.Inputs.the-variants.{Used as FedUsed, Ful
 use Rattle.input_cells.specs.Lays.{InputsLaid, PutAs, put-all, put-full, within, Within as FedWithin}
 use Rattle.new_cells.specs.Steps.{Board as BoardHas, not-grown}
 use Rattle.ends.specs.Told.{TellsUpdates}
-use Rattle.evaluator.specs.KeepLaws.{Moved, kept-then, channel-kept}
+use Rattle.evaluation_steps.specs.KeepLaws.{Moved, kept-then, channel-kept}
 use Rattle.iteration.specs.declared.nodes.Updated.{Updated}
 use Rattle.iteration.specs.declared.nodes.Updated.the-variants.{Refused}
 use Rattle.iteration.specs.Promises.{NodeStage, not-updated, UpdatesNodes}

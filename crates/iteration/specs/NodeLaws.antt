@@ -26,7 +26,7 @@ use Rattle.new_cells.specs.declared.Value.{Value}
 use Rattle.new_cells.specs.declared.Value.the-variants.{Is, Refused}
 use Rattle.new_cells.specs.Steps.{Agrees, is-value, is-refused, not-grown, Kept}
 use Rattle.evaluator.specs.ChannelValues.{OfChannel, EvalsChannel}
-use Rattle.evaluator.specs.ArgumentLaws.{valued, not-valued}
+use Rattle.evaluation_steps.specs.ArgumentLaws.{valued, not-valued}
 use Rattle.iteration.specs.Promises.{sizeInWord, NodeStage, nodeValue, UpdatesNode}
 
 -- ---- the declared size

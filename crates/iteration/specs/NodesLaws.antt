@@ -25,8 +25,8 @@ use Rattle.index.specs.Sections.{countsIn}
 use Rattle.new_cells.specs.declared.Value.{Value}
 use Rattle.new_cells.specs.declared.Value.the-variants.{Is, Refused as RefusedValue}
 use Rattle.new_cells.specs.Steps.{Board as BoardHas, Agrees, Kept, has-grown}
-use Rattle.evaluator.specs.KeepLaws.{Moved, moved-by, kept-then, channel-kept}
-use Rattle.evaluator.specs.ArgumentLaws.{valued, not-valued}
+use Rattle.evaluation_steps.specs.KeepLaws.{Moved, moved-by, kept-then, channel-kept}
+use Rattle.evaluation_steps.specs.ArgumentLaws.{valued, not-valued}
 use Rattle.evaluator.specs.ChannelValues.{boardLent}
 use Rattle.iteration.specs.declared.nodes.Updated.{Updated}
 use Rattle.iteration.specs.declared.nodes.Updated.the-variants.{Used, Refused}

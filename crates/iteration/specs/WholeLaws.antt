@@ -37,7 +37,7 @@ use Rattle.state_words.specs.StateLaws.{HoldsState, loaded-held}
 use Rattle.state_words.specs.WriteLaws.{drop-of-take, channels-tested}
 use Rattle.state_check.specs.LoadLaws.{channel-count}
 use Rattle.sliding.specs.Sliding.{Unslid, Collects}
-use Rattle.evaluator.specs.KeepLaws.{Moved, moved-by}
+use Rattle.evaluation_steps.specs.KeepLaws.{Moved, moved-by}
 use Rattle.evaluator.specs.ChannelValues.{boardLent}
 use Rattle.iteration.specs.declared.nodes.Updated.{Updated}
 use Rattle.iteration.specs.declared.nodes.Updated.the-variants.{Used, Refused}

@@ -13,16 +13,16 @@ use Rattle.heads.specs.declared.Form.{Form}
 use Rattle.heads.specs.declared.Form.the-variants.{Bool as BoolForm, Int, Variable, Now, Last, Let, If, Operator, Call, Construct, Case, Adjust, Fit, Missing}
 use Rattle.index.specs.Sections.{framesOf}
 use Rattle.index.specs.Indexed.{framePlace}
-use Rattle.evaluator.specs.Forms.{handedOnAll}
-use Rattle.evaluator.specs.Measures.{measureOf, falls-here, falls-moved, falls-bound, falls-head, falls-body, head-shorter, shorter-behind, later-end, later-branch, later-first, later-all, later-two}
-use Rattle.evaluator.specs.KeepLaws.{room-at, room-bound, room-body, room-cut, room-next}
-use Rattle.evaluator.specs.ExprLaws.{expr-bool, expr-int, expr-variable, expr-now, expr-last, expr-missing, expr-compound, operand-variable}
-use Rattle.evaluator.specs.ArmLaws.{bound-full, bound-done, choice-second, choice-third, fit-second, fit-third}
-use Rattle.evaluator.specs.BranchLaws.{branch-beyond, branch-full, branch-done}
-use Rattle.evaluator.specs.BodyLaws.{body-spent, body-done, part-all, part-back, part-long}
-use Rattle.evaluator.specs.ArgumentLaws.{Gathered, gathered-none, gathered-more, gathered-refused, gathered-all}
-use Rattle.evaluator.specs.CompoundLaws.{compound-full, compound-refused, compound-moved, compound-done, so-below, still-free}
-use Rattle.evaluator.specs.FinishLaws.{finish-adjust, finish-operator, finish-construct, finish-call, finish-let, finish-if, finish-fit, finish-case, finish-none}
+use Rattle.evaluation_steps.specs.Forms.{handedOnAll}
+use Rattle.evaluation_steps.specs.Measures.{measureOf, falls-here, falls-moved, falls-bound, falls-head, falls-body, head-shorter, shorter-behind, later-end, later-branch, later-first, later-all, later-two}
+use Rattle.evaluation_steps.specs.KeepLaws.{room-at, room-bound, room-body, room-cut, room-next}
+use Rattle.evaluation_steps.specs.ExprLaws.{expr-bool, expr-int, expr-variable, expr-now, expr-last, expr-missing, expr-compound, operand-variable}
+use Rattle.evaluation_steps.specs.ArmLaws.{bound-full, bound-done, choice-second, choice-third, fit-second, fit-third}
+use Rattle.evaluation_steps.specs.BranchLaws.{branch-beyond, branch-full, branch-done}
+use Rattle.evaluation_steps.specs.BodyLaws.{body-spent, body-done, part-all, part-back, part-long}
+use Rattle.evaluation_steps.specs.ArgumentLaws.{Gathered, gathered-none, gathered-more, gathered-refused, gathered-all}
+use Rattle.evaluation_steps.specs.CompoundLaws.{compound-full, compound-refused, compound-moved, compound-done, so-below, still-free}
+use Rattle.evaluation_steps.specs.FinishLaws.{finish-adjust, finish-operator, finish-construct, finish-call, finish-let, finish-if, finish-fit, finish-case, finish-none}
 use borrow.Author.Needs.{needs}
 use borrow.Fn.Kinds.{In}
 use borrow.Fn.PlainCycle.{Measures, is, falls, and}
@@ -56,18 +56,18 @@ use Rattle.evaluator.proofs.cycle.+arguments+binding+body+branch+choice
 use Rattle.evaluator.proofs.cycle.operand.Reads as operand
 use Rattle.evaluator.proofs.cycle.operand.Kinds as operand-kinds
 use Rattle.evaluator.proofs.cycle.+arguments+binding+body+branch+choice+compound+expr+finish+fit+operand.Lts-operand as operand-lts
-use Rattle.evaluator.proofs.forms.branch_at.Reads as branch-at-reads
-use Rattle.evaluator.proofs.forms.first_operand.Reads as first-operand-reads
-use Rattle.evaluator.proofs.forms.operands.Reads as operands-reads
-use Rattle.evaluator.proofs.forms.refused.Reads as refused-reads
-use Rattle.evaluator.proofs.forms.refused_all.Reads as refused-all-reads
-use Rattle.evaluator.proofs.forms.reserved.Reads as reserved-reads
-use Rattle.evaluator.proofs.contexts.body_context.Reads as body-context-reads
-use Rattle.evaluator.proofs.contexts.bound.Reads as bound-reads
-use Rattle.evaluator.proofs.contexts.moved.Reads as moved-reads
-use Rattle.evaluator.proofs.slots.push.Reads as push-reads
-use Rattle.evaluator.proofs.slots.push_fields.Reads as push-fields-reads
-use Rattle.evaluator.proofs.slots.variable.Reads as variable-reads
+use Rattle.evaluation_steps.proofs.forms.branch_at.Reads as branch-at-reads
+use Rattle.evaluation_steps.proofs.forms.first_operand.Reads as first-operand-reads
+use Rattle.evaluation_steps.proofs.forms.operands.Reads as operands-reads
+use Rattle.evaluation_steps.proofs.forms.refused.Reads as refused-reads
+use Rattle.evaluation_steps.proofs.forms.refused_all.Reads as refused-all-reads
+use Rattle.evaluation_steps.proofs.forms.reserved.Reads as reserved-reads
+use Rattle.evaluation_steps.proofs.contexts.body_context.Reads as body-context-reads
+use Rattle.evaluation_steps.proofs.contexts.bound.Reads as bound-reads
+use Rattle.evaluation_steps.proofs.contexts.moved.Reads as moved-reads
+use Rattle.evaluation_steps.proofs.slots.push.Reads as push-reads
+use Rattle.evaluation_steps.proofs.slots.push_fields.Reads as push-fields-reads
+use Rattle.evaluation_steps.proofs.slots.variable.Reads as variable-reads
 use Rattle.construction.proofs.construct.Reads as construct-reads
 use Rattle.ends.proofs.end_of.Reads as end-of-reads
 use Rattle.new_cells.proofs.new_bool.Reads as new-bool-reads

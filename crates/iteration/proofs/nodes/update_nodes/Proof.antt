@@ -2,7 +2,7 @@
 use Prim.Native.Nat.{_-_}
 use mathlib.Core.Path.{refl, _∙_}
 use native.Mathlib.Omega.{arith}
-use Rattle.evaluator.specs.KeepLaws.{board-moved}
+use Rattle.evaluation_steps.specs.KeepLaws.{board-moved}
 use Rattle.iteration.specs.NodesLaws.{Updating, updating-none, updating-more, updating-refused, updating-all}
 use Rattle.iteration.proofs.nodes.update_nodes.Statement.{statement}
 use Rattle.iteration.proofs.nodes.update_nodes.Tie as tie

@@ -1,0 +1,17 @@
+pub mod Operands
+pub mod Contexts
+pub mod Forms
+pub mod Promises
+pub mod Asks
+pub mod KeepLaws
+pub mod Slots
+pub mod LeafLaws
+pub mod Measures
+pub mod ExprLaws
+pub mod ArmLaws
+pub mod BranchLaws
+pub mod BodyLaws
+pub mod ArgumentLaws
+pub mod PartLaws
+pub mod CompoundLaws
+pub mod FinishLaws
