@@ -1,10 +1,10 @@
 -- The list that the words fill: the records of the instances that they keep, and empty records behind them.
 use Prim.Native.Nat.{ℕ, zero, suc, _+_, _-_, _*_, _≤_, _<_}
-use mathlib.Core.List.{List, [], _∷_, _++_, map}
+use mathlib.Core.List.{List, [], _∷_, _++_, map, map-append}
 use mathlib.Core.Path.{_≡_, refl, sym, ap, ap₂, _∙_}
 use native.Mathlib.Nat.{sub-zero}
 use native.Mathlib.Omega.{arith}
-use lib.ListN.{length, getD, take, drop, set, replicate, length-set, length-map, length-replicate}
+use lib.ListN.{length, getD, take, drop, set, replicate, length-map}
 use lib.Seq.{take-suc, take-all, length-take-le, set-append-seam, append-snoc, getD-drop, ext-getD}
 use borrow.Author.Tests.{lt-leb}
 use Rattle.language.specs.Limits.{parametersMost, instancesMost}
@@ -19,15 +19,6 @@ use Rattle.instances.specs.ListLaws.{function-word, size-word, number-word}
 use Rattle.instances.specs.Matches.{noInstance, at}
 use Rattle.instance_list.specs.declared.Instance.{Instance}
 use Rattle.instance_list.specs.Records.{shown, recordsOf, none, sizesFrom, recordFrom, recordAt, usedIn, laid, filled}
-
--- ---- lengths
-pub laid-long : (words : List ℕ) (i : ℕ) (list : List Instance) → length (laid words i list) ≡ length list
-unfolding laid
-laid-long words zero list = refl
-laid-long words (suc i) list = length-set (laid words i list) i (recordAt words i) ∙ laid-long words i list
-
-pub filled-long : (words : List ℕ) (n : ℕ) → length (filled words n) ≡ n
-filled-long words n = laid-long words (usedIn words) (replicate n none) ∙ length-replicate n none
 
 -- ---- an empty record
 empty-shown : shown none ≡ emptyRecord
@@ -81,10 +72,6 @@ map-set : {A B : Type 0} (f : A → B) (l : List A) (i : ℕ) (a : A) → map f 
 map-set f [] i a = refl
 map-set f (x ∷ l) zero a = refl
 map-set f (x ∷ l) (suc i) a = ap (λ m. f x ∷ m) (map-set f l i a)
-
-map-append : {A B : Type 0} (f : A → B) (l m : List A) → map f (l ++ m) ≡ map f l ++ map f m
-map-append f [] m = refl
-map-append f (x ∷ l) m = ap (λ n. f x ∷ n) (map-append f l m)
 
 module _ {words : List ℕ} (L : List Entered) (v : Listed words L) (few : length L ≤ instancesMost) (n : ℕ) (room : length L ≤ n) where
   abbrev upto : ℕ → List Record

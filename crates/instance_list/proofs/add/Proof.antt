@@ -43,7 +43,7 @@ use Rattle.instance_list.specs.declared.Instance.{Instance}
 use Rattle.instance_list.specs.Records.{none}
 use Rattle.instance_list.proofs.Instance as R
 use Rattle.instance_list.proofs.Instance.Laws as R′
-use Rattle.instance_list.proofs.Rows.{vals, mach, word, mutList}
+use Rattle.instance_list.proofs.Rows.{vals, mach, word, mutList, recordBytes}
 use Rattle.instance_list.proofs.add.Key.{name as #add}
 use Rattle.instance_list.proofs.add as f
 use Rattle.instance_list.proofs.add.Statement as stated
@@ -95,10 +95,10 @@ module _ {M : Type 1} (𝓤 : URA M) (H : Heap 𝓤) (A : Atoms 𝓤) (W : Given
         first ! $ branches ! (load ! (from ! (stop !)) (look ! 4 refl))
         (λ less.
         let l : i < length ys = ltb→lt i (length ys) less in
-        let gs : Fits w64 (i * 48) = scaled-fits i (length ys) 48 l (gn .1) in
+        let gs : Fits w64 (i * recordBytes) = scaled-fits i (length ys) recordBytes l (gn .1) in
         assigns ! (bin ! (load ! (from ! (stop !)) (look ! 10 refl)) (lit ! tt) gs) (from ! (stop !)) (init ! 2 refl (tt, gs)) $
         assigns ! (bin ! (load ! (from ! (fld ! refl (stop !))) (look-in ! 12 (sub ! 0 refl (whole !)))) (load ! (from ! (stop !)) (look ! 2 refl)) tt) (from ! (stop !)) (init ! 0 refl (tt, tt)) $
-        rewrite ! 0 (λ (p : ℕ). ‵ (fat fullShare tyPtr l₇ 0 (vptr b p))) (sym (place-is 48 o i)) refl $
+        rewrite ! 0 (λ (p : ℕ). ‵ (fat fullShare tyPtr l₇ 0 (vptr b p))) (sym (place-is recordBytes o i)) refl $
         move ! (17 ∷ []) $ fsplit ! $ fsplit ! $ move ! (1 ∷ []) $ fsplit ! $ move ! (20 ∷ []) $ split ! $ move ! (2 ∷ 3 ∷ 0 ∷ []) $
         opens-slice ! tt R.the-row ys b o $ elem-out ! R.the-row (Is R.the-row) (shows 𝓤 H A R.the-row) vals (LL.tells R.the-type R′.the-laws) fullShare ys i none b o l (λ _.
         -- [list[i]; what it owns; the others; the open borrow; obs; auth; true; list's fact; i's and v's; _7; …]

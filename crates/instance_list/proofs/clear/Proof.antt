@@ -48,7 +48,7 @@ use Rattle.instance_list.specs.declared.Instance.{Instance}
 use Rattle.instance_list.specs.Records.{none}
 use Rattle.instance_list.proofs.Instance as R
 use Rattle.instance_list.proofs.Instance.Laws as R′
-use Rattle.instance_list.proofs.Rows.{vals, mach, word, mutList}
+use Rattle.instance_list.proofs.Rows.{vals, mach, word, mutList, recordBytes}
 use Rattle.instance_list.proofs.empty as empty
 use Rattle.instance_list.proofs.empty.Symbol as empty-def
 use Rattle.instance_list.proofs.empty.Symbol.{name as #empty}
@@ -74,7 +74,7 @@ over-is zs i n le ge e h =
 -- ---- the code: one turn, what follows its test, and what follows the loop
 abbrev more : Code
 more = seq (call #empty [] (place 3 []))
-    (seq (assign (place 4 []) (op2 (mul unsigned) (copy (place 2 [])) (int w64 48)))
+    (seq (assign (place 4 []) (op2 (mul unsigned) (copy (place 2 [])) (int w64 recordBytes)))
     (seq (assign (place 6 []) (op2 offset (copy (place 1 (field 0 ∷ []))) (copy (place 4 []))))
     (seq (assign (place 6 (deref R′.mir ∷ [])) (rvOpd (copy (place 3 []))))
     (assign (place 2 []) (op2 (add unsigned) (copy (place 2 [])) (int w64 1))))))
@@ -171,7 +171,7 @@ module _ {M : Type 1} (𝓤 : URA M) (H : Heap 𝓤) (A : Atoms 𝓤) (W : Given
         (λ less. skips ! $ exec ! C Λ En more (anyQ (Turned i)) $
         let l : i .0 < n = ltb→lt (i .0) n less in
         let lz : i .0 < length (i .2) = subst (λ (m : ℕ). i .0 < m) (sym (i .3)) l in
-        let gs : Fits w64 (i .0 * 48) = scaled-fits (i .0) n 48 l (gn .1) in
+        let gs : Fits w64 (i .0 * recordBytes) = scaled-fits (i .0) n recordBytes l (gn .1) in
         nothing ! $ use1 W (raw (Empty 𝓤 H A mem run .pre (to-empty 𝓤 H A mem run))) goes-empty $
         calls-at ! (fmOf 𝓤 H (W .laws) 𝓣) (Empty 𝓤 H A mem run) known (to-empty 𝓤 H A mem run) (no-more !) (λ v.
         use1 W (later (some (λ (r : Instance). (‵ ftrue ⊛ ‵ (R.the-row .own r (v ∷ []))) ⊛ raw (ensured 𝓤 H A empty.ended (empty.clauses 𝓤 H A mem run) tt tt tt r)))) (id⊢ 𝓤 _) $ await ! tt $ picks ! (λ r.
@@ -186,7 +186,7 @@ module _ {M : Type 1} (𝓤 : URA M) (H : Heap 𝓤) (A : Atoms 𝓤) (W : Given
         -- the store
         assigns ! (bin ! (load ! (from ! (stop !)) (look ! 11 refl)) (lit ! tt) gs) (from ! (stop !)) (store ! 7 refl (tt, gs)) $
         assigns ! (bin ! (load ! (from ! (fld ! refl (stop !))) (look-in ! 13 (sub ! 0 refl (whole !)))) (load ! (from ! (stop !)) (look ! 7 refl)) tt) (from ! (stop !)) (init ! 3 refl (tt, tt)) $
-        rewrite ! 3 (λ (p : ℕ). ‵ (fat fullShare tyPtr l₆ 0 (vptr b p))) (sym (place-is 48 o (i .0))) refl $
+        rewrite ! 3 (λ (p : ℕ). ‵ (fat fullShare tyPtr l₆ 0 (vptr b p))) (sym (place-is recordBytes o (i .0))) refl $
         opens-slice ! tt R.the-row (i .2) b o $ elem-out ! R.the-row (Is R.the-row) (shows 𝓤 H A R.the-row) vals (LL.tells R.the-type R′.the-laws) fullShare (i .2) (i .0) none b o lz (λ _.
         -- [list[i]; what it owns; the others; the open borrow; obs; auth; _6; …]
         assigns ! (of-opd ! (load ! (from ! (stop !)) (look ! 12 refl))) (from ! (hop ! (look ! 6 refl) (stop !))) (store-raw ! 0 refl wt) $

@@ -55,7 +55,7 @@ use denote.Triple.Clauses.{ensured, lasts}
 use mathlib.Core.List.{head-eq-of-cons-eq}
 use Rattle.instance_list.proofs.Instance as T
 use Rattle.instance_list.proofs.Instance.Laws as T′
-use Rattle.instance_list.proofs.Rows.{vals, mach, word, sharedList}
+use Rattle.instance_list.proofs.Rows.{vals, mach, word, sharedList, recordBytes}
 use Rattle.instance_list.proofs.find.Key.{name as #find}
 use Rattle.instance_list.proofs.find as key
 use Rattle.instance_list.proofs.find.Statement as stated
@@ -77,7 +77,7 @@ abbrev after : Code
 after = seq (cond (copy (place 9 [])) (exit 1) skipᴹ) last
 
 abbrev more : Code
-more = seq (assign (place 5 []) (op2 (mul unsigned) (copy (place 3 [])) (int w64 48)))
+more = seq (assign (place 5 []) (op2 (mul unsigned) (copy (place 3 [])) (int w64 recordBytes)))
     (seq (assign (place 7 []) (op2 offset (copy (place 1 (field 0 ∷ []))) (copy (place 5 []))))
     (seq (assign (place 8 []) (rvOpd (copy (place 7 (deref T′.mir ∷ [])))))
     (seq (assign (place 4 []) (rvOpd (copy (place 8 []))))
@@ -173,11 +173,11 @@ module _ {M : Type 1} (𝓤 : URA M) (H : Heap 𝓤) (A : Atoms 𝓤) (W : Given
         first ! $ branches ! (load ! (from ! (stop !)) (look ! 9 refl))
         (λ less. skips ! $ exec ! C Λ En more (anyQ (Turned i)) $
         let l : i .0 < n = ltb→lt (i .0) n less in
-        let gs : Fits w64 (i .0 * 48) = scaled-fits (i .0) n 48 l (gn .1) in
+        let gs : Fits w64 (i .0 * recordBytes) = scaled-fits (i .0) n recordBytes l (gn .1) in
         let el : Instance = getD ys (i .0) none in
         assigns ! (bin ! (load ! (from ! (stop !)) (look ! 15 refl)) (lit ! tt) gs) (from ! (stop !)) (store ! 11 refl (tt, gs)) $
         assigns ! (bin ! (load ! (from ! (fld ! refl (stop !))) (look-in ! 19 (sub ! 0 refl (whole !)))) (load ! (from ! (stop !)) (look ! 11 refl)) tt) (from ! (stop !)) (init ! 7 refl (tt, tt)) $
-        rewrite ! 7 (λ (p : ℕ). ‵ (fat fullShare tyPtr l₇ 0 (vptr b p))) (sym (place-is 48 o (i .0))) refl $
+        rewrite ! 7 (λ (p : ℕ). ‵ (fat fullShare tyPtr l₇ 0 (vptr b p))) (sym (place-is recordBytes o (i .0))) refl $
         fsplit ! $ move ! (1 ∷ []) $ fsplit ! $ move ! (1 ∷ 4 ∷ []) $
         looks-slice ! tt T.the-row (Is T.the-row) (shows 𝓤 H A T.the-row) vals (LL.tells T.the-type T′.the-laws) (LL.copy T.the-type T′.the-copy 𝓤 H A W) ys b o (λ q′. elem-out ! T.the-row (Is T.the-row) (shows 𝓤 H A T.the-row) vals (LL.tells T.the-type T′.the-laws) q′ ys (i .0) none b o l (λ g.
         let wt : Holds (hasTy T′.mir (mach el)) × WT (mach el) = LL.lawful T.the-type T′.the-laws 𝓤 H A W .typed el (vals el) g .0 in
