@@ -62,18 +62,18 @@ struct paugmeln_instance {
 /* The stack, in bytes, that a thread is to have on which paugmeln_check or paugmeln_start is given any rule file: the checker
  * goes as deep as 1,024 bodies, each nested 32. Set by measurement (tools/measure-checking): the deepest files that were tried
  * took 39 MiB. Nothing is proved of the real stack, and the checker does not look how much of it is left. A file that is not so
- * deep needs far less; paugmeln_read and paugmeln_find need no more than a thread usually has. */
+ * deep needs far less; paugmeln_read, paugmeln_write and paugmeln_find need no more than a thread usually has. */
 #define PAUGMELN_STACK_BYTES 268435456
 
 /* The same for paugmeln_iterate: an evaluation goes as deep as 64 calls, each nested 32. The whole call was then measured to
  * take 1,052 KiB (tools/measure-running, docs/PERFORMANCE.md). */
 #define PAUGMELN_ITERATE_STACK_BYTES 4194304
 
-/* Number and frame of an answer: 0 where all is well, else why and in which line of the rule file it is refused. Lines
- * count from 1; frame 0 names none.
+/* Number and frame of an answer: 0 where all is well, else why and in which frame of the rule file it is refused. Frames
+ * count from 1, without the file's empty lines and those that start with a semicolon; frame 0 names none.
  *
  *    1  the text is longer than 16,384 characters
- *    2  a line is empty, odd, not upper-case hexadecimal, or without its line feed
+ *    2  a line is odd, not hexadecimal, spaced other than between pairs, or without its line feed
  *    3  a frame's kind is unknown, out of order or one too many; or there is no node
  *    4  the bytes of a frame end early or go on
  *    5  a code is outside its set
@@ -91,11 +91,12 @@ struct paugmeln_instance {
  *   19  the input line is wrong
  *   20, 21, 22  heap, environment or stack is spent
  *   23  a value is too large
+ *   24  the buffer is shorter than the strict text
  *
- * The reader answers 1 to 8, checker and start 1 to 18, an iteration 1 to 9 and 18 to 23. Of several the first in this order is
- * answered, but 18 follows 9; 20 to 23 where the evaluation meets them, with the line of the channel that is being given its
- * value. A file that start accepts answers every line with 0 or 19, whatever it holds, as long as the board has what the file
- * needs.
+ * The reader answers 1 to 8, the writer 1 to 8 and 24, checker and start 1 to 18, an iteration 1 to 9 and 18 to 23. Of several the
+ * first in this order is answered, but 18 follows 9; 20 to 23 where the evaluation meets them, with the frame of the channel that
+ * is being given its value. A file that start accepts answers every line with 0 or 19, whatever it holds, as long as the board
+ * has what the file needs.
  *
  * The bounds are the cells, slots and calls that a board needs at most, whatever the inputs. They stop at 65,535, and are 0
  * except on acceptance by checker or start and with 15 to 17. */
@@ -110,6 +111,15 @@ struct paugmeln_answer {
 /* Reads a rule file. The text is lent for reading: its start and its length in bytes. An empty one, NULL with length 0 too,
  * is refused with 3 in frame 1: it has no node. */
 struct paugmeln_answer paugmeln_read(const uint8_t *text, size_t length);
+
+/* Writes the strict text of a rule file: its frames in upper-case pairs, one a line, each ended by a line feed, and nothing else.
+ * Two files have the same strict text exactly where their frames are the same; that of a strict text is itself.
+ *
+ * The text is lent as above. The buffer is lent for writing: its start and its length in bytes; what it holds before is not looked
+ * at. The strict text is never longer than the text, so a buffer as long as the text is always long enough; a shorter one than the
+ * strict text is refused with 24, in frame 0, where nothing else is wrong, and so is NULL with length 0. On acceptance the buffer
+ * holds the strict text, which ends with its last line feed, and 0 behind it; on refusal it is 0 in its whole length. */
+struct paugmeln_answer paugmeln_write(const uint8_t *text, size_t text_length, uint8_t *buffer, size_t buffer_length);
 
 /* Checks a rule file against a board of so many heap cells, environment slots and calls.
  *

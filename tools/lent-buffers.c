@@ -1,7 +1,8 @@
 /* Tries what include/paugmeln.h says of lent buffers: that nothing is touched beyond them, nothing at all through a pointer
- * with length 0, and that the old contents of the list, of scratch and slots, and at a start of the state are not looked at;
- * and that the key of a look-up, which is given by value, arrives whole. Pages that may not be touched stand before and behind
- * each buffer. Answers 0 where all holds; run under valgrind it also shows that nothing unset is used. */
+ * with length 0, and that the old contents of the list, of scratch and slots, of the buffer for the strict text, and at a start
+ * of the state are not looked at; and that the key of a look-up, which is given by value, arrives whole. Pages that may not be
+ * touched stand before and behind each buffer. Answers 0 where all holds; run under valgrind it also shows that nothing unset
+ * is used. */
 #define _GNU_SOURCE
 #include <paugmeln.h>
 #include <stdio.h>
@@ -134,6 +135,46 @@ static void try_lists(void)
     try_list(2 * PAUGMELN_LIST_RECORDS, 0, "a list twice as long");
 }
 
+/* The two lines with what an editor adds, longer than they are themselves. */
+static const char typed[] = "; two frames\r\n\r\n03 01 11 00000000\r\n04 01 1100000000 1700 1401 1300\n";
+#define TYPED_LENGTH (sizeof typed - 1)
+
+/* Whether a buffer holds the two lines, or none of them, and is 0 behind. */
+static int holds(const uint8_t *buffer, size_t length, size_t written)
+{
+    for (size_t at = 0; at < length; at++)
+        if (buffer[at] != (at < written ? (uint8_t)two_lines[at] : 0))
+            return 0;
+    return 1;
+}
+
+/* A buffer between fences, every bit of it set before, and the text at its end up to a fence. */
+static void try_write(size_t cut, size_t length, uint32_t expected, const char *which)
+{
+    uint8_t *buffer = fenced(length);
+    memset(buffer, 0xFF, length);
+    const uint8_t *text = fenced_text(typed, TYPED_LENGTH - cut);
+    struct paugmeln_answer answer = paugmeln_write(text, TYPED_LENGTH - cut, buffer, length);
+    expect(answer.number == expected && answer.frame == (expected == 2 ? 2 : 0), which);
+    expect(answer.heap == 0 && answer.environment == 0 && answer.stack == 0, "the writer's bounds");
+    expect(holds(buffer, length, expected == 0 ? LENGTH : 0), which);
+}
+
+static void try_writes(void)
+{
+    try_write(0, LENGTH, 0, "a buffer as long as the strict text");
+    try_write(0, LENGTH + 1, 0, "a buffer one byte longer");
+    try_write(0, 3 * LENGTH, 0, "a buffer three times as long");
+    try_write(0, LENGTH - 1, 24, "a buffer one byte too short");
+    try_write(0, 1, 24, "a buffer of one byte");
+    try_write(0, 0, 24, "a buffer that may not be touched, length 0");
+    try_write(1, LENGTH, 2, "a text without its last line feed");
+    expect(paugmeln_write((const uint8_t *)typed, TYPED_LENGTH, NULL, 0).number == 24, "buffer NULL, length 0");
+    uint8_t buffer[3] = {1, 2, 3};
+    expect(paugmeln_write(NULL, 0, buffer, sizeof buffer).number == 3, "writing text NULL, length 0");
+    expect(holds(buffer, sizeof buffer, 0), "the buffer after a refusal");
+}
+
 /* A list between fences, no word of it like another; so many bytes stand between its end and the fence. */
 static struct paugmeln_instance *counted_list(size_t records, size_t before_fence)
 {
@@ -263,6 +304,7 @@ int main(void)
     try_empty_list(fenced_list(0), "list that may not be touched, length 0");
     try_exact_buffers();
     try_lists();
+    try_writes();
     try_find(1);
     try_find(3);
     try_find(PAUGMELN_LIST_RECORDS);

@@ -27,6 +27,7 @@ enum { BOOL_TAG = 1, INT_TAG = 2, TYPE_STEP = 256 };
 /* All that the calls are lent, and what is known of the file. */
 struct board {
     struct rule_file file;
+    uint8_t strict[PAUGMELN_TEXT_MOST];
     struct paugmeln_instance list[PAUGMELN_LIST_RECORDS];
     uint32_t state[PAUGMELN_STATE_WORDS(PAUGMELN_CELLS_MOST)];
     uint32_t scratch[PAUGMELN_SCRATCH_WORDS];
@@ -39,7 +40,7 @@ struct board {
 static const char *const sentences[] = {
     "all is well",
     "the text is longer than 16,384 characters",
-    "a line is empty, odd, not upper-case hexadecimal, or without its line feed",
+    "a line is odd, not hexadecimal, spaced other than between pairs, or without its line feed",
     "a frame's kind is unknown, out of order or one too many; or there is no node",
     "the bytes of a frame end early or go on",
     "a code is outside its set",
@@ -61,6 +62,7 @@ static const char *const sentences[] = {
     "environment is spent",
     "stack is spent",
     "a value is too large",
+    "the buffer is shorter than the strict text",
 };
 
 static struct paugmeln_answer start(struct board *of)
@@ -83,7 +85,7 @@ static unsigned digit(uint8_t character)
     return (unsigned)value;
 }
 
-/* The byte that two digits of an accepted file spell. */
+/* The byte that two digits of a strict text spell. */
 static unsigned byte_at(const uint8_t *at)
 {
     return 16 * digit(at[0]) + digit(at[1]);
@@ -102,11 +104,12 @@ static void note_type(const uint8_t *frame, unsigned *counts)
     }
 }
 
-/* Looks at the frames of an accepted file, one a line. */
+/* Looks at the frames of an accepted file: in its strict text they stand one a line, and behind it the buffer is 0. */
 static void note_frames(struct board *of)
 {
-    const uint8_t *frame = of->file.text, *end = of->file.text + of->file.length;
-    while (frame < end) {
+    const uint8_t *frame = of->strict, *end = of->strict + sizeof of->strict;
+    paugmeln_write(of->file.text, of->file.length, of->strict, sizeof of->strict);
+    while (frame < end && *frame != 0) {
         unsigned kind = byte_at(frame);
         if (kind == TYPE)
             note_type(frame, of->field_counts[of->types++]);
@@ -150,7 +153,7 @@ static void print_refusal(const char *what, const struct paugmeln_answer *answer
 {
     printf("%s is refused with %u", what, answer->number);
     if (answer->frame != 0)
-        printf(" for line %u of the rule file", answer->frame);
+        printf(" for frame %u of the rule file", answer->frame);
     printf(": %s\n", sentences[answer->number]);
 }
 

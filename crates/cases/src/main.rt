@@ -32,14 +32,21 @@ fn small_files() {
     );
 }
 
-// Whole-text tests: no text, no last line feed, an empty line, a letter that is no digit, half a byte, a carriage return.
+// Document 02's reader: an empty line, CR LF, a comment, spaces between pairs and lower-case digits.
+fn typed_texts() {
+    show_reading(b"03011100000000\n\n04011100000000170014011300\n");
+    show_reading(b"03011100000000\r\n04011100000000170014011300\n");
+    show_reading(b"; the dose\n03 01 11 00000000\n04 01 11 0000000a 1700 1401 1300\n");
+}
+
+// Whole-text tests: no text, no last line feed, a letter that is no digit, half a byte, a space inside a pair, one behind the last.
 fn damaged_texts() {
     show_reading(b"");
     show_reading(b"03011100000000\n04011100000000170014011300");
-    show_reading(b"03011100000000\n\n04011100000000170014011300\n");
     show_reading(b"0301g100000000\n");
     show_reading(b"0301110000000\n04011100000000170014011300\n");
-    show_reading(b"03011100000000\r\n04011100000000170014011300\n");
+    show_reading(b"; the dose\n03011100000000\n0401110000000 0170014011300\n");
+    show_reading(b"03011100000000 \n04011100000000170014011300\n");
 }
 
 // Kinds of frames: one that is none, an input behind a node, a function behind an input, no node.
@@ -84,6 +91,7 @@ fn long_text() {
 // The answers of the reader.
 fn reads() {
     small_files();
+    typed_texts();
     damaged_texts();
     misplaced_frames();
     wrong_lengths();

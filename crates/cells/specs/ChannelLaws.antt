@@ -1,13 +1,13 @@
 -- The cells of the first channels' declared types, one by one; of all channels, and of the inputs.
 use Prim.Native.Nat.{ℕ, zero, suc, _+_, _*_, _≤_, _<_}
 use mathlib.Core.List.{List, [], _∷_, _++_, map, map-map}
-use mathlib.Core.Path.{_≡_, refl, sym, ap, _∙_}
+use mathlib.Core.Path.{_≡_, refl, sym, ap, ap₂, _∙_}
 use native.Mathlib.Omega.{arith}
 use native.Mathlib.Numerals.{add-one}
 use lib.ListN.{length, getD, take, length-append, length-map}
 use lib.Seq.{take-all, take-append-seam}
 use Rattle.language.specs.Limits.{channelsMost}
-use Rattle.language.specs.Syntax.{tbool, Input, Node, File, declaredTypes}
+use Rattle.language.specs.Syntax.{Ty, tbool, Input, Node, File, declaredTypes}
 use Rattle.language.specs.Sizes.{sum}
 use Rattle.language.specs.Format.{spellAll}
 use Rattle.language.specs.Within.{All, all-nil, all-cons, WithinDeclared, WithinNodes, wn-nil, wn-cons, Within}
@@ -15,11 +15,12 @@ use Rattle.language.specs.Estimate.{stop}
 use Rattle.language.specs.Cells.{cellsOf, channelCells, inputCells}
 use Rattle.theory.specs.Alls.{all-append, all-map, all-to-map, all-getD}
 use Rattle.text.specs.Bytes.{declaredWord}
+use Rattle.index.specs.Lined.{Lined, lined-length, lined-map, inputsIn, nodesIn}
 use Rattle.index.specs.Tables.{channelWords, inputEntry, nodeEntry, channelTable}
 use Rattle.index.specs.Sections.{channelsOf}
 use Rattle.index.specs.Indexed.{declaredAt}
 use Rattle.index.specs.Padded.{padded-at}
-use Rattle.cells.specs.Counts.{Right, Counts, CountsType, Channels, CountsChannels}
+use Rattle.cells.specs.Counts.{Right, Counts, CountsType, ChannelsTold, Channels, CountsChannels}
 use Rattle.cells.specs.MostLaws.{types-next}
 use Rattle.cells.specs.CountLaws.{counts-given, counts-as, counts-sum}
 
@@ -34,14 +35,14 @@ types-declared w = all-append (all-to-map (λ (i : Input). i .declared) (all-map
 channel-count : (P : File) → length (declaredTypes P) ≡ length (P .inputs) + length (P .nodes)
 channel-count P = length-append (map (λ (i : Input). i .declared) (P .inputs)) (map (λ (n : Node). n .declared) (P .nodes)) ∙ omega (arith, length-map (P .inputs) (λ (i : Input). i .declared), length-map (P .nodes) (λ (n : Node). n .declared))
 
-node-words : (ns : List Node) (i : ℕ) → i < length ns → getD (spellAll nodeEntry ns) (channelWords * i) 0 ≡ declaredWord (getD (map (λ (n : Node). n .declared) ns) i tbool)
+node-words : (ns : List (Lined Node)) (i : ℕ) → i < length ns → getD (spellAll nodeEntry ns) (channelWords * i) 0 ≡ declaredWord (getD (map (λ (n : Lined Node). n .part .declared) ns) i tbool)
 unfolding spellAll nodeEntry
 node-words [] i less = absurd (omega arith)
 node-words (n ∷ ns) zero less = refl
 node-words (n ∷ ns) (suc i) less = let on : channelWords * suc i ≡ suc (suc (suc (channelWords * i))) = omega arith in rw on (node-words ns i (omega arith))
 
-channel-words : (is : List Input) (ns : List Node) (i : ℕ) → i < length is + length ns →
-    getD (spellAll inputEntry is ++ spellAll nodeEntry ns) (channelWords * i) 0 ≡ declaredWord (getD (map (λ (j : Input). j .declared) is ++ map (λ (n : Node). n .declared) ns) i tbool)
+channel-words : (is : List (Lined Input)) (ns : List (Lined Node)) (i : ℕ) → i < length is + length ns →
+    getD (spellAll inputEntry is ++ spellAll nodeEntry ns) (channelWords * i) 0 ≡ declaredWord (getD (map (λ (j : Lined Input). j .part .declared) is ++ map (λ (n : Lined Node). n .part .declared) ns) i tbool)
 unfolding spellAll inputEntry
 channel-words [] ns i less = node-words ns i (omega arith)
 channel-words (j ∷ is) ns zero less = refl
@@ -55,12 +56,20 @@ module _ {index table : List ℕ} {P : File} {n : ℕ} (h : Right index table P)
   channel-within = all-getD (types-declared (h .within)) i tbool channel-there
 
   channel-told : declaredAt (channelsOf index) i ≡ declaredWord (getD (declaredTypes P) i tbool)
-  unfolding channelTable
-  channel-told =
-      let count = channel-count P in
-      ap (λ l. getD l (channelWords * i) 0) (a .are)
-      ∙ padded-at (channelsMost * channelWords) (spellAll inputEntry (P .inputs) ++ spellAll nodeEntry (P .nodes)) (channelWords * i) (omega (arith, channel-there, count, h .within .fewInputs, h .within .fewNodes))
-      ∙ channel-words (P .inputs) (P .nodes) i (omega (arith, channel-there, count))
+  channel-told = a .told i channel-there
+
+-- the words of the channels are those of the file's declared types, whatever their lines are
+pub channels-told : {P : File} (index : List ℕ) (lines : ℕ → List ℕ) → Within P → channelsOf index ≡ channelTable (inputsIn lines P) (nodesIn lines P) → ChannelsTold index P
+unfolding channelTable
+channels-told {P} index lines w are i less =
+    let is = inputsIn lines P in
+    let ns = nodesIn lines P in
+    let inputs-long = lined-length lines (length (P .types) + length (P .functions)) (P .inputs) in
+    let nodes-long = lined-length lines (length (P .types) + length (P .functions) + length (P .inputs)) (P .nodes) in
+    ap (λ l. getD l (channelWords * i) 0) are
+    ∙ padded-at (channelsMost * channelWords) (spellAll inputEntry is ++ spellAll nodeEntry ns) (channelWords * i) (omega (arith, less, channel-count P, w .fewInputs, w .fewNodes))
+    ∙ channel-words is ns i (omega (arith, less, channel-count P, inputs-long, nodes-long))
+    ∙ ap₂ (λ (τs σs : List Ty). declaredWord (getD (τs ++ σs) i tbool)) (lined-map lines (λ (j : Input). j .declared) (length (P .types) + length (P .functions)) (P .inputs)) (lined-map lines (λ (n : Node). n .declared) (length (P .types) + length (P .functions) + length (P .inputs)) (P .nodes))
 
 -- ---- the channels before i
 abbrev pub ChannelsTo : List ℕ → List ℕ → ℕ → ℕ → ℕ → List ℕ → Type 0
@@ -84,18 +93,18 @@ pub channels-end : {index table table₁ : List ℕ} {n i r : ℕ} → ChannelsT
 channels-end {n} {i} v low high = let all : i ≡ n = omega (arith, low, high) in counts-as v (λ P h a. ap (λ m. sum (map (cellsOf P) (take m (declaredTypes P)))) all)
 
 -- ---- all of them, and the inputs alone
-module _ {index table table′ : List ℕ} {n r : ℕ} (v : CountsChannels index table n r table′) (P : File) (h : Right index table P) (are : channelsOf index ≡ channelTable (P .inputs) (P .nodes)) where
+module _ {index table table′ : List ℕ} {n r : ℕ} (v : CountsChannels index table n r table′) (P : File) (h : Right index table P) (told : ChannelsTold index P) where
   pub all-channels-counted : n ≡ length (P .inputs) + length (P .nodes) → r ≡ stop (channelCells P)
   unfolding channelCells
   all-channels-counted e =
       let all : length (declaredTypes P) ≤ n = omega (arith, e, channel-count P) in
-      v .is P h (record { are = are; few = omega (arith, e, channel-count P) }) ∙ ap (λ l. stop (sum (map (cellsOf P) l))) (take-all n (declaredTypes P) all)
+      v .is P h (record { told = told; few = omega (arith, e, channel-count P) }) ∙ ap (λ l. stop (sum (map (cellsOf P) l))) (take-all n (declaredTypes P) all)
 
   pub inputs-counted : n ≡ length (P .inputs) → r ≡ stop (inputCells P)
   unfolding inputCells
   inputs-counted e =
       let is = map (λ (i : Input). i .declared) (P .inputs) in
       let count : n ≡ length is = e ∙ sym (length-map (P .inputs) (λ (i : Input). i .declared)) in
-      v .is P h (record { are = are; few = omega (arith, e, channel-count P) }) ∙ ap (λ m. stop (sum (map (cellsOf P) (take m (declaredTypes P))))) count
+      v .is P h (record { told = told; few = omega (arith, e, channel-count P) }) ∙ ap (λ m. stop (sum (map (cellsOf P) (take m (declaredTypes P))))) count
       ∙ ap (λ l. stop (sum (map (cellsOf P) l))) (take-append-seam is (map (λ (m : Node). m .declared) (P .nodes)))
       ∙ ap (λ l. stop (sum l)) (map-map (cellsOf P) (λ (i : Input). i .declared) (P .inputs))

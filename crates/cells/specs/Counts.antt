@@ -5,13 +5,14 @@ use mathlib.Core.List.{List, map}
 use mathlib.Core.Path.{_≡_}
 use lib.ListN.{length, getD, take}
 use Rattle.language.specs.Limits.{typesMost, fieldsMost, sizeMost, numberMost}
-use Rattle.language.specs.Syntax.{fbool, Ty, File, constructorsOf, fieldsOf, declaredTypes}
+use Rattle.language.specs.Syntax.{fbool, Ty, tbool, File, constructorsOf, fieldsOf, declaredTypes}
 use Rattle.language.specs.Sizes.{sum}
 use Rattle.language.specs.Within.{WithinDeclared, Within}
 use Rattle.language.specs.Estimate.{stop}
 use Rattle.language.specs.Cells.{otherCells, cellsNamed, cellsOf}
 use Rattle.text.specs.Bytes.{declaredWord}
-use Rattle.index.specs.Tables.{typeTable, channelTable}
+use Rattle.index.specs.Tables.{typeTable}
+use Rattle.index.specs.Indexed.{declaredAt}
 use Rattle.index.specs.Sections.{typesOf, channelsOf}
 use Rattle.cells.specs.Most.{mostOwn, madeCells, fieldCells}
 
@@ -94,9 +95,13 @@ pub record CountsType (index table : List ℕ) (word r : ℕ) (table′ : List �
   pub is : (P : File) (τ : Ty) → Right index table P → WithinDeclared (length (P .types)) τ → declaredWord τ ≡ word → r ≡ stop (cellsOf P τ)
   pub right : (P : File) (τ : Ty) → Right index table P → WithinDeclared (length (P .types)) τ → declaredWord τ ≡ word → Right index table′ P
 
+-- the words of the channels' declared types
+abbrev pub ChannelsTold : List ℕ → File → Type 0
+ChannelsTold index P = (i : ℕ) → i < length (declaredTypes P) → declaredAt (channelsOf index) i ≡ declaredWord (getD (declaredTypes P) i tbool)
+
 -- the first n channels
 pub record Channels (index : List ℕ) (n : ℕ) (P : File) : Type 0 where
-  pub are : channelsOf index ≡ channelTable (P .inputs) (P .nodes)
+  pub told : ChannelsTold index P
   pub few : n ≤ length (declaredTypes P)
 
 abbrev pub CountsChannels : List ℕ → List ℕ → ℕ → ℕ → List ℕ → Type 0

@@ -15,6 +15,8 @@ use Rattle.language.specs.Cells.{updatesNumbers, numbersNeeded}
 use Rattle.language.specs.Machine.{checkFile}
 use Rattle.language.specs.PlainTyping.{WellPlain}
 use Rattle.theory.specs.PlainFileSizes.{well-plain-refusals}
+use Rattle.encoding.specs.FrameLines.{lineAt}
+use Rattle.cells.specs.ChannelLaws.{channels-told}
 use Rattle.estimate.specs.declared.Estimate.{Estimate as HeldNumbers}
 use Rattle.estimate.specs.Stands.{Stands}
 use Rattle.instance_list.specs.Records.{recordsWords, listWords}
@@ -102,7 +104,7 @@ module _ {text index : List ℕ} (z : ReadHeld text index) where
 
         module _ {k : CountedFile} (e : x ≡ Are k) {y : HeldNumbers} (u : Needs index (k .numbers) y) {r : Answer} (j : Judges b y r) where
           numbers-are : numbersOf y ≡ stopped (numbersNeeded (z .file) (agreed e .sizes .updates))
-          numbers-are = u .says (z .file) (z .indexed .within) (z .sections) (z .indexed .counted) (agreed e .sizes .updates) (agreed e .numbers)
+          numbers-are = u .says (z .file) (z .indexed .within) (z .sections .types) (channels-told index (lineAt text) (z .indexed .within) (z .sections .channels)) (z .indexed .counted) (agreed e .sizes .updates) (agreed e .numbers)
 
           pub board-refused : {words′ : List ℕ} → (r .number ≡ 0 → ⊥) → words′ ≡ replicate (length words₁) 0 → ChecksGiven text b given r words′
           board-refused some c = not-enough text b given (agreed e .is) numbers-are j (length words₁) some c

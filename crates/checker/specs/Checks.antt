@@ -9,8 +9,10 @@ use Rattle.language.specs.Within.{Within}
 use Rattle.language.specs.Estimate.{Estimate as Exact, stopped}
 use Rattle.language.specs.Cells.{updatesNumbers, numbersNeeded}
 use Rattle.language.specs.Machine.{answer, verdictOf, finalList, checkFile, check}
-use Rattle.index.specs.Sections.{countsIn}
+use Rattle.index.specs.Tables.{typeTable}
+use Rattle.index.specs.Sections.{countsIn, typesOf}
 use Rattle.index.specs.Whole.{FileSections}
+use Rattle.cells.specs.Counts.{ChannelsTold}
 use Rattle.estimate.specs.declared.Estimate.{Estimate as Held}
 use Rattle.estimate.specs.Stands.{Stands}
 use Rattle.index.specs.Indexed.{Indexed, Counted}
@@ -46,8 +48,8 @@ sizingRefusal (Refused n frame) = refusalOf n frame
 pub record ReadHeld (text index : List ℕ) : Type 0 where
   pub file : File
   pub indexed : Indexed text index file
-  pub sections : FileSections index file
+  pub sections : FileSections text index file
 
 -- ---- the parts
 pub record Needs (index : List ℕ) (updates r : Held) : Type 0 where
-  pub says : (P : File) → Within P → FileSections index P → Counted (countsIn index) P → (xs : List Exact) → Stands updates (updatesNumbers xs) → numbersOf r ≡ stopped (numbersNeeded P xs)
+  pub says : (P : File) → Within P → typesOf index ≡ typeTable (P .types) → ChannelsTold index P → Counted (countsIn index) P → (xs : List Exact) → Stands updates (updatesNumbers xs) → numbersOf r ≡ stopped (numbersNeeded P xs)

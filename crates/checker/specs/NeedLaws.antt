@@ -9,12 +9,12 @@ use Rattle.language.specs.Within.{Within}
 use Rattle.language.specs.Estimate.{Estimate as Exact, stop, stopped}
 use Rattle.language.specs.Cells.{channelCells, inputCells, updatesNumbers, numbersNeeded}
 use Rattle.index.specs.declared.Counts.{Counts}
-use Rattle.index.specs.Sections.{countsIn}
-use Rattle.index.specs.Whole.{FileSections}
+use Rattle.index.specs.Sections.{countsIn, typesOf}
+use Rattle.index.specs.Tables.{typeTable}
 use Rattle.estimate.specs.declared.Estimate.{Estimate as Held}
 use Rattle.estimate.specs.Stands.{Stands}
 use Rattle.index.specs.Indexed.{Counted}
-use Rattle.cells.specs.Counts.{Right, CountsChannels}
+use Rattle.cells.specs.Counts.{Right, ChannelsTold, CountsChannels}
 use Rattle.cells.specs.TableLaws.{right-nothing}
 use Rattle.cells.specs.ChannelLaws.{all-channels-counted, inputs-counted}
 use Rattle.answers.specs.Boards.{numbersOf}
@@ -34,12 +34,12 @@ module _ {index table table₁ table₂ : List ℕ} {n : Counts} {u : Held} {all
   unfolding numbersNeeded
   needs-all zeros v w e f = record { says = so }
     where
-      so : (P : File) → Within P → FileSections index P → Counted (countsIn index) P → (xs : List Exact) → Stands u (updatesNumbers xs) → numbersOf (record { env = u .env; heap = heap; stack = u .stack }) ≡ stopped (numbersNeeded P xs)
-      so P within is k xs s =
+      so : (P : File) → Within P → typesOf index ≡ typeTable (P .types) → ChannelsTold index P → Counted (countsIn index) P → (xs : List Exact) → Stands u (updatesNumbers xs) → numbersOf (record { env = u .env; heap = heap; stack = u .stack }) ≡ stopped (numbersNeeded P xs)
+      so P within types told k xs s =
           let c : Counted n P = subst (λ m. Counted m P) (sym counts) k in
-          let right : Right index table P = subst (λ t. Right index t P) (sym zeros) (right-nothing size within (is .types)) in
-          let one = all-channels-counted v P right (is .channels) (omega (arith, c .inputCount, c .nodeCount)) in
-          let next : Right index table₁ P = v .right P right (record { are = is .channels; few = omega (arith, channel-count P, c .inputCount, c .nodeCount) }) in
-          let two = inputs-counted w P next (is .channels) (sym (c .inputCount)) in
+          let right : Right index table P = subst (λ t. Right index t P) (sym zeros) (right-nothing size within types) in
+          let one = all-channels-counted v P right told (omega (arith, c .inputCount, c .nodeCount)) in
+          let next : Right index table₁ P = v .right P right (record { told = told; few = omega (arith, channel-count P, c .inputCount, c .nodeCount) }) in
+          let two = inputs-counted w P next told (sym (c .inputCount)) in
           let sum : heap ≡ stop (channelCells P + inputCells P + updatesNumbers xs .heap) = omega (arith, one, two, e, f, s .heap) in
           λ i. record { env = s .env i; heap = sum i; stack = s .stack i }

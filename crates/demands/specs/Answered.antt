@@ -4,9 +4,10 @@ use mathlib.Core.List.{List}
 use mathlib.Core.Path.{_≡_, sym, ap, _∙_, subst}
 use lib.ListN.{length, replicate, length-map}
 use Rattle.language.specs.Machine.{Record, emptyRecord, Answer as MachineAnswer}
-use Rattle.language.specs.Answers.{Refused, FileAnswer, IterateAnswers}
+use Rattle.language.specs.Answers.{Refused, FileAnswer, IterateAnswers, WriteAnswers}
 use Rattle.theory.specs.FileAnswers.{check-answers, start-answers}
 use Rattle.theory.specs.LineAnswers.{iterate-answers}
+use Rattle.theory.specs.Writes.{write-answers}
 use Rattle.instance_list.specs.declared.Instance.{Instance}
 use Rattle.instance_list.specs.Records.{shown, recordsOf}
 use Rattle.instance_list.specs.FillLaws.{shown-empties}
@@ -16,6 +17,7 @@ use Rattle.answers.specs.Boards.{boardOf, said}
 use Rattle.checker.specs.Checks.{Checks}
 use Rattle.startup.specs.Starts.{Starts}
 use Rattle.runtime.specs.Runs.{Iterates}
+use Rattle.writer.specs.Writes.{Writes}
 use Rattle.demands.specs.Delivered.{CheckLeaves, StartLeaves, Delivered1}
 
 -- ---- the list: its records are the machine's
@@ -56,5 +58,8 @@ iterate-leaves : {text state scratch slots line state′ scratch′ slots′ : L
     IterateAnswers text (boardOf b) state scratch slots (record { answer = said r; state = state′; scratch = scratch′; slots = slots′ })
 iterate-leaves {text} {state} {scratch} {slots} {line} {b = b} i = subst (IterateAnswers text (boardOf b) state scratch slots) (sym (i .is)) (iterate-answers text (boardOf b) state scratch slots line)
 
+write-leaves : {text buffer buffer′ : List ℕ} {r : Answer} → Writes text buffer r buffer′ → WriteAnswers text buffer (record { answer = said r; buffer = buffer′ })
+write-leaves {text} {buffer} w = subst (WriteAnswers text buffer) (sym (w .is)) (write-answers text buffer)
+
 pub delivered-1 : Delivered1
-delivered-1 = record { checks = check-leaves; starts = start-leaves; iterates = iterate-leaves }
+delivered-1 = record { checks = check-leaves; starts = start-leaves; iterates = iterate-leaves; writes = write-leaves }

@@ -1,5 +1,5 @@
--- The three demands of the delivered calls `check`, `start` and `iterate`: of whatever a call answered and left, as its promise tells
--- (`Checks`, `Starts`, `Iterates`). No hypothesis is on text, state or line, in the first two none on lengths either.
+-- The three demands of the delivered calls `check`, `start`, `iterate` and `write`: of whatever a call answered and left, as its promise
+-- tells (`Checks`, `Starts`, `Iterates`, `Writes`). No hypothesis is on text, state or line, in the first two none on lengths either.
 use Prim.Native.Nat.{ℕ, _≤_}
 use mathlib.Core.List.{List, [], _∷_, map}
 use mathlib.Core.Bool.{Bool}
@@ -20,8 +20,9 @@ use Rattle.language.specs.Line.{lineTrees}
 use Rattle.language.specs.Machine.{accepted, refusal, answer, zeros, written, listLent, buffersLent}
 use Rattle.language.specs.PlainMachine.{noTrees, Derives, Step, initialTree, initialTrees}
 use Rattle.language.specs.InitialValues.{FileBegins}
-use Rattle.language.specs.Answers.{Refused, FileAnswer, IterateAnswers}
+use Rattle.language.specs.Answers.{Refused, FileAnswer, IterateAnswers, WriteAnswers}
 use Rattle.language.specs.Acceptance.{TextOf, CheckerDemand}
+use Rattle.language.specs.Writing.{WriterDemand}
 use Rattle.language.specs.Evaluation.{NotLent, LineWrong, FileIterates, FileMeets}
 use Rattle.language.specs.Run.{channelTrees, Call, StartAllowed, CallAllowed, Holds, lineVerdict}
 use Rattle.instance_list.specs.declared.Instance.{Instance}
@@ -32,6 +33,7 @@ use Rattle.answers.specs.Boards.{boardOf, said}
 use Rattle.checker.specs.Checks.{Checks}
 use Rattle.startup.specs.Starts.{Starts}
 use Rattle.runtime.specs.Runs.{Iterates}
+use Rattle.writer.specs.Writes.{Writes}
 
 -- ---- demand 1: every call ends with a result or one numbered refusal; what a refused call leaves
 pub record CheckLeaves (text : List ℕ) (list : List Instance) (r : Answer) (list′ : List Instance) : Type 0 where
@@ -55,6 +57,7 @@ pub record Delivered1 : Type 0 where
       StartLeaves text b list state scratch slots r list′ state′ scratch′ slots′
   pub iterates : {text state scratch slots line state′ scratch′ slots′ : List ℕ} {b : Board} {r : Answer} → Iterates text b state scratch slots line r state′ scratch′ slots′ →
       IterateAnswers text (boardOf b) state scratch slots (record { answer = said r; state = state′; scratch = scratch′; slots = slots′ })
+  pub writes : {text buffer buffer′ : List ℕ} {r : Answer} → Writes text buffer r buffer′ → WriteAnswers text buffer (record { answer = said r; buffer = buffer′ })
 
 -- ---- demand 2: what is accepted, with which numbers; which value is given, and where none is
 -- a start that is answered 0 left the state to which the rules lead from the initial values
@@ -91,6 +94,7 @@ pub record Delivered2 : Type 0 where
   pub begun : {text state scratch slots state′ scratch′ slots′ : List ℕ} {list list′ : List Instance} {b : Board} {r : Answer} → Starts text b list state scratch slots r list′ state′ scratch′ slots′ → r .number ≡ noRefusal → LeftBegun text b state state′
   pub iterates : {text state scratch slots line state′ scratch′ slots′ : List ℕ} {b : Board} {r : Answer} → Iterates text b state scratch slots line r state′ scratch′ slots′ →
       IterateJudged text b (buffersLent (boardOf b) state scratch slots) state line r state′
+  pub writes : {text buffer buffer′ : List ℕ} {r : Answer} → Writes text buffer r buffer′ → WriterDemand text buffer (record { answer = said r; buffer = buffer′ })
 
 -- ---- demand 3: runs
 -- the call for a line: what it lent, what it answered, and the state that it left

@@ -7,8 +7,10 @@ use Rattle.language.specs.Result.{both}
 use Rattle.language.specs.Layout.{loadState}
 use Rattle.language.specs.Machine.{Iterated, listLent, buffersLent, iterate}
 use Rattle.language.specs.Acceptance.{CheckerDemand}
+use Rattle.language.specs.Writing.{WriterDemand}
 use Rattle.theory.specs.CheckerDemands.{start-demand}
 use Rattle.theory.specs.StartSteps.{evaluator-demand}
+use Rattle.theory.specs.Writes.{writer-demand}
 use Rattle.instance_list.specs.declared.Instance.{Instance}
 use Rattle.instance_list.specs.Records.{recordsOf}
 use Rattle.answers.specs.declared.Board.{Board}
@@ -17,6 +19,7 @@ use Rattle.answers.specs.Boards.{boardOf, said}
 use Rattle.checker.specs.AcceptsExactly.{checked-demand}
 use Rattle.startup.specs.Starts.{Starts}
 use Rattle.runtime.specs.Runs.{Iterates}
+use Rattle.writer.specs.Writes.{Writes}
 use Rattle.demands.specs.Delivered.{LeftBegun, LeftIterated, IterateJudged, Delivered2}
 
 started-demand : {text state scratch slots state′ scratch′ slots′ : List ℕ} {list list′ : List Instance} {b : Board} {r : Answer} → Starts text b list state scratch slots r list′ state′ scratch′ slots′ →
@@ -64,5 +67,8 @@ module _ {text state scratch slots line state′ scratch′ slots′ : List ℕ}
         meets = λ n frame. rw (sym (λ k. i .is k .answer)) at (d .meets text (boardOf b) state scratch slots line n frame);
       }
 
+written-demand : {text buffer buffer′ : List ℕ} {r : Answer} → Writes text buffer r buffer′ → WriterDemand text buffer (record { answer = said r; buffer = buffer′ })
+written-demand {text} {buffer} w = subst (WriterDemand text buffer) (sym (w .is)) (writer-demand text buffer)
+
 pub delivered-2 : Delivered2
-delivered-2 = record { checks = checked-demand; starts = started-demand; begun = left-begun; iterates = iterate-judged }
+delivered-2 = record { checks = checked-demand; starts = started-demand; begun = left-begun; iterates = iterate-judged; writes = written-demand }

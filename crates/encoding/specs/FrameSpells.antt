@@ -4,24 +4,19 @@ use mathlib.Core.List.{List, [], _++_, map}
 use mathlib.Core.Option.{some}
 use mathlib.Core.Path.{_≡_, _∙_}
 use native.Mathlib.Omega.{arith}
-use lib.ListN.{length, drop, length-map, getElem? as look}
+use lib.ListN.{length, length-map, getElem? as look}
 use Rattle.language.specs.Result.{ok}
 use Rattle.language.specs.Syntax.{TypeDef, Function, Input, Node, File, functionFrame, channelFrame}
-use Rattle.language.specs.Format.{fileFrames, fileText}
+use Rattle.language.specs.Format.{fileFrames}
+use Rattle.language.specs.Text.{textFrames}
 use Rattle.language.specs.Reader.{readFile}
 use Rattle.text.specs.Bytes.{bytesOf}
-use Rattle.text_lines.specs.Lines.{firstLine, lineStart, framesFrom}
-use Rattle.text_lines.specs.LinesWalk.{line-frame}
+use Rattle.text_lines.specs.RuleBytes.{frame-bytes-read}
 use Rattle.theory.specs.Lists.{look-getD, look-less, look-append, look-past, look-map}
-use Rattle.theory.specs.ExactText.{text-back}
 use Rattle.theory.specs.FileFrames.{frameOfType, frameOfFunction, frameOfInput, frameOfNode}
-use Rattle.theory.specs.SmallFrames.{file-lines}
 use Rattle.theory.specs.ReaderExact.{reader-forth}
+use Rattle.encoding.specs.FrameLines.{lineAt, line-spelled}
 use Rattle.encoding.specs.FrameParts.{TypeSpelled, type-parts, FunctionSpelled, function-parts, InputSpelled, input-parts, NodeSpelled, node-parts}
-
--- line i of a text, from 0: the line of frame i + 1
-abbrev pub lineAt : List ℕ → ℕ → List ℕ
-lineAt t i = firstLine (drop (lineStart t i) t)
 
 -- ---- the frames of a file, by their numbers
 look-behind : {A : Type 0} (l m : List A) (k : ℕ) {i : ℕ} {a : A} → i ≡ length l + k → look m k ≡ some a → look (l ++ m) i ≡ some a
@@ -63,12 +58,11 @@ module _ (P : File) where
 
 -- ---- the lines of a text that was read; line i is that of frame i + 1
 module _ (t : List ℕ) {P : File} (read : readFile t ≡ ok P) where
-  pub frames-are-file : framesFrom 1 t ≡ ok (fileFrames P)
-  unfolding fileText
-  frames-are-file = let exact = reader-forth t P read in rw (exact .0) (text-back (fileFrames P) (file-lines P (exact .1)))
+  pub frames-are-file : textFrames t ≡ ok (fileFrames P)
+  frames-are-file = reader-forth t P read .frames
 
   pub line-is-frame : (i : ℕ) {g : List ℕ} → look (fileFrames P) i ≡ some g → bytesOf (lineAt t i) ≡ g
-  line-is-frame i e = line-frame t (fileFrames P) i frames-are-file (look-less (fileFrames P) i e) .bytes ∙ look-getD (fileFrames P) i [] e
+  line-is-frame i e = frame-bytes-read (lineAt t i) _ (line-spelled t (fileFrames P) frames-are-file i (look-less (fileFrames P) i e)) ∙ look-getD (fileFrames P) i [] e
 
   pub type-spelled : (i : ℕ) {d : TypeDef} → look (P .types) i ≡ some d → TypeSpelled (lineAt t i) d
   type-spelled i e = type-parts (line-is-frame i (type-frame P i e))

@@ -1,6 +1,6 @@
 -- A scope of the reader's in a file: its types are the file's, and what it may call are functions of the file. So for every body,
 -- initial value and update of a file within the limits.
-use Prim.Native.Nat.{ℕ, zero, suc, _+_, _<_}
+use Prim.Native.Nat.{ℕ, zero, suc, _<_}
 use mathlib.Core.List.{List, [], _∷_, _++_, map, map-append, append-nil}
 use mathlib.Core.Option.{some}
 use mathlib.Core.Path.{_≡_, refl, sym, ap, _∙_}

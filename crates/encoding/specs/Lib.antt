@@ -6,6 +6,7 @@ pub mod ExprInversions
 pub mod ExprLists
 pub mod SpelledOnce
 pub mod FrameParts
+pub mod FrameLines
 pub mod FrameSpells
 pub mod CursorSpells
 pub mod WithinParts

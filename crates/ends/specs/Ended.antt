@@ -9,7 +9,7 @@ use lib.ListN.{length, getD, getElem? as look}
 use Rattle.language.specs.Syntax.{Size, ResultType, Op, Expr, ebool, eint, evar, enow, elast, elet, eif, eop, ecall, econ, ecase, eadj, efit, Exprs, enil, econs, Function, Node, File, initialValues}
 use Rattle.language.specs.Format.{sizeBytes, resultBytes, exprBytes}
 use Rattle.text.specs.Places.{past}
-use Rattle.encoding.specs.FrameSpells.{lineAt}
+use Rattle.encoding.specs.FrameLines.{lineAt}
 use Rattle.index.specs.Sections.{framesOf, functionsOf, channelsOf}
 use Rattle.index.specs.Indexed.{framePlace, bodyAt, initialAt, updateAt, functionLine, channelLine}
 

@@ -15,7 +15,7 @@ use Rattle.theory.specs.Alls.{all-at}
 use Rattle.theory.specs.Places.{below-or-not, look-at, look-mapped}
 use Rattle.theory.specs.InitialTrees.{initialScope, initials-within}
 use Rattle.encoding.specs.Spells.{Spells}
-use Rattle.encoding.specs.FrameSpells.{lineAt}
+use Rattle.encoding.specs.FrameLines.{lineAt}
 use Rattle.index.specs.Sections.{channelsOf}
 use Rattle.index.specs.Indexed.{initialAt, channelLine, Indexed}
 

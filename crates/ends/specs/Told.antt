@@ -9,9 +9,8 @@ use Rattle.language.specs.Syntax.{Expr, File}
 use Rattle.language.specs.Format.{exprBytes}
 use Rattle.language.specs.Scope.{Scope}
 use Rattle.language.specs.Within.{WithinExpr}
-use Rattle.text_lines.specs.Lines.{lineStart}
 use Rattle.encoding.specs.Spells.{Spells}
-use Rattle.encoding.specs.FrameSpells.{lineAt}
+use Rattle.encoding.specs.FrameLines.{lineStart, lineAt}
 use Rattle.index.specs.Sections.{framesOf, typesOf, functionsOf, channelsOf}
 use Rattle.index.specs.Indexed.{bodyAt, initialAt, updateAt, FrameIndexed, Indexed}
 use Rattle.heads.specs.Skips.{Shapes}

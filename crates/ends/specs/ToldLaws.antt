@@ -1,22 +1,20 @@
 -- The table of a file, line by line: what was told of a line stays told when a later one is walked over.
-use Prim.Native.Nat.{ℕ, zero, suc, _+_, _-_, _≤_, _<_}
+use Prim.Native.Nat.{ℕ, _+_, _≤_, _<_}
 use mathlib.Core.List.{List, map}
 use mathlib.Core.Bool.{true}
 use mathlib.Core.Option.{some, Option·some-injective}
 use mathlib.Core.Path.{_≡_, refl, sym, ap, _∙_, subst, subst₂}
 use native.Mathlib.Omega.{arith}
-use native.Mathlib.Nat.{add-zero, zero-add}
+use native.Mathlib.Nat.{zero-add}
 use lib.ListN.{length, getD, drop, length-take, length-drop, length-map, getElem? as look}
 use Rattle.language.specs.Limits.{nestingMost}
 use Rattle.language.specs.Syntax.{Expr, ebool, Function, Node, File, initialValues}
 use Rattle.theory.specs.Lists.{look-less, look-map}
 use Rattle.theory.specs.Places.{below-or-last, look-at, look-mapped}
 use Rattle.text.specs.declared.Cursor.{Cursor}
-use Rattle.text_lines.specs.Lines.{lineStart}
-use Rattle.text_lines.specs.LinesWalk.{line-start-next}
-use Rattle.text.specs.Places.{place-most}
+use Rattle.text.specs.Places.{left-most, place-most}
 use Rattle.encoding.specs.Spells.{spells-left, spells-within}
-use Rattle.encoding.specs.FrameSpells.{lineAt}
+use Rattle.encoding.specs.FrameLines.{lineAt, line-order, line-before, line-there}
 use Rattle.encoding.specs.Known.{outer-known, body-known}
 use Rattle.encoding.specs.WithinParts.{node-within}
 use Rattle.index.specs.declared.Counts.{Counts}
@@ -27,20 +25,10 @@ use Rattle.ends.specs.declared.Part.{Part}
 use Rattle.ends.specs.declared.Part.the-variants.{Body, Initial, Update}
 use Rattle.ends.specs.Ended.{LineEnded, BodiesTold, UpdatesTold, InitialsTold}
 use Rattle.ends.specs.Walks.{Walks}
+use Rattle.ends.specs.Lengths.{expr-some}
 use Rattle.ends.specs.KeptLaws.{ended-kept}
 use Rattle.ends.specs.Initials.{initials-long, initial-known}
 use Rattle.ends.specs.Told.{Stands, FrontKept, LineTold, LineEnds, startOf, LinesStand, LinesTold, TellsLines, TellsUpdates, TellsInitials}
-
--- ---- lines in order
-later-line : (text : List ℕ) (i k : ℕ) → lineStart text i ≤ lineStart text (i + k)
-later-line text i zero = omega (arith, ap (lineStart text) (add-zero i))
-later-line text i (suc k) = let on : i + suc k ≡ suc (i + k) = omega arith in omega (arith, later-line text i k, ap (lineStart text) on, line-start-next text (i + k))
-
-line-order : (text : List ℕ) (i j : ℕ) → i ≤ j → lineStart text i ≤ lineStart text j
-line-order text i j le = let same : i + (j - i) ≡ j = omega (arith, le) in omega (arith, later-line text i (j - i), ap (lineStart text) same)
-
-line-before : (text : List ℕ) (i j : ℕ) → i < j → lineStart text i + length (lineAt text i) < lineStart text j
-line-before text i j less = omega (arith, line-start-next text i, line-order text (suc i) j (omega (arith, less)))
 
 -- the line of a frame of the index is within the text
 line-fits : {text frames : List ℕ} {i : ℕ} → FrameIndexed text frames i → framePlace frames i + length (lineAt text i) ≤ length text
@@ -62,11 +50,12 @@ line-done {text} {index} {ends} {ends′} {line} {i} {from} {at} {r} is place u 
 
 -- what was told of an earlier line stays told
 line-stays : {text index ends ends′ : List ℕ} {i at : ℕ} {e : Expr} (j : ℕ) → Stands text index i at e → i < j → FrontKept text j ends ends′ → LineEnded text index i at e ends → LineEnded text index i at e ends′
-line-stays {text} {index} {ends} {ends′} {i} j s less k told =
+line-stays {text} {index} {ends} {ends′} {i} {at} {e} j s less k told =
     let most = place-most (lineAt text i) (spells-within (s .spelled)) in
+    let there = line-there text i (omega (arith, expr-some e, spells-left (s .spelled), left-most (lineAt text i) at)) in
     ended-kept ends ends′ (framePlace (framesOf index) i) (lineAt text i) told (record {
       fits = spells-left (s .spelled);
-      same = record { word = λ p low high. k .same (framePlace (framesOf index) i + p) (omega (arith, s .frame .starts, high, most, line-before text i j less)) };
+      same = record { word = λ p low high. k .same (framePlace (framesOf index) i + p) (omega (arith, s .frame .starts, high, most, line-before text i j there less)) };
     })
 
 front-on : {text ends ends′ ends″ : List ℕ} {line : ℕ} (next : ℕ) → line ≤ next → FrontKept text line ends ends′ → FrontKept text next ends′ ends″ → FrontKept text line ends ends″

@@ -18,7 +18,7 @@ use Rattle.theory.specs.CellWords.{Writable}
 use Rattle.text.specs.declared.Cursor.{Cursor}
 use Rattle.text.specs.Places.{past}
 use Rattle.encoding.specs.Spells.{Spells}
-use Rattle.encoding.specs.FrameSpells.{lineAt}
+use Rattle.encoding.specs.FrameLines.{lineAt}
 use Rattle.encoding.specs.ExprLists.{first-of-exprs}
 use Rattle.heads.specs.PartLaws.{none-ends, more-ends}
 use Rattle.index.specs.Sections.{framesOf}

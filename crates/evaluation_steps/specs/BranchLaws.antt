@@ -20,7 +20,7 @@ use Rattle.theory.specs.CellWords.{Writable, bool-writable}
 use Rattle.text.specs.declared.Cursor.{Cursor}
 use Rattle.text.specs.Places.{past}
 use Rattle.encoding.specs.Spells.{Spells}
-use Rattle.encoding.specs.FrameSpells.{lineAt}
+use Rattle.encoding.specs.FrameLines.{lineAt}
 use Rattle.encoding.specs.ExprLists.{exprCount, branches-counted, first-of-exprs}
 use Rattle.heads.specs.ScopeShapes.{known-shapes}
 use Rattle.index.specs.Tables.{typeWords}

@@ -1,5 +1,5 @@
 -- An expression that has parts, return by return: no slots for a call, an operand that is refused, and what the form makes of them.
-use Prim.Native.Nat.{ℕ, _+_, _-_, _≤_, _<_}
+use Prim.Native.Nat.{ℕ, _-_, _≤_, _<_}
 use mathlib.Core.List.{List, _++_}
 use mathlib.Core.Path.{_≡_, refl, sym, ap, _∙_, subst, subst₂}
 use native.Mathlib.Omega.{arith}
@@ -18,7 +18,7 @@ use Rattle.language.specs.Evaluator.{Out, Outs, values, refusedAll, bindOuts, C
 use Rattle.theory.specs.CellWords.{Writable}
 use Rattle.text.specs.declared.Cursor.{Cursor}
 use Rattle.text.specs.Places.{past}
-use Rattle.encoding.specs.FrameSpells.{lineAt}
+use Rattle.encoding.specs.FrameLines.{lineAt}
 use Rattle.encoding.specs.ExprLists.{exprs-counted}
 use Rattle.heads.specs.declared.Form.{Form}
 use Rattle.index.specs.Sections.{framesOf, typesOf, functionsOf}

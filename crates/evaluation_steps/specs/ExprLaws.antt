@@ -9,7 +9,7 @@ use Rattle.language.specs.Scope.{Scope}
 use Rattle.language.specs.Heap.{Cell}
 use Rattle.language.specs.Evaluator.{Out, value, refused, Channels, eval, run}
 use Rattle.text.specs.declared.Cursor.{Cursor}
-use Rattle.encoding.specs.FrameSpells.{lineAt}
+use Rattle.encoding.specs.FrameLines.{lineAt}
 use Rattle.heads.specs.declared.Form.{Form}
 use Rattle.heads.specs.declared.Form.the-variants.{Bool as BoolForm, Int, Variable, Now, Last, Missing}
 use Rattle.heads.specs.declared.Head.{Head}

@@ -15,7 +15,7 @@ use Rattle.theory.specs.CellWords.{Writable}
 use Rattle.text.specs.declared.Cursor.{Cursor}
 use Rattle.text.specs.Places.{past}
 use Rattle.encoding.specs.Spells.{Spells}
-use Rattle.encoding.specs.FrameSpells.{lineAt}
+use Rattle.encoding.specs.FrameLines.{lineAt}
 use Rattle.encoding.specs.Known.{Known}
 use Rattle.heads.specs.declared.Form.{Form}
 use Rattle.heads.specs.declared.Form.the-variants.{Call}

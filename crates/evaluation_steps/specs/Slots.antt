@@ -1,5 +1,5 @@
 -- Cells stored in the slots above an environment: what is written, one slot after the other, and what that makes of the environment.
-use Prim.Native.Nat.{ℕ, suc, _+_, _-_, _≤_, _<_}
+use Prim.Native.Nat.{ℕ, suc, _+_, _≤_, _<_}
 use mathlib.Core.List.{List, [], _∷_, _++_}
 use mathlib.Core.Path.{_≡_, refl, sym, ap, _∙_, subst}
 use native.Mathlib.Omega.{arith}
@@ -8,8 +8,7 @@ use lib.Seq.{take-set-le, sets, length-sets, sets-eq, ext-getD, getD-append-seam
 use Rattle.language.specs.Limits.{fieldsMost}
 use Rattle.language.specs.Heap.{Cell, cellAt, fieldsIn}
 use Rattle.theory.specs.Places.{below-or-not}
-use Rattle.theory.specs.Lists.{take-fewer}
-use Rattle.state_words.specs.RowLaws.{sets-append}
+use Rattle.theory.specs.Lists.{take-fewer, sets-append}
 use Rattle.state_words.specs.Holds.{Holds, ReadsField}
 use Rattle.evaluation_steps.specs.Promises.{Below}
 

@@ -7,14 +7,14 @@ use lib.ListN.{length, getD}
 use Rattle.language.specs.Limits.{nestingMost, channelsMost}
 use Rattle.language.specs.Syntax.{Expr, File}
 use Rattle.language.specs.Format.{exprBytes}
-use Rattle.language.specs.Scope.{Scope, outerScope}
+use Rattle.language.specs.Scope.{outerScope}
 use Rattle.language.specs.Within.{WithinExpr}
 use Rattle.language.specs.Heap.{Cell}
 use Rattle.language.specs.Evaluator.{Channels, eval, run}
 use Rattle.language.specs.Machine.{Board as MachineBoard}
 use Rattle.text.specs.declared.Cursor.{Cursor}
 use Rattle.encoding.specs.Spells.{Spells}
-use Rattle.encoding.specs.FrameSpells.{lineAt}
+use Rattle.encoding.specs.FrameLines.{lineAt}
 use Rattle.encoding.specs.Known.{outer-known}
 use Rattle.heads.specs.Places.{channelLineOf, channel-line}
 use Rattle.index.specs.Indexed.{channelLine, Indexed}

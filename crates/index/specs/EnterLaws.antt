@@ -29,7 +29,7 @@ use Rattle.index.specs.ParserLaws.{bad-is-not-got, got-value, many-begin
 
 -- the next word of a table, written behind those before
 pub next-word : {table table′ : List ℕ} {to : ℕ} (v n : ℕ) (before : List ℕ) → table′ ≡ set table to v → table ≡ padded n before → length before ≡ to → to < n → table′ ≡ padded n (before ++ (v ∷ []))
-next-word {to} v n before w e len room = w ∙ ap (λ l. set l to v) e ∙ ap (λ i. set (padded n before) i v) (sym len) ∙ padded-next n before v (omega arith)
+next-word {to} v n before w e len room = w ∙ ap (λ l. set l to v) e ∙ ap (λ i. set (padded n before) i v) (sym len) ∙ padded-next n before v
 
 -- words that are the same
 pub enters-as : {A : Type 0} (words : A → List ℕ) {words′ : A → List ℕ} {line table table′ : List ℕ} {at to : ℕ} {r : Step} {x : Read A} → ((a : A) → words a ≡ words′ a) → Enters words line at to table r table′ x → Enters words′ line at to table r table′ x

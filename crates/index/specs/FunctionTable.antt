@@ -18,7 +18,9 @@ use Rattle.text.specs.declared.Step.{Step}
 use Rattle.text.specs.declared.Step.the-variants.{Next}
 use Rattle.text.specs.Bytes.{bytesFrom, plainWord}
 use Rattle.text.specs.StepLaws.{pass-got}
-use Rattle.index.specs.Tables.{functionWords, functionEntry, functionTable, resultPlace, conditionsPlace, measurePlace, bodyPlace}
+use Rattle.index.specs.Tables.{functionWords, functionEntry, functionTable}
+use Rattle.index.specs.Lined.{Lined}
+use Rattle.encoding.specs.FrameParts.{resultPlace, conditionsPlace, measurePlace, bodyPlace}
 use Rattle.theory.specs.Padding.{padded-length}
 use Rattle.index.specs.Padded.{padded-none, padded-at}
 use Rattle.index.specs.Entries.{spell-length, spell-more, table-so-far}
@@ -34,45 +36,45 @@ unfolding parametersEntry
 parameters-wide ps = omega (arith, padded-length parametersMost (map plainWord ps))
 
 -- an entry is the parameters' words and the four places
-abbrev pub placesOf : Function → List ℕ
-placesOf F = resultPlace F ∷ conditionsPlace F ∷ measurePlace F ∷ bodyPlace F ∷ []
+abbrev pub placesOf : Lined Function → List ℕ
+placesOf F = resultPlace (F .line) (F .part) ∷ conditionsPlace (F .line) (F .part) ∷ measurePlace (F .line) (F .part) ∷ bodyPlace (F .line) (F .part) ∷ []
 
-pub function-parts : (F : Function) → functionEntry F ≡ parametersEntry (F .parameters) ++ placesOf F
+pub function-parts : (F : Lined Function) → functionEntry F ≡ parametersEntry (F .part .parameters) ++ placesOf F
 unfolding functionEntry parametersEntry
 function-parts F = refl
 
-pub function-wide : (F : Function) → length (functionEntry F) ≡ functionWords
-function-wide F = ap length (function-parts F) ∙ omega (arith, length-append (parametersEntry (F .parameters)) (placesOf F), parameters-wide (F .parameters))
+pub function-wide : (F : Lined Function) → length (functionEntry F) ≡ functionWords
+function-wide F = ap length (function-parts F) ∙ omega (arith, length-append (parametersEntry (F .part .parameters)) (placesOf F), parameters-wide (F .part .parameters))
 
 pub no-functions : functionTable [] ≡ replicate (functionsMost * functionWords) 0
 unfolding functionTable spellAll
 no-functions = padded-none (functionsMost * functionWords)
 
 -- ---- the parameters read are the first words of the next entry
-pub parameters-added : {line functions functions′ : List ℕ} {at f : ℕ} {r : Step} {ps : List Plain} {rest : List ℕ} (types : ℕ) (Fs : List Function) → Enters parametersEntry line at (functionWords * f) functions r functions′ (counted 0 parametersMost (plain types) (bytesFrom line at)) →
+pub parameters-added : {line functions functions′ : List ℕ} {at f : ℕ} {r : Step} {ps : List Plain} {rest : List ℕ} (types : ℕ) (Fs : List (Lined Function)) → Enters parametersEntry line at (functionWords * f) functions r functions′ (counted 0 parametersMost (plain types) (bytesFrom line at)) →
     length Fs ≡ f → f < functionsMost → functions ≡ functionTable Fs → counted 0 parametersMost (plain types) (bytesFrom line at) ≡ got ps rest → functions′ ≡ padded (functionsMost * functionWords) (spellAll functionEntry Fs ++ parametersEntry ps)
 unfolding functionTable
 parameters-added {ps} types Fs v len few tb e = v .enters (functionsMost * functionWords) (spellAll functionEntry Fs) e tb (omega (arith, spell-length functionWords functionEntry function-wide Fs)) (omega (arith, parameters-wide ps))
 
 -- the four places behind them complete the entry
-pub places-added : {table₀ table₁ table₂ table₃ table₄ : List ℕ} {f : ℕ} (Fs : List Function) (F : Function) → length Fs ≡ f → f < functionsMost → table₀ ≡ padded (functionsMost * functionWords) (spellAll functionEntry Fs ++ parametersEntry (F .parameters)) →
-    table₁ ≡ set table₀ (functionWords * f + headWords) (resultPlace F) → table₂ ≡ set table₁ (functionWords * f + headWords + 1) (conditionsPlace F) → table₃ ≡ set table₂ (functionWords * f + headWords + 2) (measurePlace F) → table₄ ≡ set table₃ (functionWords * f + headWords + 3) (bodyPlace F) → table₄ ≡ functionTable (Fs ++ (F ∷ []))
+pub places-added : {table₀ table₁ table₂ table₃ table₄ : List ℕ} {f : ℕ} (Fs : List (Lined Function)) (F : Lined Function) → length Fs ≡ f → f < functionsMost → table₀ ≡ padded (functionsMost * functionWords) (spellAll functionEntry Fs ++ parametersEntry (F .part .parameters)) →
+    table₁ ≡ set table₀ (functionWords * f + headWords) (resultPlace (F .line) (F .part)) → table₂ ≡ set table₁ (functionWords * f + headWords + 1) (conditionsPlace (F .line) (F .part)) → table₃ ≡ set table₂ (functionWords * f + headWords + 2) (measurePlace (F .line) (F .part)) → table₄ ≡ set table₃ (functionWords * f + headWords + 3) (bodyPlace (F .line) (F .part)) → table₄ ≡ functionTable (Fs ++ (F ∷ []))
 unfolding functionTable
 places-added {f = f} Fs F len few tb a b c d =
     let n = functionsMost * functionWords in
-    let before : List ℕ = spellAll functionEntry Fs ++ parametersEntry (F .parameters) in
-    let long : length before ≡ functionWords * f + headWords = omega (arith, length-append (spellAll functionEntry Fs) (parametersEntry (F .parameters)), spell-length functionWords functionEntry function-wide Fs, parameters-wide (F .parameters)) in
-    let one = next-word (resultPlace F) n before a tb long (omega arith) in
-    let l₁ = length-append before (resultPlace F ∷ []) in
-    let two = next-word (conditionsPlace F) n (before ++ (resultPlace F ∷ [])) b one (omega arith) (omega arith) in
-    let l₂ = length-append (before ++ (resultPlace F ∷ [])) (conditionsPlace F ∷ []) in
-    let three = next-word (measurePlace F) n (before ++ (resultPlace F ∷ []) ++ (conditionsPlace F ∷ [])) c two (omega arith) (omega arith) in
-    let l₃ = length-append (before ++ (resultPlace F ∷ []) ++ (conditionsPlace F ∷ [])) (measurePlace F ∷ []) in
-    let four = next-word (bodyPlace F) n (before ++ (resultPlace F ∷ []) ++ (conditionsPlace F ∷ []) ++ (measurePlace F ∷ [])) d three (omega arith) (omega arith) in
-    four ∙ ap (padded n) (ap (λ l. l ++ (measurePlace F ∷ []) ++ (bodyPlace F ∷ [])) (append-assoc before (resultPlace F ∷ []) (conditionsPlace F ∷ []))
-    ∙ ap (λ l. l ++ (bodyPlace F ∷ [])) (append-assoc before (resultPlace F ∷ conditionsPlace F ∷ []) (measurePlace F ∷ []))
-    ∙ append-assoc before (resultPlace F ∷ conditionsPlace F ∷ measurePlace F ∷ []) (bodyPlace F ∷ [])
-    ∙ append-assoc (spellAll functionEntry Fs) (parametersEntry (F .parameters)) (placesOf F)
+    let before : List ℕ = spellAll functionEntry Fs ++ parametersEntry (F .part .parameters) in
+    let long : length before ≡ functionWords * f + headWords = omega (arith, length-append (spellAll functionEntry Fs) (parametersEntry (F .part .parameters)), spell-length functionWords functionEntry function-wide Fs, parameters-wide (F .part .parameters)) in
+    let one = next-word (resultPlace (F .line) (F .part)) n before a tb long (omega arith) in
+    let l₁ = length-append before (resultPlace (F .line) (F .part) ∷ []) in
+    let two = next-word (conditionsPlace (F .line) (F .part)) n (before ++ (resultPlace (F .line) (F .part) ∷ [])) b one (omega arith) (omega arith) in
+    let l₂ = length-append (before ++ (resultPlace (F .line) (F .part) ∷ [])) (conditionsPlace (F .line) (F .part) ∷ []) in
+    let three = next-word (measurePlace (F .line) (F .part)) n (before ++ (resultPlace (F .line) (F .part) ∷ []) ++ (conditionsPlace (F .line) (F .part) ∷ [])) c two (omega arith) (omega arith) in
+    let l₃ = length-append (before ++ (resultPlace (F .line) (F .part) ∷ []) ++ (conditionsPlace (F .line) (F .part) ∷ [])) (measurePlace (F .line) (F .part) ∷ []) in
+    let four = next-word (bodyPlace (F .line) (F .part)) n (before ++ (resultPlace (F .line) (F .part) ∷ []) ++ (conditionsPlace (F .line) (F .part) ∷ []) ++ (measurePlace (F .line) (F .part) ∷ [])) d three (omega arith) (omega arith) in
+    four ∙ ap (padded n) (ap (λ l. l ++ (measurePlace (F .line) (F .part) ∷ []) ++ (bodyPlace (F .line) (F .part) ∷ [])) (append-assoc before (resultPlace (F .line) (F .part) ∷ []) (conditionsPlace (F .line) (F .part) ∷ []))
+    ∙ ap (λ l. l ++ (bodyPlace (F .line) (F .part) ∷ [])) (append-assoc before (resultPlace (F .line) (F .part) ∷ conditionsPlace (F .line) (F .part) ∷ []) (measurePlace (F .line) (F .part) ∷ []))
+    ∙ append-assoc before (resultPlace (F .line) (F .part) ∷ conditionsPlace (F .line) (F .part) ∷ measurePlace (F .line) (F .part) ∷ []) (bodyPlace (F .line) (F .part) ∷ [])
+    ∙ append-assoc (spellAll functionEntry Fs) (parametersEntry (F .part .parameters)) (placesOf F)
     ∙ ap (λ l. spellAll functionEntry Fs ++ l) (sym (function-parts F)) ∙ sym (spell-more functionEntry Fs F))
 
 -- ---- few parameters
@@ -108,27 +110,27 @@ tells-begun {functions} n before ps more {f} tb len room few = record {
         ∙ ap (λ k. getD (before ++ (parametersEntry ps ++ more)) (k + j) 0) (sym len) ∙ getD-append-add before (parametersEntry ps ++ more) j 0
 
 -- of each function in the table, whatever stands behind the entries
-pub tells-parameters : {functions : List ℕ} (n : ℕ) (Fs : List Function) (more : List ℕ) (f : ℕ) (none : Function) → functions ≡ padded n (spellAll functionEntry Fs ++ more) → functionWords * length Fs ≤ n → f < length Fs → length (getD Fs f none .parameters) ≤ parametersMost → TellsParameters functions f (getD Fs f none .parameters)
+pub tells-parameters : {functions : List ℕ} (n : ℕ) (Fs : List (Lined Function)) (more : List ℕ) (f : ℕ) (none : Lined Function) → functions ≡ padded n (spellAll functionEntry Fs ++ more) → functionWords * length Fs ≤ n → f < length Fs → length (getD Fs f none .part .parameters) ≤ parametersMost → TellsParameters functions f (getD Fs f none .part .parameters)
 tells-parameters {functions} n Fs more f none tb room h few = record {
   few = few;
-  count = ap (λ i. getD functions i 0) (sym (add-zero (functionWords * f))) ∙ word 0 (omega arith) ∙ parameters-count (F .parameters) (placesOf F);
-  each = λ i less. let on : functionWords * f + 1 + i ≡ functionWords * f + (1 + i) = omega arith in ap (λ k. getD functions k 0) on ∙ word (1 + i) (omega arith) ∙ parameters-each (F .parameters) (placesOf F) i less few;
+  count = ap (λ i. getD functions i 0) (sym (add-zero (functionWords * f))) ∙ word 0 (omega arith) ∙ parameters-count (F .part .parameters) (placesOf F);
+  each = λ i less. let on : functionWords * f + 1 + i ≡ functionWords * f + (1 + i) = omega arith in ap (λ k. getD functions k 0) on ∙ word (1 + i) (omega arith) ∙ parameters-each (F .part .parameters) (placesOf F) i less few;
 }
   where
-    F : Function
+    F : Lined Function
     F = getD Fs f none
 
-    word : (j : ℕ) → j < functionWords → getD functions (functionWords * f + j) 0 ≡ getD (parametersEntry (F .parameters) ++ placesOf F) j 0
+    word : (j : ℕ) → j < functionWords → getD functions (functionWords * f + j) 0 ≡ getD (parametersEntry (F .part .parameters) ++ placesOf F) j 0
     word j k = ap (λ l. getD l (functionWords * f + j) 0) tb ∙ table-so-far functionWords functionEntry function-wide n Fs more f j none room h k ∙ ap (λ l. getD l j 0) (function-parts F)
 
 -- ---- the parameters of the next function: read, written, and told by the table
-pub record ParametersRead (types : ℕ) (Fs : List Function) (f : ℕ) (bs rest functions : List ℕ) : Type 0 where
+pub record ParametersRead (types : ℕ) (Fs : List (Lined Function)) (f : ℕ) (bs rest functions : List ℕ) : Type 0 where
   pub list : List Plain
   pub read : counted 0 parametersMost (plain types) bs ≡ got list rest
   pub table : functions ≡ padded (functionsMost * functionWords) (spellAll functionEntry Fs ++ parametersEntry list)
   pub tells : TellsParameters functions f list
 
-pub parameters-read : {line functions functions′ : List ℕ} {at f : ℕ} {r : Step} {c : Cursor} (types : ℕ) (Fs : List Function) → Enters parametersEntry line at (functionWords * f) functions r functions′ (counted 0 parametersMost (plain types) (bytesFrom line at)) →
+pub parameters-read : {line functions functions′ : List ℕ} {at f : ℕ} {r : Step} {c : Cursor} (types : ℕ) (Fs : List (Lined Function)) → Enters parametersEntry line at (functionWords * f) functions r functions′ (counted 0 parametersMost (plain types) (bytesFrom line at)) →
     length Fs ≡ f → f < functionsMost → functions ≡ functionTable Fs → r ≡ Next c → ParametersRead types Fs f (bytesFrom line at) (bytesFrom line (c .at)) functions′
 parameters-read {f} types Fs v len few tb e =
     let n = functionsMost * functionWords in

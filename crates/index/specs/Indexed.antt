@@ -12,14 +12,13 @@ use Rattle.language.specs.Format.{spellAll, resultBytes, conditionBytes, exprBy
 use Rattle.language.specs.Reader.{readFile}
 use Rattle.language.specs.Within.{Within}
 use Rattle.text.specs.Bytes.{fieldWord, declaredWord}
-use Rattle.text_lines.specs.Lines.{lineStart}
 use Rattle.text.specs.Places.{past, byteAt}
 use Rattle.index.specs.Tables.{frameWords, constructorWords, typeWords, functionWords, channelWords}
 use Rattle.index.specs.Enters.{TellsType, TellsParameters}
 use Rattle.index.specs.FunctionTable.{headWords}
 use Rattle.encoding.specs.Spells.{Spells, themselves}
 use Rattle.encoding.specs.FrameParts.{TypeSpelled}
-use Rattle.encoding.specs.FrameSpells.{lineAt}
+use Rattle.encoding.specs.FrameLines.{lineStart, lineAt}
 use Rattle.index.specs.declared.Counts.{Counts}
 use Rattle.index.specs.Sections.{countsIn, framesOf, typesOf, functionsOf, channelsOf}
 

@@ -1,3 +1,4 @@
+pub mod Lined
 pub mod Tables
 pub mod Sections
 pub mod Whole

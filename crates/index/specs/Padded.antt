@@ -42,18 +42,19 @@ padded-set zero ls ms w v h = absurd (omega arith)
 padded-set (suc n) [] ms w v h = refl
 padded-set (suc n) (l ∷ ls) ms w v h = ap (λ ws. l ∷ ws) (padded-set n ls ms w v (omega arith))
 
-pub padded-next : (n : ℕ) (ls : List ℕ) (v : ℕ) → length ls < n → set (padded n ls) (length ls) v ≡ padded n (ls ++ (v ∷ []))
+-- beyond the length nothing is written, and nothing is asked for
+pub padded-next : (n : ℕ) (ls : List ℕ) (v : ℕ) → set (padded n ls) (length ls) v ≡ padded n (ls ++ (v ∷ []))
 unfolding padded
-padded-next zero ls v h = absurd (omega arith)
-padded-next (suc n) [] v h = refl
-padded-next (suc n) (l ∷ ls) v h = ap (λ ws. l ∷ ws) (padded-next n ls v (omega arith))
+padded-next zero ls v = refl
+padded-next (suc n) [] v = refl
+padded-next (suc n) (l ∷ ls) v = ap (λ ws. l ∷ ws) (padded-next n ls v)
 
 -- several, one after the other
 pub padded-sets : (n : ℕ) (ls vs : List ℕ) → length ls + length vs ≤ n → sets (padded n ls) (length ls) vs ≡ padded n (ls ++ vs)
 padded-sets n ls [] h = ap (padded n) (sym (append-nil ls))
 padded-sets n ls (v ∷ vs) h =
     let on : suc (length ls) ≡ length (ls ++ (v ∷ [])) = omega (arith, length-append ls (v ∷ [])) in
-    ap (λ l. sets l (suc (length ls)) vs) (padded-next n ls v (omega arith)) ∙ ap (λ m. sets (padded n (ls ++ (v ∷ []))) m vs) on
+    ap (λ l. sets l (suc (length ls)) vs) (padded-next n ls v) ∙ ap (λ m. sets (padded n (ls ++ (v ∷ []))) m vs) on
     ∙ padded-sets n (ls ++ (v ∷ [])) vs (omega (arith, length-append ls (v ∷ []))) ∙ ap (padded n) (append-snoc ls v vs)
 
 -- zeros at the end are there already

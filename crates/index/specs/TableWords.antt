@@ -13,6 +13,7 @@ use Rattle.language.specs.Layout.{padded}
 use Rattle.text.specs.Bytes.{fieldWord}
 use Rattle.theory.specs.Lists.{look-getD, look-less}
 use Rattle.index.specs.Tables.{constructorWords, typeWords, constructorEntry, typeEntry, typeTable, functionWords, functionEntry, functionTable, channelWords, inputEntry, nodeEntry, channelTable}
+use Rattle.index.specs.Lined.{Lined}
 use Rattle.index.specs.Padded.{padded-at}
 use Rattle.index.specs.Entries.{table-at}
 use Rattle.index.specs.Enters.{parametersEntry, TellsParameters}
@@ -44,8 +45,8 @@ tells-field {types} ds t table few there s c less j field =
     ∙ type-field (getD ds t []) c j s less field
 
 -- ---- a function's parameters, and its places
-module _ {functions : List ℕ} (Fs : List Function) (table : functions ≡ functionTable Fs) (few : length Fs ≤ functionsMost) (f : ℕ) {F : Function} (there : look Fs f ≡ some F) where
-  pub parameters-told : length (F .parameters) ≤ parametersMost → TellsParameters functions f (F .parameters)
+module _ {functions : List ℕ} (Fs : List (Lined Function)) (table : functions ≡ functionTable Fs) (few : length Fs ≤ functionsMost) (f : ℕ) {F : Lined Function} (there : look Fs f ≡ some F) where
+  pub parameters-told : length (F .part .parameters) ≤ parametersMost → TellsParameters functions f (F .part .parameters)
   unfolding functionTable
   parameters-told short =
       let n = functionsMost * functionWords in
@@ -57,18 +58,18 @@ module _ {functions : List ℕ} (Fs : List Function) (table : functions ≡ func
   unfolding functionTable
   place-told k less =
       let word : functionWords * f + headWords + k ≡ functionWords * f + (headWords + k) = omega arith in
-      let behind : headWords + k ≡ length (parametersEntry (F .parameters)) + k = omega (arith, parameters-wide (F .parameters)) in
+      let behind : headWords + k ≡ length (parametersEntry (F .part .parameters)) + k = omega (arith, parameters-wide (F .part .parameters)) in
       ap (λ l. getD l (functionWords * f + headWords + k) 0) table ∙ ap (λ i. getD (functionTable Fs) i 0) word
       ∙ table-at functionWords functionEntry function-wide (functionsMost * functionWords) Fs f (headWords + k) F (omega arith) (look-less Fs f there) (omega arith)
       ∙ ap (λ G. getD (functionEntry G) (headWords + k) 0) (look-getD Fs f F there) ∙ ap (λ l. getD l (headWords + k) 0) (function-parts F)
-      ∙ ap (λ i. getD (parametersEntry (F .parameters) ++ placesOf F) i 0) behind ∙ getD-append-add (parametersEntry (F .parameters)) (placesOf F) k 0
+      ∙ ap (λ i. getD (parametersEntry (F .part .parameters) ++ placesOf F) i 0) behind ∙ getD-append-add (parametersEntry (F .part .parameters)) (placesOf F) k 0
 
 -- ---- the words of a channel
-module _ {channels : List ℕ} (is : List Input) (ns : List Node) (table : channels ≡ channelTable is ns) (few : length is + length ns ≤ channelsMost) where
-  pub input-told : (c : ℕ) {i : Input} → look is c ≡ some i → (k : ℕ) → k < channelWords → getD channels (channelWords * c + k) 0 ≡ getD (inputEntry i) k 0
+module _ {channels : List ℕ} (is : List (Lined Input)) (ns : List (Lined Node)) (table : channels ≡ channelTable is ns) (few : length is + length ns ≤ channelsMost) where
+  pub input-told : (c : ℕ) {i : Lined Input} → look is c ≡ some i → (k : ℕ) → k < channelWords → getD channels (channelWords * c + k) 0 ≡ getD (inputEntry i) k 0
   input-told c {i} there k less =
       ap (λ l. getD l (channelWords * c + k) 0) table ∙ input-at is ns c k i (omega arith) (look-less is c there) less ∙ ap (λ j. getD (inputEntry j) k 0) (look-getD is c i there)
 
-  pub node-told : (m : ℕ) {n : Node} → look ns m ≡ some n → (k : ℕ) → k < channelWords → getD channels (channelWords * (length is + m) + k) 0 ≡ getD (nodeEntry n) k 0
+  pub node-told : (m : ℕ) {n : Lined Node} → look ns m ≡ some n → (k : ℕ) → k < channelWords → getD channels (channelWords * (length is + m) + k) 0 ≡ getD (nodeEntry n) k 0
   node-told m {n} there k less =
       ap (λ l. getD l (channelWords * (length is + m) + k) 0) table ∙ node-at is ns m k n few (look-less ns m there) less ∙ ap (λ j. getD (nodeEntry j) k 0) (look-getD ns m n there)

@@ -1,5 +1,5 @@
--- The index of a file as a whole: its counts, then its frames, types, functions and channels. A row of the index's length is the
--- index of a file where its sections are.
+-- The index of a text and its file as a whole: counts, then frames, types, functions and channels. A row of the index's length is
+-- their index where its sections are.
 use Prim.Native.Nat.{ℕ, _+_}
 use mathlib.Core.List.{List, [], _∷_, _++_}
 use mathlib.Core.Path.{_≡_, refl, sym, ap, ap₂, _∙_}
@@ -8,6 +8,8 @@ use lib.ListN.{length, take, drop, length-drop, take-append-drop}
 use lib.Seq.{take-all, take-at, drop-append-add, drop-drop}
 use Rattle.language.specs.Syntax.{File}
 use Rattle.theory.specs.Padding.{padded-length}
+use Rattle.encoding.specs.FrameLines.{lineAt}
+use Rattle.index.specs.Lined.{functionsIn, inputsIn, nodesIn}
 use Rattle.index.specs.Tables.{frameTable, typeTable, functionTable, channelTable}
 use Rattle.index.specs.Sections.{countWords, frameTableWords, typeTableWords, functionTableWords, channelTableWords, framesFrom, typesFrom, functionsFrom, channelsFrom, indexWords, section, countsOf, framesOf, typesOf, functionsOf, channelsOf}
 
@@ -15,16 +17,16 @@ use Rattle.index.specs.Sections.{countWords, frameTableWords, typeTableW
 abbrev pub countsEntry : File → List ℕ
 countsEntry P = length (P .types) ∷ length (P .functions) ∷ length (P .inputs) ∷ length (P .nodes) ∷ []
 
-unfoldable pub indexOf : File → List ℕ
-indexOf P = countsEntry P ++ (frameTable P ++ (typeTable (P .types) ++ (functionTable (P .functions) ++ channelTable (P .inputs) (P .nodes))))
+unfoldable pub indexOf : List ℕ → File → List ℕ
+indexOf t P = countsEntry P ++ (frameTable t ++ (typeTable (P .types) ++ (functionTable (functionsIn (lineAt t) P) ++ channelTable (inputsIn (lineAt t) P) (nodesIn (lineAt t) P))))
 
--- each section is the file's
-pub record FileSections (index : List ℕ) (P : File) : Type 0 where
+-- each section is that of the text and its file
+pub record FileSections (t index : List ℕ) (P : File) : Type 0 where
   pub counts : countsOf index ≡ countsEntry P
-  pub frames : framesOf index ≡ frameTable P
+  pub frames : framesOf index ≡ frameTable t
   pub types : typesOf index ≡ typeTable (P .types)
-  pub functions : functionsOf index ≡ functionTable (P .functions)
-  pub channels : channelsOf index ≡ channelTable (P .inputs) (P .nodes)
+  pub functions : functionsOf index ≡ functionTable (functionsIn (lineAt t) P)
+  pub channels : channelsOf index ≡ channelTable (inputsIn (lineAt t) P) (nodesIn (lineAt t) P)
 
 -- ---- the sections, one behind the other, are the whole row
 section-then : (from n : ℕ) (index : List ℕ) → drop from index ≡ section from n index ++ drop (from + n) index
@@ -35,9 +37,9 @@ last-section : (from n : ℕ) (index : List ℕ) → length index ≡ from + n �
 unfolding section
 last-section from n index long = sym (take-all n (drop from index) (omega (arith, length-drop from index)))
 
-pub sections-whole : {index : List ℕ} {P : File} → length index ≡ indexWords → FileSections index P → index ≡ indexOf P
+pub sections-whole : {t index : List ℕ} {P : File} → length index ≡ indexWords → FileSections t index P → index ≡ indexOf t P
 unfolding indexOf
-sections-whole {index} {P} long s =
+sections-whole {index = index} long s =
     let channels = last-section channelsFrom channelTableWords index long ∙ s .channels in
     let functions = section-then functionsFrom functionTableWords index ∙ ap₂ (λ (a b : List ℕ). a ++ b) (s .functions) channels in
     let types = section-then typesFrom typeTableWords index ∙ ap₂ (λ (a b : List ℕ). a ++ b) (s .types) functions in
@@ -58,9 +60,9 @@ section-only : (part : List ℕ) {n : ℕ} → length part ≡ n → section 0 n
 unfolding section
 section-only part {n} long = take-all n part (omega arith)
 
-pub whole-sections : {index : List ℕ} {P : File} → index ≡ indexOf P → FileSections index P
+pub whole-sections : {t index : List ℕ} {P : File} → index ≡ indexOf t P → FileSections t index P
 unfolding indexOf frameTable typeTable functionTable channelTable
-whole-sections {index} {P} whole = rw whole (record {
+whole-sections {t} {index} {P} whole = rw whole (record {
   counts = section-first C (F ++ (T ++ (G ++ H))) refl;
   frames = behind-counts 0 frameTableWords ∙ section-first F (T ++ (G ++ H)) frames-long;
   types = behind-counts frameTableWords typeTableWords ∙ behind-frames 0 typeTableWords ∙ section-first T (G ++ H) types-long;
@@ -73,16 +75,16 @@ whole-sections {index} {P} whole = rw whole (record {
     C = countsEntry P
 
     F : List ℕ
-    F = frameTable P
+    F = frameTable t
 
     T : List ℕ
     T = typeTable (P .types)
 
     G : List ℕ
-    G = functionTable (P .functions)
+    G = functionTable (functionsIn (lineAt t) P)
 
     H : List ℕ
-    H = channelTable (P .inputs) (P .nodes)
+    H = channelTable (inputsIn (lineAt t) P) (nodesIn (lineAt t) P)
 
     frames-long : length F ≡ frameTableWords
     frames-long = padded-length frameTableWords _

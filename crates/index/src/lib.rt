@@ -21,6 +21,9 @@ use language::limits::NODES_MOST;
 use language::limits::PARAMETERS_MOST;
 use language::limits::TYPES_MOST;
 
+// How many frames a file may have.
+pub const FRAMES_MOST: usize = TYPES_MOST + FUNCTIONS_MOST + INPUTS_MOST + NODES_MOST;
+
 // The words of an entry. A frame: where its line starts, and how long it is.
 pub const FRAME_WORDS: usize = 2;
 
@@ -66,7 +69,7 @@ pub const NODE_COUNT: usize = 3;
 // How long the sections are, and where they start.
 const COUNT_WORDS: usize = NODE_COUNT + 1;
 
-const FRAME_TABLE: usize = (TYPES_MOST + FUNCTIONS_MOST + INPUTS_MOST + NODES_MOST) * FRAME_WORDS;
+const FRAME_TABLE: usize = FRAMES_MOST * FRAME_WORDS;
 
 const TYPE_TABLE: usize = TYPES_MOST * TYPE_WORDS;
 

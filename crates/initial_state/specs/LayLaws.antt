@@ -62,7 +62,7 @@ channels-kept words words′ used low = sym (drop-of-take 1 channelsMost words�
 channel-put : (words roots : List ℕ) (c l : ℕ) → take channelsMost (drop 1 words) ≡ padded channelsMost roots → length roots ≡ c → c < channelsMost → take channelsMost (drop 1 (set words (1 + c) l)) ≡ padded channelsMost (roots ++ (l ∷ []))
 channel-put words roots c l e long less =
     ap (take channelsMost) (drop-set-add 1 words c l) ∙ take-set-lt channelsMost (drop 1 words) c l less ∙ ap (λ (z : List ℕ). set z c l) e ∙ ap (λ i. set (padded channelsMost roots) i l) (sym long) ∙
-    padded-next channelsMost roots l (omega (arith, long, less))
+    padded-next channelsMost roots l
 
 -- ---- one initial value by the rules
 record Next (P : File) (b : Board) (e : Expr) (es : List Expr) (h : List Cell) (roots : List ℕ) (s : State) : Type 0 where

@@ -13,7 +13,7 @@ use Rattle.language.specs.Codes.{lineFeed}
 use Rattle.language.specs.Result.{both, when, chain, choose}
 use Rattle.language.specs.Syntax.{File}
 use Rattle.language.specs.Heap.{Tree}
-use Rattle.language.specs.Reader.{Lines, linesOf, longer, lineBytes}
+use Rattle.language.specs.Text.{Lines, linesOf, longer, lineBytes}
 use Rattle.language.specs.Line.{inputTrees, treesFit, oneLine, lineTrees}
 use Rattle.theory.specs.HeldChannels.{inputTypes}
 use Rattle.text_lines.specs.declared.LineEnd.{LineEnd}

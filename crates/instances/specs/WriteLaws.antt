@@ -3,7 +3,6 @@ use Prim.Native.Nat.{ℕ, suc, _+_, _*_, _≤_, _<_}
 use mathlib.Core.List.{List, [], _∷_, _++_, append-assoc}
 use mathlib.Core.Option.{some}
 use mathlib.Core.Path.{_≡_, refl, sym, ap, ap₂, _∙_}
-use native.Mathlib.Nat.{add-zero}
 use native.Mathlib.Numerals.{add-one}
 use native.Mathlib.Omega.{arith}
 use lib.ListN.{length, getD, take, drop, set, length-append, length-set, getElem? as look}
@@ -13,7 +12,7 @@ use Rattle.language.specs.Format.{spellAll}
 use Rattle.language.specs.Layout.{padded}
 use Rattle.language.specs.Estimate.{Estimate as Exact, nothing}
 use Rattle.language.specs.Checker.{Instance}
-use Rattle.theory.specs.Lists.{look-getD, look-less}
+use Rattle.theory.specs.Lists.{look-getD, look-less, sets-append}
 use Rattle.theory.specs.Padding.{padded-length}
 use Rattle.index.specs.Entries.{spell-append, spell-more}
 use Rattle.index.specs.Padded.{padded-at}
@@ -24,10 +23,6 @@ use Rattle.instances.specs.Matches.{noInstance}
 use Rattle.instances.specs.ListLaws.{key-wide, flat-length, listed-start, listed-parts}
 
 -- ---- words stored from a place on
-sets-append : (xs ys l : List ℕ) (i : ℕ) → sets l i (xs ++ ys) ≡ sets (sets l i xs) (i + length xs) ys
-sets-append [] ys l i = ap (λ m. sets l m ys) (sym (add-zero i))
-sets-append (x ∷ xs) ys l i = let on : suc i + length xs ≡ i + suc (length xs) = omega arith in sets-append xs ys (set l i x) (suc i) ∙ ap (λ m. sets (sets (set l i x) (suc i) xs) m ys) on
-
 pub numbers-stored : {first second third : List ℕ} (words : List ℕ) (from : ℕ) (x : Held) → first ≡ set words from (x .env) → second ≡ set first (from + 1) (x .heap) → third ≡ set second (from + 2) (x .stack) → third ≡ sets words from (numberWords x)
 numbers-stored words from x p q o =
     let one : from + 1 ≡ suc from = omega arith in

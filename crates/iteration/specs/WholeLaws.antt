@@ -18,7 +18,7 @@ use Rattle.language.specs.Slide.{State, slide}
 use Rattle.language.specs.Layout.{padded, stateLength, stateWords, allZero}
 use Rattle.language.specs.Machine.{written, putInputs, updateNodes, iterateState}
 use Rattle.theory.specs.FrameNumbers.{channelTotal}
-use Rattle.theory.specs.Lists.{both-right, take-fewer, drop-more}
+use Rattle.theory.specs.Lists.{both-right, take-fewer, drop-more, sets-append}
 use Rattle.theory.specs.Places.{below-or-not}
 use Rattle.theory.specs.Padding.{padded-rest}
 use Rattle.theory.specs.HeapValues.{env-length}
@@ -31,7 +31,7 @@ use Rattle.index.specs.declared.Counts.{Counts}
 use Rattle.index.specs.Sections.{countsIn}
 use Rattle.state_words.specs.Words.{usedIn, channelAt, rowOf, cleared}
 use Rattle.state_words.specs.Holds.{Holds}
-use Rattle.state_words.specs.RowLaws.{sets-append, row-at, row-length}
+use Rattle.state_words.specs.RowLaws.{row-at, row-length}
 use Rattle.state_words.specs.HoldLaws.{cleared-restores, holds-header}
 use Rattle.state_words.specs.StateLaws.{HoldsState, loaded-held}
 use Rattle.state_words.specs.WriteLaws.{drop-of-take, channels-tested}

@@ -5,10 +5,13 @@ use mathlib.Core.List.{List}
 use mathlib.Core.Bool.{Bool, true, false}
 use mathlib.Core.Logic.{_↔_}
 use mathlib.Core.Path.{_≡_}
-use Rattle.language.specs.Limits.{instancesMost}
+use lib.ListN.{length}
+use Rattle.language.specs.Limits.{textMost, instancesMost}
 use Rattle.language.specs.Refusals.{noFrame, textTooLong, noBaseConstructor, typesDisagree, sizeOutside, tooManyInstances, heapShort, environmentShort, stackShort, notLent}
+use Rattle.language.specs.Result.{ok}
 use Rattle.language.specs.Syntax.{File}
-use Rattle.language.specs.Format.{fileText}
+use Rattle.language.specs.Format.{fileFrames}
+use Rattle.language.specs.Text.{textFrames}
 use Rattle.language.specs.Within.{Within}
 use Rattle.language.specs.PlainTyping.{WellPlain}
 use Rattle.language.specs.Estimate.{Estimate, stopped}
@@ -18,9 +21,10 @@ use Rattle.language.specs.Cells.{numbersNeeded}
 use Rattle.language.specs.Machine.{Board, Answer, accepted, answer}
 use Rattle.language.specs.Run.{Enough}
 
--- a file's strict text, within the limits
+-- a text whose frames are the file's, the file within the limits; document 02, R-1: "the 16,384 characters count everything"
 pub record TextOf (P : File) (t : List ℕ) : Type 0 where
-  pub text : t ≡ fileText P
+  pub short : length t ≤ textMost
+  pub frames : textFrames t ≡ ok (fileFrames P)
   pub within : Within P
 
 -- the rules derive a file's sizes, its updates having the numbers xs, with at most 1,024 different instances
@@ -28,7 +32,7 @@ pub record FewInstances (P : File) (xs : List Estimate) : Type 0 where
   pub sizes : WellSized P xs
   pub few : AtMost instancesMost (Needed sizes)
 
--- the text is a file's strict text, within the limits; its plain types agree; the rules derive its sizes, and x is what it needs
+-- the text's frames are a file's, within the limits; its plain types agree; the rules derive its sizes, and x is what it needs
 pub record Derived (t : List ℕ) (x : Estimate) : Type 0 where
   pub file : File
   pub is : TextOf file t

@@ -1,26 +1,28 @@
--- Demand 1 as types: what `check`, `start` and `iterate` answer and leave, for all input. Document 01, "By place".
+-- Demand 1 as types: what `check`, `start`, `iterate` and `write` answer and leave, for all input. Document 01, "By place"; document 02, R-1.
 use Prim.Native.Nat.{ℕ, _+_, _≤_, _<_}
 use mathlib.Core.List.{List}
 use mathlib.Core.Path.{_≡_}
 use lib.ListN.{length, drop, replicate}
-use Rattle.language.specs.Refusals.{noRefusal, noFrame, textTooLong, badLine, badFrame, typesDisagree, tooManyInstances, heapShort, notLent, badInputLine, heapSpent, valueTooLarge}
+use Rattle.language.specs.Refusals.{noRefusal, noFrame, textTooLong, badLine, badFrame, noBaseConstructor, typesDisagree, tooManyInstances, heapShort, notLent, badInputLine, heapSpent, valueTooLarge, bufferShort}
 use Rattle.language.specs.Result.{choose}
-use Rattle.language.specs.Reader.{isEmpty, linesOf}
+use Rattle.language.specs.Text.{isEmpty, linesOf, frameLines}
 use Rattle.language.specs.Estimate.{nothing}
 use Rattle.language.specs.Layout.{stateLength}
 use Rattle.language.specs.Machine.{Board, Record, emptyRecord, Answer, Checked, Started, Iterated, zeros, check, start, iterate}
+use Rattle.language.specs.Writer.{Written, write}
 
--- the frames of a text are its lines, of which what stands after the last LF is one
+-- "Frames are counted without those extra lines, but a last line without LF is 2 and counts as a frame"
 unfoldable pub frameCount : List ℕ → ℕ
-frameCount t = length (linesOf t .ended) + choose (isEmpty (linesOf t .rest)) 0 1
+frameCount t = length (frameLines (linesOf t .ended)) + choose (isEmpty (linesOf t .rest)) 0 1
 
--- "a frame (from 1; 0 where none is named)": none is named with 0, 1 and 15 to 19; with any other number one of the text's frames is,
--- or with 3 the one after the last
+-- "a frame (from 1; 0 where none is named)": none is named with 0, 1, 15 to 19 and 24; with any other number one of the text's
+-- frames is, or with 3 the one after the last
 pub record FrameNamed (t : List ℕ) (n frame : ℕ) : Type 0 where
   pub none : n ≤ textTooLong → frame ≡ noFrame
   pub none-at-board : heapShort ≤ n → n ≤ badInputLine → frame ≡ noFrame
+  pub none-at-buffer : n ≡ bufferShort → frame ≡ noFrame
   pub least : badLine ≤ n → n ≤ tooManyInstances → 1 ≤ frame
-  pub least-in-run : heapSpent ≤ n → 1 ≤ frame
+  pub least-in-run : heapSpent ≤ n → n ≤ valueTooLarge → 1 ≤ frame
   pub most : (n ≡ badFrame → ⊥) → frame ≤ frameCount t
   pub one-after : frame ≤ frameCount t + 1
 
@@ -39,6 +41,13 @@ pub record FileAnswer (t : List ℕ) (a : Answer) : Type 0 where
 pub record LineAnswer (t : List ℕ) (a : Answer) : Type 0 where
   pub most : a .number ≤ valueTooLarge
   pub gap : typesDisagree < a .number → notLent ≤ a .number
+  pub bounds : a .bounds ≡ nothing
+  pub frame : FrameNamed t (a .number) (a .frame)
+
+-- an answer of `write` is 0, one of 1 to 8 or 24, and its bounds are zero
+pub record WriteAnswer (t : List ℕ) (a : Answer) : Type 0 where
+  pub most : a .number ≤ bufferShort
+  pub gap : noBaseConstructor < a .number → a .number ≡ bufferShort
   pub bounds : a .bounds ≡ nothing
   pub frame : FrameNamed t (a .number) (a .frame)
 
@@ -71,8 +80,15 @@ pub record IterateAnswers (t : List ℕ) (b : Board) (state scratch slots : List
   pub scratch-clear : r .scratch ≡ zeros scratch
   pub slots-clear : r .slots ≡ zeros slots
 
--- demand 1: no hypothesis on text, board, state, line or lengths
+-- "past the text the buffer is zero, on refusal all of it"
+pub record WriteAnswers (t buffer : List ℕ) (r : Written) : Type 0 where
+  pub answers : WriteAnswer t (r .answer)
+  pub buffer-long : length (r .buffer) ≡ length buffer
+  pub refused-buffer : Refused (r .answer) → r .buffer ≡ zeros buffer
+
+-- demand 1: no hypothesis on text, board, state, line, buffer or lengths
 pub record Demand1 : Type 0 where
   pub checks : (t : List ℕ) (b : Board) (list : List Record) → CheckAnswers t list (check t b list)
   pub starts : (t : List ℕ) (b : Board) (list : List Record) (state scratch slots : List ℕ) → StartAnswers t b list state scratch slots (start t b list state scratch slots)
   pub iterates : (t : List ℕ) (b : Board) (state scratch slots line : List ℕ) → IterateAnswers t b state scratch slots (iterate t b state scratch slots line)
+  pub writes : (t buffer : List ℕ) → WriteAnswers t buffer (write t buffer)

@@ -168,3 +168,13 @@ digitBase = 16
 -- "each ended by LF (0A)"
 abbrev pub lineFeed : ℕ
 lineFeed = 0x0A
+
+-- Document 02, R-1: "spaces between pairs", "CR LF", "lines that start with a semicolon"
+abbrev pub space : ℕ
+space = 0x20
+
+abbrev pub carriageReturn : ℕ
+carriageReturn = 0x0D
+
+abbrev pub semicolon : ℕ
+semicolon = 0x3B

@@ -7,6 +7,7 @@ pub mod Syntax
 pub mod Format
 pub mod Scope
 pub mod Within
+pub mod Text
 pub mod Parser
 pub mod ReadExpr
 pub mod Reader
@@ -32,7 +33,9 @@ pub mod PlainMachine
 pub mod Machine
 pub mod InitialValues
 pub mod Iteration
+pub mod Writer
 pub mod Answers
 pub mod Run
 pub mod Acceptance
 pub mod Evaluation
+pub mod Writing

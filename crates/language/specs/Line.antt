@@ -14,7 +14,7 @@ use Rattle.language.specs.Heap.{kbool, kint, Tree, vleaf, vcon, Trees, v
 use Rattle.language.specs.Values.{fits}
 use Rattle.language.specs.Parser.{Read, got, bad, Parser, _>>=_, return, refuse, index, code, many}
 use Rattle.language.specs.ReadExpr.{Form, boolForm, intForm, varForm, nowForm, lastForm, letForm, ifForm, opForm, callForm, conForm, caseForm, adjForm, fitForm, forms, bools, int}
-use Rattle.language.specs.Reader.{linesOf, lineBytes}
+use Rattle.language.specs.Text.{linesOf, lineBytes}
 
 unfoldable pub valueTrees : Parser Tree → ℕ → Parser Trees
 valueTrees p zero = return vnil

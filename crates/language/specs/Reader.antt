@@ -1,16 +1,17 @@
--- The reader: from the text to the file, or refusal 1 to 8 with its frame (document 01, "The rule file" and "By place").
+-- The reader: from the text to the file, or refusal 1 to 8 with its frame (document 01, "The rule file" and "By place";
+-- document 02, R-1).
 -- "Text is judged as a whole, then frames in file order, bytes left to right; 8 comes at the frame's end."
-use Prim.Native.Nat.{ℕ, suc, _+_, _-_, _*_}
+use Prim.Native.Nat.{ℕ, suc, _+_}
 use mathlib.Core.List.{List, [], _∷_, _++_}
-use mathlib.Core.Bool.{Bool, true, false}
-use mathlib.Core.Option.{Option, none, some}
+use mathlib.Core.Bool.{Bool, false}
 use lib.ListN.{length}
 use lib.Dec.{ltb, leb, eqb}
 use Rattle.language.specs.Limits.{textMost, typesMost, functionsMost, inputsMost, nodesMost, constructorsMost, fieldsMost, parametersMost, conditionsMost, measuresMost}
-use Rattle.language.specs.Refusals.{noFrame, textTooLong, badLine, badFrame, badLength, noBaseConstructor}
-use Rattle.language.specs.Codes.{kindInput, kindNode, kindFirst, relationFirst, digitBase, lineFeed}
+use Rattle.language.specs.Refusals.{noFrame, textTooLong, badFrame, badLength, noBaseConstructor}
+use Rattle.language.specs.Codes.{kindInput, kindNode, kindFirst, relationFirst}
 use Rattle.language.specs.Syntax.{TypeDef, Relation, req, rlt, rle, Condition, Function, Input, Node, File, selfFree}
-use Rattle.language.specs.Result.{Result, ok, no, bind, need, from, both, oneOf, when, choose}
+use Rattle.language.specs.Result.{Result, ok, no, bind, need, from, both, oneOf, choose}
+use Rattle.language.specs.Text.{isEmpty, textFrames}
 use Rattle.language.specs.Parser.{Read, got, bad, Parser, _>>=_, return, index, code, counted, decode}
 use Rattle.language.specs.Scope.{namedCount, bodyScope, outerScope}
 use Rattle.language.specs.ReadExpr.{field, plain, declared, size, result, expr}
@@ -64,10 +65,6 @@ pub data Kind : Type 0 where
 abbrev pub kinds : List Kind
 kinds = typeKind ∷ functionKind ∷ inputKind ∷ nodeKind ∷ []
 
-unfoldable pub isEmpty : {A : Type 0} → List A → Bool
-isEmpty [] = true
-isEmpty (a ∷ l) = false
-
 -- a frame is in order while none of a later kind has been read, and not one too many
 unfoldable pub inOrder : Kind → File → Bool
 inOrder typeKind f = both (both (isEmpty (f .functions)) (both (isEmpty (f .inputs)) (isEmpty (f .nodes)))) (ltb (length (f .types)) typesMost)
@@ -105,44 +102,6 @@ readFrames channels frame f [] = choose (isEmpty (f .nodes)) (no badFrame frame)
 readFrames channels frame f (l ∷ ls) = bind (readFrame channels frame f l) (λ g. readFrames channels (suc frame) g ls)
 
 -- ---- text
--- the lines that end with LF, without it, and what stands after the last LF
-pub record Lines : Type 0 where
-  pub ended : List (List ℕ)
-  pub rest : List ℕ
-
-unfoldable pub longer : ℕ → List (List ℕ) → List ℕ → Lines
-longer c [] rest = record { ended = []; rest = c ∷ rest }
-longer c (l ∷ ls) rest = record { ended = (c ∷ l) ∷ ls; rest = rest }
-
-unfoldable pub linesOf : List ℕ → Lines
-linesOf [] = record { ended = []; rest = [] }
-linesOf (c ∷ t) = let ls = linesOf t in choose (eqb c lineFeed) (record { ended = [] ∷ ls .ended; rest = ls .rest }) (longer c (ls .ended) (ls .rest))
-
--- an upper-case hexadecimal digit
-unfoldable pub digit : ℕ → Option ℕ
-digit c = choose (both (leb 0x30 c) (leb c 0x39)) (some (c - 0x30)) (when (both (leb 0x41 c) (leb c 0x46)) (c - 0x37))
-
-unfoldable pub pair : Option ℕ → Option ℕ → Option (List ℕ) → Option (List ℕ)
-pair (some a) (some b) (some l) = some ((a * digitBase + b) ∷ l)
-pair (some a) (some b) none = none
-pair (some a) none l = none
-pair none b l = none
-
-unfoldable pub pairs : List ℕ → Option (List ℕ)
-pairs [] = some []
-pairs (a ∷ []) = none
-pairs (a ∷ b ∷ l) = pair (digit a) (digit b) (pairs l)
-
--- the bytes of a line: "a line empty, odd, not hexadecimal" has none
-unfoldable pub lineBytes : List ℕ → Option (List ℕ)
-lineBytes [] = none
-lineBytes (c ∷ l) = pairs (c ∷ l)
-
--- the first bad line is named, and a last line without LF is one
-unfoldable pub framesOf : ℕ → List (List ℕ) → List ℕ → Result (List (List ℕ))
-framesOf frame [] rest = need (isEmpty rest) badLine frame (ok [])
-framesOf frame (l ∷ ls) rest = from (lineBytes l) badLine frame (λ bs. bind (framesOf (suc frame) ls rest) (λ fs. ok (bs ∷ fs)))
-
 -- channels are counted over the "frames that begin with 03 or 04"
 unfoldable pub isChannel : List ℕ → Bool
 isChannel [] = false
@@ -155,5 +114,6 @@ channelCount (l ∷ ls) = choose (isChannel l) 1 0 + channelCount ls
 abbrev pub emptyFile : File
 emptyFile = record { types = []; functions = []; inputs = []; nodes = [] }
 
+-- "the 16,384 characters count everything"
 unfoldable pub readFile : List ℕ → Result File
-readFile t = need (leb (length t) textMost) textTooLong noFrame (bind (framesOf 1 (linesOf t .ended) (linesOf t .rest)) (λ fs. readFrames (channelCount fs) 1 emptyFile fs))
+readFile t = need (leb (length t) textMost) textTooLong noFrame (bind (textFrames t) (λ fs. readFrames (channelCount fs) 1 emptyFile fs))

@@ -95,3 +95,7 @@ stackSpent = 22
 -- "value too large"
 abbrev pub valueTooLarge : ℕ
 valueTooLarge = 23
+
+-- Document 02, R-1: "lent buffer shorter than the strict text"
+abbrev pub bufferShort : ℕ
+bufferShort = 24

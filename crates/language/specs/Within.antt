@@ -1,5 +1,5 @@
 -- Which files are within the limits: document 01, "The rule file", as a predicate on the syntax.
--- What the reader refuses with 1 and 3 to 8 is what is not within them.
+-- What the reader refuses with 3 to 8 is what is not within them. Where a text is not too long, the strict text of its frames is not.
 use Prim.Native.Nat.{ℕ, zero, suc, _+_, _≤_, _<_}
 use mathlib.Core.List.{List, [], _∷_, _++_}
 use mathlib.Core.Bool.{Bool, true}

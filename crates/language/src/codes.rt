@@ -134,6 +134,13 @@ pub const DIGIT_BASE: u32 = 16;
 // "each ended by LF (0A)"
 pub const LINE_FEED: u8 = 0x0A;
 
+// Document 02, R-1: "spaces between pairs", "CR LF", "lines that start with a semicolon"
+pub const SPACE: u8 = 0x20;
+
+pub const CARRIAGE_RETURN: u8 = 0x0D;
+
+pub const SEMICOLON: u8 = 0x3B;
+
 pub struct KindCodes {
     pub kind_type: u32,
     pub kind_function: u32,
@@ -209,6 +216,9 @@ pub struct OperandCodes {
 pub struct TextCodes {
     pub digit_base: u32,
     pub line_feed: u8,
+    pub space: u8,
+    pub carriage_return: u8,
+    pub semicolon: u8,
 }
 
 // The constants are the codes of the definitions: those of kinds of frames.
@@ -315,5 +325,8 @@ pub fn text_codes() -> TextCodes
     TextCodes {
         digit_base: DIGIT_BASE,
         line_feed: LINE_FEED,
+        space: SPACE,
+        carriage_return: CARRIAGE_RETURN,
+        semicolon: SEMICOLON,
     }
 }

@@ -72,6 +72,9 @@ pub const STACK_SPENT: u32 = 22;
 // "value too large"
 pub const VALUE_TOO_LARGE: u32 = 23;
 
+// Document 02, R-1: "lent buffer shorter than the strict text"
+pub const BUFFER_SHORT: u32 = 24;
+
 pub struct RefusalNumbers {
     pub no_refusal: u32,
     pub no_frame: u32,
@@ -98,6 +101,7 @@ pub struct RefusalNumbers {
     pub environment_spent: u32,
     pub stack_spent: u32,
     pub value_too_large: u32,
+    pub buffer_short: u32,
 }
 
 // The constants are the numbers of the definitions.
@@ -130,5 +134,6 @@ pub fn refusal_numbers() -> RefusalNumbers
         environment_spent: ENVIRONMENT_SPENT,
         stack_spent: STACK_SPENT,
         value_too_large: VALUE_TOO_LARGE,
+        buffer_short: BUFFER_SHORT,
     }
 }

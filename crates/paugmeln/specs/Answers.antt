@@ -17,7 +17,7 @@ pub data Answers (r : Answer) : Result File → Type 0 where
   was-read : {P : File} → r ≡ refusalOf 0 0 → Answers r (ok P)
   was-refused : {m frame : ℕ} → r ≡ refusalOf m frame → Answers r (no m frame)
 
-pub text-answered : {index : List ℕ} {x : Reading} {r : Answer} {file : Result File} → TextRead x index file → r ≡ readAnswer x → Answers r file
+pub text-answered : {text index : List ℕ} {x : Reading} {r : Answer} {file : Result File} → TextRead text x index file → r ≡ readAnswer x → Answers r file
 unfolding readAnswer
 text-answered (done e w) is = was-read (is ∙ ap readAnswer e)
 text-answered (fault {m = m} {frame = k} e w) is = was-refused (is ∙ ap readAnswer e)

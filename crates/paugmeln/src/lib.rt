@@ -4,6 +4,7 @@ ghost use Rattle.language.specs.Reader.{readFile};
 ghost use Rattle.checker.specs.Checks.{ChecksWords, Checks};
 ghost use Rattle.startup.specs.Starts.{StartsWords, Starts};
 ghost use Rattle.runtime.specs.Runs.{Iterates};
+ghost use Rattle.writer.specs.Writes.{Writes};
 ghost use lib.ListN.{length};
 ghost use Rattle.instance_list.specs.Records.{listWords, FindsPlace};
 ghost use Rattle.paugmeln.specs.Answers.{Answers, board};
@@ -19,6 +20,7 @@ use instance_list::find;
 use reader::read;
 use runtime::iterate;
 use startup::start_words;
+use writer::write;
 
 // A board by its numbers.
 fn lent_board(cells: u32, slots: u32, calls: u32) -> Board
@@ -149,4 +151,12 @@ pub extern "C" fn paugmeln_iterate(
 {
     let b = lent_board(cells, slots, calls);
     iterate(text, b, state, scratch, environment, line)
+}
+
+// The strict text of a file, document 02, R-1: the buffer is zero behind it, or all of it on a refusal; bounds are 0.
+#[no_mangle]
+pub extern "C" fn paugmeln_write(text: &[u8], buffer: &mut [u8]) -> Answer
+    ensures { λ r. ⌜ Writes (now (text .entry)) (now (buffer .entry)) r (now (buffer .exit)) ⌝ }
+{
+    write(text, buffer)
 }

@@ -16,7 +16,7 @@ use Rattle.language.specs.PlainTypes.{isPlain, arePlain, plainOf, plainsOf, pla
 use Rattle.text.specs.Bytes.{plainWord}
 use Rattle.text.specs.Places.{past}
 use Rattle.encoding.specs.Spells.{Spells}
-use Rattle.encoding.specs.FrameSpells.{lineAt}
+use Rattle.encoding.specs.FrameLines.{lineAt}
 use Rattle.encoding.specs.Known.{Known}
 use Rattle.index.specs.Sections.{channelsOf}
 use Rattle.index.specs.Indexed.{declaredAt, lineCount, Indexed}

@@ -19,7 +19,7 @@ use Rattle.index.specs.Tables.{typeWords, constructorWords}
 use Rattle.text.specs.Places.{past}
 use Rattle.encoding.specs.Spells.{Spells}
 use Rattle.encoding.specs.ExprLists.{first-of-exprs}
-use Rattle.encoding.specs.FrameSpells.{lineAt}
+use Rattle.encoding.specs.FrameLines.{lineAt}
 use Rattle.heads.specs.SkipHeads.{count-same}
 use Rattle.heads.specs.PartLaws.{none-ends, more-ends}
 use Rattle.index.specs.Sections.{framesOf, typesOf}

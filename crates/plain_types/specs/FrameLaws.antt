@@ -23,7 +23,7 @@ use Rattle.text.specs.Bytes.{past, plainWord, declaredWord}
 use Rattle.index.specs.Tables.{functionWords}
 use Rattle.index.specs.Enters.{TellsType}
 use Rattle.encoding.specs.Spells.{Spells}
-use Rattle.encoding.specs.FrameSpells.{lineAt}
+use Rattle.encoding.specs.FrameLines.{lineAt}
 use Rattle.heads.specs.SkipHeads.{count-same}
 use Rattle.encoding.specs.Known.{outer-known, body-known}
 use Rattle.encoding.specs.WithinParts.{function-within, node-within}

@@ -16,7 +16,7 @@ use Rattle.theory.specs.Lists.{false-is-not-true, look-getD, look-append, look-
 use Rattle.theory.specs.Places.{below-or-not}
 use Rattle.theory.specs.Alls.{all-at}
 use Rattle.theory.specs.PlainTypesAgree.{well-plain}
-use Rattle.encoding.specs.FrameSpells.{lineAt}
+use Rattle.encoding.specs.FrameLines.{lineAt}
 use Rattle.index.specs.declared.Counts.{Counts}
 use Rattle.encoding.specs.WithinParts.{node-within}
 use Rattle.index.specs.Sections.{channelsOf, countsIn}

@@ -22,7 +22,7 @@ use Rattle.index.specs.Tables.{typeWords, constructorWords, functionWords}
 use Rattle.text.specs.Places.{past}
 use Rattle.encoding.specs.Spells.{Spells}
 use Rattle.encoding.specs.ExprLists.{first-of-exprs}
-use Rattle.encoding.specs.FrameSpells.{lineAt}
+use Rattle.encoding.specs.FrameLines.{lineAt}
 use Rattle.encoding.specs.WithinParts.{type-within, function-within}
 use Rattle.heads.specs.SkipHeads.{count-same}
 use Rattle.heads.specs.PartLaws.{none-ends, more-ends}

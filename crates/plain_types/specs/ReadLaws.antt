@@ -25,10 +25,10 @@ use Rattle.text.specs.declared.Step.{Step}
 use Rattle.text.specs.declared.Step.the-variants.{Next, Stop}
 use Rattle.text.specs.Bytes.{bytesFrom, past, bytesLeft, byteAt, forget, ReadsNumber, Passes, Below}
 use Rattle.index.specs.Tables.{functionWords}
-use Rattle.text.specs.Places.{past-past, left-past, place-left}
+use Rattle.text.specs.Places.{past-past, left-past}
 use Rattle.encoding.specs.Spells.{Spells, spells-left}
 use Rattle.encoding.specs.TypeInversions.{ResultCoded, rbool-coded, rint-coded, rnamed-coded, IsNamedResult, result-of-byte}
-use Rattle.encoding.specs.FrameSpells.{lineAt}
+use Rattle.encoding.specs.FrameLines.{lineAt}
 use Rattle.encoding.specs.CursorSpells.{passed-over}
 use Rattle.heads.specs.SkipHeads.{byte-found, byte-there, next-at, next-there}
 use Rattle.heads.specs.PartLaws.{size-wider}
@@ -84,6 +84,10 @@ named-result (rbool-coded i) h = absurd (omega (arith, h))
 named-result (rint-coded i) h = absurd (omega (arith, h))
 named-result (rnamed-coded i) h = i
 
+named-long : {t : ℕ} {s : Size} {ρ : ResultType} → ρ ≡ rnamed t s → 1 < length (resultBytes ρ)
+unfolding resultBytes
+named-long e = omega (arith, ap (λ (ρ : ResultType). length (resultBytes ρ)) e)
+
 named-within : {types vars t : ℕ} {s : Size} → WithinResult types vars (rnamed t s) → (t < types) × WithinSize vars nestingMost s
 named-within (w-rnamed l w) = (l, w)
 
@@ -107,7 +111,7 @@ module _ (line : List ℕ) (c : Cursor) {x : Number} (v : ReadsNumber line (c .a
 
     module _ (more : 2 ≤ f .value) {y : Number} (u : ReadsNumber line (f .next .at) y (byte (bytesFrom line (f .next .at))) × Below byteRange y) where
       here : {ρ : ResultType} → Spells resultBytes line (c .at) ρ → 0 < bytesLeft line (f .next .at)
-      here s = omega (arith, ap (bytesLeft line) (second s), left-past line (c .at) 1, place-left line (c .at) 2 (named-result (coded s) more .spelled .within))
+      here s = omega (arith, ap (bytesLeft line) (second s), left-past line (c .at) 1, spells-left s, named-long (named-result (coded s) more .is))
 
       pub result-cut : {m : ℕ} → y ≡ Refused m → ReadsResult line c Wrong
       result-cut p = record { says = λ small few w s. absurd (byte-there (here s) u p) }

@@ -12,7 +12,7 @@ use Rattle.language.specs.Syntax.{Plain, pbool, Ty, Expr, Function, Node, File,
 use Rattle.language.specs.Scope.{Scope, outerScope}
 use Rattle.language.specs.Within.{WithinDeclared, WithinExpr, WithinNode}
 use Rattle.language.specs.PlainTypes.{isPlain, plainOf, plainFunction, plainInitial, plainInput, plainNode}
-use Rattle.encoding.specs.FrameSpells.{lineAt}
+use Rattle.encoding.specs.FrameLines.{lineAt}
 use Rattle.encoding.specs.Known.{Known}
 use Rattle.index.specs.Sections.{channelsOf}
 use Rattle.index.specs.Indexed.{declaredAt, channelLine, lineCount, ChannelIndexed, NodeIndexed, Indexed}

@@ -1,5 +1,5 @@
 -- Function frames: what the reads of the parts promise, a function's frame promises.
-use Prim.Native.Nat.{ℕ, zero, suc, _+_, _-_, _*_, _%_, _≤_, _<_}
+use Prim.Native.Nat.{ℕ, zero, suc, _+_, _*_, _%_, _≤_, _<_}
 use mathlib.Core.List.{List, [], _∷_, _++_}
 use mathlib.Core.Path.{_≡_, refl, sym, ap, subst, _∙_}
 use native.Mathlib.Omega.{arith}
@@ -13,7 +13,6 @@ use Rattle.language.specs.Scope.{namedCount, aritiesOf, bodyScope}
 use Rattle.language.specs.Parser.{Read, got, Parser, andThen, index as indexRead, counted}
 use Rattle.language.specs.ReadExpr.{plain, result, exprAt}
 use Rattle.language.specs.Reader.{condition, function}
-use Rattle.theory.specs.Alls.{all-getD}
 use Rattle.theory.specs.ExactParts.{one, index-exact, counted-exact}
 use Rattle.theory.specs.ExactTypes.{plain-exact, result-exact}
 use Rattle.theory.specs.ExactFrames.{conditions-exact}
@@ -23,12 +22,13 @@ use Rattle.text.specs.declared.Step.the-variants.{Next, Stop}
 use Rattle.text.specs.Bytes.{bytesFrom, past, IsPlace, forget, Passes}
 use Rattle.text.specs.Places.{past-past, past-append}
 use Rattle.text.specs.StepLaws.{ends-within, Gives, pass-got, pass-bad, pass-moved, passes-behind, pass-stops-pass, forget-then}
+use Rattle.index.specs.Lined.{lined-length, functionsIn}
 use Rattle.index.specs.Tables.{functionWords, functionEntry, functionTable}
 use Rattle.encoding.specs.FrameParts.{resultPlace, conditionsPlace, measurePlace, bodyPlace}
 use Rattle.index.specs.Sections.{typesFrom, functionsFrom, typeTableWords, functionTableWords, functionsOf}
 use Rattle.index.specs.SectionLaws.{Outside, outside-then, kept-before}
 use Rattle.index.specs.Enters.{Enters, parametersEntry, Named, TellsType, TellsParameters}
-use Rattle.index.specs.FunctionTable.{headWords, ParametersRead, parameters-read, places-added, tells-parameters}
+use Rattle.index.specs.FunctionTable.{headWords, ParametersRead, parameters-read, places-added}
 use Rattle.index.specs.ParserLaws.{bad-is-not-got}
 use Rattle.expression_reader.specs.declared.Names.{Names}
 use Rattle.expression_reader.specs.Follows.{Tells, Follows}
@@ -36,8 +36,7 @@ use Rattle.index.specs.declared.Counts.{Counts}
 use Rattle.reader.specs.Held.{Held, Fits, PlaceWord, ReadsFunction}
 use Rattle.reader.specs.Frames.{kindEnd}
 use Rattle.reader.specs.Places.{place-behind}
-use Rattle.reader.specs.PlaceNumbers.{result-number, conditions-number, measure-number, body-number}
-use Rattle.reader.specs.Channels.{noFunction, arity-at, few-arities, tells-types, then-got, last-got, place-is}
+use Rattle.reader.specs.Channels.{few-arities, told-arity, tells-types, then-got, last-got, place-is}
 
 abbrev pub insideNames : Counts → ℕ → ℕ → Names
 insideNames n variables sizes = record { variables = variables; sizes = sizes; now = 0; last = 0; types = n .types; functions = n .functions + 1 }
@@ -80,8 +79,8 @@ last-or (suc f) (suc n) h = by (last-or f n (omega arith))
     by (before k) = before (omega arith)
     by (here k) = here (ap suc k)
 
-module _ {index index₁ : List ℕ} {n : Counts} {P : File} (held : Held index n P) (o : Outside functionsFrom functionTableWords index index₁) {ps : List Plain} where
-  tells-inside : {variables sizes : ℕ} → n .functions < functionsMost → functionsOf index₁ ≡ padded (functionsMost * functionWords) (spellAll functionEntry (P .functions) ++ parametersEntry ps) → TellsParameters (functionsOf index₁) (n .functions) ps →
+module _ {lines : ℕ → List ℕ} {index index₁ : List ℕ} {n : Counts} {P : File} (held : Held lines index n P) (o : Outside functionsFrom functionTableWords index index₁) {ps : List Plain} where
+  tells-inside : {variables sizes : ℕ} → n .functions < functionsMost → functionsOf index₁ ≡ padded (functionsMost * functionWords) (spellAll functionEntry (functionsIn lines P) ++ parametersEntry ps) → TellsParameters (functionsOf index₁) (n .functions) ps →
       length ps ≡ variables → namedCount ps ≡ sizes → Tells index₁ (insideNames n variables sizes) (bodyScope (P .types) (P .functions) ps)
   unfolding bodyScope
   tells-inside few tb told v z = record {
@@ -110,8 +109,7 @@ module _ {index index₁ : List ℕ} {n : Counts} {P : File} (held : Held index 
       by : (f : ℕ) → Last f (n .functions) → getD (functionsOf index₁) (functionWords * f) 0 ≡ getD (aritiesOf (P .functions) ++ (length ps ∷ [])) f 0
       by f (before h) =
           let less : f < length (P .functions) = omega (arith, held .counted .functionCount) in
-          tells-parameters (functionsMost * functionWords) (P .functions) (parametersEntry ps) f noFunction tb (omega (arith, held .fewFunctions)) less (all-getD (held .parameters) f noFunction less) .count
-          ∙ sym (arity-at (P .functions) f) ∙ sym (arity-is f (before h))
+          told-arity held f (parametersEntry ps) less tb ∙ sym (arity-is f (before h))
       by f (here e) = ap (λ i. getD (functionsOf index₁) (functionWords * i) 0) e ∙ told .count ∙ sym (arity-is f (here e))
 
       most : (f : ℕ) → Last f (n .functions) → getD (aritiesOf (P .functions) ++ (length ps ∷ [])) f 0 ≤ parametersMost
@@ -145,23 +143,23 @@ module _ (line index : List ℕ) (n : Counts) {start : Cursor} (begun : start .a
   v = rw begun at entered
 
   -- where the frame is refused, nothing is said of the function's entry
-  function-stops : {r : Step} {k : ℕ} → r ≡ Stop k → ((P : File) → Held index n P → n .functions < functionsMost → Passes line (kindEnd line) r (forget (function P (bytesFrom line (kindEnd line))))) → ReadsFunction line index n r index₁
+  function-stops : {r : Step} {k : ℕ} → r ≡ Stop k → ((lines : ℕ → List ℕ) (P : File) → Held lines index n P → n .functions < functionsMost → Passes line (kindEnd line) r (forget (function P (bytesFrom line (kindEnd line))))) → ReadsFunction line index n r index₁
   function-stops e says = record {
-    says = λ P held few. says P held few;
-    enters = λ P held few F rest h. bad-is-not-got (sym (pass-bad (says P held few) e) ∙ h);
+    says = λ lines P held few. says lines P held few;
+    enters = λ lines P held few F rest h. bad-is-not-got (sym (pass-bad (says lines P held few) e) ∙ h);
     outside = v .1;
   }
 
-  parameters-pass : {P : File} → Held index n P → Passes line (kindEnd line) w (forget (counted 0 parametersMost (plain (length (P .types))) (bytesFrom line (kindEnd line))))
-  parameters-pass {P} held = passes-as (ap (λ t. forget (counted 0 parametersMost (plain t) (bytesFrom line (kindEnd line)))) (held .counted .typeCount)) (v .0 .passes)
+  parameters-pass : {lines : ℕ → List ℕ} {P : File} → Held lines index n P → Passes line (kindEnd line) w (forget (counted 0 parametersMost (plain (length (P .types))) (bytesFrom line (kindEnd line))))
+  parameters-pass {P = P} held = passes-as (ap (λ t. forget (counted 0 parametersMost (plain t) (bytesFrom line (kindEnd line)))) (held .counted .typeCount)) (v .0 .passes)
 
   pub function-no-parameters : {k : ℕ} → w ≡ Stop k → ReadsFunction line index n w index₁
-  function-no-parameters e = function-stops e λ P held few. passes-as (ap forget (function-is P (bytesFrom line (kindEnd line)))) (pass-stops-pass _ _ (parameters-pass held) e)
+  function-no-parameters e = function-stops e λ lines P held few. passes-as (ap forget (function-is P (bytesFrom line (kindEnd line)))) (pass-stops-pass _ _ (parameters-pass held) e)
 
   module _ {c : Cursor} (e : w ≡ Next c) {vars : ℕ} (named : Named (functionsOf index₁) (n .functions) vars) where
-    module _ {P : File} (held : Held index n P) (few : n .functions < functionsMost) where
-      head : ParametersRead (n .types) (P .functions) (n .functions) (bytesFrom line (kindEnd line)) (bytesFrom line (c .at)) (functionsOf index₁)
-      head = parameters-read (n .types) (P .functions) (v .0) (held .counted .functionCount) few (held .functionsAre) e
+    module _ {lines : ℕ → List ℕ} {P : File} (held : Held lines index n P) (few : n .functions < functionsMost) where
+      head : ParametersRead (n .types) (functionsIn lines P) (n .functions) (bytesFrom line (kindEnd line)) (bytesFrom line (c .at)) (functionsOf index₁)
+      head = parameters-read (n .types) (functionsIn lines P) (v .0) (lined-length lines (length (P .types)) (P .functions) ∙ held .counted .functionCount) few (held .functionsAre) e
 
       sizes-are : namedCount (head .list) ≡ vars
       sizes-are = sym (named .says (head .list) (head .tells))
@@ -176,14 +174,14 @@ module _ (line index : List ℕ) (n : Counts) {start : Cursor} (begun : start .a
       from-parameters u = passes-behind (pass-moved (v .0 .passes) e) (ap forget to-result) u
 
     module _ {x : Step} (p : Passes line (c .at) x (forget (result (n .types) vars (bytesFrom line (c .at))))) where
-      result-passes : {P : File} (held : Held index n P) (few : n .functions < functionsMost) → Passes line (c .at) x (forget (result (length (P .types)) (namedCount (head held few .list)) (bytesFrom line (c .at))))
+      result-passes : {lines : ℕ → List ℕ} {P : File} (held : Held lines index n P) (few : n .functions < functionsMost) → Passes line (c .at) x (forget (result (length (P .types)) (namedCount (head held few .list)) (bytesFrom line (c .at))))
       result-passes held few = passes-as (ap (λ t. forget (result t (namedCount (head held few .list)) (bytesFrom line (c .at)))) (held .counted .typeCount) ∙ ap (λ z. forget (result (n .types) z (bytesFrom line (c .at)))) (sizes-are held few)) p
 
       pub function-no-result : {k : ℕ} → x ≡ Stop k → ReadsFunction line index n x index₁
-      function-no-result h = function-stops h λ P held few. from-parameters held few (pass-stops-pass _ _ (result-passes held few) h)
+      function-no-result h = function-stops h λ lines P held few. from-parameters held few (pass-stops-pass _ _ (result-passes held few) h)
 
       module _ {d : Cursor} (e₂ : x ≡ Next d) where
-        module _ {P : File} (held : Held index n P) (few : n .functions < functionsMost) where
+        module _ {lines : ℕ → List ℕ} {P : File} (held : Held lines index n P) (few : n .functions < functionsMost) where
           the-result : Gives (result (length (P .types)) (namedCount (head held few .list)) (bytesFrom line (c .at))) (bytesFrom line (d .at))
           the-result = pass-got (result-passes held few) e₂
 
@@ -191,14 +189,14 @@ module _ (line index : List ℕ) (n : Counts) {start : Cursor} (begun : start .a
           from-result u = from-parameters held few (passes-behind (pass-moved p e₂) (ap forget (then-got _ (the-result .is))) u)
 
         module _ {y : Step} (q : Passes line (d .at) y (forget (counted 0 conditionsMost (condition vars) (bytesFrom line (d .at))))) where
-          conditions-pass : {P : File} (held : Held index n P) (few : n .functions < functionsMost) → Passes line (d .at) y (forget (counted 0 conditionsMost (condition (namedCount (head held few .list))) (bytesFrom line (d .at))))
+          conditions-pass : {lines : ℕ → List ℕ} {P : File} (held : Held lines index n P) (few : n .functions < functionsMost) → Passes line (d .at) y (forget (counted 0 conditionsMost (condition (namedCount (head held few .list))) (bytesFrom line (d .at))))
           conditions-pass held few = passes-as (ap (λ z. forget (counted 0 conditionsMost (condition z) (bytesFrom line (d .at)))) (sizes-are held few)) q
 
           pub function-no-conditions : {k : ℕ} → y ≡ Stop k → ReadsFunction line index n y index₁
-          function-no-conditions h = function-stops h λ P held few. from-result held few (pass-stops-pass _ _ (conditions-pass held few) h)
+          function-no-conditions h = function-stops h λ lines P held few. from-result held few (pass-stops-pass _ _ (conditions-pass held few) h)
 
           module _ {m : Cursor} (e₃ : y ≡ Next m) where
-            module _ {P : File} (held : Held index n P) (few : n .functions < functionsMost) where
+            module _ {lines : ℕ → List ℕ} {P : File} (held : Held lines index n P) (few : n .functions < functionsMost) where
               the-conditions : Gives (counted 0 conditionsMost (condition (namedCount (head held few .list))) (bytesFrom line (d .at))) (bytesFrom line (m .at))
               the-conditions = pass-got (conditions-pass held few) e₃
 
@@ -206,14 +204,14 @@ module _ (line index : List ℕ) (n : Counts) {start : Cursor} (begun : start .a
               from-conditions u = from-result held few (passes-behind (pass-moved q e₃) (ap forget (then-got _ (the-conditions .is))) u)
 
             module _ {z : Step} (s : Passes line (m .at) z (forget (counted 0 measuresMost (indexRead vars) (bytesFrom line (m .at))))) where
-              measure-passes : {P : File} (held : Held index n P) (few : n .functions < functionsMost) → Passes line (m .at) z (forget (counted 0 measuresMost (indexRead (namedCount (head held few .list))) (bytesFrom line (m .at))))
+              measure-passes : {lines : ℕ → List ℕ} {P : File} (held : Held lines index n P) (few : n .functions < functionsMost) → Passes line (m .at) z (forget (counted 0 measuresMost (indexRead (namedCount (head held few .list))) (bytesFrom line (m .at))))
               measure-passes held few = passes-as (ap (λ i. forget (counted 0 measuresMost (indexRead i) (bytesFrom line (m .at)))) (sizes-are held few)) s
 
               pub function-no-measure : {k : ℕ} → z ≡ Stop k → ReadsFunction line index n z index₁
-              function-no-measure h = function-stops h λ P held few. from-conditions held few (pass-stops-pass _ _ (measure-passes held few) h)
+              function-no-measure h = function-stops h λ lines P held few. from-conditions held few (pass-stops-pass _ _ (measure-passes held few) h)
 
               module _ {b : Cursor} (e₄ : z ≡ Next b) where
-                module _ {P : File} (held : Held index n P) (few : n .functions < functionsMost) where
+                module _ {lines : ℕ → List ℕ} {P : File} (held : Held lines index n P) (few : n .functions < functionsMost) where
                   the-measure : Gives (counted 0 measuresMost (indexRead (namedCount (head held few .list))) (bytesFrom line (m .at))) (bytesFrom line (b .at))
                   the-measure = pass-got (measure-passes held few) e₄
 
@@ -231,10 +229,10 @@ module _ (line index : List ℕ) (n : Counts) {start : Cursor} (begun : start .a
                     (functionsOf index′ ≡ set (set (set (set (functionsOf index₁) (functionWords * n .functions + headWords) i₁) (functionWords * n .functions + headWords + 1) i₂) (functionWords * n .functions + headWords + 2) i₃) (functionWords * n .functions + headWords + 3) i₄)
                     × Outside functionsFrom functionTableWords index₁ index′ → ReadsFunction line index n r index′
                 function-read {index′} {i₁ = i₁} {i₂} {i₃} {i₄} {r} fits a u p₁ p₂ p₃ p₄ wrote = record {
-                  says = λ P held few. from-measure held few (passes-as (forget-then _ _) (u .says (bodyScope (P .types) (P .functions) (head held few .list)) (scope-told held few a) within₄));
-                  enters = λ P held few F rest h.
+                  says = λ lines P held few. from-measure held few (passes-as (forget-then _ _) (u .says (bodyScope (P .types) (P .functions) (head held few .list)) (scope-told held few a) within₄));
+                  enters = λ lines P held few F rest h.
                       let made = last-got (λ (t : Expr). record { parameters = head held few .list; result = the-result held few .value; conditions = the-conditions held few .value; measure = the-measure held few .value; body = t }) _ (sym (to-body held few) ∙ h) in (
-                        written held few (made .value) ∙ ap (λ G. functionTable (P .functions ++ (G ∷ []))) (sym (made .made)),
+                        written held few (made .value) ∙ ap (λ (G : Function). functionTable (functionsIn lines P ++ (record { line = line; part = G } ∷ []))) (sym (made .made)),
                         omega (arith, ap (λ G. length (G .parameters)) (made .made), head held few .tells .few),
                       );
                   outside = outside-then (v .1) (wrote .1);
@@ -252,11 +250,11 @@ module _ (line index : List ℕ) (n : Counts) {start : Cursor} (begun : start .a
                     within₄ : IsPlace line (b .at)
                     within₄ = ends-within (pass-moved s e₄)
 
-                    the-function : {P : File} → Held index n P → n .functions < functionsMost → Expr → Function
+                    the-function : {lines : ℕ → List ℕ} {P : File} → Held lines index n P → n .functions < functionsMost → Expr → Function
                     the-function held few t = record { parameters = head held few .list; result = the-result held few .value; conditions = the-conditions held few .value; measure = the-measure held few .value; body = t }
 
-                    written : {P : File} (held : Held index n P) (few : n .functions < functionsMost) → (t : Expr) → functionsOf index′ ≡ functionTable (P .functions ++ (the-function held few t ∷ []))
-                    written {P} held few t =
+                    written : {lines : ℕ → List ℕ} {P : File} (held : Held lines index n P) (few : n .functions < functionsMost) → (t : Expr) → functionsOf index′ ≡ functionTable (functionsIn lines P ++ (record { line = line; part = the-function held few t } ∷ []))
+                    written {lines} {P} held few t =
                         let F = the-function held few t in
                         let at₁ = place-behind (counted-exact (plain-exact (n .types)) 0 parametersMost) (pass-moved (v .0 .passes) e) (head held few .read) in
                         let at₂ = place-behind (result-exact (length (P .types)) (namedCount (head held few .list))) (pass-moved p e₂) (the-result held few .is) in
@@ -267,8 +265,8 @@ module _ (line index : List ℕ) (n : Counts) {start : Cursor} (begun : start .a
                         let table₁ = set (functionsOf index₁) at i₁ in
                         let table₂ = set table₁ (at + 1) i₂ in
                         let table₃ = set table₂ (at + 2) i₃ in
-                        places-added (P .functions) F (held .counted .functionCount) few (head held few .table)
-                        (ap (set (functionsOf index₁) at) (place-is fits p₁ within₁ ∙ places .result ∙ result-number line F))
-                        (ap (set table₁ (at + 1)) (place-is fits p₂ within₂ ∙ places .conditions ∙ conditions-number line F))
-                        (ap (set table₂ (at + 2)) (place-is fits p₃ within₃ ∙ places .measure ∙ measure-number line F))
-                        (wrote .0 ∙ ap (set table₃ (at + 3)) (place-is fits p₄ within₄ ∙ places .body ∙ body-number line F))
+                        places-added (functionsIn lines P) (record { line = line; part = F }) (lined-length lines (length (P .types)) (P .functions) ∙ held .counted .functionCount) few (head held few .table)
+                        (ap (set (functionsOf index₁) at) (place-is fits p₁ within₁ ∙ places .result))
+                        (ap (set table₁ (at + 1)) (place-is fits p₂ within₂ ∙ places .conditions))
+                        (ap (set table₂ (at + 2)) (place-is fits p₃ within₃ ∙ places .measure))
+                        (wrote .0 ∙ ap (set table₃ (at + 3)) (place-is fits p₄ within₄ ∙ places .body))

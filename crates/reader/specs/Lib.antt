@@ -1,12 +1,11 @@
 pub mod Frames
 pub mod Held
 pub mod Places
-pub mod PlaceNumbers
+pub mod HeldLaws
 pub mod Channels
 pub mod Functions
 pub mod OrderLaws
 pub mod EndedLaws
-pub mod HeldLaws
 pub mod FrameLaws
 pub mod Texts
 pub mod TableLaws
@@ -14,5 +13,4 @@ pub mod LineLaws
 pub mod JudgeLaws
 pub mod ReadLoop
 pub mod TextLaws
-pub mod FrameLines
 pub mod Indexes

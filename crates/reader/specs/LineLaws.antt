@@ -1,40 +1,31 @@
--- The frames of a text: how long the line of one is, at which frame it is refused, and which file they give.
-use Prim.Native.Nat.{ℕ, suc, _+_, _*_, _≤_}
+-- The frames of a text: what each adds to the file, and at which frame one is refused.
+use Prim.Native.Nat.{ℕ, suc, _+_, _≤_}
 use mathlib.Core.List.{List, [], _∷_}
+use mathlib.Core.Bool.{false}
 use mathlib.Core.Option.{Option, none, some}
-use mathlib.Core.Path.{_≡_, refl, sym, ap, _∙_}
+use mathlib.Core.Path.{_≡_, refl}
 use native.Mathlib.Omega.{arith}
-use lib.ListN.{length}
-use Rattle.language.specs.Result.{Result, ok, no, bind, choose}
+use lib.ListN.{length, length-append}
+use borrow.Author.Tests.{le-ltb}
+use Rattle.language.specs.Limits.{typesMost, functionsMost, inputsMost, nodesMost}
+use Rattle.language.specs.Result.{Result, ok, no, bind, need, from, choose}
 use Rattle.language.specs.Syntax.{File, Node}
-use Rattle.language.specs.Format.{fileFrames, fileText}
 use Rattle.language.specs.Parser.{Read, got, bad, decode}
-use Rattle.language.specs.Reader.{Kind, typeKind, functionKind, inputKind, nodeKind, kinds, whole, typeDef, function, input, node, inOrder, isEmpty, readKind, readFrame, readFrames, readFile, pairs, pair, digit, lineBytes}
-use Rattle.theory.specs.Outcomes.{Outcome, accepted, refused, when-refused, bind-outcome, need-outcome, from-outcome}
-use Rattle.theory.specs.ReaderExact.{reader-forth}
-use Rattle.theory.specs.ExactText.{text-back}
-use Rattle.theory.specs.SmallFrames.{file-lines}
-use Rattle.text_lines.specs.Lines.{framesFrom}
+use Rattle.language.specs.Text.{isEmpty, frameBytes}
+use Rattle.language.specs.Reader.{Kind, typeKind, functionKind, inputKind, nodeKind, kinds, whole, typeDef, function, input, node, inOrder, withType, withFunction, withInput, withNode, readKind, readFrame, readFrames}
+use Rattle.theory.specs.Lists.{both-never}
+use Rattle.theory.specs.Outcomes.{Outcome, accepted, refused, when-accepted, when-refused, bind-outcome, need-outcome, from-outcome}
+use Rattle.theory.specs.Tests.{whenever-is}
+use Rattle.theory.specs.ExactText.{Filled, filled, frame-forth}
+use Rattle.index.specs.Tables.{framesMost}
+use Rattle.index.specs.Indexed.{lineCount}
 
--- ---- a line has two characters a byte, and some byte
-pairs-long : (l bs : List ℕ) → pairs l ≡ some bs → length l ≡ 2 * length bs
-unfolding pairs pair
-pairs-long [] bs e = let same : [] ≡ bs = cc in omega (arith, ap length same)
-pairs-long (a ∷ []) bs e = absurd (let z : _≡_ {A = ℕ} 0 1 = cc in omega arith)
-pairs-long (a ∷ b ∷ l) bs e = go (digit a) (digit b) (pairs l) e (pairs-long l)
+-- ---- a frame has some byte
+pub frame-some : (l bs : List ℕ) → frameBytes l ≡ some bs → 1 ≤ length bs
+frame-some l bs e = some-byte (whenever-is (frame-forth l) e .0)
   where
-    go : (x y : Option ℕ) (z : Option (List ℕ)) → pair x y z ≡ some bs → ((cs : List ℕ) → z ≡ some cs → length l ≡ 2 * length cs) → suc (suc (length l)) ≡ 2 * length bs
-    go (some i) (some j) (some cs) e inner =
-        let same : (i * 16 + j) ∷ cs ≡ bs = cc in
-        omega (arith, inner cs refl, ap length same)
-    go (some i) (some j) none e inner = absurd (let z : _≡_ {A = ℕ} 0 1 = cc in omega arith)
-    go (some i) none z e inner = absurd (let z : _≡_ {A = ℕ} 0 1 = cc in omega arith)
-    go none y z e inner = absurd (let z : _≡_ {A = ℕ} 0 1 = cc in omega arith)
-
-pub line-long : (l bs : List ℕ) → lineBytes l ≡ some bs → (length l ≡ 2 * length bs) × (1 ≤ length bs)
-unfolding lineBytes
-line-long [] bs e = absurd (let z : _≡_ {A = ℕ} 0 1 = cc in omega arith)
-line-long (c ∷ l) bs e = let long = pairs-long (c ∷ l) bs e in (long, omega (arith, long))
+    some-byte : {cs : List ℕ} → Filled cs → 1 ≤ length cs
+    some-byte (filled w ws) = omega arith
 
 -- ---- a frame is refused under its own number
 abbrev AtFrame : {A : Type 0} → ℕ → Result A → Type 0
@@ -46,20 +37,54 @@ whole-refuses-at frame (got a []) = accepted tt
 whole-refuses-at frame (got a (b ∷ bs)) = refused refl
 whole-refuses-at frame (bad n) = refused refl
 
-kind-refuses-at : (channels frame : ℕ) (f : File) (bs : List ℕ) (k : Kind) → AtFrame frame (readKind channels frame f bs k)
-unfolding readKind
-kind-refuses-at channels frame f bs typeKind = bind-outcome (whole-refuses-at frame (typeDef f bs)) λ d e q. need-outcome _ 8 frame (λ e. refl) (λ e. accepted tt)
-kind-refuses-at channels frame f bs functionKind = bind-outcome (whole-refuses-at frame (function f bs)) λ d e q. accepted tt
-kind-refuses-at channels frame f bs inputKind = bind-outcome (whole-refuses-at frame (input f bs)) λ d e q. accepted tt
-kind-refuses-at channels frame f bs nodeKind = bind-outcome (whole-refuses-at frame (node channels f bs)) λ d e q. accepted tt
+-- and where it is taken the file has one frame more
+abbrev OneMore : ℕ → File → Result File → Type 0
+OneMore frame f r = Outcome (λ g. lineCount g ≡ lineCount f + 1) (λ n k. k ≡ frame) r
 
-frame-refuses-at : (channels frame : ℕ) (f : File) (bs : List ℕ) → AtFrame frame (readFrame channels frame f bs)
+kind-read : (channels frame : ℕ) (f : File) (bs : List ℕ) (k : Kind) → OneMore frame f (readKind channels frame f bs k)
+unfolding readKind withType withFunction withInput withNode
+kind-read channels frame f bs typeKind = bind-outcome (whole-refuses-at frame (typeDef f bs)) λ d e q. need-outcome _ 8 frame (λ e. refl) (λ e. accepted (omega (arith, length-append (f .types) (d ∷ []))))
+kind-read channels frame f bs functionKind = bind-outcome (whole-refuses-at frame (function f bs)) λ d e q. accepted (omega (arith, length-append (f .functions) (d ∷ [])))
+kind-read channels frame f bs inputKind = bind-outcome (whole-refuses-at frame (input f bs)) λ d e q. accepted (omega (arith, length-append (f .inputs) (d ∷ [])))
+kind-read channels frame f bs nodeKind = bind-outcome (whole-refuses-at frame (node channels f bs)) λ d e q. accepted (omega (arith, length-append (f .nodes) (d ∷ [])))
+
+frame-read : (channels frame : ℕ) (f : File) (bs : List ℕ) → OneMore frame f (readFrame channels frame f bs)
 unfolding readFrame
-frame-refuses-at channels frame f [] = refused refl
-frame-refuses-at channels frame f (b ∷ bs) = from-outcome (decode 0x01 kinds b) 3 frame (λ e. refl) λ k e. need-outcome (inOrder k f) 3 frame (λ e. refl) (λ e. kind-refuses-at channels frame f bs k)
+frame-read channels frame f [] = refused refl
+frame-read channels frame f (b ∷ bs) = from-outcome (decode 0x01 kinds b) 3 frame (λ e. refl) λ k e. need-outcome (inOrder k f) 3 frame (λ e. refl) (λ e. kind-read channels frame f bs k)
 
 pub refused-at : (channels frame : ℕ) (f : File) (bs : List ℕ) {m k : ℕ} → readFrame channels frame f bs ≡ no m k → k ≡ frame
-refused-at channels frame f bs e = when-refused (frame-refuses-at channels frame f bs) e
+refused-at channels frame f bs e = when-refused (frame-read channels frame f bs) e
+
+pub one-frame-more : (channels frame : ℕ) (f : File) (bs : List ℕ) {g : File} → readFrame channels frame f bs ≡ ok g → lineCount g ≡ lineCount f + 1
+one-frame-more channels frame f bs e = when-accepted (frame-read channels frame f bs) e
+
+-- ---- where no kind has room for one more, any frame is one too many
+pub record Full (f : File) : Type 0 where
+  pub types : length (f .types) ≡ typesMost
+  pub functions : length (f .functions) ≡ functionsMost
+  pub inputs : length (f .inputs) ≡ inputsMost
+  pub nodes : length (f .nodes) ≡ nodesMost
+
+-- where there are as many frames as all limits together allow
+pub full-when : (f : File) → framesMost ≤ lineCount f → length (f .types) ≤ typesMost → length (f .functions) ≤ functionsMost → length (f .inputs) ≤ inputsMost → length (f .nodes) ≤ nodesMost → Full f
+full-when f many types functions inputs nodes = record { types = omega arith; functions = omega arith; inputs = omega arith; nodes = omega arith }
+
+none-in-order : (f : File) → Full f → (k : Kind) → inOrder k f ≡ false
+unfolding inOrder
+none-in-order f full typeKind = both-never _ (le-ltb (length (f .types)) typesMost (omega (arith, full .types)))
+none-in-order f full functionKind = both-never _ (le-ltb (length (f .functions)) functionsMost (omega (arith, full .functions)))
+none-in-order f full inputKind = both-never _ (le-ltb (length (f .inputs)) inputsMost (omega (arith, full .inputs)))
+none-in-order f full nodeKind = le-ltb (length (f .nodes)) nodesMost (omega (arith, full .nodes))
+
+pub one-too-many : (channels frame : ℕ) (f : File) (bs : List ℕ) → Full f → 1 ≤ length bs → readFrame channels frame f bs ≡ no 3 frame
+unfolding readFrame from need
+one-too-many channels frame f [] full some-byte = absurd (omega arith)
+one-too-many channels frame f (b ∷ bs) full some-byte = go (decode 0x01 kinds b)
+  where
+    go : (o : Option Kind) → from o 3 frame (λ kind. need (inOrder kind f) 3 frame (readKind channels frame f bs kind)) ≡ no 3 frame
+    go none = refl
+    go (some kind) = rw (none-in-order f full kind)
 
 -- ---- one frame of those left
 pub frame-refused : (channels frame : ℕ) (f : File) {l : List ℕ} {ls fs : List (List ℕ)} {m k : ℕ} → fs ≡ l ∷ ls → readFrame channels frame f l ≡ no m k → readFrames channels frame f fs ≡ no m frame
@@ -86,12 +111,3 @@ some-node channels frame f h = go (f .nodes) h
     go : (ns : List Node) → (length ns ≡ 0 → ⊥) → choose (isEmpty ns) (no 3 frame) (ok f) ≡ ok f
     go [] h = absurd (h refl)
     go (n ∷ ns) h = refl
-
--- ---- the frames of a text that gives a file are the file's
-pub frames-of-file : (t : List ℕ) (P : File) (fs : List (List ℕ)) → readFile t ≡ ok P → framesFrom 1 t ≡ ok fs → fileFrames P ≡ fs
-unfolding fileText
-frames-of-file t P fs e are =
-    let is = reader-forth t P e in
-    let back : framesFrom 1 t ≡ ok (fileFrames P) = ap (framesFrom 1) (is .0) ∙ text-back (fileFrames P) (file-lines P (is .1)) in
-    let same : ok (fileFrames P) ≡ ok fs = sym back ∙ are in
-    cc

@@ -12,7 +12,8 @@ use Rattle.language.specs.Limits.{typesMost, functionsMost, inputsMost, nodesMo
 use Rattle.language.specs.Result.{both, choose}
 use Rattle.language.specs.Syntax.{File}
 use Rattle.language.specs.Parser.{decode}
-use Rattle.language.specs.Reader.{kinds, isEmpty, inOrder}
+use Rattle.language.specs.Text.{isEmpty}
+use Rattle.language.specs.Reader.{kinds, inOrder}
 use Rattle.theory.specs.Lists.{both-never}
 use Rattle.index.specs.declared.Counts.{Counts}
 use Rattle.index.specs.Indexed.{Counted}

@@ -1,20 +1,18 @@
--- What reading a text promises: the index of its file, or the refusal with its frame and an index of zeros.
-use Prim.Native.Nat.{ℕ, _≤_}
+-- What reading a text promises: the index of the text and its file, or the refusal with its frame and an index of zeros.
+use Prim.Native.Nat.{ℕ}
 use mathlib.Core.List.{List}
 use mathlib.Core.Path.{_≡_}
-use lib.ListN.{length, drop, replicate}
+use lib.ListN.{length, replicate}
 use Rattle.language.specs.Result.{Result, ok, no}
 use Rattle.language.specs.Syntax.{File}
-use Rattle.language.specs.Layout.{padded}
 use Rattle.text_lines.specs.declared.Judged.{Judged}
-use Rattle.text_lines.specs.declared.Judged.the-variants.{Channels, Refused as TextRefused}
-use Rattle.text_lines.specs.Lines.{firstLine, framesFrom, judgement}
-use Rattle.text_lines.specs.LinesJudge.{Accepted}
-use Rattle.index.specs.Tables.{placesFrom}
+use Rattle.text_lines.specs.declared.Judged.the-variants.{Frames, Refused as TextRefused}
+use Rattle.text_lines.specs.Lines.{judgement}
+use Rattle.text_lines.specs.TextJudge.{Accepted}
+use Rattle.index.specs.Tables.{frameTable}
 use Rattle.index.specs.Sections.{framesFrom as framesStart, frameTableWords, typeTableWords, functionTableWords, channelTableWords, indexWords, framesOf, typesOf, functionsOf, channelsOf}
 use Rattle.index.specs.SectionLaws.{Outside, CountsPut}
 use Rattle.index.specs.Whole.{indexOf}
-use Rattle.index.specs.Indexed.{frameLength}
 use Rattle.index.specs.declared.Counts.{Counts}
 use Rattle.reader.specs.declared.Frame.{Frame}
 use Rattle.reader.specs.declared.Frame.the-variants.{Taken, Refused}
@@ -27,7 +25,7 @@ frameReading (Taken n) frame = Done
 frameReading (Refused m) frame = Fault m frame
 
 abbrev pub textReading : Judged → Reading
-textReading (Channels n) = Done
+textReading (Frames n channels) = Done
 textReading (TextRefused m frame) = Fault m frame
 
 -- behind the last frame: "no node (frame: one after the last)", or the counts are written
@@ -35,31 +33,26 @@ pub data Finished (n : Counts) (next : ℕ) (index : List ℕ) : Reading → Lis
   without-node : {index′ : List ℕ} → n .nodes ≡ 0 → Finished n next index (Fault 3 next) index′
   with-node : {index′ : List ℕ} → (n .nodes ≡ 0 → ⊥) → CountsPut n index index′ → length index′ ≡ indexWords → Finished n next index Done index′
 
--- a text judged: its answer is the definition's, and where there is no refusal the index has the places of its lines
+-- a text judged: its answer is the definition's, and where there is no refusal the index has the lines of its frames
 pub record Judges (text index : List ℕ) (r : Judged) (index′ : List ℕ) : Type 0 where
   pub is : r ≡ judgement text
-  pub places : (channels : ℕ) → r ≡ Channels channels → (fs : List (List ℕ)) → framesFrom 1 text ≡ ok fs → framesOf index′ ≡ padded frameTableWords (placesFrom 0 fs)
+  pub places : (count channels : ℕ) → r ≡ Frames count channels → framesOf index′ ≡ frameTable text
   pub outside : Outside framesStart frameTableWords index index′
 
--- so many lines come before a place: the index has the length of the line there, or its frames end before it
-pub record Listed (text index : List ℕ) (at read : ℕ) : Type 0 where
-  pub within : at ≤ length text
-  pub says : (frameLength (framesOf index) read ≡ 0 → ⊥) → frameLength (framesOf index) read ≡ length (firstLine (drop at text))
-
--- a text that was judged, with so many channels: its lines are in the index, and the other sections are zero
-pub record Ready (text index : List ℕ) (channels : ℕ) : Type 0 where
-  pub accepted : Accepted text channels
-  pub places : framesOf index ≡ padded frameTableWords (placesFrom 0 (accepted .frames))
+-- a text that was judged, with so many frames and channels: its lines are in the index, and the other sections are zero
+pub record Ready (text index : List ℕ) (count channels : ℕ) : Type 0 where
+  pub accepted : Accepted text count channels
+  pub places : framesOf index ≡ frameTable text
   pub typesZero : typesOf index ≡ replicate typeTableWords 0
   pub functionsZero : functionsOf index ≡ replicate functionTableWords 0
   pub channelsZero : channelsOf index ≡ replicate channelTableWords 0
 
 -- a text read into an index of zeros: after a refusal the index is free
-pub data LinesRead (r : Reading) (index : List ℕ) : Result File → Type 0 where
-  all-lines : {P : File} → r ≡ Done → index ≡ indexOf P → LinesRead r index (ok P)
-  bad-line : {m frame : ℕ} → r ≡ Fault m frame → LinesRead r index (no m frame)
+pub data FramesRead (text : List ℕ) (r : Reading) (index : List ℕ) : Result File → Type 0 where
+  all-frames : {P : File} → r ≡ Done → index ≡ indexOf text P → FramesRead text r index (ok P)
+  bad-frame : {m frame : ℕ} → r ≡ Fault m frame → FramesRead text r index (no m frame)
 
--- a text read: the index is the file's, or after a refusal every word is zero
-pub data TextRead (r : Reading) (index : List ℕ) : Result File → Type 0 where
-  done : {P : File} → r ≡ Done → index ≡ indexOf P → TextRead r index (ok P)
-  fault : {m frame : ℕ} → r ≡ Fault m frame → index ≡ replicate indexWords 0 → TextRead r index (no m frame)
+-- a text read: the index is that of the text and its file, or after a refusal every word is zero
+pub data TextRead (text : List ℕ) (r : Reading) (index : List ℕ) : Result File → Type 0 where
+  done : {P : File} → r ≡ Done → index ≡ indexOf text P → TextRead text r index (ok P)
+  fault : {m frame : ℕ} → r ≡ Fault m frame → index ≡ replicate indexWords 0 → TextRead text r index (no m frame)

@@ -6,15 +6,16 @@ ghost use mathlib.Core.Path.{_≡_};
 ghost use lib.ListN.{replicate};
 ghost use Rattle.language.specs.Reader.{readFile};
 ghost use Rattle.index.specs.Sections.{indexWords};
-ghost use Rattle.reader.specs.Texts.{frameReading, textReading, Finished, Ready, LinesRead, TextRead};
+ghost use Rattle.reader.specs.Texts.{frameReading, textReading, Finished, Ready, FramesRead, TextRead};
 use frames::frame;
 use index::Counts;
+use index::FRAMES_MOST;
 use index::INDEX_WORDS;
 use index::clear;
+use index::frames::frame_line;
 use index_writer::put_counts;
 use language::refusals::BAD_FRAME;
 use lines::judge;
-use lines::line_of;
 use text_lines::Judged;
 
 // A frame that was taken, with the counts then; or the number of the refusal.
@@ -44,7 +45,7 @@ fn text_reading(x: Judged) -> Reading
     ensures { λ r. ⌜ r ≡ textReading x ⌝ }
 {
     match x {
-        Judged::Channels(_) => Reading::Done,
+        Judged::Frames(_, _) => Reading::Done,
         Judged::Refused(n, f) => Reading::Fault(n, f),
     }
 }
@@ -60,10 +61,11 @@ fn finish(index: &mut [u32; INDEX_WORDS], known: Counts, next: u32) -> Reading
     Reading::Done
 }
 
-// Reads frame after frame, each where its place is written, of a text with so many channels.
-fn read_lines(text: &[u8], index: &mut [u32; INDEX_WORDS], channels: u32) -> Reading
-    requires { ⌜ Ready (now text) (now index) channels ⌝ }
-    ensures { λ r. ⌜ LinesRead r (now (index .exit)) (readFile (now (text .entry))) ⌝ }
+// Reads frame after frame, each by its entry in the index, of a text with so many frames and channels. Where the index has no room for
+// another one, every kind has as many frames as it may have.
+fn read_frames(text: &[u8], index: &mut [u32; INDEX_WORDS], frames: u32, channels: u32) -> Reading
+    requires { ⌜ Ready (now text) (now index) frames channels ⌝ }
+    ensures { λ r. ⌜ FramesRead (now (text .entry)) r (now (index .exit)) (readFile (now (text .entry))) ⌝ }
 {
     let mut known = Counts {
         types: 0,
@@ -71,16 +73,17 @@ fn read_lines(text: &[u8], index: &mut [u32; INDEX_WORDS], channels: u32) -> Rea
         inputs: 0,
         nodes: 0,
     };
-    let mut at: usize = 0;
     let mut read: u32 = 0;
-    while at < text.len() {
-        let line = line_of(text, index, at, read);
+    while read < frames {
+        if FRAMES_MOST <= read as usize {
+            return Reading::Fault(BAD_FRAME, read + 1);
+        }
+        let line = frame_line(text, index, read);
         let x = frame(line, index, known, channels);
         let Frame::Taken(n) = x else {
             return frame_reading(x, read + 1);
         };
         known = n;
-        at = at + line.len() + 1;
         read += 1;
     }
     finish(index, known, read + 1)
@@ -89,18 +92,18 @@ fn read_lines(text: &[u8], index: &mut [u32; INDEX_WORDS], channels: u32) -> Rea
 // Reads a text into an index of zeros.
 fn read_into(text: &[u8], index: &mut [u32; INDEX_WORDS]) -> Reading
     requires { ⌜ now index ≡ replicate indexWords 0 ⌝ }
-    ensures { λ r. ⌜ LinesRead r (now (index .exit)) (readFile (now (text .entry))) ⌝ }
+    ensures { λ r. ⌜ FramesRead (now (text .entry)) r (now (index .exit)) (readFile (now (text .entry))) ⌝ }
 {
     let j = judge(text, index);
-    let Judged::Channels(channels) = j else {
+    let Judged::Frames(frames, channels) = j else {
         return text_reading(j);
     };
-    read_lines(text, index, channels)
+    read_frames(text, index, frames, channels)
 }
 
-// Reads a text: the index is its file's, or there is a refusal and every word is 0.
+// Reads a text: the index is that of the text and its file, or there is a refusal and every word is 0.
 pub fn read(text: &[u8], index: &mut [u32; INDEX_WORDS]) -> Reading
-    ensures { λ r. ⌜ TextRead r (now (index .exit)) (readFile (now (text .entry))) ⌝ }
+    ensures { λ r. ⌜ TextRead (now (text .entry)) r (now (index .exit)) (readFile (now (text .entry))) ⌝ }
 {
     clear(index);
     let r = read_into(text, index);

@@ -20,6 +20,7 @@ use Rattle.theory.specs.Unread.{load-same}
 use Rattle.reader.specs.declared.Reading.{Reading}
 use Rattle.reader.specs.declared.Reading.the-variants.{Fault}
 use Rattle.reader.specs.Texts.{TextRead}
+use Rattle.reader.specs.Indexes.{read-fault}
 use Rattle.plain_types.specs.Verdicts.{verdict, JudgesAll}
 use Rattle.plain_types.specs.JudgeLaws.{plain-types-verdict, verdict-refused, verdict-well}
 use Rattle.heads.specs.Places.{channelLineOf}
@@ -29,7 +30,6 @@ use Rattle.answers.specs.declared.Board.{Board}
 use Rattle.answers.specs.declared.Answer.{Answer}
 use Rattle.answers.specs.Boards.{boardOf, said, refusalOf, readAnswer, LendsAll, ClearsBoth}
 use Rattle.checker.specs.Checks.{ReadHeld}
-use Rattle.checker.specs.ReadLaws.{read-fault}
 use Rattle.runtime.specs.Runs.{Iterates, frameAt, answerOf, Cleared, Told, told-done, told-refused, onState, Lent, IteratesLent, IteratesRead}
 use Rattle.answers.specs.LendLaws.{as-long, same-lent, Enough, enough-is}
 
@@ -147,7 +147,7 @@ pub is-clear : {scratch slots scratch₁ slots₁ : List ℕ} → ClearsBoth scr
 is-clear {scratch} c = record { is = c .first-is ∙ ap (λ n. replicate n 0) (sym (as-long scratch (c .first-is))) }
 
 module _ (text : List ℕ) (b : Board) (state scratch slots line : List ℕ) {scratch₁ slots₁ : List ℕ} (cleared : ClearsBoth scratch slots scratch₁ slots₁) where
-  pub iterate-unread : {index : List ℕ} {x : Reading} {r : Answer} {m frame : ℕ} → TextRead x index (readFile text) → x ≡ Fault m frame → r ≡ readAnswer x → Iterates text b state scratch slots line r state scratch₁ slots₁
+  pub iterate-unread : {index : List ℕ} {x : Reading} {r : Answer} {m frame : ℕ} → TextRead text x index (readFile text) → x ≡ Fault m frame → r ≡ readAnswer x → Iterates text b state scratch slots line r state scratch₁ slots₁
   unfolding iterate iterateFile bind readAnswer
   iterate-unread v q e = record { is = told-whole scratch slots (subst (Told (b .cells) state _ state) (sym (ap (λ u. bind u (λ P. plainTypes P (need (buffersLent (boardOf b) state scratch slots) notLent noFrame (onState P (boardOf b) state line)))) (read-fault v q))) (told-refused (e ∙ ap readAnswer q) refl)) (cleared .first-is) (cleared .second-is) }
 

@@ -17,7 +17,7 @@ use Rattle.language.specs.Checker.{Instance, sized}
 use Rattle.text.specs.declared.Cursor.{Cursor}
 use Rattle.text.specs.Places.{past}
 use Rattle.encoding.specs.Spells.{Spells}
-use Rattle.encoding.specs.FrameSpells.{lineAt}
+use Rattle.encoding.specs.FrameLines.{lineAt}
 use Rattle.index.specs.Indexed.{framePart}
 use Rattle.index.specs.FramePartLaws.{part-is-line}
 use Rattle.sizes.specs.declared.SizeAt.{SizeAt}

@@ -22,7 +22,7 @@ use Rattle.index.specs.Tables.{functionWords}
 use Rattle.index.specs.Padded.{padded-none}
 use Rattle.text.specs.Bytes.{declaredWord}
 use Rattle.theory.specs.Alls.{all-map}
-use Rattle.encoding.specs.FrameSpells.{lineAt}
+use Rattle.encoding.specs.FrameLines.{lineAt}
 use Rattle.instances.specs.ListLaws.{sizes-taken}
 use Rattle.type_rows.specs.Rows.{NamedSizes}
 use Rattle.index.specs.Sections.{functionsOf}

@@ -24,7 +24,7 @@ use Rattle.theory.specs.CheckerSteps.{bodyRun}
 use Rattle.text.specs.Bytes.{declaredWord}
 use Rattle.text.specs.Places.{past}
 use Rattle.encoding.specs.Spells.{Spells}
-use Rattle.encoding.specs.FrameSpells.{lineAt}
+use Rattle.encoding.specs.FrameLines.{lineAt}
 use Rattle.index.specs.Indexed.{bodyAt, functionLine}
 use Rattle.encoding.specs.Known.{BodyKnown, body-known}
 use Rattle.instances.specs.Listed.{Adds, Notes, Finishes}

@@ -19,7 +19,7 @@ use Rattle.theory.specs.Places.{look-at}
 use Rattle.text.specs.Places.{past, past-none}
 use Rattle.index.specs.Tables.{typeWords}
 use Rattle.encoding.specs.Spells.{Spells}
-use Rattle.encoding.specs.FrameSpells.{lineAt}
+use Rattle.encoding.specs.FrameLines.{lineAt}
 use Rattle.encoding.specs.ExprLists.{branches-counted, more-spelled}
 use Rattle.estimate.specs.declared.Estimate.{Estimate}
 use Rattle.estimate.specs.Stands.{Makes, Combines}

@@ -16,7 +16,7 @@ use Rattle.language.specs.Checker.{Instance, Sized, named, sized, sizedBranches
 use Rattle.text.specs.declared.Cursor.{Cursor}
 use Rattle.text.specs.Places.{past}
 use Rattle.encoding.specs.Spells.{Spells}
-use Rattle.encoding.specs.FrameSpells.{lineAt}
+use Rattle.encoding.specs.FrameLines.{lineAt}
 use Rattle.index.specs.Indexed.{framePart}
 use Rattle.index.specs.FramePartLaws.{part-is-line}
 use Rattle.estimate.specs.declared.Estimate.{Estimate}

@@ -20,7 +20,7 @@ use Rattle.theory.specs.SameTests.{same-type}
 use Rattle.text.specs.Places.{past}
 use Rattle.index.specs.Tables.{channelWords}
 use Rattle.encoding.specs.Spells.{Spells}
-use Rattle.encoding.specs.FrameSpells.{lineAt}
+use Rattle.encoding.specs.FrameLines.{lineAt}
 use Rattle.index.specs.declared.Counts.{Counts}
 use Rattle.index.specs.Indexed.{channelLine, Counted as CountsAre}
 use Rattle.encoding.specs.Known.{outer-known}

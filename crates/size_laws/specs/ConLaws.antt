@@ -16,7 +16,7 @@ use Rattle.theory.specs.Outcomes.{Sat, accepted, refused, bind-outcome}
 use Rattle.theory.specs.Places.{look-at}
 use Rattle.index.specs.Tables.{typeWords, constructorWords}
 use Rattle.encoding.specs.ExprLists.{exprCount, exprs-counted}
-use Rattle.encoding.specs.FrameSpells.{lineAt}
+use Rattle.encoding.specs.FrameLines.{lineAt}
 use Rattle.index.specs.Sections.{typesOf}
 use Rattle.size_steps.specs.declared.Site.{Site}
 use Rattle.size_steps.specs.declared.Sizing.{Sizing}

@@ -12,7 +12,7 @@ use Rattle.language.specs.Estimate.{nothing, oneCell}
 use Rattle.language.specs.Checker.{Instance, sized}
 use Rattle.theory.specs.Lists.{false-is-not-true}
 use Rattle.text.specs.declared.Cursor.{Cursor}
-use Rattle.encoding.specs.FrameSpells.{lineAt}
+use Rattle.encoding.specs.FrameLines.{lineAt}
 use Rattle.index.specs.Indexed.{framePart}
 use Rattle.index.specs.FramePartLaws.{part-is-line}
 use Rattle.estimate.specs.declared.Estimate.{Estimate}

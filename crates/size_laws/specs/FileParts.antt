@@ -17,7 +17,7 @@ use Rattle.language.specs.Checker.{Instance, Counted as CountedDef, sizedChanne
 use Rattle.text.specs.Places.{past}
 use Rattle.index.specs.Tables.{channelWords}
 use Rattle.encoding.specs.Spells.{Spells}
-use Rattle.encoding.specs.FrameSpells.{lineAt}
+use Rattle.encoding.specs.FrameLines.{lineAt}
 use Rattle.index.specs.declared.Counts.{Counts}
 use Rattle.estimate.specs.Stands.{Stands}
 use Rattle.index.specs.Indexed.{channelLine, Counted as CountsAre}

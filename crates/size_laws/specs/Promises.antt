@@ -21,7 +21,7 @@ use Rattle.language.specs.Checker.{Instance, Sized as SizedDef, Sizeds, Counted
 use Rattle.text.specs.Bytes.{declaredWord}
 use Rattle.text.specs.Places.{past}
 use Rattle.encoding.specs.Spells.{Spells}
-use Rattle.encoding.specs.FrameSpells.{lineAt}
+use Rattle.encoding.specs.FrameLines.{lineAt}
 use Rattle.index.specs.Indexed.{Indexed}
 use Rattle.instances.specs.Listed.{SizesAre}
 use Rattle.sizes.specs.Promises.{meaning}

@@ -18,7 +18,7 @@ use Rattle.theory.specs.Alls.{all-snoc}
 use Rattle.text.specs.declared.Cursor.{Cursor}
 use Rattle.text.specs.Bytes.{declaredWord}
 use Rattle.text.specs.Places.{past, past-none}
-use Rattle.encoding.specs.FrameSpells.{lineAt}
+use Rattle.encoding.specs.FrameLines.{lineAt}
 use Rattle.estimate.specs.Stands.{Stands}
 use Rattle.index.specs.Indexed.{framePart}
 use Rattle.index.specs.FramePartLaws.{part-is-line}

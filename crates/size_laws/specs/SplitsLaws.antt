@@ -19,7 +19,7 @@ use Rattle.theory.specs.Alls.{all-first, all-rest}
 use Rattle.theory.specs.Lists.{false-is-not-true}
 use Rattle.theory.specs.SameTests.{same-type}
 use Rattle.index.specs.Tables.{typeWords, constructorWords}
-use Rattle.encoding.specs.FrameSpells.{lineAt}
+use Rattle.encoding.specs.FrameLines.{lineAt}
 use Rattle.estimate.specs.declared.Estimate.{Estimate as Held}
 use Rattle.estimate.specs.Stands.{Stands, Changes, Combines}
 use Rattle.sizes.specs.declared.SizedType.{SizedType}

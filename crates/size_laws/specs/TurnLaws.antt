@@ -12,7 +12,7 @@ use Rattle.language.specs.Typing.{Place as Stand, frameAt}
 use Rattle.language.specs.Checker.{Instance, Sized, sized}
 use Rattle.text.specs.Places.{past}
 use Rattle.encoding.specs.Spells.{Spells}
-use Rattle.encoding.specs.FrameSpells.{lineAt}
+use Rattle.encoding.specs.FrameLines.{lineAt}
 use Rattle.size_steps.specs.declared.Site.{Site}
 use Rattle.size_steps.specs.declared.Checked.{Checked}
 use Rattle.size_steps.specs.declared.Sizing.{Sizing}

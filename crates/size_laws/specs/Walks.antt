@@ -13,7 +13,7 @@ use Rattle.language.specs.Within.{All}
 use Rattle.language.specs.Estimate.{Estimate, nothing}
 use Rattle.language.specs.Typing.{Place as Stand}
 use Rattle.language.specs.Checker.{Instance, Counted as CountedDef, atSplits}
-use Rattle.encoding.specs.FrameSpells.{lineAt}
+use Rattle.encoding.specs.FrameLines.{lineAt}
 use Rattle.estimate.specs.declared.Estimate.{Estimate as Held}
 use Rattle.estimate.specs.Stands.{Stands, Makes}
 use Rattle.sizes.specs.Promises.{meaning}

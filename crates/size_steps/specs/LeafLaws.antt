@@ -24,7 +24,7 @@ use Rattle.theory.specs.Lists.{look-less}
 use Rattle.text.specs.declared.Cursor.{Cursor}
 use Rattle.text.specs.Bytes.{declaredWord}
 use Rattle.text.specs.Places.{past}
-use Rattle.encoding.specs.FrameSpells.{lineAt}
+use Rattle.encoding.specs.FrameLines.{lineAt}
 use Rattle.index.specs.Indexed.{framePart, resultAt, conditionsAt, measureAt, functionLine, Indexed}
 use Rattle.encoding.specs.WithinParts.{function-within}
 use Rattle.estimate.specs.declared.Estimate.{Estimate}

@@ -15,8 +15,8 @@ use Rattle.language.specs.Within.{All, all-cons, WithinCondition}
 use Rattle.language.specs.Sizes.{added, taken, compare, conditionHolds, conditionsHold, summedMeasure}
 use Rattle.text.specs.declared.Cursor.{Cursor}
 use Rattle.text.specs.declared.Found.{Found}
-use Rattle.text.specs.Places.{past, bytesLeft, place-left}
-use Rattle.encoding.specs.Spells.{Spells, spells-left, spells-first, spells-next, first-of-list, themselves}
+use Rattle.text.specs.Places.{past}
+use Rattle.encoding.specs.Spells.{Spells, spells-first, spells-next, first-of-list, themselves}
 use Rattle.encoding.specs.TypeInversions.{condition-parts}
 use Rattle.sizes.specs.declared.Worked.{Worked}
 use Rattle.sizes.specs.declared.Judged.{Judged}
@@ -63,11 +63,10 @@ module _ (line : List ℕ) (c : Cursor) (Δ : List ℕ) where
       says : (vars : ℕ) (κ : Condition) → WithinCondition vars κ → Spells conditionBytes line (c .at) κ → (holds ≡ conditionHolds Δ κ) × (y .next .at ≡ past line (c .at) (length (conditionBytes κ)))
       says vars κ w z =
           let i = condition-parts z in
-          let here : 0 < bytesLeft line (c .at) = place-left line (c .at) 1 (i .spelled .within) in
-          let a = u .says vars (κ .left) (w .left) (subst (λ m. Spells sizeBytes line m (κ .left)) (sym (v .next here)) (i .spelled)) in
-          let place : x .next .at ≡ past line (past line (c .at) 1) (length (sizeBytes (κ .left))) = a .ends ∙ ap (λ (m : ℕ). past line m (length (sizeBytes (κ .left)))) (v .next here) in
+          let a = u .says vars (κ .left) (w .left) (subst (λ m. Spells sizeBytes line m (κ .left)) (sym (v .next)) (i .spelled)) in
+          let place : x .next .at ≡ past line (past line (c .at) 1) (length (sizeBytes (κ .left))) = a .ends ∙ ap (λ (m : ℕ). past line m (length (sizeBytes (κ .left)))) (v .next) in
           let b = t .says vars (κ .right) (w .right) (subst (λ m. Spells sizeBytes line m (κ .right)) (sym place) (i .next)) in
-          let same : holds ≡ compare (κ .rel) (x .added + y .taken) (y .added + x .taken) = k .says (κ .rel) (v .value here ∙ i .relation) in
+          let same : holds ≡ compare (κ .rel) (x .added + y .taken) (y .added + x .taken) = k .says (κ .rel) (v .value ∙ i .relation) in
           (same ∙ ap₂ (compare (κ .rel)) (ap₂ _+_ (a .isAdded) (b .isTaken)) (ap₂ _+_ (b .isAdded) (a .isTaken)), b .ends ∙ ap (λ (m : ℕ). past line m (length (sizeBytes (κ .right)))) place ∙ sym (i .ends))
 
   -- ---- conditions, one after the other
@@ -104,17 +103,13 @@ module _ (line : List ℕ) (c : Cursor) (Δ : List ℕ) where
   module _ {f : Found} (v : Reads line c f) where
     pub conditions-counted : {r : Bool} → HoldAll line (f .next) Δ (f .value) r → Hold line c Δ r
     conditions-counted u = record {
-      says = λ vars κs count ws z.
-          let here : 0 < bytesLeft line (c .at) = place-left line (c .at) 1 (z .within) in
-          u .says vars κs (v .value here ∙ count) ws (subst (λ m. Spells (spellAll conditionBytes) line m κs) (sym (v .next here)) z);
+      says = λ vars κs count ws z. u .says vars κs (v .value ∙ count) ws (subst (λ m. Spells (spellAll conditionBytes) line m κs) (sym (v .next)) z);
     }
 
     -- ---- measures
     pub measures-counted : {r : ℕ} → SumsMeasures line (f .next) Δ (f .value) r → SumsMeasure line c Δ r
     measures-counted u = record {
-      says = λ is count z.
-          let here : 0 < bytesLeft line (c .at) = place-left line (c .at) 1 (z .within) in
-          u .says is (v .value here ∙ count) (subst (λ m. Spells themselves line m is) (sym (v .next here)) z);
+      says = λ is count z. u .says is (v .value ∙ count) (subst (λ m. Spells themselves line m is) (sym (v .next)) z);
       less = omega (arith, u .less, v .less);
     }
 
@@ -133,11 +128,10 @@ module _ (line : List ℕ) (c : Cursor) (Δ : List ℕ) where
       says : (is : List ℕ) → n ≡ length is → Spells themselves line (c .at) is → k + r ≡ summedMeasure is Δ
       says [] e z = absurd (more e)
       says (i ∷ is) e z =
-          let here : 0 < bytesLeft line (c .at) = omega (arith, spells-left z) in
-          let first : f .value ≡ i = v .value here ∙ spells-first z (omega arith) in
+          let first : f .value ≡ i = v .value ∙ spells-first z (omega arith) in
           let behind : Spells themselves line (past line (c .at) 1) is = spells-next z (i ∷ []) refl in
           let left : n - 1 ≡ length is = omega (arith, e) in
-          ap₂ _+_ (u .is ∙ ap (λ j. getD Δ j 0) first) (t .says is left (subst (λ m. Spells themselves line m is) (sym (v .next here)) behind))
+          ap₂ _+_ (u .is ∙ ap (λ j. getD Δ j 0) first) (t .says is left (subst (λ m. Spells themselves line m is) (sym (v .next)) behind))
 
 pub measures-fit : {line Δ : List ℕ} {c : Cursor} {n i k r : ℕ} → n < byteRange → Told Δ i k → SumsMeasures line c Δ (n - 1) r → k + r < 2 ^ 32
 measures-fit less u t = omega (arith, less, u .less, t .less)

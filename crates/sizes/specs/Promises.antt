@@ -14,7 +14,7 @@ use Rattle.language.specs.Sizes.{added, taken, typeSize, typeAt, compare, condi
 use Rattle.text.specs.declared.Cursor.{Cursor}
 use Rattle.text.specs.declared.Found.{Found}
 use Rattle.text.specs.Bytes.{declaredWord}
-use Rattle.text.specs.Places.{past, bytesLeft, byteAt}
+use Rattle.text.specs.Places.{past, byteAt}
 use Rattle.encoding.specs.Spells.{Spells, themselves}
 use Rattle.sizes.specs.declared.Worked.{Worked}
 use Rattle.sizes.specs.declared.SizeAt.{SizeAt}
@@ -25,10 +25,10 @@ use Rattle.sizes.specs.declared.TypeAt.{TypeAt}
 use Rattle.sizes.specs.declared.TypeAt.the-variants.{Is as TypeIs, Outside as TypeOutside}
 use Rattle.sizes.specs.declared.Judged.{Judged}
 
--- the byte at a place of the line
+-- the byte at a place of the line, 0 where it has none
 pub record Reads (line : List ℕ) (c : Cursor) (r : Found) : Type 0 where
-  pub value : 0 < bytesLeft line (c .at) → r .value ≡ byteAt line (c .at)
-  pub next : 0 < bytesLeft line (c .at) → r .next .at ≡ past line (c .at) 1
+  pub value : r .value ≡ byteAt line (c .at)
+  pub next : r .next .at ≡ past line (c .at) 1
   pub less : r .value < byteRange
 
 -- the size of a variable, 0 of one that is not in scope

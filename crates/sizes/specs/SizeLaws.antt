@@ -1,24 +1,25 @@
 -- Bytes, variables and sizes, return by return: what is worked out is what the written size says.
 use Prim.Native.Nat.{ℕ, zero, suc, _+_, _-_, _*_, _^_, _<_, _≤_}
-use mathlib.Core.List.{List}
+use mathlib.Core.List.{List, [], _∷_}
 use mathlib.Core.Path.{_≡_, refl, sym, ap, ap₂, _∙_, subst}
 use native.Mathlib.Omega.{arith}
 use native.Mathlib.Nat.{two-pow-succ, pow-le-pow-right, lt-of-lt-of-le}
-use lib.ListN.{length, getD}
+use lib.ListN.{length, getD, List·getD-eq-default}
 use Rattle.language.specs.Limits.{byteRange, nestingMost}
-use Rattle.language.specs.Syntax.{Size, lit, svar, plus, minus}
+use Rattle.language.specs.Syntax.{Size, svar, plus, minus}
 use Rattle.language.specs.Format.{sizeBytes}
 use Rattle.language.specs.Within.{WithinSize, w-plus, w-minus}
 use Rattle.language.specs.Sizes.{added, taken}
-use Rattle.language.specs.Parser.{byte}
+use Rattle.language.specs.Parser.{got, bad, byte}
 use Rattle.theory.specs.Places.{one-less}
 use Rattle.text.specs.declared.Cursor.{Cursor}
 use Rattle.text.specs.declared.Found.{Found}
 use Rattle.text.specs.declared.Number.{Number}
 use Rattle.text.specs.declared.Number.the-variants.{Is, Refused}
-use Rattle.text.specs.Bytes.{bytesFrom, past, bytesLeft, byteAt, ReadsNumber, Below, below}
-use Rattle.text.specs.Places.{past-past, left-past}
-use Rattle.encoding.specs.Spells.{Spells, spells-left, IsLeaf}
+use Rattle.text.specs.Bytes.{bytesFrom, past, byteAt, ReadsNumber, Below, below}
+use Rattle.text.specs.Places.{past-past, past-end}
+use Rattle.text.specs.StepLaws.{number-got, number-bad}
+use Rattle.encoding.specs.Spells.{Spells, IsLeaf}
 use Rattle.encoding.specs.TypeInversions.{OfTwoSizes, SizeCoded, lit-coded, svar-coded, plus-coded, minus-coded, size-of-byte, lit-spelled, plus-spelled}
 use Rattle.encoding.specs.CursorSpells.{byte-is}
 use Rattle.sizes.specs.declared.Worked.{Worked}
@@ -33,36 +34,34 @@ placeOf : Number → ℕ
 placeOf (Is f) = f .next .at
 placeOf (Refused n) = 0
 
+byte-there : (bs : List ℕ) {b : ℕ} {rest : List ℕ} → byte bs ≡ got b rest → 0 < length bs
+unfolding byte
+byte-there [] e = absurd (let z : _≡_ {A = ℕ} 0 1 = cc in omega arith)
+byte-there (b ∷ bs) e = omega arith
+
+byte-missing : (bs : List ℕ) {n : ℕ} → byte bs ≡ bad n → length bs ≡ 0
+unfolding byte
+byte-missing [] e = refl
+byte-missing (b ∷ bs) e = absurd (let z : _≡_ {A = ℕ} 0 1 = cc in omega arith)
+
 module _ (line : List ℕ) (c : Cursor) {x : Number} (v : ReadsNumber line (c .at) x (byte (bytesFrom line (c .at))) × Below byteRange x) where
   pub read-none : {m : ℕ} → x ≡ Refused m → Reads line c (record { value = 0; next = c })
-  read-none {m} e = record { value = λ less. absurd (there less); next = λ less. absurd (there less); less = omega arith }
-    where
-      there : 0 < bytesLeft line (c .at) → ⊥
-      there less = let same = sym e ∙ byte-is x less (v .0) in let z : _≡_ {A = ℕ} 0 1 = cc in omega arith
+  read-none e =
+      let none-left = byte-missing (bytesFrom line (c .at)) (number-bad (v .0) e) in
+      record { value = sym (List·getD-eq-default (bytesFrom line (c .at)) 0 {n = 0} (omega (arith, none-left))); next = sym (past-end line (c .at) none-left); less = omega arith }
 
   pub read-done : {f : Found} → x ≡ Is f → Reads line c f
   unfolding valueOf placeOf
-  read-done {f} e = record {
-    value = λ less. ap valueOf (sym e ∙ byte-is x less (v .0));
-    next = λ less. ap placeOf (sym e ∙ byte-is x less (v .0));
-    less = elim (subst (Below byteRange) e (v .1)) [ below q ↦ q ];
-  }
+  read-done {f} e =
+      let less = byte-there (bytesFrom line (c .at)) (number-got (v .0) e) in
+      let same = sym e ∙ byte-is x less (v .0) in
+      record { value = ap valueOf same; next = ap placeOf same; less = elim (subst (Below byteRange) e (v .1)) [ below q ↦ q ] }
 
 -- ---- a variable
 pub variable-told : (Δ : List ℕ) {i k : ℕ} → k ≡ getD Δ i 0 → k < byteRange → Told Δ i k
 variable-told Δ e less = record { is = e; less = less }
 
 -- ---- leaves
-some-byte : (s : Size) → 0 < length (sizeBytes s)
-unfolding sizeBytes
-some-byte (lit k) = omega arith
-some-byte (svar i) = omega arith
-some-byte (plus a b) = omega arith
-some-byte (minus a b) = omega arith
-
-spelled-less : {line : List ℕ} {at : ℕ} {s : Size} → Spells sizeBytes line at s → 0 < bytesLeft line at
-spelled-less {s} w = omega (arith, spells-left w, some-byte s)
-
 leaf-long : {s t : Size} → IsLeaf sizeBytes 2 s t → length (sizeBytes s) ≡ 2
 leaf-long i = ap (λ (a : Size). length (sizeBytes a)) (i .is) ∙ i .long
 
@@ -80,10 +79,8 @@ difference-coded (minus-coded i) le other = i
 
 module _ (line : List ℕ) (c : Cursor) (Δ : List ℕ) {f : Found} (v : Reads line c f) where
   -- the byte behind the code
-  second-byte : {at : ℕ} {s t : Size} → c .at ≡ past line at 1 → Spells sizeBytes line at s → IsLeaf sizeBytes 2 s t → (f .value ≡ byteAt line (past line at 1)) × (f .next .at ≡ past line at (length (sizeBytes s)))
-  second-byte {at} here w i =
-      let some : 0 < bytesLeft line (c .at) = omega (arith, ap (bytesLeft line) here, left-past line at 1, spells-left w, leaf-long i) in
-      (v .value some ∙ ap (byteAt line) here, v .next some ∙ ap (λ (a : ℕ). past line a 1) here ∙ past-past line at 1 1 ∙ ap (past line at) (sym (leaf-long i)))
+  second-byte : (at : ℕ) {s t : Size} → c .at ≡ past line at 1 → IsLeaf sizeBytes 2 s t → (f .value ≡ byteAt line (past line at 1)) × (f .next .at ≡ past line at (length (sizeBytes s)))
+  second-byte at here i = (v .value ∙ ap (byteAt line) here, v .next ∙ ap (λ (a : ℕ). past line a 1) here ∙ past-past line at 1 1 ∙ ap (past line at) (sym (leaf-long i)))
 
   pub leaf-number : {code : ℕ} → code ≡ 1 → LeafWorked line c Δ code (record { added = f .value; taken = 0; next = f .next })
   unfolding added
@@ -92,7 +89,7 @@ module _ (line : List ℕ) (c : Cursor) (Δ : List ℕ) {f : Found} (v : Reads l
       number : (at : ℕ) (s : Size) → c .at ≡ past line at 1 → byteAt line at ≡ code → code < 3 → Spells sizeBytes line at s → IsWorked line Δ s at (record { added = f .value; taken = 0; next = f .next })
       number at s here b less w =
           let i = lit-spelled w (b ∙ q) in
-          let second = second-byte here w i in
+          let second = second-byte at here i in
           record { isAdded = second .0 ∙ sym (ap (added Δ) (i .is)); isTaken = sym (ap (taken Δ) (i .is)); ends = second .1 }
 
   pub leaf-variable : {code k : ℕ} → (code ≡ 1 → ⊥) → Told Δ (f .value) k → LeafWorked line c Δ code (record { added = k; taken = 0; next = f .next })
@@ -102,7 +99,7 @@ module _ (line : List ℕ) (c : Cursor) (Δ : List ℕ) {f : Found} (v : Reads l
       variable : (at : ℕ) (s : Size) → c .at ≡ past line at 1 → byteAt line at ≡ code → code < 3 → Spells sizeBytes line at s → IsWorked line Δ s at (record { added = k; taken = 0; next = f .next })
       variable at s here b less w =
           let i = variable-coded (subst (SizeCoded line at s) b (size-of-byte w)) less other in
-          let second = second-byte here w i in
+          let second = second-byte at here i in
           record { isAdded = u .is ∙ ap (λ j. getD Δ j 0) (second .0) ∙ sym (ap (added Δ) (i .is)); isTaken = sym (ap (taken Δ) (i .is)); ends = second .1 }
 
 -- ---- how large a size can be
@@ -143,21 +140,20 @@ module _ (line : List ℕ) (c : Cursor) (Δ : List ℕ) (levels : ℕ) where
   module _ {f : Found} (v : Reads line c f) where
     pub work-leaf : {r : Worked} → f .value < 3 → LeafWorked line (f .next) Δ (f .value) r → WorksOut line c Δ levels r
     work-leaf less u = record {
-      says = λ vars s w z. let here = spelled-less z in u .says (c .at) s (v .next here) (sym (v .value here)) less z;
+      says = λ vars s w z. u .says (c .at) s (v .next) (sym (v .value)) less z;
       addedLess = small (u .addedLess);
       takenLess = small (u .takenLess);
     }
 
     module _ (more : levels ≡ 0 → ⊥) {x y : Worked} (u : WorksOut line (f .next) Δ (levels - 1) x) (t : WorksOut line (x .next) Δ (levels - 1) y) where
-      first-worked : {vars : ℕ} {s : Size} {join : Size → Size → Size} → Spells sizeBytes line (c .at) s → (i : OfTwoSizes join line (c .at) s) → WithinSize vars (levels - 1) (i .first) → IsWorked line Δ (i .first) (past line (c .at) 1) x
-      first-worked {vars} z i w =
-          let place : f .next .at ≡ past line (c .at) 1 = v .next (spelled-less z) in
-          subst (λ m. IsWorked line Δ (i .first) m x) place (u .says vars (i .first) w (subst (λ m. Spells sizeBytes line m (i .first)) (sym place) (i .spelled)))
+      first-worked : {vars : ℕ} {s : Size} {join : Size → Size → Size} (i : OfTwoSizes join line (c .at) s) → WithinSize vars (levels - 1) (i .first) → IsWorked line Δ (i .first) (past line (c .at) 1) x
+      first-worked {vars} i w =
+          subst (λ m. IsWorked line Δ (i .first) m x) (v .next) (u .says vars (i .first) w (subst (λ m. Spells sizeBytes line m (i .first)) (sym (v .next)) (i .spelled)))
 
-      second-worked : {vars : ℕ} {s : Size} {join : Size → Size → Size} → Spells sizeBytes line (c .at) s → (i : OfTwoSizes join line (c .at) s) → WithinSize vars (levels - 1) (i .first) → WithinSize vars (levels - 1) (i .second) →
+      second-worked : {vars : ℕ} {s : Size} {join : Size → Size → Size} (i : OfTwoSizes join line (c .at) s) → WithinSize vars (levels - 1) (i .first) → WithinSize vars (levels - 1) (i .second) →
           IsWorked line Δ (i .second) (past line (past line (c .at) 1) (length (sizeBytes (i .first)))) y
-      second-worked {vars} z i w o =
-          let place : x .next .at ≡ past line (past line (c .at) 1) (length (sizeBytes (i .first))) = first-worked z i w .ends in
+      second-worked {vars} i w o =
+          let place : x .next .at ≡ past line (past line (c .at) 1) (length (sizeBytes (i .first))) = first-worked i w .ends in
           subst (λ m. IsWorked line Δ (i .second) m y) place (t .says vars (i .second) o (subst (λ m. Spells sizeBytes line m (i .second)) (sym place) (i .next)))
 
       both-end : {s : Size} {join : Size → Size → Size} {n : ℕ} (i : OfTwoSizes join line (c .at) s) → n ≡ past line (past line (past line (c .at) 1) (length (sizeBytes (i .first)))) (length (sizeBytes (i .second))) → n ≡ past line (c .at) (length (sizeBytes s))
@@ -169,10 +165,10 @@ module _ (line : List ℕ) (c : Cursor) (Δ : List ℕ) (levels : ℕ) where
         where
           sums : (vars : ℕ) (s : Size) → WithinSize vars levels s → Spells sizeBytes line (c .at) s → IsWorked line Δ s (c .at) (record { added = x .added + y .added; taken = x .taken + y .taken; next = y .next })
           sums vars s w z =
-              let i = plus-spelled z (sym (v .value (spelled-less z)) ∙ code) in
+              let i = plus-spelled z (sym (v .value) ∙ code) in
               let within = plus-parts (subst (WithinSize vars (suc (levels - 1))) (i .is) (subst (λ m. WithinSize vars m s) (one-less levels more) w)) in
-              let a = first-worked z i (within .0) in
-              let b = second-worked z i (within .0) (within .1) in
+              let a = first-worked i (within .0) in
+              let b = second-worked i (within .0) (within .1) in
               record { isAdded = ap₂ _+_ (a .isAdded) (b .isAdded) ∙ sym (ap (added Δ) (i .is)); isTaken = ap₂ _+_ (a .isTaken) (b .isTaken) ∙ sym (ap (taken Δ) (i .is)); ends = both-end i (b .ends) }
 
       pub work-difference : 3 ≤ f .value → (f .value ≡ 3 → ⊥) → WorksOut line c Δ levels (record { added = x .added + y .taken; taken = x .taken + y .added; next = y .next })
@@ -181,8 +177,8 @@ module _ (line : List ℕ) (c : Cursor) (Δ : List ℕ) (levels : ℕ) where
         where
           differs : (vars : ℕ) (s : Size) → WithinSize vars levels s → Spells sizeBytes line (c .at) s → IsWorked line Δ s (c .at) (record { added = x .added + y .taken; taken = x .taken + y .added; next = y .next })
           differs vars s w z =
-              let i = difference-coded (subst (SizeCoded line (c .at) s) (sym (v .value (spelled-less z))) (size-of-byte z)) most other in
+              let i = difference-coded (subst (SizeCoded line (c .at) s) (sym (v .value)) (size-of-byte z)) most other in
               let within = minus-parts (subst (WithinSize vars (suc (levels - 1))) (i .is) (subst (λ m. WithinSize vars m s) (one-less levels more) w)) in
-              let a = first-worked z i (within .0) in
-              let b = second-worked z i (within .0) (within .1) in
+              let a = first-worked i (within .0) in
+              let b = second-worked i (within .0) (within .1) in
               record { isAdded = ap₂ _+_ (a .isAdded) (b .isTaken) ∙ sym (ap (added Δ) (i .is)); isTaken = ap₂ _+_ (a .isTaken) (b .isAdded) ∙ sym (ap (taken Δ) (i .is)); ends = both-end i (b .ends) }

@@ -8,14 +8,14 @@ use lib.ListN.{length}
 use borrow.Author.Tests.{lt-ltb, le-ltb, le-leb, lt-leb}
 use Rattle.language.specs.Limits.{sizeMost, nestingMost}
 use Rattle.language.specs.Result.{both, when, chain}
-use Rattle.language.specs.Syntax.{Ty, tnamed, Size, ResultType, rbool, rint, rnamed}
+use Rattle.language.specs.Syntax.{Ty, tnamed, Size, ResultType, rnamed}
 use Rattle.language.specs.Format.{sizeBytes, resultBytes}
 use Rattle.language.specs.Within.{Bound, WithinSize, WithinResult, w-rnamed}
 use Rattle.language.specs.Sizes.{added, taken, typeSize, typeAt}
 use Rattle.text.specs.declared.Cursor.{Cursor}
 use Rattle.text.specs.declared.Found.{Found}
-use Rattle.text.specs.Places.{past, bytesLeft, byteAt, past-past, left-past, place-left}
-use Rattle.encoding.specs.Spells.{Spells, spells-left, IsLeaf}
+use Rattle.text.specs.Places.{past, byteAt, past-past}
+use Rattle.encoding.specs.Spells.{Spells, IsLeaf}
 use Rattle.encoding.specs.TypeInversions.{IsNamedResult, ResultCoded, rbool-coded, rint-coded, rnamed-coded, result-of-byte, rbool-spelled, rint-spelled}
 use Rattle.sizes.specs.declared.Worked.{Worked}
 use Rattle.sizes.specs.declared.SizeAt.{SizeAt}
@@ -80,15 +80,6 @@ named-coded (rnamed-coded i) p q = i
 size-of-named : {types vars t : ℕ} {s : Size} → WithinResult types vars (rnamed t s) → WithinSize vars nestingMost s
 size-of-named (w-rnamed less w) = w
 
-some-byte : (ρ : ResultType) → 0 < length (resultBytes ρ)
-unfolding resultBytes
-some-byte rbool = omega arith
-some-byte rint = omega arith
-some-byte (rnamed t s) = omega arith
-
-spelled-less : {line : List ℕ} {at : ℕ} {ρ : ResultType} → Spells resultBytes line at ρ → 0 < bytesLeft line at
-spelled-less {ρ} z = omega (arith, spells-left z, some-byte ρ)
-
 leaf-ends : {n : ℕ} (line : List ℕ) (m : ℕ) {ρ σ : ResultType} → IsLeaf resultBytes 1 ρ σ → n ≡ past line m 1 → n ≡ past line m (length (resultBytes ρ))
 leaf-ends line m i e = e ∙ ap (past line m) (sym (ap (λ (a : ResultType). length (resultBytes a)) (i .is) ∙ i .long))
 
@@ -97,9 +88,8 @@ module _ (line : List ℕ) (c : Cursor) (Δ : List ℕ) {f : Found} (v : Reads l
   unfolding typeAt
   type-bool code = record {
     says = λ types vars ρ w z.
-        let here = spelled-less z in
-        let i = rbool-spelled z (sym (v .value here) ∙ code) in
-        type-is (ap (typeAt Δ) (i .is)) (leaf-ends line (c .at) i (v .next here));
+        let i = rbool-spelled z (sym (v .value) ∙ code) in
+        type-is (ap (typeAt Δ) (i .is)) (leaf-ends line (c .at) i (v .next));
     bound = type-bound bool-small;
   }
 
@@ -107,32 +97,28 @@ module _ (line : List ℕ) (c : Cursor) (Δ : List ℕ) {f : Found} (v : Reads l
   unfolding typeAt
   type-int code = record {
     says = λ types vars ρ w z.
-        let here = spelled-less z in
-        let i = rint-spelled z (sym (v .value here) ∙ code) in
-        type-is (ap (typeAt Δ) (i .is)) (leaf-ends line (c .at) i (v .next here));
+        let i = rint-spelled z (sym (v .value) ∙ code) in
+        type-is (ap (typeAt Δ) (i .is)) (leaf-ends line (c .at) i (v .next));
     bound = type-bound int-small;
   }
 
   module _ (p : f .value ≡ 0 → ⊥) (q : f .value ≡ 1 → ⊥) {g : Found} (o : Reads line (f .next) g) {x : SizeAt} (u : SizeGiven line (g .next) Δ x) where
     is-named : {ρ : ResultType} → Spells resultBytes line (c .at) ρ → IsNamedResult line (c .at) ρ
-    is-named {ρ} z = named-coded (subst (ResultCoded line (c .at) ρ) (sym (v .value (spelled-less z))) (result-of-byte z)) p q
+    is-named {ρ} z = named-coded (subst (ResultCoded line (c .at) ρ) (sym (v .value)) (result-of-byte z)) p q
 
-    number-read : {ρ : ResultType} (z : Spells resultBytes line (c .at) ρ) → (g .value ≡ byteAt line (past line (c .at) 1)) × (g .next .at ≡ past line (c .at) 2)
-    number-read {ρ} z =
-        let place : f .next .at ≡ past line (c .at) 1 = v .next (spelled-less z) in
-        let some : 0 < bytesLeft line (f .next .at) = omega (arith, ap (bytesLeft line) place, left-past line (c .at) 1, place-left line (c .at) 2 (is-named z .spelled .within)) in
-        (o .value some ∙ ap (byteAt line) place, o .next some ∙ ap (λ (m : ℕ). past line m 1) place ∙ past-past line (c .at) 1 1)
+    number-read : (g .value ≡ byteAt line (past line (c .at) 1)) × (g .next .at ≡ past line (c .at) 2)
+    number-read = (o .value ∙ ap (byteAt line) (v .next), o .next ∙ ap (λ (m : ℕ). past line m 1) (v .next) ∙ past-past line (c .at) 1 1)
 
     size-agrees : {types vars : ℕ} {ρ : ResultType} → WithinResult types vars ρ → (z : Spells resultBytes line (c .at) ρ) → AgreesSize (typeSize Δ (is-named z .size)) (past line (g .next .at) (length (sizeBytes (is-named z .size)))) x
     size-agrees {types} {vars} w z =
         let i = is-named z in
-        u .says vars (i .size) (size-of-named (subst (WithinResult types vars) (i .is) w)) (subst (λ m. Spells sizeBytes line m (i .size)) (sym (number-read z .1)) (i .spelled))
+        u .says vars (i .size) (size-of-named (subst (WithinResult types vars) (i .is) w)) (subst (λ m. Spells sizeBytes line m (i .size)) (sym (number-read .1)) (i .spelled))
 
     named-at : {ρ : ResultType} (z : Spells resultBytes line (c .at) ρ) → typeAt Δ ρ ≡ chain (typeSize Δ (is-named z .size)) (λ k. some (tnamed (g .value) k))
     unfolding typeAt
     named-at z =
         let i = is-named z in
-        ap (typeAt Δ) (i .is) ∙ ap (λ t. chain (typeSize Δ (i .size)) (λ k. some (tnamed t k))) (sym (number-read z .0))
+        ap (typeAt Δ) (i .is) ∙ ap (λ t. chain (typeSize Δ (i .size)) (λ k. some (tnamed t k))) (sym (number-read .0))
 
     pub type-refused : x ≡ SizeOutside → TypeGiven line c Δ TypeOutside
     unfolding chain
@@ -148,7 +134,7 @@ module _ (line : List ℕ) (c : Cursor) (Δ : List ℕ) {f : Found} (v : Reads l
           let i = is-named z in
           let agreed = size-given e (size-agrees w z) in
           type-is {next = next} (named-at z ∙ ap (λ (a : Option ℕ). chain a (λ k. some (tnamed (g .value) k))) (agreed .0))
-          (agreed .1 ∙ ap (λ (m : ℕ). past line m (length (sizeBytes (i .size)))) (number-read z .1) ∙ sym (ap (λ (a : ResultType). past line (c .at) (length (resultBytes a))) (i .is) ∙ i .ends));
+          (agreed .1 ∙ ap (λ (m : ℕ). past line m (length (sizeBytes (i .size)))) (number-read .1) ∙ sym (ap (λ (a : ResultType). past line (c .at) (length (resultBytes a))) (i .is) ∙ i .ends));
       bound = type-bound (named-small (o .less) (size-within e (u .bound)));
     }
 

@@ -14,7 +14,7 @@ use Rattle.language.specs.Heap.{Cell, cellAt}
 use Rattle.language.specs.Slide.{State, reached, slide}
 use Rattle.language.specs.Layout.{padded, stateLength, allZero}
 use Rattle.language.specs.Machine.{written}
-use Rattle.theory.specs.Lists.{take-fewer, drop-more}
+use Rattle.theory.specs.Lists.{take-fewer, drop-more, sets-append}
 use Rattle.theory.specs.Padding.{zeros-zero, zero-joined, filled-up}
 use Rattle.theory.specs.Alls.{all-both}
 use Rattle.theory.specs.Members.{map-same}
@@ -22,7 +22,7 @@ use Rattle.theory.specs.Ranks.{membersBelow}
 use Rattle.theory.specs.Reaches.{reached-closed}
 use Rattle.theory.specs.Slides.{moved, slide-keeps-reached}
 use Rattle.state_words.specs.Words.{usedIn, channelAt, rowOf, cleared}
-use Rattle.state_words.specs.RowLaws.{sets-append, row-length, zeros-taken}
+use Rattle.state_words.specs.RowLaws.{row-length, zeros-taken}
 use Rattle.state_words.specs.WriteLaws.{drop-of-take}
 use Rattle.state_words.specs.Holds.{Holds}
 use Rattle.state_words.specs.HoldLaws.{holds-kept}

@@ -1,6 +1,6 @@
 -- The steps of sliding.
-use Prim.Native.Nat.{ℕ, zero, suc, _+_, _-_, _≤_}
-use mathlib.Core.List.{List, [], _∷_, _++_}
+use Prim.Native.Nat.{ℕ, _+_, _-_, _≤_}
+use mathlib.Core.List.{List, _∷_}
 use mathlib.Core.Path.{_≡_, refl, sym, ap, _∙_, subst}
 use native.Mathlib.Numerals.{add-one}
 use native.Mathlib.Omega.{arith}
@@ -9,7 +9,6 @@ use lib.Seq.{sets, getD-drop}
 use Rattle.language.specs.Limits.{fieldsMost}
 use Rattle.language.specs.Layout.{padded, stateLength, allZero}
 use Rattle.theory.specs.Padding.{padded-length, filled-up}
-use Rattle.theory.specs.Places.{below-or-not}
 use Rattle.index.specs.Sections.{typesOf}
 use Rattle.index.specs.Padded.{padded-none, padded-next}
 use Rattle.state_words.specs.Words.{tagAt, valueAt, fieldAt, rowOf, fieldCount}
@@ -27,20 +26,11 @@ pub filled-start : (f : ℕ → ℕ) (row : List ℕ) → Filled f 0 row row
 unfolding rowOf
 filled-start f row = record { long = refl; is = λ e. e ∙ sym (padded-none fieldsMost) }
 
-padded-set-out : (n : ℕ) (ls : List ℕ) (v : ℕ) → n ≤ length ls → set (padded n ls) (length ls) v ≡ padded n (ls ++ (v ∷ []))
-unfolding padded
-padded-set-out zero ls v le = refl
-padded-set-out (suc n) [] v le = absurd (omega arith)
-padded-set-out (suc n) (l ∷ ls) v le = ap (λ (x : List ℕ). l ∷ x) (padded-set-out n ls v (omega arith))
-
-next-padded : (n : ℕ) (ls : List ℕ) (v : ℕ) → set (padded n ls) (length ls) v ≡ padded n (ls ++ (v ∷ []))
-next-padded n ls v = below-or-not (length ls) n (padded-next n ls v) (padded-set-out n ls v)
-
 pub filled-on : (f : ℕ → ℕ) {j x : ℕ} {row₀ row row′ : List ℕ} → Filled f j row₀ row → x ≡ f j → row′ ≡ set row j x → Filled f (j + 1) row₀ row′
 unfolding rowOf
 filled-on f {j} {x} {row₀} {row} {row′} v q e = record {
   long = ap length e ∙ length-set row j x ∙ v .long;
-  is = λ z. e ∙ rw (v .is z, q) (rw add-one (ap (λ i. set (padded fieldsMost (rowOf f j)) i (f j)) (sym (row-length f j)) ∙ next-padded fieldsMost (rowOf f j) (f j)));
+  is = λ z. e ∙ rw (v .is z, q) (rw add-one (ap (λ i. set (padded fieldsMost (rowOf f j)) i (f j)) (sym (row-length f j)) ∙ padded-next fieldsMost (rowOf f j) (f j)));
 }
 
 pub filled-end : (f : ℕ → ℕ) {j n : ℕ} {row₀ row : List ℕ} → j ≤ n → n ≤ j → Filled f j row₀ row → Filled f n row₀ row

@@ -22,6 +22,7 @@ use Rattle.theory.specs.FileAnswers.{StartAccepted, zero-is-accepted, start-ans
 use Rattle.reader.specs.declared.Reading.{Reading}
 use Rattle.reader.specs.declared.Reading.the-variants.{Fault}
 use Rattle.reader.specs.Texts.{TextRead}
+use Rattle.reader.specs.Indexes.{read-fault}
 use Rattle.index.specs.Indexed.{Indexed}
 use Rattle.new_cells.specs.Steps.{Board as BoardHas}
 use Rattle.instance_list.specs.declared.Instance.{Instance}
@@ -33,7 +34,7 @@ use Rattle.answers.specs.declared.Answer.{Answer}
 use Rattle.answers.specs.Boards.{boardOf, said, lentRecords, readAnswer, Granted, LendsList, ClearsBoth}
 use Rattle.checker.specs.Checks.{ReadHeld, ChecksGiven}
 use Rattle.answers.specs.LendLaws.{as-long, same-lent, list-room}
-use Rattle.checker.specs.ReadLaws.{read-fault, reading-refused}
+use Rattle.checker.specs.ReadLaws.{reading-refused}
 use Rattle.checker.specs.Outcomes.{sizesOf}
 use Rattle.startup.specs.Starts.{started, StartsRead, StartsWords, Starts}
 use Rattle.answers.specs.LendLaws.{Enough, enough-is}
@@ -134,7 +135,7 @@ module _ (text : List ℕ) (b : Board) (records : ℕ) (state scratch slots : Li
   abbrev outcome : Bool → Result Accepted
   outcome d = checkFile text (both (listLent (boardOf b) (lentRecords records)) d)
 
-  pub start-unread : {index words′ : List ℕ} {x : Reading} {r : Answer} {m frame : ℕ} (k : ℕ) → TextRead x index (readFile text) → x ≡ Fault m frame → r ≡ readAnswer x → words′ ≡ replicate k 0 →
+  pub start-unread : {index words′ : List ℕ} {x : Reading} {r : Answer} {m frame : ℕ} (k : ℕ) → TextRead text x index (readFile text) → x ≡ Fault m frame → r ≡ readAnswer x → words′ ≡ replicate k 0 →
       StartsWords text b records state scratch slots r words′ state scratch₁ slots₁
   unfolding start startWords verdictOf checkFile bind
   start-unread {x = x} k v q e z =

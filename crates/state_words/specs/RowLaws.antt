@@ -3,7 +3,6 @@ use Prim.Native.Nat.{ℕ, zero, suc, _+_, _-_, _≤_, _<_}
 use mathlib.Core.List.{List, [], _∷_, _++_}
 use mathlib.Core.Bool.{Bool, true, false, _&&_}
 use mathlib.Core.Path.{_≡_, refl, sym, ap, ap₂, _∙_}
-use native.Mathlib.Nat.{add-zero}
 use native.Mathlib.Numerals.{add-one}
 use native.Mathlib.Omega.{arith}
 use lib.ListN.{length, getD, take, drop, set, replicate, length-append, length-take, length-drop, List·getD-eq-default, List·getD-append}
@@ -12,13 +11,10 @@ use lib.Dec.{eqb}
 use Rattle.language.specs.Result.{both}
 use Rattle.language.specs.Layout.{allZero}
 use Rattle.theory.specs.Places.{below-or-last}
+use Rattle.theory.specs.Lists.{sets-append}
 use Rattle.state_words.specs.Words.{rowOf}
 
 -- ---- words stored from a place on
-pub sets-append : (xs ys l : List ℕ) (i : ℕ) → sets l i (xs ++ ys) ≡ sets (sets l i xs) (i + length xs) ys
-sets-append [] ys l i = ap (λ m. sets l m ys) (sym (add-zero i))
-sets-append (x ∷ xs) ys l i = let on : suc i + length xs ≡ i + suc (length xs) = omega arith in sets-append xs ys (set l i x) (suc i) ∙ ap (λ m. sets (sets (set l i x) (suc i) xs) m ys) on
-
 -- those of a row before j are stored
 pub record Stored (words₀ : List ℕ) (from : ℕ) (row : List ℕ) (j : ℕ) (words : List ℕ) : Type 0 where
   pub low : j ≤ length row

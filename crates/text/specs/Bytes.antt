@@ -2,6 +2,8 @@
 use Prim.Native.Nat.{ℕ, _+_, _*_, _≤_, _<_}
 use mathlib.Core.List.{List}
 use mathlib.Core.Path.{_≡_}
+use lib.ListN.{length, getD}
+use Rattle.language.specs.Codes.{space}
 use Rattle.language.specs.Syntax.{Field, fbool, fint, own, other, Plain, pbool, pint, pnamed, Ty, tbool, tint, tnamed}
 use Rattle.language.specs.Layout.{tagStep}
 use Rattle.language.specs.Parser.{Read, got, bad}
@@ -54,6 +56,19 @@ pub record Passes (line : List ℕ) (at : ℕ) (r : Step) (x : Read (Unit {0})) 
 pub data Below (n : ℕ) : Number → Type 0 where
   below : {f : Found} → f .value < n → Below n (Is f)
   no-number : {m : ℕ} → Below n (Refused m)
+
+-- ---- what the characters are
+-- a pair stands at a place, and no space before it
+pub record PairAt (line : List ℕ) (at : ℕ) : Type 0 where
+  pub there : at + 1 < length line
+  pub unspaced : getD line at 0 ≡ space → ⊥
+
+-- the digits of an Int, none of its pairs behind a space
+pub record UnspacedInt (line : List ℕ) (at : ℕ) : Type 0 where
+  pub first : PairAt line at
+  pub second : PairAt line (at + 2)
+  pub third : PairAt line (at + 4)
+  pub fourth : PairAt line (at + 6)
 
 -- ---- types as one word: 0 Bool, 1 Int, 2 a field of the type itself, else 256 × (t + 1) and the size
 unfoldable pub plainWord : Plain → ℕ

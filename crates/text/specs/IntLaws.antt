@@ -1,20 +1,24 @@
 -- An Int by its four bytes: each byte may be missing, else the number is theirs.
-use Prim.Native.Nat.{ℕ, _+_, _-_, _*_, _/_, _^_, _≤_, _<_}
+use Prim.Native.Nat.{ℕ, _+_, _*_, _^_, _≤_, _<_}
 use mathlib.Core.List.{List, [], _∷_}
+use mathlib.Core.Bool.{true, false}
 use mathlib.Core.Path.{_≡_, refl, sym, ap, _∙_}
 use native.Mathlib.Omega.{arith}
-use lib.ListN.{length, drop}
+use native.Mathlib.Nat.{add-zero}
+use lib.ListN.{length, getD, drop}
+use Rattle.language.specs.Codes.{space}
 use Rattle.language.specs.Limits.{byteRange}
-use Rattle.language.specs.Parser.{got, bad, Parser, andThen, _>>=_, return, byte}
+use Rattle.language.specs.Parser.{got, Parser, andThen, _>>=_, return, byte}
 use Rattle.language.specs.ReadExpr.{int}
 use Rattle.text.specs.declared.Found.{Found}
 use Rattle.text.specs.declared.Number.{Number}
 use Rattle.text.specs.declared.Number.the-variants.{Is, Refused}
-use Rattle.text.specs.declared.Step.the-variants.{Next, Stop}
-use Rattle.text.specs.Bytes.{bytesFrom, past, forget, passed, moved, stopped, ReadsNumber, Passes, Below}
-use Rattle.text.specs.Places.{bytes-past, past-is-sum, place-is-number, left-is-number}
+use Rattle.text.specs.declared.Step.{Step}
+use Rattle.text.specs.declared.Step.the-variants.{Next}
+use Rattle.text.specs.Bytes.{bytesFrom, past, bytesLeft, forget, stepOf, moved, ReadsNumber, Passes, Below, PairAt, UnspacedInt}
+use Rattle.text.specs.Places.{pairPlace, past-none, past-past, bytes-past, left-past, pair-here, place-inside, byte-read, past-read}
 use Rattle.text.specs.ReadLaws.{read-then}
-use Rattle.text.specs.StepLaws.{pass-here, number-other, read-then-read, read-stops-read}
+use Rattle.text.specs.StepLaws.{pass-here, read-passes, number-other, read-then-read, read-stops-read}
 
 -- what is left to read behind one byte, two, three and all four
 abbrev behindFour : ℕ → ℕ → ℕ → ℕ → Parser ℕ
@@ -63,15 +67,7 @@ module _ (line : List ℕ) (at : ℕ) {x : Number} (v : ByteAt line at x) where
         unfolding int
         int-whole e = read-then-read behindOne (v .0) d (read-then-read (behindTwo (f .value)) (u .0) d′ (read-then-read (behindThree (f .value) (g .value)) (w .0) d″ (number-other (t .0) e (read-then (behindFour (f .value) (g .value) (h .value)) (t .0) e))))
 
--- ---- an Int passed over: its bytes are only counted
-int-short : (bs : List ℕ) → length bs < 4 → forget (int bs) ≡ bad 4
-unfolding int byte andThen forget
-int-short [] h = refl
-int-short (a ∷ []) h = refl
-int-short (a ∷ b ∷ []) h = refl
-int-short (a ∷ b ∷ c ∷ []) h = refl
-int-short (a ∷ b ∷ c ∷ d ∷ bs) h = absurd (omega arith)
-
+-- ---- an Int passed over: without spaces its pairs are only counted
 int-there : (bs : List ℕ) → 4 ≤ length bs → forget (int bs) ≡ got tt (drop 4 bs)
 unfolding int byte andThen forget
 int-there [] h = absurd (omega arith)
@@ -80,12 +76,55 @@ int-there (a ∷ b ∷ []) h = absurd (omega arith)
 int-there (a ∷ b ∷ c ∷ []) h = absurd (omega arith)
 int-there (a ∷ b ∷ c ∷ d ∷ bs) h = refl
 
-module _ (line : List ℕ) (at : ℕ) where
-  pub past-int-missing : length line / 2 < at + 4 → Passes line at (Stop 4) (forget (int (bytesFrom line at)))
-  unfolding passed
-  past-int-missing h = record { is = sym (int-short (bytesFrom line at) (omega (arith, left-is-number line at))); on = stopped }
+-- the answer of the walk over the first characters of its pairs
+pub int-spaced : {line : List ℕ} {at : ℕ} → false ≡ true → UnspacedInt line at
+int-spaced e = absurd (let z : _≡_ {A = ℕ} 0 1 = cc in omega arith)
 
-  pub past-int-whole : at + 4 ≤ length line / 2 → Passes line at (Next (record { at = at + 4 })) (forget (int (bytesFrom line at)))
-  past-int-whole h =
-      let place : bytesFrom line (past line at 4) ≡ bytesFrom line (at + 4) = ap (bytesFrom line) (past-is-sum line at 4) in
-      pass-here (moved {c = record { at = at + 4 }} 4 (sym (past-is-sum line at 4)) (omega (arith, left-is-number line at)) (place-is-number line (at + 4) h)) (int-there (bytesFrom line at) (omega (arith, left-is-number line at)) ∙ ap (got tt) (sym (bytes-past line at 4) ∙ place))
+pub int-found : {line : List ℕ} {at : ℕ} → at + 8 ≤ length line → (getD line at 0 ≡ space → ⊥) → (getD line (at + 2) 0 ≡ space → ⊥) → (getD line (at + 4) 0 ≡ space → ⊥) → (getD line (at + 6) 0 ≡ space → ⊥) →
+    true ≡ true → UnspacedInt line at
+int-found h first second third fourth e = record {
+  first = record { there = omega arith; unspaced = first };
+  second = record { there = omega arith; unspaced = second };
+  third = record { there = omega arith; unspaced = third };
+  fourth = record { there = omega arith; unspaced = fourth };
+}
+
+-- so many pairs stand at a place, none behind a space
+record Unspaced (line : List ℕ) (at n : ℕ) : Type 0 where
+  passes : past line at n ≡ at + 2 * n
+  left : n ≤ bytesLeft line at
+
+module _ {line : List ℕ} where
+  none-unspaced : (at : ℕ) → Unspaced line at 0
+  none-unspaced at = record { passes = past-none line at ∙ sym (add-zero at); left = omega arith }
+
+  one-unspaced : {at next : ℕ} (n : ℕ) → at + 2 ≡ next → PairAt line at → Unspaced line next n → Unspaced line at (1 + n)
+  one-unspaced {at} {next} n two pair u =
+      let place = pair-here line at (omega (arith, pair .there)) (pair .unspaced) in
+      let there : pairPlace line at + 1 < length line = omega (arith, place, pair .there) in
+      let one : past line at 1 ≡ next = past-read line at there ∙ ap (λ (k : ℕ). k + 2) (sym place) ∙ two in
+      let more = ap length (byte-read line at there) in
+      let behind = ap (bytesLeft line) one in
+      let left = left-past line at 1 in
+      let here : next + 2 * n ≡ at + 2 * (1 + n) = omega arith in
+      record {
+        passes = sym (past-past line at 1 n) ∙ ap (λ (a : ℕ). past line a n) one ∙ u .passes ∙ here;
+        left = omega (arith, more, behind, left, u .left);
+      }
+
+module _ (line : List ℕ) (at : ℕ) where
+  int-unspaced : UnspacedInt line at → Unspaced line at 4
+  int-unspaced u =
+      let last : Unspaced line (at + 6) 1 = one-unspaced 0 (omega arith) (u .fourth) (none-unspaced (at + 8)) in
+      let two : Unspaced line (at + 4) 2 = one-unspaced 1 (omega arith) (u .third) last in
+      one-unspaced 3 refl (u .first) (one-unspaced 2 (omega arith) (u .second) two)
+
+  pub past-int-whole : UnspacedInt line at → Passes line at (Next (record { at = at + 8 })) (forget (int (bytesFrom line at)))
+  past-int-whole u =
+      let four = int-unspaced u in
+      let place : bytesFrom line (past line at 4) ≡ bytesFrom line (at + 8) = ap (bytesFrom line) (four .passes) in
+      pass-here (moved {c = record { at = at + 8 }} 4 (sym (four .passes)) (four .left) (place-inside line (at + 8) (omega (arith, u .fourth .there)))) (int-there (bytesFrom line at) (four .left) ∙ ap (got tt) (sym (bytes-past line at 4) ∙ place))
+
+  -- else it is read
+  pub past-int-read : {x : Number} {r : Step} → ReadsNumber line at x (int (bytesFrom line at)) → r ≡ stepOf x → Passes line at r (forget (int (bytesFrom line at)))
+  past-int-read {x} v e = rw e (read-passes x v)

@@ -1,12 +1,12 @@
 -- Reads in turn: what the cursor's answer says of the parser's, and of what comes behind it.
-use Prim.Native.Nat.{ℕ, _+_, _*_, _/_, _≤_, _<_}
+use Prim.Native.Nat.{ℕ, _+_, _*_, _≤_, _<_}
 use mathlib.Core.List.{List, [], _∷_}
 use mathlib.Core.Bool.{Bool, true, false}
 use mathlib.Core.Path.{_≡_, refl, sym, ap, _∙_}
 use native.Mathlib.Omega.{arith}
 use lib.ListN.{length, getD, drop}
 use lib.Dec.{ltb, leb}
-use borrow.Author.Tests.{lt-ltb, le-ltb, le-leb, lt-leb}
+use borrow.Author.Tests.{ltb-true, ltb-false, lt-ltb, le-ltb, le-leb, lt-leb}
 use Rattle.language.specs.Limits.{byteRange}
 use Rattle.language.specs.Result.{both}
 use Rattle.language.specs.Parser.{Read, got, bad, Parser, andThen, must, byte, index, count}
@@ -14,8 +14,7 @@ use Rattle.text.specs.declared.Found.{Found}
 use Rattle.text.specs.declared.Number.{Number}
 use Rattle.text.specs.declared.Number.the-variants.{Is, Refused}
 use Rattle.text.specs.Bytes.{digitValue, bytesFrom, past, bytesLeft, byteAt, given, moved, stopped, ReadsNumber, Below, below, no-number}
-use Rattle.text.specs.DigitLaws.{bytes-at}
-use Rattle.text.specs.Places.{bytes-past, past-is-sum, place-is-number, left-is-number, byte-is-number}
+use Rattle.text.specs.Places.{pairPlace, bytes-past, place-inside, no-byte, byte-read, past-read}
 
 -- ---- the next byte
 byte-first : (bs : List ℕ) → 0 < length bs → byte bs ≡ got (getD bs 0 0) (drop 1 bs)
@@ -32,21 +31,40 @@ byte-of-none (b ∷ bs) h = absurd (omega arith)
 pub byte-some : (line : List ℕ) (at : ℕ) → 0 < bytesLeft line at → byte (bytesFrom line at) ≡ got (byteAt line at) (bytesFrom line (past line at 1))
 byte-some line at h = byte-first (bytesFrom line at) h ∙ ap (got (byteAt line at)) (sym (bytes-past line at 1))
 
-pub byte-end : (line : List ℕ) (at : ℕ) → length line / 2 ≤ at → ReadsNumber line at (Refused 4) (byte (bytesFrom line at)) × Below byteRange (Refused 4)
-unfolding given
-byte-end line at h = (record { is = sym (byte-of-none (bytesFrom line at) (omega (arith, left-is-number line at))); on = stopped }, no-number)
+-- the place of the next pair, as the code has it
+module _ (line : List ℕ) (at : ℕ) {place : ℕ} (is : place ≡ pairPlace line at) where
+  pub byte-end : length line < place + 2 → ReadsNumber line at (Refused 4) (byte (bytesFrom line at)) × Below byteRange (Refused 4)
+  unfolding given
+  byte-end h = (record { is = sym (byte-of-none (bytesFrom line at) (ap length (no-byte line at (omega arith)))); on = stopped }, no-number)
 
-pub byte-done : (line : List ℕ) (at high low : ℕ) → at < length line / 2 → (high ≡ digitValue (getD line (2 * at) 0)) × (high < 16) → (low ≡ digitValue (getD line (2 * at + 1) 0)) × (low < 16) →
-    ReadsNumber line at (Is (record { value = high * 16 + low; next = record { at = at + 1 } })) (byte (bytesFrom line at)) × Below byteRange (Is (record { value = high * 16 + low; next = record { at = at + 1 } }))
-unfolding given
-byte-done line at high low h p q =
-    let read = byte-some line at (omega (arith, left-is-number line at)) in (
-      record {
-        is = sym (read ∙ rw (past-is-sum line at 1, byte-is-number line at, bytes-at line at h, p .0, q .0));
-        on = moved {c = record { at = at + 1 }} 1 (sym (past-is-sum line at 1)) (omega (arith, left-is-number line at)) (place-is-number line (at + 1) (omega arith));
-      },
-      below {f = record { value = high * 16 + low; next = record { at = at + 1 } }} (omega (arith, p .1, q .1)),
-    )
+  pub no-more : length line ≤ place + 1 → false ≡ ltb 0 (bytesLeft line at)
+  no-more h = sym (le-ltb 0 (bytesLeft line at) (omega (arith, ap length (no-byte line at (omega arith)))))
+
+  module _ (h : place + 1 < length line) where
+    byte-there : 0 < bytesLeft line at
+    byte-there = omega (arith, ap length (byte-read line at (omega arith)))
+
+    behind-is : place + 2 ≡ past line at 1
+    behind-is = ap (λ (n : ℕ). n + 2) is ∙ sym (past-read line at (omega arith))
+
+    pub byte-done : (high low : ℕ) → (high ≡ digitValue (getD line place 0)) × (high < 16) → (low ≡ digitValue (getD line (place + 1) 0)) × (low < 16) →
+        ReadsNumber line at (Is (record { value = high * 16 + low; next = record { at = place + 2 } })) (byte (bytesFrom line at)) × Below byteRange (Is (record { value = high * 16 + low; next = record { at = place + 2 } }))
+    unfolding given
+    byte-done high low p q =
+        let value : byteAt line at ≡ high * 16 + low = ap (λ bs. getD bs 0 0) (byte-read line at (omega arith)) ∙ rw (sym is, p .0, q .0) in (
+          record {
+            is = sym (byte-some line at byte-there ∙ rw (value, behind-is));
+            on = moved {c = record { at = place + 2 }} 1 behind-is byte-there (place-inside line (place + 2) (omega arith));
+          },
+          below {f = record { value = high * 16 + low; next = record { at = place + 2 } }} (omega (arith, p .1, q .1)),
+        )
+
+  pub more-by-pair : ltb (place + 1) (length line) ≡ ltb 0 (bytesLeft line at)
+  more-by-pair = by (ltb (place + 1) (length line)) refl
+    where
+      by : (b : Bool) → ltb (place + 1) (length line) ≡ b → b ≡ ltb 0 (bytesLeft line at)
+      by true e = sym (lt-ltb 0 (bytesLeft line at) (byte-there (ltb-true (place + 1) (length line) e)))
+      by false e = no-more (ltb-false (place + 1) (length line) e)
 
 -- ---- a number, and then
 pub read-then : {B : Type 0} {line : List ℕ} {at : ℕ} {x : Number} {y : Read ℕ} {f : Found} (k : ℕ → Parser B) → ReadsNumber line at x y → x ≡ Is f → andThen y k ≡ k (f .value) (bytesFrom line (f .next .at))

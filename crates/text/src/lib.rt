@@ -1,11 +1,13 @@
 // Hexadecimal text: digits, and a cursor over the bytes that a line spells.
+ghost use mathlib.Core.Bool.{true};
 ghost use mathlib.Core.Path.{_≡_};
 ghost use Prim.Native.Nat.{_<_, _^_};
 ghost use lib.Dec.{ltb};
 ghost use Rattle.language.specs.Limits.{byteRange};
 ghost use Rattle.language.specs.Parser.{byte as byteRead, index as indexRead, count as countRead};
 ghost use Rattle.language.specs.ReadExpr.{int as intRead, sizeAt, result as resultRead, plain, declared as declaredRead, field as fieldRead};
-ghost use Rattle.text.specs.Bytes.{digitValue, bytesFrom, bytesLeft, ReadsNumber, Passes, Below, stepOf, forget, mapRead, plainWord, declaredWord, fieldWord};
+ghost use Rattle.text.specs.Bytes.{digitValue, bytesFrom, bytesLeft, ReadsNumber, Passes, Below, UnspacedInt, stepOf, forget, mapRead, plainWord, declaredWord, fieldWord};
+ghost use Rattle.text.specs.Places.{pairPlace};
 ghost use Rattle.text.specs.Codes.{codePlace, placeIn, namedWord};
 use language::codes::DIGIT_BASE;
 use language::codes::FIELD_FIRST;
@@ -15,6 +17,7 @@ use language::codes::SIZE_FIRST;
 use language::codes::SIZE_FORMS;
 use language::codes::SIZE_NUMBER;
 use language::codes::SIZE_VARIABLE;
+use language::codes::SPACE;
 use language::codes::TYPE_FIRST;
 use language::codes::TYPE_FORMS;
 use language::codes::TYPE_NAMED;
@@ -29,10 +32,17 @@ use language::refusals::OUTSIDE_LIMITS;
 // A named type as a word: its number and one, times this, and its size.
 pub const TYPE_STEP: u32 = 256;
 
-// A byte is spelled by so many digits, and an Int takes so many bytes.
+// A byte is spelled by so many digits, and an Int by so many.
 pub const BYTE_DIGITS: usize = 2;
 
-const INT_BYTES: usize = 4;
+const INT_DIGITS: usize = 4 * BYTE_DIGITS;
+
+// Where the pairs behind a first one start, if no space stands between them.
+pub const SECOND_PAIR: usize = BYTE_DIGITS;
+
+pub const THIRD_PAIR: usize = 2 * BYTE_DIGITS;
+
+pub const FOURTH_PAIR: usize = 3 * BYTE_DIGITS;
 
 // What the bytes of an Int before its last are worth.
 const FIRST_BYTE: u32 = BYTE_RANGE * SECOND_BYTE;
@@ -51,7 +61,7 @@ const NUMBER_PLACE: u32 = SIZE_NUMBER - SIZE_FIRST;
 
 const VARIABLE_PLACE: u32 = SIZE_VARIABLE - SIZE_FIRST;
 
-// The value of an upper-case hexadecimal digit; of any other character some number below 16.
+// The value of a hexadecimal digit, upper-case or lower-case; of any other character some number below 16.
 pub fn digit(c: u8) -> u32
     ensures { λ r. ⌜ (r ≡ digitValue c) × (r < 16) ⌝ }
 {
@@ -59,7 +69,60 @@ pub fn digit(c: u8) -> u32
     (code % DIGIT_BASE + LETTER_ADDS * (code / LETTERS_FROM)) % DIGIT_BASE
 }
 
-// A place in a frame. That it is the number of bytes before it, only this crate says: others hand it on. Each read hands it back moved on.
+// The first place from this one on where no space stands.
+pub fn behind_spaces(line: &[u8], from: usize) -> usize
+    ensures { λ r. ⌜ r ≡ pairPlace (now (line .entry)) from ⌝ }
+{
+    let mut at = from;
+    while at < line.len() {
+        if line[at] != SPACE {
+            return at;
+        }
+        at += 1;
+    }
+    at
+}
+
+// Where the next pair starts. Strict lines have no space, so its walk is kept out of the way.
+fn pair_start(line: &[u8], from: usize) -> usize
+    ensures { λ r. ⌜ r ≡ pairPlace (now (line .entry)) from ⌝ }
+{
+    if line.len() <= from {
+        return from;
+    }
+    if line[from] != SPACE {
+        return from;
+    }
+    behind_spaces(line, from)
+}
+
+// Whether the digits of an Int stand at a place, none of its pairs behind a space.
+fn unspaced_int(line: &[u8], at: usize) -> bool
+    ensures { λ r. ⌜ (r ≡ true → UnspacedInt (now (line .entry)) at) ⌝ }
+{
+    if line.len() < INT_DIGITS {
+        return false;
+    }
+    if line.len() - INT_DIGITS < at {
+        return false;
+    }
+    if line[at] == SPACE {
+        return false;
+    }
+    if line[at + SECOND_PAIR] == SPACE {
+        return false;
+    }
+    if line[at + THIRD_PAIR] == SPACE {
+        return false;
+    }
+    if line[at + FOURTH_PAIR] == SPACE {
+        return false;
+    }
+    true
+}
+
+// A place in a frame. That it is the number of characters before it, only this crate says: others hand it on. Each read hands it back moved
+// on.
 pub struct Cursor {
     pub at: usize,
 }
@@ -99,23 +162,31 @@ impl Cursor {
     pub fn more(self, line: &[u8]) -> bool
         ensures { λ r. ⌜ r ≡ ltb 0 (bytesLeft (now (line .entry)) (self .at)) ⌝ }
     {
-        self.at < line.len() / BYTE_DIGITS
+        let at = pair_start(line, self.at);
+        if line.len() <= at {
+            return false;
+        }
+        at + 1 < line.len()
     }
 
-    // The next byte; 4 where the line ends.
+    // The next byte, behind the spaces before it; 4 where the line ends.
     pub fn byte(self, line: &[u8]) -> Number
         ensures { λ r. ⌜ ReadsNumber (now (line .entry)) (self .at) r (byteRead (bytesFrom (now (line .entry)) (self .at))) × Below byteRange r ⌝ }
     {
-        let at = self.at;
-        if line.len() / BYTE_DIGITS <= at {
+        let at = pair_start(line, self.at);
+        if line.len() <= at {
             return Number::Refused(BAD_LENGTH);
         }
-        let high = digit(line[BYTE_DIGITS * at]);
-        let low = digit(line[BYTE_DIGITS * at + 1]);
+        let behind = at + BYTE_DIGITS;
+        if line.len() < behind {
+            return Number::Refused(BAD_LENGTH);
+        }
+        let high = digit(line[at]);
+        let low = digit(line[at + 1]);
         let value = high * DIGIT_BASE + low;
         Number::Is(Found {
             value: value,
-            next: Cursor { at: at + 1 },
+            next: Cursor { at: behind },
         })
     }
 
@@ -222,14 +293,13 @@ impl Cursor {
         ensures { λ r. ⌜ Passes (now (line .entry)) (self .at) r (forget (intRead (bytesFrom (now (line .entry)) (self .at)))) ⌝ }
     {
         let at = self.at;
-        let bytes = line.len() / BYTE_DIGITS;
-        if bytes < INT_BYTES {
-            return Step::Stop(BAD_LENGTH);
+        if unspaced_int(line, at) {
+            return Step::Next(Cursor {
+                at: at + INT_DIGITS,
+            });
         }
-        if bytes - INT_BYTES < at {
-            return Step::Stop(BAD_LENGTH);
-        }
-        Step::Next(Cursor { at: at + INT_BYTES })
+        let x = self.int(line);
+        step_of(x)
     }
 
     // Passes over a size with so many levels left; vars is the number of size variables in scope.

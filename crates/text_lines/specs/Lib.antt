@@ -1,6 +1,16 @@
 pub mod Lines
 pub mod LinesEnd
 pub mod LinesSpell
+pub mod LinesPairs
 pub mod LinesEights
-pub mod LinesWalk
 pub mod LinesJudge
+pub mod RuleLines
+pub mod DigitMarks
+pub mod RuleChars
+pub mod RuleGroups
+pub mod GroupWalk
+pub mod RuleLineLaws
+pub mod RuleAnswers
+pub mod RuleFrames
+pub mod RuleBytes
+pub mod TextJudge

@@ -1,5 +1,5 @@
 -- Eight digits at a time: marks taken together are 0 unless each of them is set.
-use Prim.Native.Nat.{ℕ, _+_, _≤_, _<_}
+use Prim.Native.Nat.{ℕ, _+_, _≤_}
 use mathlib.Core.List.{List}
 use mathlib.Core.Bool.{true, not}
 use mathlib.Core.Path.{_≡_, ap, _∙_}
@@ -9,30 +9,25 @@ use lib.Bits.{bitAnd, and-zero-r}
 use lib.Dec.{eqb}
 use lib.ListN.{length, getD}
 use borrow.Author.Tests.{not-true, eqb-false}
-use Rattle.language.specs.Limits.{byteRange}
-use Rattle.text_lines.specs.Lines.{digitMarks, PairsTo}
-use Rattle.text_lines.specs.LinesSpell.{pairs-start, pairs-on}
-
-pub marks-cover : {digits : List ℕ} → digits ≡ digitMarks → length digits ≡ byteRange
-marks-cover are = ap length are
+use Rattle.text_lines.specs.Lines.{PairsTo}
+use Rattle.text_lines.specs.LinesPairs.{pairs-start, pairs-on}
 
 both-set : (a b : ℕ) → (bitAnd a b ≡ 0 → ⊥) → (a ≡ 0 → ⊥) × (b ≡ 0 → ⊥)
 both-set a b n = (λ e. n (ap (λ x. bitAnd x b) e), λ e. n (ap (bitAnd a) e ∙ and-zero-r a))
 
-pub pair-marked : {t digits : List ℕ} {at : ℕ} → digits ≡ digitMarks → at + 2 ≤ length t → getD t at 0 < byteRange → getD t (at + 1) 0 < byteRange →
-    (bitAnd (getD digits (getD t at 0) 0) (getD digits (getD t (at + 1) 0) 0) ≡ 0 → ⊥) → PairsTo t at (at + 2)
-pair-marked are h a b n = let set = both-set _ _ n in pairs-on are (pairs-start (omega arith)) (omega arith) a b (set .0) (set .1)
+pub pair-marked : {t digits : List ℕ} {at : ℕ} → at + 2 ≤ length t → (bitAnd (getD digits (getD t at 0) 0) (getD digits (getD t (at + 1) 0) 0) ≡ 0 → ⊥) → PairsTo digits t at (at + 2)
+pair-marked h n = let set = both-set _ _ n in pairs-on (pairs-start (omega arith)) (omega arith) (set .0) (set .1)
 
-pub pairs-behind : {t : List ℕ} {at mid end : ℕ} → PairsTo t at mid → PairsTo t mid end → PairsTo t at end
+pub pairs-behind : {digits t : List ℕ} {at mid end : ℕ} → PairsTo digits t at mid → PairsTo digits t mid end → PairsTo digits t at end
 pairs-behind p q = record { from = le-trans (p .from) (q .from); within = q .within; is = p .is ∙ q .is }
 
 -- the pair two further on, behind pairs that end there
-next-pair : {t : List ℕ} {at : ℕ} (k : ℕ) → PairsTo t at (at + k) → PairsTo t (at + k) (at + k + 2) → PairsTo t at (at + (k + 2))
+next-pair : {digits t : List ℕ} {at : ℕ} (k : ℕ) → PairsTo digits t at (at + k) → PairsTo digits t (at + k) (at + k + 2) → PairsTo digits t at (at + (k + 2))
 next-pair {at} k p q = let place : at + k + 2 ≡ at + (k + 2) = omega arith in rw place at (pairs-behind p q)
 
-module _ {t : List ℕ} {at a b c d : ℕ} (p : (a ≡ 0 → ⊥) → PairsTo t at (at + 2)) (q : (b ≡ 0 → ⊥) → PairsTo t (at + 2) (at + 2 + 2))
-    (r : (c ≡ 0 → ⊥) → PairsTo t (at + 4) (at + 4 + 2)) (s : (d ≡ 0 → ⊥) → PairsTo t (at + 6) (at + 6 + 2)) where
-  pub eight-marked : not (eqb (bitAnd (bitAnd (bitAnd a b) c) d) 0) ≡ true → PairsTo t at (at + 8)
+module _ {digits t : List ℕ} {at a b c d : ℕ} (p : (a ≡ 0 → ⊥) → PairsTo digits t at (at + 2)) (q : (b ≡ 0 → ⊥) → PairsTo digits t (at + 2) (at + 2 + 2))
+    (r : (c ≡ 0 → ⊥) → PairsTo digits t (at + 4) (at + 4 + 2)) (s : (d ≡ 0 → ⊥) → PairsTo digits t (at + 6) (at + 6 + 2)) where
+  pub eight-marked : not (eqb (bitAnd (bitAnd (bitAnd a b) c) d) 0) ≡ true → PairsTo digits t at (at + 8)
   eight-marked e =
       let all = both-set (bitAnd (bitAnd a b) c) d (eqb-false _ _ (not-true _ e)) in
       let three = both-set (bitAnd a b) c (all .0) in

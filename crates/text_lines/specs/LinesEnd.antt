@@ -6,13 +6,13 @@ use mathlib.Core.Path.{_≡_, refl, sym, ap, _∙_}
 use native.Mathlib.Omega.{arith}
 use native.Mathlib.Numerals.{add-one}
 use lib.ListN.{length, getD, take, drop, length-drop, drop-of-length-le}
-use lib.Seq.{drop-cons, take-suc, getD-drop}
+use lib.Seq.{drop-cons, drop-drop, take-suc, getD-drop}
 use lib.Dec.{eqb}
 use borrow.Author.Tests.{eq-eqb, ne-eqb}
-use Rattle.language.specs.Result.{choose}
+use Rattle.language.specs.Result.{Result, no, need, choose}
 use Rattle.language.specs.Codes.{lineFeed}
-use Rattle.language.specs.Reader.{linesOf, longer}
-use Rattle.text_lines.specs.Lines.{firstLine}
+use Rattle.language.specs.Text.{isEmpty, linesOf, longer}
+use Rattle.text_lines.specs.Lines.{firstLine, nextLine}
 
 -- ---- one character
 line-at-feed : (t : List ℕ) (i : ℕ) → i < length t → getD t i 0 ≡ lineFeed → firstLine (drop i t) ≡ []
@@ -90,3 +90,15 @@ first-line-last (c ∷ t) h = go (eqb c lineFeed) refl h (first-line-last t)
     go : (b : Bool) → eqb c lineFeed ≡ b → length (c ∷ t) ≤ length (choose b [] (c ∷ firstLine t)) → (length t ≤ length (firstLine t) → linesOf t ≡ record { ended = []; rest = t }) → linesOf (c ∷ t) ≡ record { ended = []; rest = c ∷ t }
     go true e more inner = absurd (omega arith)
     go false e more inner = rw (e, inner (omega arith))
+
+-- ---- behind the line at a place
+pub behind-next : (t : List ℕ) (at : ℕ) → behind (drop at t) ≡ drop (nextLine t at) t
+behind-next t at =
+    let place : at + suc (length (firstLine (drop at t))) ≡ nextLine t at = omega arith in
+    drop-drop (suc (length (firstLine (drop at t)))) at t ∙ ap (λ n. drop n t) place
+
+-- what is left behind the last LF must be nothing
+pub no-rest-allowed : {A : Type 0} (k : ℕ) (r : Result A) (l : List ℕ) → 0 < length l → need (isEmpty l) 2 k r ≡ no 2 k
+unfolding isEmpty need
+no-rest-allowed k r [] h = absurd (omega arith)
+no-rest-allowed k r (c ∷ l) h = refl

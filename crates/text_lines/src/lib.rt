@@ -1,30 +1,29 @@
 // The lines of a text: where each ends, whether its characters spell bytes, and whether it is a channel.
+pub mod rule_lines;
+
 ghost use mathlib.Core.Path.{_≡_};
 ghost use mathlib.Core.Bool.{true};
-ghost use Prim.Native.Nat.{_+_, _≤_, _<_};
+ghost use Prim.Native.Nat.{_+_, _≤_};
 ghost use lib.ListN.{length, drop};
 ghost use Rattle.text.specs.Bytes.{bytesOf};
-ghost use Rattle.text_lines.specs.Lines.{firstLine, digitMarks, digitPairs, PairsTo, lineEnd, channelsOf};
+ghost use Rattle.text_lines.specs.Lines.{firstLine, digitMarks, marked, digitPairs, PairsTo, lineEnd, channelsOf};
 use language::codes::KIND_INPUT;
 use language::codes::KIND_NODE;
 use language::codes::LINE_FEED;
 use language::limits::BYTE_RANGE;
 use text::BYTE_DIGITS;
 use text::Cursor;
+use text::FOURTH_PAIR;
 use text::Number;
+use text::SECOND_PAIR;
+use text::THIRD_PAIR;
 
-// So many digits are tested together, and their pairs stand so far behind the first.
+// So many digits are tested together.
 const EIGHT: usize = 4 * BYTE_DIGITS;
 
-const SECOND_PAIR: usize = BYTE_DIGITS;
-
-const THIRD_PAIR: usize = 2 * BYTE_DIGITS;
-
-const FOURTH_PAIR: usize = 3 * BYTE_DIGITS;
-
-// A text judged as a whole: how many of its lines are channels, or a refusal with its number and frame.
+// A text judged as a whole: how many frames it has and how many of them are channels, or a refusal with its number and frame.
 pub enum Judged {
-    Channels(u32),
+    Frames(u32, u32),
     Refused(u32, u32),
 }
 
@@ -76,17 +75,17 @@ fn digit_marks() -> [u8; BYTE_RANGE as usize]
 }
 
 // The marks of the two characters at a place in one: 0 unless both are digits.
-fn pair_mark(text: &[u8], digits: &[u8], at: usize) -> u8
-    requires { ⌜ (at + 2 ≤ length (now text)) × (now digits ≡ digitMarks) ⌝ }
-    ensures { λ r. ⌜ ((r ≡ 0 → ⊥) → PairsTo (now (text .entry)) at (at + 2)) ⌝ }
+fn pair_mark(text: &[u8], digits: &[u8; BYTE_RANGE as usize], at: usize) -> u8
+    requires { ⌜ at + 2 ≤ length (now text) ⌝ }
+    ensures { λ r. ⌜ ((r ≡ 0 → ⊥) → PairsTo (now (digits .entry)) (now (text .entry)) at (at + 2)) ⌝ }
 {
     digits[text[at] as usize] & digits[text[at + 1] as usize]
 }
 
 // Whether the eight characters at a place are digits. Their marks are tested together: a test for each takes longer.
-fn eight_digits(text: &[u8], digits: &[u8], at: usize) -> bool
-    requires { ⌜ (at + 8 ≤ length (now text)) × (now digits ≡ digitMarks) ⌝ }
-    ensures { λ r. ⌜ (r ≡ true → PairsTo (now (text .entry)) at (at + 8)) ⌝ }
+fn eight_digits(text: &[u8], digits: &[u8; BYTE_RANGE as usize], at: usize) -> bool
+    requires { ⌜ at + 8 ≤ length (now text) ⌝ }
+    ensures { λ r. ⌜ (r ≡ true → PairsTo (now (digits .entry)) (now (text .entry)) at (at + 8)) ⌝ }
 {
     let first = pair_mark(text, digits, at);
     let second = pair_mark(text, digits, at + SECOND_PAIR);
@@ -96,9 +95,9 @@ fn eight_digits(text: &[u8], digits: &[u8], at: usize) -> bool
 }
 
 // How far eight digits after eight stand from a place on; pairs of digits may follow.
-fn eights_end(text: &[u8], digits: &[u8], at: usize) -> usize
-    requires { ⌜ (at < length (now text)) × (now digits ≡ digitMarks) ⌝ }
-    ensures { λ r. ⌜ PairsTo (now (text .entry)) at r ⌝ }
+fn eights_end(text: &[u8], digits: &[u8; BYTE_RANGE as usize], at: usize) -> usize
+    requires { ⌜ at ≤ length (now text) ⌝ }
+    ensures { λ r. ⌜ PairsTo (now (digits .entry)) (now (text .entry)) at r ⌝ }
 {
     let mut end = at;
     while EIGHT <= text.len() - end {
@@ -111,14 +110,12 @@ fn eights_end(text: &[u8], digits: &[u8], at: usize) -> usize
 }
 
 // Where the pairs of digits end that stand from a place on.
-fn pairs_end(text: &[u8], at: usize) -> usize
-    requires { ⌜ at < length (now text) ⌝ }
-    ensures { λ r. ⌜ r ≡ at + digitPairs (drop at (now (text .entry))) ⌝ }
+fn pairs_end(text: &[u8], digits: &[u8; BYTE_RANGE as usize], at: usize) -> usize
+    requires { ⌜ at ≤ length (now text) ⌝ }
+    ensures { λ r. ⌜ r ≡ at + digitPairs (marked (now (digits .entry))) (drop at (now (text .entry))) ⌝ }
 {
-    let digits = digit_marks();
-    let last = text.len() - 1;
-    let mut end = eights_end(text, &digits, at);
-    while end < last {
+    let mut end = eights_end(text, digits, at);
+    while BYTE_DIGITS <= text.len() - end {
         if digits[text[end] as usize] == 0 {
             return end;
         }
@@ -137,7 +134,8 @@ pub fn line_end(text: &[u8], at: usize) -> LineEnd
     if text.len() <= at {
         return LineEnd::Bad;
     }
-    let end = pairs_end(text, at);
+    let digits = digit_marks();
+    let end = pairs_end(text, &digits, at);
     if text.len() <= end {
         return LineEnd::Bad;
     }

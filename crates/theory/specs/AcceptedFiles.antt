@@ -74,7 +74,7 @@ reported-accepted {t} {P} {x} read r = by-outcome (checkFile t (listLent b (r .l
     by-outcome : (o : Result Accepted) → Outcome (Passed P (listLent b (r .list))) Numbered o → answer (verdictOf b o) ≡ answer (accepted x) → AcceptedFile t P x
     by-outcome (no n frame) (refused least) e = absurd (let z : n ≡ 0 = ap (λ (a : Answer). a .number) e in omega arith)
     by-outcome (ok a) (passed p) e =
-        let within = reader-forth t P read .1 in
+        let within = reader-forth t P read .within in
         let needed : Estimate = numbersNeeded P (a .sizes .updates) in
         let verdict = judge-accepted b (stopped needed) x (rw (p .file) at e) in
         let exact = lent-exact b needed (board-allowed b (both-left _ _ (p .given))) (verdict .1) in

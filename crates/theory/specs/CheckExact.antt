@@ -21,7 +21,7 @@ use Rattle.language.specs.Run.{Enough}
 use Rattle.language.specs.Acceptance.{Derived, AcceptedWith, TextOf, ShortOf, heap-short, environment-short, stack-short, RefusedShort}
 use Rattle.theory.specs.Outcomes.{when-accepted}
 use Rattle.theory.specs.PlainTypesAgree.{well-plain-passes}
-use Rattle.theory.specs.ReaderExact.{reader-forth, reader-exact}
+use Rattle.theory.specs.ReaderExact.{reader-forth, reader-back}
 use Rattle.theory.specs.CheckerAgrees.{accepted-iff-few, refused-iff-many}
 use Rattle.theory.specs.Judged.{BoardAllowed, board-allowed, judge-accepted, judge-enough, judge-short, judge-cases}
 use Rattle.theory.specs.AcceptedFiles.{file-outcome, lent-exact}
@@ -48,10 +48,10 @@ passing t lent {a} is = by-reading (readFile t) refl
           given = p .given;
           derived = record {
             file = P;
-            is = record { text = exact .0; within = exact .1 };
+            is = exact;
             plain = p .plain;
             updates = a .sizes .updates;
-            sizes = accepted-iff-few (exact .1) (a .sizes .updates) .0 (record { list = a .sizes .list; is = p .sized });
+            sizes = accepted-iff-few (exact .within) (a .sizes .updates) .0 (record { list = a .sizes .list; is = p .sized });
             numbers = ap (λ Q. numbersNeeded Q (a .sizes .updates)) (p .file);
           };
         }
@@ -66,7 +66,7 @@ pub passes : {t : List ℕ} {lent : Bool} {x : Estimate} → Derived t x → len
 unfolding checkFile bind need
 passes {t} d given =
     let P = d .file in
-    let read = reader-exact t P .1 (d .is .text, d .is .within) in
+    let read = reader-back (d .is) in
     let sized = accepted-iff-few (d .is .within) (d .updates) .1 (d .sizes) in
     record {
       found = record { file = P; sizes = record { updates = d .updates; list = sized .list } };
@@ -162,7 +162,7 @@ module _ (t : List ℕ) (lent : Bool) (b : Board) (asks : lent ≡ true → boar
   -- 14, of a file whose sizes the rules derive. Where they do not, 10 to 14 are by the checker's definition alone.
   module _ {P : File} {xs : List Estimate} (is : TextOf P t) (plain : WellPlain P) (w : WellSized P xs) where
     reads : readFile t ≡ ok P
-    reads = reader-exact t P .1 (is .text, is .within)
+    reads = reader-back is
 
     pub many-needed : said .number ≡ tooManyInstances → (lent ≡ true) × MoreThan instancesMost (Needed w)
     unfolding checkFile bind need verdictOf answer

@@ -19,7 +19,7 @@ use Rattle.theory.specs.FilePasses.{plain-outcome, outcome-of}
 use Rattle.theory.specs.SizeRefusals.{Anything}
 use Rattle.theory.specs.PlainTypesAgree.{well-plain-passes}
 use Rattle.theory.specs.PlainFileSizes.{well-plain-refusals}
-use Rattle.theory.specs.ReaderExact.{reader-forth, reader-exact}
+use Rattle.theory.specs.ReaderExact.{reader-forth, reader-back}
 use Rattle.theory.specs.ReaderRefusals.{reader-refusals}
 use Rattle.theory.specs.Judged.{board-allowed, judge-enough, judge-short, judge-cases}
 use Rattle.theory.specs.CheckExact.{needs, passing, passes, stopped-short, accepted-derived, judged-needs}
@@ -67,12 +67,11 @@ not-nine t {P} lent {frame} read plain e = by-lent lent refl
 -- ---- every answer
 module _ (t : List ℕ) (lent : Bool) (b : Board) (asks : lent ≡ true → boardAllowed b ≡ true) where
   read-placed : {P : File} {n frame : ℕ} → readFile t ≡ ok P → At P lent n frame → checkFile t lent ≡ no n frame → Placed t lent b n
-  read-placed {P} read by-types e = let f = reader-forth t P read in at-types (record { text = f .0; within = f .1 }) (λ plain. not-nine t lent read plain e)
-  read-placed {P} read (by-lending plain l) e = let f = reader-forth t P read in at-lending (record { text = f .0; within = f .1 }) plain l
+  read-placed {P} read by-types e = at-types (reader-forth t P read) (λ plain. not-nine t lent read plain e)
+  read-placed {P} read (by-lending plain l) e = at-lending (reader-forth t P read) plain l
   read-placed {P} {n} {frame} read (by-sizes plain given s) e =
-      let f = reader-forth t P read in
       let sizes = well-plain-refusals plain s in
-      at-sizes (record { text = f .0; within = f .1 }) plain given (λ x d. let p = passes d given in let z : ok (p .found) ≡ no n frame = sym (p .is) ∙ e in let w : _≡_ {A = ℕ} 0 1 = cc in omega arith) (sizes .least) (sizes .most)
+      at-sizes (reader-forth t P read) plain given (λ x d. let p = passes d given in let z : ok (p .found) ≡ no n frame = sym (p .is) ∙ e in let w : _≡_ {A = ℕ} 0 1 = cc in omega arith) (sizes .least) (sizes .most)
 
   refused-placed : {n frame : ℕ} → checkFile t lent ≡ no n frame → Placed t lent b n
   unfolding checkFile bind
@@ -84,7 +83,7 @@ module _ (t : List ℕ) (lent : Bool) (b : Board) (asks : lent ≡ true → boar
           let same : _≡_ {A = Result Accepted} (no m f) (no n frame) = rw read at e in
           let number : m ≡ n = cc in
           let refusal = reader-refusals t read in
-          at-text {n = n} (λ P is. let z : ok P ≡ no m f = sym (reader-exact t P .1 (is .text, is .within)) ∙ read in let w : _≡_ {A = ℕ} 0 1 = cc in omega arith) (omega (arith, refusal .least)) (omega (arith, refusal .most))
+          at-text {n = n} (λ P is. let z : ok P ≡ no m f = sym (reader-back is) ∙ read in let w : _≡_ {A = ℕ} 0 1 = cc in omega arith) (omega (arith, refusal .least)) (omega (arith, refusal .most))
 
   pub placed : Placed t lent b (answer (verdictOf b (checkFile t lent)) .number)
   unfolding verdictOf judged answer

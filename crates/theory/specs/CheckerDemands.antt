@@ -13,12 +13,9 @@ use Rattle.language.specs.Estimate.{Estimate}
 use Rattle.language.specs.Machine.{Board, boardAllowed, Record, answer, checkFile, verdictOf, listLent, check, buffersLent, start}
 use Rattle.language.specs.Acceptance.{Derived, ShortOf, heap-short, environment-short, stack-short, TextOf, CheckerDemand}
 use Rattle.theory.specs.Lists.{false-is-not-true, both-left}
-use Rattle.theory.specs.ReaderExact.{fileText-injective}
+use Rattle.theory.specs.ReaderExact.{one-file}
 use Rattle.theory.specs.CheckExact.{accepted-derived, derived-accepted, short-derived, derived-short, many-needed, many-refused}
 use Rattle.theory.specs.CheckPlaces.{Placed, at-text, at-types, at-lending, at-sizes, at-board, at-end, placed}
-
-one-file : {t : List ℕ} {P Q : File} → TextOf P t → TextOf Q t → P ≡ Q
-one-file {P} {Q} p q = fileText-injective P Q (p .within) (q .within) (sym (p .text) ∙ q .text)
 
 one-plain : {t : List ℕ} {P Q : File} → TextOf P t → TextOf Q t → WellPlain P → WellPlain Q
 one-plain p q plain = subst WellPlain (one-file p q) plain

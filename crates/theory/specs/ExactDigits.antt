@@ -1,26 +1,27 @@
--- Upper-case hexadecimal: what a pair of digits spells is read back, and nothing else is read.
+-- Hexadecimal digits: what a pair of upper-case ones spells is read back, and in a strict line nothing else is read.
 use Prim.Native.Nat.{ℕ, _+_, _-_, _*_, _/_, _%_, _≤_, _<_}
 use mathlib.Core.List.{List, [], _∷_, _++_}
 use mathlib.Core.Bool.{Bool, true, false}
 use mathlib.Core.Option.{Option, some}
 use mathlib.Core.Path.{_≡_, refl, ap, ap₂, _∙_}
 use native.Mathlib.Omega.{arith}
-use lib.Dec.{ltb, leb}
-use borrow.Author.Tests.{ltb-true, ltb-false, leb-true, lt-ltb, le-ltb, le-leb, lt-leb}
+use lib.Dec.{ltb, leb, eqb}
+use borrow.Author.Tests.{ne-eqb, ltb-true, ltb-false, leb-true, lt-ltb, le-ltb, le-leb, lt-leb}
 use Rattle.language.specs.Result.{both, when, choose}
+use Rattle.language.specs.Codes.{digitBase}
 use Rattle.language.specs.Format.{spellAll, pickDigit, digitOf, pairOf}
 use Rattle.language.specs.Within.{All, all-nil, all-cons}
-use Rattle.language.specs.Reader.{digit, pair, pairs}
-use Rattle.theory.specs.Lists.{both-left, both-right}
-use Rattle.theory.specs.Tests.{Whenever, w-some, w-none}
+use Rattle.language.specs.Text.{digit, pair, pairs, anyDigit}
+use Rattle.theory.specs.Lists.{both-left, both-right, both-fails}
+use Rattle.theory.specs.Tests.{Whenever, w-some, w-none, whenever-map}
 use Rattle.theory.specs.Exact.{Byte}
 
 -- ---- a digit
-spelled-low : (d : ℕ) → d < 10 → digitOf d ≡ 0x30 + d
+pub spelled-low : (d : ℕ) → d < 10 → digitOf d ≡ 0x30 + d
 unfolding digitOf pickDigit
 spelled-low d w = rw (lt-ltb d 10 w)
 
-spelled-high : (d : ℕ) → 10 ≤ d → digitOf d ≡ 0x37 + d
+pub spelled-high : (d : ℕ) → 10 ≤ d → digitOf d ≡ 0x37 + d
 unfolding digitOf pickDigit
 spelled-high d w = rw (le-ltb d 10 w)
 
@@ -58,6 +59,31 @@ digit-forth c = go (both (leb 0x30 c) (leb c 0x39)) (both (leb 0x41 c) (leb c 0x
     go true h t u = w-some (low (leb-true 0x30 c (both-left (leb 0x30 c) (leb c 0x39) t)) (leb-true c 0x39 (both-right (leb 0x30 c) (leb c 0x39) t)))
     go false true t u = w-some (high (leb-true 0x41 c (both-left (leb 0x41 c) (leb c 0x46) u)) (leb-true c 0x46 (both-right (leb 0x41 c) (leb c 0x46) u)))
     go false false t u = w-none
+
+-- ---- a digit of either case
+pub any-digit-back : (d : ℕ) → d < digitBase → anyDigit (digitOf d) ≡ some d
+unfolding anyDigit choose
+any-digit-back d w = rw (both-fails (leb (digitOf d) 0x66) (lt-leb 0x61 (digitOf d) (upper-case (ltb d 10) refl))) (digit-back d w)
+  where
+    upper-case : (low : Bool) → ltb d 10 ≡ low → digitOf d < 0x61
+    upper-case true e = let l : d < 10 = ltb-true d 10 e in rw (spelled-low d l) (omega arith)
+    upper-case false e = let l : 10 ≤ d = ltb-false d 10 e in rw (spelled-high d l) (omega arith)
+
+pub any-digit-small : (c : ℕ) → Whenever (λ d. d < digitBase) (anyDigit c)
+unfolding anyDigit choose
+any-digit-small c = go (both (leb 0x61 c) (leb c 0x66)) refl
+  where
+    go : (lower : Bool) → both (leb 0x61 c) (leb c 0x66) ≡ lower → Whenever (λ d. d < digitBase) (choose lower (some (c - 0x57)) (digit c))
+    go true e = let l : c ≤ 0x66 = leb-true c 0x66 (both-right (leb 0x61 c) (leb c 0x66) e) in w-some {a = c - 0x57} (omega arith)
+    go false e = whenever-map (λ d is. is .small) (digit-forth c)
+
+-- a character outside the digits is none
+pub digit-is-not : (d c : ℕ) → (0x30 ≤ c → (0x39 < c) × (c < 0x41)) → eqb (digitOf d) c ≡ false
+digit-is-not d c outside = go (ltb d 10) refl
+  where
+    go : (low : Bool) → ltb d 10 ≡ low → eqb (digitOf d) c ≡ false
+    go true e = let l : d < 10 = ltb-true d 10 e in rw (spelled-low d l) (ne-eqb (0x30 + d) c (λ is. omega (arith, outside (omega arith) .0)))
+    go false e = let l : 10 ≤ d = ltb-false d 10 e in rw (spelled-high d l) (ne-eqb (0x37 + d) c (λ is. omega (arith, outside (omega arith) .1)))
 
 -- ---- pairs
 pub pairs-back : (bs : List ℕ) → All Byte bs → pairs (spellAll pairOf bs) ≡ some bs

@@ -12,7 +12,8 @@ use Rattle.language.specs.Syntax.{Node, File}
 use Rattle.language.specs.Format.{fileFrames}
 use Rattle.language.specs.Within.{All, all-cons, WithinTypes, wt-cons, WithinFunctions, wf-cons, WithinInput, WithinNodes, wn-cons, Within}
 use Rattle.language.specs.Parser.{decode}
-use Rattle.language.specs.Reader.{isEmpty, inOrder, withType, withFunction, withInput, withNode, readKind, readFrame, readFrames, emptyFile}
+use Rattle.language.specs.Text.{isEmpty}
+use Rattle.language.specs.Reader.{inOrder, withType, withFunction, withInput, withNode, readKind, readFrame, readFrames, emptyFile}
 use Rattle.theory.specs.Exact.{whole-back}
 use Rattle.theory.specs.ExactFrames.{type-exact, function-exact, input-exact, NodeAmong, node-exact}
 use Rattle.theory.specs.FileFrames.{file, frameOfType, frameOfFunction, frameOfInput, frameOfNode}

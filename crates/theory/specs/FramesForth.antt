@@ -14,7 +14,8 @@ use Rattle.language.specs.Syntax.{TypeDef, Function, Input, Node, File, selfFre
 use Rattle.language.specs.Format.{fileFrames}
 use Rattle.language.specs.Within.{All, all-nil, all-cons, WithinType, WithinTypes, wt-nil, wt-cons, WithinFunction, WithinFunctions, wf-nil}
 use Rattle.language.specs.Within.{wf-cons, WithinInput, WithinNode, WithinNodes, wn-nil, wn-cons}
-use Rattle.language.specs.Reader.{Kind, typeKind, functionKind, inputKind, nodeKind, kinds, isEmpty, inOrder, withType, withFunction, withInput, withNode, readKind, readFrame, readFrames}
+use Rattle.language.specs.Text.{isEmpty}
+use Rattle.language.specs.Reader.{Kind, typeKind, functionKind, inputKind, nodeKind, kinds, inOrder, withType, withFunction, withInput, withNode, readKind, readFrame, readFrames}
 use Rattle.theory.specs.Lists.{false-is-not-true}
 use Rattle.theory.specs.Alls.{all-map, all-snoc}
 use Rattle.theory.specs.Outcomes.{Sat, sat-ok, sat-no, outcome-map, sat-bind, sat-need, sat-from}

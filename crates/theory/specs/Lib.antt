@@ -1,5 +1,6 @@
 pub mod Opened
 pub mod Tins
+pub mod EditedTexts
 pub mod Operators
 pub mod Lists
 pub mod Alls
@@ -110,6 +111,8 @@ pub mod CheckExact
 pub mod CheckPlaces
 pub mod CheckerDemands
 pub mod FileAnswers
+pub mod Writes
+pub mod StrictTexts
 pub mod LineAnswers
 pub mod IterationSteps
 pub mod InitialRuns

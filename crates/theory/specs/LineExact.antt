@@ -19,7 +19,7 @@ use Rattle.language.specs.Format.{spellAll, pairOf, lineText}
 use Rattle.language.specs.LineFormat.{valueBytes, inputText}
 use Rattle.language.specs.Within.{All, all-nil, all-cons, Within}
 use Rattle.language.specs.Parser.{Read, got, many}
-use Rattle.language.specs.Reader.{linesOf}
+use Rattle.language.specs.Text.{linesOf}
 use Rattle.language.specs.Line.{valueAt, allRead, inputTrees, treesFit, oneLine, lineTrees}
 use Rattle.theory.specs.Opened.{running}
 use Rattle.theory.specs.Tins.{codes}

@@ -5,9 +5,9 @@ use mathlib.Core.Bool.{Bool, true, false}
 use mathlib.Core.Option.{none, some}
 use mathlib.Core.Path.{_≡_, refl, sym, ap, _∙_}
 use native.Mathlib.Omega.{arith}
-use native.Mathlib.Nat.{zero-add, suc-add}
-use lib.ListN.{length, getD, take, drop, getElem? as look}
-use lib.Seq.{take-take, drop-drop}
+use native.Mathlib.Nat.{add-zero, zero-add, suc-add}
+use lib.ListN.{length, getD, take, drop, set, getElem? as look}
+use lib.Seq.{take-take, drop-drop, sets}
 use Rattle.language.specs.Result.{both}
 
 pub none-is-not-some : {A B : Type 0} {a : A} → none ≡ some a → B
@@ -90,3 +90,8 @@ pub both-never : (a : Bool) {b : Bool} → b ≡ false → both a b ≡ false
 unfolding both
 both-never true e = e
 both-never false e = refl
+
+-- ---- several written one after the other, and then several more
+pub sets-append : (xs ys l : List ℕ) (i : ℕ) → sets l i (xs ++ ys) ≡ sets (sets l i xs) (i + length xs) ys
+sets-append [] ys l i = ap (λ m. sets l m ys) (sym (add-zero i))
+sets-append (x ∷ xs) ys l i = let on : suc i + length xs ≡ i + suc (length xs) = omega arith in sets-append xs ys (set l i x) (suc i) ∙ ap (λ m. sets (sets (set l i x) (suc i) xs) m ys) on

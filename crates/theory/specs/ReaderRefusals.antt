@@ -7,13 +7,15 @@ use mathlib.Core.Option.{Option, none, some}
 use mathlib.Core.Path.{_≡_, refl}
 use native.Mathlib.Omega.{arith}
 use lib.ListN.{length, length-append}
+use Rattle.language.specs.Refusals.{badLine, heapShort, heapSpent, valueTooLarge}
 use Rattle.language.specs.Result.{Result, ok, no, need, choose}
 use Rattle.language.specs.Syntax.{Constructor, Expr, Size, File}
 use Rattle.language.specs.Scope.{Scope}
 use Rattle.language.specs.Parser.{Read, got, bad, Parser, andThen, must, return, fromOption, byte, index, count, code, codeIn, many, counted}
 use Rattle.language.specs.ReadExpr.{bound, FieldForm, boolField, intField, ownField, otherField, fieldBehind, field, TypeForm, boolType, intType, namedType, plainBehind, plain, declaredBehind, declared, SizeForm, litSize, varSize, plusSize, minusSize, sizeBehind, sizeAt, resultBehind, result}
 use Rattle.language.specs.ReadExpr.{Form, boolForm, intForm, varForm, nowForm, lastForm, letForm, ifForm, opForm, callForm, conForm, caseForm, adjForm, fitForm, int, exprs, branches, exprBehind, exprAt}
-use Rattle.language.specs.Reader.{typeDef, condition, function, input, node, whole, Kind, typeKind, functionKind, inputKind, nodeKind, isEmpty, withType, withFunction, withInput, withNode, readKind, readFrame, readFrames, linesOf, framesOf, channelCount, emptyFile, readFile}
+use Rattle.language.specs.Text.{isEmpty, linesOf, frameLines, framesIn, textFrames}
+use Rattle.language.specs.Reader.{typeDef, condition, function, input, node, whole, Kind, typeKind, functionKind, inputKind, nodeKind, withType, withFunction, withInput, withNode, readKind, readFrame, readFrames, channelCount, emptyFile, readFile}
 use Rattle.language.specs.Answers.{frameCount, FrameNamed}
 use Rattle.theory.specs.FrameNumbers.{frameTotal, FrameOf, frame-named}
 use Rattle.theory.specs.SizeRefusals.{Anything}
@@ -245,10 +247,10 @@ frames-numbered channels frame f [] first behind = choose-outcome _ (λ _. refus
 frames-numbered channels frame f (l ∷ ls) first behind = bind-outcome (frame-numbered channels frame first (omega arith) f l) (λ g _ more.
     outcome-map (λ P sum. omega arith) (frames-numbered channels (suc frame) g ls (omega arith) (omega arith)))
 
--- the lines from this frame on, with what stands after the last LF
+-- the lines of frames from this one on, with what stands after the last LF
 lines-numbered : {last : ℕ} (frame : ℕ) (ls : List (List ℕ)) (rest : List ℕ) → 1 ≤ frame → frame + (length ls + choose (isEmpty rest) 0 1) ≤ last + 1 →
-    Outcome (λ fs. length fs ≡ length ls + choose (isEmpty rest) 0 1) (ReaderRefusal last) (framesOf frame ls rest)
-unfolding framesOf isEmpty choose need
+    Outcome (λ fs. length fs ≡ length ls + choose (isEmpty rest) 0 1) (ReaderRefusal last) (framesIn frame ls rest)
+unfolding framesIn isEmpty choose need
 lines-numbered frame [] [] first behind = accepted refl
 lines-numbered frame [] (c ∷ rest) first behind = refused {n = 2} {frame = frame} (in-frame first (omega arith) (omega arith) (omega arith))
 lines-numbered frame (l ∷ ls) rest first behind = from-outcome _ 2 frame (λ _. in-frame first (omega arith) (omega arith) (omega arith)) (λ bs _.
@@ -256,9 +258,9 @@ lines-numbered frame (l ∷ ls) rest first behind = from-outcome _ 2 frame (λ _
 
 -- and a file that is read has a frame for each of the text
 read-numbered : (t : List ℕ) → Outcome (λ P. frameTotal P ≡ frameCount t) (ReaderRefusal (frameCount t)) (readFile t)
-unfolding readFile frameCount
+unfolding readFile textFrames frameCount
 read-numbered t = need-outcome _ 1 0 (λ _. record { least = omega arith; most = omega arith; none = λ _. refl; from-first = λ more. absurd (omega arith); to-last = λ _. omega arith; one-after = omega arith }) (λ _.
-    bind-outcome (lines-numbered 1 (linesOf t .ended) (linesOf t .rest) (omega arith) (omega arith)) (λ fs _ long.
+    bind-outcome (lines-numbered 1 (frameLines (linesOf t .ended)) (linesOf t .rest) (omega arith) (omega arith)) (λ fs _ long.
     outcome-map (λ P sum. omega arith) (frames-numbered (channelCount fs) 1 emptyFile fs (omega arith) (omega arith))))
 
 pub reader-refusals : (t : List ℕ) {n frame : ℕ} → readFile t ≡ no n frame → ReaderRefusal (frameCount t) n frame
@@ -270,8 +272,9 @@ reader-frames t e =
     record {
       none = r .none;
       none-at-board = λ many few. absurd (omega (arith, r .most));
+      none-at-buffer = λ is. absurd (omega (arith, r .most));
       least = λ low few. r .from-first low;
-      least-in-run = λ many. absurd (omega (arith, r .most));
+      least-in-run = λ many few. absurd (omega (arith, r .most));
       most = r .to-last;
       one-after = r .one-after;
     }
@@ -280,5 +283,5 @@ pub frames-read : (t : List ℕ) {P : File} → readFile t ≡ ok P → frameTot
 frames-read t e = when-accepted (read-numbered t) e
 
 -- a frame of a file that was read is one of its text
-pub in-file : {t : List ℕ} {P : File} {n frame : ℕ} → readFile t ≡ ok P → FrameOf P frame → 2 ≤ n → (15 ≤ n → 20 ≤ n) → FrameNamed t n frame
-in-file {t} read f low gap = frame-named (f .least) (omega (arith, f .most, frames-read t read)) low gap
+pub in-file : {t : List ℕ} {P : File} {n frame : ℕ} → readFile t ≡ ok P → FrameOf P frame → badLine ≤ n → (heapShort ≤ n → heapSpent ≤ n) → n ≤ valueTooLarge → FrameNamed t n frame
+in-file {t} read f low gap high = frame-named (f .least) (omega (arith, f .most, frames-read t read)) low gap high

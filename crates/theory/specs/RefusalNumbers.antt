@@ -34,10 +34,10 @@ pub record Passes (t : List ℕ) (lent : Bool) (a : Accepted) : Type 0 where
 pub check-outcome : (t : List ℕ) (lent : Bool) → Outcome (Passes t lent) (CheckRefusal t) (checkFile t lent)
 unfolding checkFile
 check-outcome t lent = bind-outcome (outcome-of (readFile t) (λ n frame e. let r = reader-refusals t e in record { least = r .least; most = omega arith; gap = λ more. omega arith; framed = reader-frames t e })) (λ P read _.
-    plain-outcome P (λ frame f. record { least = omega arith; most = omega arith; gap = λ more. omega arith; framed = in-file read f (omega arith) (λ more. omega arith) }) (λ plain.
-    need-outcome lent 18 0 (λ _. record { least = omega arith; most = omega arith; gap = λ more. omega arith; framed = no-frame-named (λ _. omega arith) (omega arith) }) (λ given.
+    plain-outcome P (λ frame f. record { least = omega arith; most = omega arith; gap = λ more. omega arith; framed = in-file read f (omega arith) (λ more. omega arith) (omega arith) }) (λ plain.
+    need-outcome lent 18 0 (λ _. record { least = omega arith; most = omega arith; gap = λ more. omega arith; framed = no-frame-named (λ _. omega arith) (λ more. absurd (omega arith)) }) (λ given.
     bind-outcome (outcome-of (sizedFile P) (λ n frame e. let r = well-plain-refusals plain e in
-    record { least = omega arith; most = omega arith; gap = λ more. omega arith; framed = in-file read (record { least = r .from-first; most = r .to-last }) (omega arith) (λ more. omega arith) })) (λ q sized _.
+    record { least = omega arith; most = omega arith; gap = λ more. omega arith; framed = in-file read (record { least = r .from-first; most = r .to-last }) (omega arith) (λ more. omega arith) (omega arith) })) (λ q sized _.
     accepted (record { given = given; read = read; plain = plain; sized = sized })))))
 
 pub check-refusals : (t : List ℕ) (lent : Bool) {n frame : ℕ} → checkFile t lent ≡ no n frame → CheckRefusal t n frame

@@ -53,7 +53,7 @@ zero-is-begun t b list state scratch slots e =
     let loads = starts a (x .allowed) .loads in
     record {
       file = P;
-      is = record { text = reader-forth t P (a .read) .0; within = a .within };
+      is = reader-forth t P (a .read);
       begun = startState P;
       begins = start-by-rules a b (state-loaded (a .within) loads .room);
       trees = start-trees P;

@@ -1,11 +1,11 @@
--- What a test that passed, or a partial answer that exists, says of its parts: laws of chain and when, of needEach.
+-- What a test that passed, or a partial answer that exists, says of its parts: laws of chain, when and choose, of needEach.
 use Prim.Native.Nat.{ℕ, suc}
 use mathlib.Core.List.{List, [], _∷_}
 use mathlib.Core.Bool.{Bool, true, false}
 use mathlib.Core.Option.{Option, none, some}
 use mathlib.Core.Path.{_≡_, refl}
 use native.Mathlib.Omega.{arith}
-use Rattle.language.specs.Result.{Result, ok, no, need, when, chain, needEach}
+use Rattle.language.specs.Result.{Result, ok, no, need, when, choose, chain, needEach}
 use Rattle.language.specs.Within.{All, all-nil, all-cons}
 use Rattle.theory.specs.Lists.{none-is-not-some}
 
@@ -34,6 +34,11 @@ pub whenever-when : {A : Type 0} {R : A → Type 0} (b : Bool) (a : A) → (b �
 unfolding when
 whenever-when true a f = w-some (f refl)
 whenever-when false a f = w-none
+
+pub whenever-choose : {A : Type 0} {Q : A → Type 0} (b : Bool) {o p : Option A} → Whenever Q o → Whenever Q p → Whenever Q (choose b o p)
+unfolding choose
+whenever-choose true v w = v
+whenever-choose false v w = w
 
 pub whenever-is : {A : Type 0} {Q : A → Type 0} {o : Option A} {a : A} → Whenever Q o → o ≡ some a → Q a
 whenever-is {Q} {a} (w-some {a = c} q) e = let z : c ≡ a = cc in rw z at q

@@ -67,7 +67,7 @@ module _ (t : List ℕ) (b : Board) (v w scratch slots line : List ℕ) (long : 
           bind {B = State} r (λ P. plainTypes P (need lent 18 0 (from (loadState P (b .cells) v) 18 0 (λ s. from (lineTrees P line) 19 0 (λ vs. iterateState P b s vs))))) ≡
           bind {B = State} r (λ P. plainTypes P (need lent 18 0 (from (loadState P (b .cells) w) 18 0 (λ s. from (lineTrees P line) 19 0 (λ vs. iterateState P b s vs)))))
       by-read (no n frame) e = refl
-      by-read (ok P) e = ap (plainTypes P) (by-lent P (reader-forth t P e .1) lent is)
+      by-read (ok P) e = ap (plainTypes P) (by-lent P (reader-forth t P e .within) lent is)
 
   by-result : (r : Result State) → iterateFile t b (buffersLent b v scratch slots) v line ≡ r →
       (iterated r (b .cells) v scratch slots .answer ≡ iterated r (b .cells) w scratch slots .answer) ×

@@ -14,7 +14,7 @@ use Rattle.encoding.specs.WithinParts.{type-within}
 use Rattle.theory.specs.Lists.{look-getD, look-less}
 use Rattle.theory.specs.Alls.{all-getD, all-at}
 use Rattle.index.specs.Tables.{constructorWords, typeWords}
-use Rattle.encoding.specs.FrameSpells.{lineAt}
+use Rattle.encoding.specs.FrameLines.{lineAt}
 use Rattle.index.specs.Sections.{typesOf}
 use Rattle.index.specs.Indexed.{fieldAt, TypeIndexed, Indexed}
 use Rattle.sizes.specs.Promises.{Small}

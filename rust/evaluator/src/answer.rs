@@ -1,4 +1,5 @@
-//! Boards, refusals and answers ("By place" of document 01).
+//! Boards, refusals and answers ("By place" of document 01, with the errors
+//! that document 02 adds).
 
 use crate::limits::{BOARD_CALLS, BOARD_CELLS, BOARD_SLOTS};
 
@@ -23,7 +24,8 @@ impl Board {
     }
 }
 
-/// The refusals, numbered from 1 in the order of document 01's table.
+/// The refusals, numbered from 1 in the order of document 01's table; those of
+/// document 02 join it.
 #[derive(Clone, Copy, Debug, PartialEq, Eq, PartialOrd, Ord)]
 pub enum Refusal {
     TextLength = 1,
@@ -49,6 +51,7 @@ pub enum Refusal {
     EnvironmentSpent,
     StackSpent,
     ValueTooLarge,
+    WriteBuffer,
 }
 
 impl Refusal {

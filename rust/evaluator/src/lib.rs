@@ -1,6 +1,6 @@
-//! The reference implementation of document 01: reader, checker, start,
-//! iteration and plain machine, written from document 01 and the paper's
-//! figures 4 (evaluation) and 7 (estimation).
+//! The reference implementation of document 01 and of R-1 of document 02:
+//! reader, writer, checker, start, iteration and plain machine, written from the
+//! documents and the paper's figures 4 (evaluation) and 7 (estimation).
 //!
 //! The modules stand in order of dependence.
 

@@ -9,7 +9,7 @@ use std::rc::Rc;
 
 /// The inputs' values, none where the line is not allowed for this file.
 pub fn read(file: &File, line: &[u8]) -> Option<Vec<Rc<Tree>>> {
-    let bytes = text::frame(line)?;
+    let bytes = text::strict_frame(line)?;
     let mut cursor = Cursor::new(&bytes);
     if cursor.byte().ok()? != kind::LINE {
         return None;

@@ -1,5 +1,5 @@
-//! Check, start and iterate: what a caller lends, what is answered, and what
-//! every lent buffer holds at the end.
+//! Check, start, iterate and write: what a caller lends, what is answered, and
+//! what every lent buffer holds at the end.
 
 use crate::answer::{Answer, Board, Bounds, Fault, Refusal};
 use crate::checker;
@@ -13,6 +13,7 @@ use crate::reader;
 use crate::slide::slide;
 use crate::state::State;
 use crate::syntax::File;
+use crate::text;
 use crate::validity::is_valid;
 use crate::value::Tree;
 use std::rc::Rc;
@@ -76,6 +77,30 @@ pub fn iterate(text: &[u8], board: Board, line: &[u8], loan: Loan) -> Answer {
         Ok(()) => Answer::accepted(Bounds::default()),
         Err(fault) => fault.into(),
     }
+}
+
+/// Writes the strict text of a file that the reader accepts (1 to 8), then 24
+/// where the buffer is shorter. Past the text the buffer is zero, on a refusal
+/// all of it.
+pub fn write(text: &[u8], buffer: &mut [u8]) -> Answer {
+    buffer.fill(0);
+    let written = strict_text(text).and_then(|strict| {
+        let room = buffer.get_mut(..strict.len());
+        let room = room.ok_or(Refusal::WriteBuffer.in_frame(0))?;
+        room.copy_from_slice(&strict);
+        Ok(())
+    });
+    match written {
+        Ok(()) => Answer::accepted(Bounds::default()),
+        Err(fault) => fault.into(),
+    }
+}
+
+/// The strict text of a file that the reader accepts; it is never longer than
+/// the text.
+pub fn strict_text(text: &[u8]) -> Result<Vec<u8>, Fault> {
+    reader::read(text)?;
+    Ok(text::strict_text(&text::frames(text)?))
 }
 
 impl Loan<'_> {

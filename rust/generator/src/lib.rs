@@ -1,5 +1,6 @@
 //! A seeded generator of rule files, input lines and states, whole and
-//! damaged, and a writer from the syntax to the strict text.
+//! damaged, a writer from the syntax to the strict text, and texts as an
+//! ordinary editor leaves them.
 
 pub mod random;
 pub mod writer;
@@ -23,3 +24,4 @@ pub mod depths;
 pub mod edges;
 pub mod growth;
 pub mod mixture;
+pub mod typed;

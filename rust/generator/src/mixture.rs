@@ -1,4 +1,5 @@
-//! A mixture of cases, whole and damaged, in which every refusal occurs.
+//! A mixture of cases with strict texts, whole and damaged, in which every
+//! refusal of document 01 occurs.
 
 use crate::case::Case;
 use crate::damage::{damage_characters, damage_frames, damage_state, damaged_line, lower_size};

@@ -5,11 +5,13 @@ mod support;
 use evaluator::answer::{Answer, Board, Bounds};
 use evaluator::instances::Instance;
 use evaluator::limits::{state_words, BOARD_CELLS, BOARD_SLOTS, INSTANCES, SCRATCH_WORDS};
+use evaluator::machine;
 use evaluator::stack::with_deep_stack;
 use generator::case::Case;
 use generator::examples::listing3;
 use generator::mixture::Mixture;
 use generator::random::Random;
+use generator::typed::TypedMixture;
 use generator::writer;
 use support::{Lent, UNTOUCHED};
 
@@ -85,6 +87,19 @@ fn assert_iterated(lent: &mut Lent, text: &[u8], line: &[u8]) {
     }
 }
 
+/// The text and zeros behind it, on a refusal zeros alone.
+fn assert_written(room: usize, text: &[u8]) {
+    let mut buffer = vec![0xA5; room];
+    let answer = machine::write(text, &mut buffer);
+    assert_eq!(answer.bounds, Bounds::default());
+    let mut expected = match answer.number {
+        0 => machine::strict_text(text).expect("it was written"),
+        _ => vec![],
+    };
+    expected.resize(room, 0);
+    assert_eq!(buffer, expected);
+}
+
 fn look_at(random: &mut Random, case: Case) {
     match case {
         Case::Run { board, text, lines } => {
@@ -106,6 +121,7 @@ fn look_at(random: &mut Random, case: Case) {
             lent.state = state;
             assert_iterated(&mut lent, &text, &line);
         }
+        Case::Write { room, text } => assert_written(room, &text),
     }
 }
 
@@ -114,8 +130,10 @@ fn refusals_leave_the_state_and_zero_everything_else() {
     with_deep_stack(|| {
         let mut random = Random::new(25);
         let mut mixture = Mixture::new(26);
+        let mut typed = TypedMixture::new(27);
         for _ in 0..10_000 {
             look_at(&mut random, mixture.next_case());
+            look_at(&mut random, typed.next_case());
         }
     })
     .expect("every case holds");

@@ -34,18 +34,15 @@ fn with_list(rest: &str) -> String {
 fn lines() {
     try_rows(&[
         ("the empty text has no node", String::new(), 3, 1),
-        ("an empty line", format!("{LIST}\n{NODE}"), 2, 2),
         ("an odd line", format!("{LIST}040\n"), 2, 2),
-        ("lower case", NODE.replace("04", "0a"), 2, 1),
         ("no LF at the end", NODE.trim_end().to_string(), 2, 1),
-        ("CR before LF", NODE.replace('\n', "\r\n"), 2, 1),
         (
             "2 is judged over the whole text before 3",
             "09\nX\n".into(),
             2,
             2,
         ),
-        ("the first bad line", "0G\n\n".into(), 2, 1),
+        ("the first bad line", "0G\n0\n".into(), 2, 1),
     ]);
 }
 

@@ -26,9 +26,9 @@ pub struct Bounds {
 /// Why a rule file or a line is not taken.
 #[derive(Clone, Copy, Debug, PartialEq, Eq)]
 pub struct Refusal {
-    /// 1 to 23.
+    /// 1 to 24.
     pub number: u32,
-    /// The line of the rule file, from 1; 0 where none is named.
+    /// The frame of the rule file, from 1, counted without its extra lines; 0 where none is named.
     pub frame: u32,
     /// What the file needs, in 15 to 17; else 0.
     pub bounds: Bounds,
@@ -57,9 +57,9 @@ impl Answer {
 }
 
 /// When each number is answered, from 1.
-const SENTENCES: [&str; 23] = [
+const SENTENCES: [&str; 24] = [
     "the text is longer than 16,384 characters",
-    "a line is empty, odd, not upper-case hexadecimal, or without its line feed",
+    "a line is odd, not hexadecimal, spaced other than between pairs, or without its line feed",
     "a frame's kind is unknown, out of order or one too many; or there is no node",
     "the bytes of a frame end early or go on",
     "a code is outside its set",
@@ -81,6 +81,7 @@ const SENTENCES: [&str; 23] = [
     "environment is spent",
     "stack is spent",
     "a value is too large",
+    "the buffer is shorter than the strict text",
 ];
 
 /// The refusals that say what the file needs.
@@ -99,7 +100,7 @@ impl fmt::Display for Refusal {
     fn fmt(&self, out: &mut fmt::Formatter) -> fmt::Result {
         write!(out, "refusal {}", self.number)?;
         if self.frame != 0 {
-            write!(out, " in line {} of the rule file", self.frame)?;
+            write!(out, " in frame {} of the rule file", self.frame)?;
         }
         write!(out, ": {}", self.sentence())?;
         match WITH_BOUNDS.contains(&self.number) {
@@ -141,12 +142,16 @@ mod tests {
         assert_eq!(shown(19, 0), "refusal 19: the input line is wrong");
         assert_eq!(
             shown(5, 3),
-            "refusal 5 in line 3 of the rule file: a code is outside its set"
+            "refusal 5 in frame 3 of the rule file: a code is outside its set"
         );
         assert_eq!(
             shown(15, 0),
             "refusal 15: heap needed is above the board's (heap 25, environment 18, stack 5)"
         );
-        assert_eq!(shown(24, 0), "refusal 24: an unknown number");
+        assert_eq!(
+            shown(24, 0),
+            "refusal 24: the buffer is shorter than the strict text"
+        );
+        assert_eq!(shown(25, 0), "refusal 25: an unknown number");
     }
 }

@@ -8,6 +8,7 @@ use crate::instances::{instances, Instance, LIST_RECORDS};
 use crate::running::{iterate, start, Loan};
 use crate::sizes::{Sizes, SCRATCH_WORDS};
 use crate::value::Value;
+use crate::writing::strict_text;
 
 /// An accepted rule file that runs: it takes lines, and holds the values of the channels.
 ///
@@ -42,6 +43,7 @@ use crate::value::Value;
 /// ```
 #[derive(Clone, Debug)]
 pub struct Board {
+    /// The strict text of the file, which answers as the file does.
     text: Vec<u8>,
     sizes: Sizes,
     bounds: Bounds,
@@ -100,14 +102,15 @@ impl Board {
         let mut list = vec![Instance::EMPTY; LIST_RECORDS];
         let mut buffers = Buffers::new(sizes);
         let bounds = start(text, sizes, &mut list, buffers.loan()).result()?;
-        let inputs = frames::count(text, Kind::Input);
+        let text = strict_text(text)?;
+        let inputs = frames::count(&text, Kind::Input);
         Ok(Board {
-            text: text.to_vec(),
             sizes,
             bounds,
-            field_counts: frames::field_counts(text),
+            field_counts: frames::field_counts(&text),
             inputs,
-            channels: inputs + frames::count(text, Kind::Node),
+            channels: inputs + frames::count(&text, Kind::Node),
+            text,
             list,
             buffers,
         })

@@ -1,5 +1,5 @@
-//! What a board reads itself of its rule file, which the proved library has accepted: the words of a state do not say how
-//! many fields a constructor has, nor how many channels there are.
+//! What a board reads itself of its rule file, which the proved library has accepted and whose strict text it has written: the
+//! words of a state do not say how many fields a constructor has, nor how many channels there are.
 
 use crate::value::FieldCounts;
 
@@ -26,7 +26,7 @@ mod code {
 const NODE: &[u8] = b"04";
 const KEPT: &[u8] = b"1400\n";
 
-/// The frames of one kind, line feeds included.
+/// The frames of one kind in a strict text, line feeds included.
 fn frames(text: &[u8], kind: Kind) -> impl Iterator<Item = &[u8]> {
     let lines = text.split_inclusive(|character| *character == b'\n');
     lines.filter(move |line| Cursor::new(line).byte() == kind as u8)

@@ -1,9 +1,10 @@
 //! The proved library for Rust.
 //!
 //! [`Board`] starts a rule file, takes lines and shows the values of the channels; it owns what it needs. Below it stand the
-//! library's own calls over lent buffers: [`read`], [`check`], [`start`] and [`iterate`], each with an [`Answer`]. They are
-//! safe and see to the real stack by a thread of their own; those that end in `_on_this_stack` run where they are called.
-//! [`find`] looks up a function at certain sizes in the list that a check left.
+//! library's own calls over lent buffers: [`read`], [`write()`], [`check`], [`start`] and [`iterate`], each with an [`Answer`].
+//! They are safe, and those that need much real stack run on a thread of their own; those that end in `_on_this_stack` run
+//! where they are called. [`find`] looks up a function at certain sizes in the list that a check left, and [`strict_text`]
+//! gives the text of a rule file without what an editor adds.
 //!
 //! ```
 //! # fn main() -> Result<(), Box<dyn std::error::Error>> {
@@ -27,6 +28,7 @@ pub mod running;
 pub mod sizes;
 pub mod stack;
 pub mod value;
+pub mod writing;
 
 pub use answer::{Answer, Bounds, Refusal};
 pub use board::Board;
@@ -38,3 +40,4 @@ pub use running::{iterate, iterate_on_this_stack, start, start_on_this_stack, Lo
 pub use sizes::{Sizes, SCRATCH_WORDS, TEXT_CHARACTERS};
 pub use stack::{ITERATION_STACK_NEEDED, STACK_NEEDED};
 pub use value::Value;
+pub use writing::{strict_text, write};

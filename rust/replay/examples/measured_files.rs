@@ -1,5 +1,7 @@
-//! Writes the rule files that checking and running are measured on into the folder named by the argument.
+//! Writes the rule files that reading, checking and running are measured on into the folder named by the argument, all of them
+//! strict texts.
 
+use evaluator::machine::strict_text;
 use evaluator::syntax::File;
 use generator::depths::{deepest_bodies, endless_calls, Level};
 use generator::{edges, growth, writer};
@@ -10,7 +12,10 @@ use std::path::Path;
 /// The size at which a branch is split.
 const SPLIT_SIZE: usize = 16;
 
-/// The names are what `tools/measure-checking` and `tools/measure-running` look for.
+/// The files of `examples/` that are measured.
+const EXAMPLES: [&str; 2] = ["listing3", "top10sum"];
+
+/// The names are what `tools/measure-reading`, `tools/measure-checking` and `tools/measure-running` look for.
 fn files() -> Vec<(String, File)> {
     let sums = [("sums".to_string(), growth::sums(7, 9))];
     let sides = [(2, 5), (10, 10), (25, 40)];
@@ -34,11 +39,21 @@ fn files() -> Vec<(String, File)> {
     all.chain(deepest).chain(endless).collect()
 }
 
+/// The strict text of an example.
+fn strict_example(name: &str) -> io::Result<Vec<u8>> {
+    let folder = Path::new(env!("CARGO_MANIFEST_DIR")).join("../../examples");
+    let text = fs::read(folder.join(format!("{name}.rules")))?;
+    Ok(strict_text(&text).expect("a file that is read"))
+}
+
 fn main() -> io::Result<()> {
     let folder = std::env::args().nth(1).expect("the name of a folder");
+    let path = |name: &str| Path::new(&folder).join(format!("{name}.rules"));
+    for name in EXAMPLES {
+        fs::write(path(name), strict_example(name)?)?;
+    }
     for (name, file) in files() {
-        let path = Path::new(&folder).join(format!("{name}.rules"));
-        fs::write(path, writer::text(&file))?;
+        fs::write(path(&name), writer::text(&file))?;
     }
     Ok(())
 }

@@ -16,11 +16,13 @@ pub struct Checked {
     pub list: Vec<Instance>,
 }
 
-/// The board and the text of a case.
+/// The board and the text of a case; the largest board where it names none.
 pub fn asked(case: &Case) -> (Board, &[u8]) {
-    match case {
-        Case::Run { board, text, .. } | Case::Iteration { board, text, .. } => (*board, text),
-    }
+    let board = match case {
+        Case::Run { board, .. } | Case::Iteration { board, .. } => *board,
+        Case::Write { .. } => Board::LARGEST,
+    };
+    (board, case.text())
 }
 
 /// Checks with an engine that is lent this list.

@@ -5,7 +5,7 @@ use evaluator::limits::{BOARD_CELLS, BOARD_SLOTS, SCRATCH_WORDS};
 use paugmeln::instances::SIZES;
 use paugmeln::Instance;
 
-/// An implementation of check, start and iterate. Every buffer comes from the caller; the list of instances is as the proved
+/// An implementation of check, start, iterate and write. Every buffer comes from the caller; the list of instances is as the proved
 /// library has it.
 pub trait Engine {
     fn check(&mut self, text: &[u8], board: Board, list: &mut [Instance]) -> Answer;
@@ -17,6 +17,7 @@ pub trait Engine {
         buffers: &mut Buffers,
     ) -> Answer;
     fn iterate(&mut self, text: &[u8], board: Board, line: &[u8], buffers: &mut Buffers) -> Answer;
+    fn write(&mut self, text: &[u8], buffer: &mut [u8]) -> Answer;
 }
 
 /// The buffers a case lends to start and iterate, the list of instances apart.
@@ -29,6 +30,9 @@ pub struct Buffers {
 
 /// What scratch and slots hold before a call; it is not looked at.
 pub const UNTOUCHED: u32 = 0xA5A5_A5A5;
+
+/// The same for the bytes of a buffer for the strict text.
+pub const UNTOUCHED_BYTE: u8 = 0xA5;
 
 /// The same for the records of a list.
 pub const UNTOUCHED_RECORD: Instance = filled(UNTOUCHED);

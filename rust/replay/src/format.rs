@@ -3,6 +3,7 @@
 //! ```text
 //! CASE <cells> <slots> <calls> <hex of text> <n> <hex of line 1> ... <hex of line n>
 //! ITER <cells> <slots> <calls> <hex of text> <state words> <hex of line>
+//! WRITE <buffer length> <hex of text>
 //! ```
 
 use evaluator::answer::Board;
@@ -10,38 +11,45 @@ use generator::case::Case;
 
 const RUN: &str = "CASE";
 const ITERATION: &str = "ITER";
+const WRITING: &str = "WRITE";
 
 /// What stands for no bytes or no words.
 const NOTHING: &str = "-";
 
 /// The case a line holds, none where it is no case.
 pub fn parse(line: &str) -> Option<Case> {
-    let mut parts = line.split(' ');
-    let kind = parts.next()?;
-    let board = Board {
-        cells: parts.next()?.parse().ok()?,
-        slots: parts.next()?.parse().ok()?,
-        calls: parts.next()?.parse().ok()?,
-    };
-    let text = bytes(parts.next()?)?;
-    let rest: Vec<&str> = parts.collect();
-    match (kind, &rest[..]) {
-        (RUN, [count, lines @ ..]) => {
-            let lines: Vec<_> = lines
-                .iter()
-                .map(|line| bytes(line))
-                .collect::<Option<_>>()?;
+    let parts: Vec<&str> = line.split(' ').collect();
+    match parts[..] {
+        [RUN, cells, slots, calls, text, count, ref lines @ ..] => {
             let whole = count.parse() == Ok(lines.len());
-            whole.then_some(Case::Run { board, text, lines })
+            let lines = lines.iter().map(|line| bytes(line));
+            let run = Case::Run {
+                board: board([cells, slots, calls])?,
+                text: bytes(text)?,
+                lines: lines.collect::<Option<_>>()?,
+            };
+            whole.then_some(run)
         }
-        (ITERATION, [state, line]) => Some(Case::Iteration {
-            board,
-            text,
+        [ITERATION, cells, slots, calls, text, state, line] => Some(Case::Iteration {
+            board: board([cells, slots, calls])?,
+            text: bytes(text)?,
             state: words(state)?,
             line: bytes(line)?,
         }),
+        [WRITING, room, text] => Some(Case::Write {
+            room: room.parse().ok()?,
+            text: bytes(text)?,
+        }),
         _ => None,
     }
+}
+
+fn board([cells, slots, calls]: [&str; 3]) -> Option<Board> {
+    Some(Board {
+        cells: cells.parse().ok()?,
+        slots: slots.parse().ok()?,
+        calls: calls.parse().ok()?,
+    })
 }
 
 /// The line of a case, without its end.
@@ -58,6 +66,7 @@ pub fn write(case: &Case) -> String {
             state,
             line,
         } => [head(ITERATION, *board, text), listed(state), hex(line)].join(" "),
+        Case::Write { room, text } => format!("{WRITING} {room} {}", hex(text)),
     }
 }
 
@@ -78,7 +87,8 @@ fn bytes(part: &str) -> Option<Vec<u8>> {
     pairs.map(byte).collect()
 }
 
-fn hex(bytes: &[u8]) -> String {
+/// Bytes in lower-case hexadecimal.
+pub fn hex(bytes: &[u8]) -> String {
     match bytes.is_empty() {
         true => NOTHING.to_string(),
         false => bytes.iter().map(|byte| format!("{byte:02x}")).collect(),

@@ -24,6 +24,10 @@ impl Engine for Library {
     fn iterate(&mut self, text: &[u8], board: Board, line: &[u8], buffers: &mut Buffers) -> Answer {
         answer(paugmeln::iterate(text, sizes(board), line, loan(buffers)))
     }
+
+    fn write(&mut self, text: &[u8], buffer: &mut [u8]) -> Answer {
+        answer(paugmeln::write(text, buffer))
+    }
 }
 
 /// A board under the library's name.

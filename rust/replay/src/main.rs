@@ -7,6 +7,7 @@
 //! replay --read < cases > answers       number and frame by the proved reader
 //! replay --check < cases > answers      the first two parts by the proved checker
 //! replay --generate <count> <seed> > cases
+//! replay --generate-typed <count> <seed> > cases     with texts as an editor leaves them, and strict texts to be written
 //! ```
 //!
 //! Exit status: 0, 1 where `--both` found a difference, 2 where there is no answer (the input holds no case, say).
@@ -14,6 +15,7 @@
 use evaluator::stack::with_deep_stack;
 use generator::case::Case;
 use generator::mixture::Mixture;
+use generator::typed::TypedMixture;
 use replay::engine::Engine;
 use replay::library::Library;
 use replay::reference::Reference;
@@ -24,7 +26,7 @@ use std::io::{self, BufRead, BufWriter, Write};
 use std::process::ExitCode;
 
 const USAGE: &str =
-    "usage: replay [--rust | --both | --read | --check] < cases, or replay --generate <count> <seed>";
+    "usage: replay [--rust | --both | --read | --check] < cases, or replay --generate[-typed] <count> <seed>";
 
 const DIFFERENT: u8 = 1;
 const NO_ANSWER: u8 = 2;
@@ -37,6 +39,7 @@ enum Task {
     ReadByLibrary,
     CheckByLibrary,
     Generate { count: usize, seed: u64 },
+    GenerateTyped { count: usize, seed: u64 },
 }
 
 fn main() -> ExitCode {
@@ -66,6 +69,10 @@ fn task(arguments: &[String]) -> Option<Task> {
             count: count.parse().ok()?,
             seed: seed.parse().ok()?,
         }),
+        ["--generate-typed", count, seed] => Some(Task::GenerateTyped {
+            count: count.parse().ok()?,
+            seed: seed.parse().ok()?,
+        }),
         _ => None,
     }
 }
@@ -75,11 +82,16 @@ fn perform(task: Task) -> io::Result<ExitCode> {
         Task::AnswerByLibrary => answer_by(&mut Library),
         Task::AnswerByReference => answer_by(&mut Reference::new()),
         Task::Compare => compare(),
-        Task::ReadByLibrary => {
-            answer(|case| reading::report(reading::by_library(reading::text(case))))
-        }
+        Task::ReadByLibrary => answer(|case| reading::report(reading::by_library(case.text()))),
         Task::CheckByLibrary => answer(checking::report_by_library),
-        Task::Generate { count, seed } => generate(count, seed),
+        Task::Generate { count, seed } => {
+            let mut mixture = Mixture::new(seed);
+            generate(count, || mixture.next_case())
+        }
+        Task::GenerateTyped { count, seed } => {
+            let mut mixture = TypedMixture::new(seed);
+            generate(count, || mixture.next_case())
+        }
     }
 }
 
@@ -129,11 +141,10 @@ fn compare() -> io::Result<ExitCode> {
     })
 }
 
-fn generate(count: usize, seed: u64) -> io::Result<ExitCode> {
+fn generate(count: usize, mut next_case: impl FnMut() -> Case) -> io::Result<ExitCode> {
     let mut out = BufWriter::new(io::stdout().lock());
-    let mut mixture = Mixture::new(seed);
     for _ in 0..count {
-        writeln!(out, "{}", format::write(&mixture.next_case()))?;
+        writeln!(out, "{}", format::write(&next_case()))?;
     }
     out.flush()?;
     Ok(ExitCode::SUCCESS)

@@ -1,14 +1,6 @@
 //! The answers of the proved reader, and of the Rust one.
 
 use evaluator::reader;
-use generator::case::Case;
-
-/// The text of a case.
-pub fn text(case: &Case) -> &[u8] {
-    match case {
-        Case::Run { text, .. } | Case::Iteration { text, .. } => text,
-    }
-}
 
 /// Number and frame by the proved reader, 0 and 0 for a text that it reads.
 pub fn by_library(text: &[u8]) -> (u32, u32) {

@@ -23,7 +23,7 @@ impl Reference {
     }
 
     /// Writes all records, used or not.
-    fn write(&self, list: &mut [paugmeln::Instance]) {
+    fn list_records(&self, list: &mut [paugmeln::Instance]) {
         for (place, record) in list.iter_mut().zip(&self.records) {
             *place = as_lent(record);
         }
@@ -53,7 +53,7 @@ impl Engine for Reference {
     fn check(&mut self, text: &[u8], board: Board, list: &mut [paugmeln::Instance]) -> Answer {
         self.lend(list);
         let answer = machine::check(text, board, &mut self.records);
-        self.write(list);
+        self.list_records(list);
         answer
     }
 
@@ -66,12 +66,16 @@ impl Engine for Reference {
     ) -> Answer {
         self.lend(list);
         let answer = machine::start(text, board, &mut self.records, loan(buffers));
-        self.write(list);
+        self.list_records(list);
         answer
     }
 
     fn iterate(&mut self, text: &[u8], board: Board, line: &[u8], buffers: &mut Buffers) -> Answer {
         machine::iterate(text, board, line, loan(buffers))
+    }
+
+    fn write(&mut self, text: &[u8], buffer: &mut [u8]) -> Answer {
+        machine::write(text, buffer)
     }
 }
 

@@ -1,7 +1,7 @@
 //! The format of the answers.
 
 use crate::entered::Entered;
-use crate::format::join;
+use crate::format::{hex, join};
 use evaluator::answer::Answer;
 
 /// `<num>,<frame>,<heap>,<env>,<stack>`
@@ -37,4 +37,9 @@ pub fn start(started: &Answer, words: &[u32]) -> String {
 /// `it:<num>,<frame>:<words>`
 pub fn iteration(answer: &Answer, words: &[u32]) -> String {
     format!("it:{},{}:{}", answer.number, answer.frame, join(words))
+}
+
+/// `wr:<num>,<frame>:<hex of the whole buffer>`
+pub fn writing(answer: &Answer, buffer: &[u8]) -> String {
+    format!("wr:{},{}:{}", answer.number, answer.frame, hex(buffer))
 }

@@ -1,6 +1,6 @@
 //! One case after another.
 
-use crate::engine::{lendable_cells, Buffers, Engine, UNTOUCHED_RECORD};
+use crate::engine::{lendable_cells, Buffers, Engine, UNTOUCHED_BYTE, UNTOUCHED_RECORD};
 use crate::entered::entered;
 use crate::report;
 use evaluator::answer::Board;
@@ -20,6 +20,11 @@ pub fn run(engine: &mut dyn Engine, case: &Case) -> String {
         } => {
             let mut buffers = Buffers::new(*board, state.clone());
             iteration(engine, *board, text, line, &mut buffers)
+        }
+        Case::Write { room, text } => {
+            let mut buffer = vec![UNTOUCHED_BYTE; *room];
+            let answer = engine.write(text, &mut buffer);
+            report::writing(&answer, &buffer)
         }
     }
 }

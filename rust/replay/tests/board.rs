@@ -8,6 +8,7 @@ use evaluator::plain::PlainMachine;
 use evaluator::stack::with_deep_stack;
 use generator::mixture::Mixture;
 use generator::random::Random;
+use generator::typed::{habits, typed};
 use generator::values::random_line;
 use generator::writer;
 use paugmeln::{Board, Sizes};
@@ -38,7 +39,9 @@ fn values_and_cells_of_generated_files() {
         let (mut mixture, mut random) = (Mixture::new(83), Random::new(89));
         for _ in 0..GENERATED_FILES {
             let (file, _) = mixture.accepted_file();
-            let mut board = Board::start(&writer::text(&file), Sizes::LARGEST).expect("accepted");
+            let some = habits(&mut random);
+            let text = typed(&mut random, &writer::text(&file), &some);
+            let mut board = Board::start(&text, Sizes::LARGEST).expect("accepted");
             let cells = CellTable::new(&file.types);
             let channels = 0..file.channel_count();
             let stated: u32 = channels.map(|at| cells.of(file.declared(at))).sum();

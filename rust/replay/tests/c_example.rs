@@ -135,7 +135,7 @@ fn the_example_and_the_tables_have_the_sentences_of_rust() {
         read("include/paugmeln.h"),
         read("README.md"),
     );
-    for number in 1..=Refusal::ValueTooLarge.number() {
+    for number in 1..=Refusal::WriteBuffer.number() {
         let bounds = Bounds {
             heap: 0,
             environment: 0,

@@ -6,10 +6,14 @@ use evaluator::answer::Board;
 use evaluator::stack::with_deep_stack;
 use generator::case::Case;
 use generator::mixture::Mixture;
+use generator::typed::TypedMixture;
 use paugmeln::LIST_RECORDS;
 use replay::checking::{asked, by_library, by_reference, report_by_library};
 use replay::format;
+use replay::reference::Reference;
+use replay::run::run;
 use std::path::Path;
+use support::narrowed::expected;
 use support::{own_folder, say, shared_folder, stored, Counts};
 
 /// Compares the two on one file; gives the number answered.
@@ -37,8 +41,9 @@ fn compared_all(cases: impl Iterator<Item = Case>) -> Counts {
 #[test]
 fn generated_and_damaged_files_agree() {
     let counts = with_deep_stack(|| {
-        let mut mixture = Mixture::new(47);
-        compared_all((0..22_000).map(|_| mixture.next_case()))
+        let (mut mixture, mut typed) = (Mixture::new(47), TypedMixture::new(48));
+        let strict = (0..22_000).map(|_| mixture.next_case());
+        compared_all(strict.chain((0..6_000).map(|_| typed.next_case())))
     })
     .expect("every file agrees");
     println!("{counts:?}");
@@ -46,7 +51,7 @@ fn generated_and_damaged_files_agree() {
     assert!((0..=18).all(|number| counts.contains_key(&number)));
 }
 
-/// The parts of an answer that the checker gives; none for an iteration.
+/// The parts of an answer that the checker gives; none for an iteration or a writing.
 fn check_of(answer: &str) -> Option<String> {
     let parts: Vec<&str> = answer.split(';').take(2).collect();
     answer.starts_with("check:").then(|| parts.join(";"))
@@ -63,7 +68,8 @@ fn agree(folder: &Path, name: &str) {
             .map(|line| format::parse(line).expect("a case"))
             .collect();
         for (case, answer) in cases.iter().zip(&answers) {
-            if let Some(expected) = check_of(answer) {
+            let by_rust = run(&mut Reference::new(), case);
+            if let Some(expected) = check_of(expected(answer, &by_rust)) {
                 assert_eq!(report_by_library(case), expected);
             }
         }
@@ -78,13 +84,14 @@ fn the_cases_of_this_repository_agree() {
     agree(&own_folder(), "sample");
     agree(&own_folder(), "instances");
     agree(&own_folder(), "shared");
+    agree(&own_folder(), "stage1");
 }
 
 #[test]
 #[ignore = "needs the shared cases, which run-tests looks for: cargo test -- --ignored"]
 fn all_shared_cases_agree() {
     let folder = shared_folder();
-    for name in ["edges", "run"] {
+    for name in ["edges", "run", "stage1"] {
         agree(&folder, name);
     }
 }

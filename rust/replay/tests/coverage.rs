@@ -1,20 +1,23 @@
-//! The generated mixture meets every refusal.
+//! The generated mixtures meet every refusal.
 
 mod support;
 
 use evaluator::answer::Refusal;
 use evaluator::stack::with_deep_stack;
+use generator::case::Case;
 use generator::mixture::Mixture;
+use generator::typed::TypedMixture;
 use replay::format;
 use replay::reference::Reference;
 use replay::run::run;
 use support::{numbers, Counts};
 
-/// How often each number is given in so many generated cases.
-fn counted(cases: usize, seed: u64) -> Counts {
-    let mut mixture = Mixture::new(seed);
+const CASES: usize = 6_000;
+
+/// How often each number is given in generated cases.
+fn counted(mut next_case: impl FnMut() -> Case) -> Counts {
     let mut engine = Reference::new();
-    let reports = (0..cases).map(|_| run(&mut engine, &mixture.next_case()));
+    let reports = (0..CASES).map(|_| run(&mut engine, &next_case()));
     let mut counts = Counts::new();
     for report in reports {
         numbers(&report).for_each(|number| *counts.entry(number).or_default() += 1);
@@ -22,11 +25,9 @@ fn counted(cases: usize, seed: u64) -> Counts {
     counts
 }
 
-#[test]
-fn every_number_from_0_to_23_is_met() {
-    let counts = with_deep_stack(|| counted(6_000, 2023)).expect("every case is answered");
+fn assert_all_met(counts: Counts, last: Refusal) {
     println!("{counts:?}");
-    let numbers = 0..=Refusal::ValueTooLarge.number();
+    let numbers = 0..=last.number();
     let missing: Vec<u32> = numbers
         .filter(|number| !counts.contains_key(number))
         .collect();
@@ -34,11 +35,33 @@ fn every_number_from_0_to_23_is_met() {
 }
 
 #[test]
+fn every_number_from_0_to_23_is_met() {
+    let mut mixture = Mixture::new(2023);
+    let counts = with_deep_stack(move || counted(|| mixture.next_case()));
+    let counts = counts.expect("every case is answered");
+    assert_all_met(counts, Refusal::ValueTooLarge);
+}
+
+#[test]
+fn every_number_from_0_to_24_is_met_with_typed_texts() {
+    let mut mixture = TypedMixture::new(2024);
+    let counts = with_deep_stack(move || counted(|| mixture.next_case()));
+    let counts = counts.expect("every case is answered");
+    assert_all_met(counts, Refusal::WriteBuffer);
+}
+
+#[test]
 fn cases_are_reproducible_and_survive_their_format() {
     let (mut one, mut other) = (Mixture::new(5), Mixture::new(5));
+    let (mut typed, mut again) = (TypedMixture::new(5), TypedMixture::new(5));
     for _ in 0..500 {
-        let case = one.next_case();
-        assert_eq!(case, other.next_case());
-        assert_eq!(format::parse(&format::write(&case)), Some(case));
+        let pairs = [
+            (one.next_case(), other.next_case()),
+            (typed.next_case(), again.next_case()),
+        ];
+        for (case, again) in pairs {
+            assert_eq!(case, again);
+            assert_eq!(format::parse(&format::write(&case)), Some(case));
+        }
     }
 }

@@ -1,4 +1,5 @@
-//! The rule files of `examples/` are accepted with the numbers that their page states.
+//! The rule files of `examples/` are accepted with the numbers that their page states, and have the strict texts that they
+//! were first written as.
 
 mod support;
 
@@ -8,7 +9,7 @@ use evaluator::limits::INSTANCES;
 use evaluator::machine::check;
 use generator::examples::{listing3, top10sum};
 use generator::writer;
-use support::example;
+use support::{example, strict_example};
 
 fn checked(text: &[u8]) -> Answer {
     let mut instances = vec![Instance::default(); INSTANCES];
@@ -26,13 +27,14 @@ fn accepted(heap: u32, environment: u32, stack: u32) -> Answer {
 #[test]
 fn the_two_frame_file() {
     assert_eq!(checked(&example("accumulate")), accepted(4, 0, 0));
+    let strict = b"03011100000000\n04011100000000170014011300\n";
+    assert_eq!(strict_example("accumulate"), strict);
 }
 
 #[test]
 fn listing_3() {
-    let text = example("listing3");
-    assert_eq!(checked(&text), accepted(25, 18, 5));
-    assert_eq!(text, writer::text(&listing3()));
+    assert_eq!(checked(&example("listing3")), accepted(25, 18, 5));
+    assert_eq!(strict_example("listing3"), writer::text(&listing3()));
 }
 
 #[test]

@@ -10,7 +10,7 @@ use replay::library::Library;
 use replay::run::run;
 use std::fs;
 use std::mem::offset_of;
-use support::root;
+use support::{example, root, strict_example};
 
 fn of_repository(name: &str) -> String {
     fs::read_to_string(root().join(name)).expect("a readable file")
@@ -35,12 +35,19 @@ fn rows<'a>(lines: &[&'a str]) -> Vec<Vec<&'a str>> {
         .collect()
 }
 
+/// A heading of the page for one frame.
+fn is_frame_heading(line: &str) -> bool {
+    ["### Line ", "### Frame "]
+        .iter()
+        .any(|start| line.starts_with(start))
+}
+
 #[test]
 fn the_bytes_of_listing_3_are_those_of_the_file() {
     let page = of_repository("docs/FORMAT.md");
     let mut shown = String::new();
     for line in section(&page, "## Listing 3, byte by byte") {
-        if line.starts_with("### Line ") && !line.ends_with(" 1") {
+        if is_frame_heading(line) && !line.ends_with(" 1") {
             shown.push('\n');
         }
         if let Some(row) = line.strip_prefix("| `") {
@@ -49,7 +56,8 @@ fn the_bytes_of_listing_3_are_those_of_the_file() {
         }
     }
     shown.push('\n');
-    assert_eq!(shown, of_repository("examples/listing3.rules"));
+    let strict = String::from_utf8(strict_example("listing3"));
+    assert_eq!(Ok(shown), strict);
 }
 
 /// The most that the page states.
@@ -123,7 +131,7 @@ fn listing3_and_a_line() -> Case {
             slots: 18,
             calls: 5,
         },
-        text: of_repository("examples/listing3.rules").into_bytes(),
+        text: example("listing3"),
         lines: vec![b"0510001100000007\n".to_vec()],
     }
 }

@@ -1,5 +1,5 @@
-//! Start and iteration leave the same as the Rust evaluator in all that is lent, whatever it holds before, where it is longer
-//! than the board asks and where it is too short.
+//! Start, iteration and writer leave the same as the Rust evaluator in all that is lent, whatever it holds before, where it is
+//! longer than is asked and where it is too short.
 
 mod support;
 
@@ -9,6 +9,9 @@ use evaluator::stack::with_deep_stack;
 use generator::case::Case;
 use generator::mixture::Mixture;
 use generator::random::Random;
+use generator::typed::mixture::room;
+use generator::typed::{habits, typed};
+use generator::writer;
 use paugmeln::{Instance, LIST_RECORDS};
 use replay::engine::{lendable_cells, Buffers, Engine, UNTOUCHED, UNTOUCHED_RECORD};
 use replay::library::Library;
@@ -86,6 +89,7 @@ fn compared(random: &mut Random, rust: &mut Reference, case: &Case) -> u32 {
             let left = |engine: &mut dyn Engine| iterated(engine, (text, line), *board, &lent);
             (left(&mut Library), left(rust))
         }
+        Case::Write { .. } => unreachable!("the plain mixture writes nothing"),
     };
     assert!(found == expected, "{:?} for {case:?}", found.0);
     assert!(found.2.are_clean());
@@ -103,6 +107,33 @@ fn all_words_and_records_agree() {
     })
     .expect("every word and record agrees");
     assert_eq!(numbers, (0..=23).collect());
+}
+
+/// What is left in a buffer of so many bytes that holds this before.
+fn written(engine: &mut dyn Engine, text: &[u8], (room, byte): (usize, u8)) -> (Answer, Vec<u8>) {
+    let mut buffer = vec![byte; room];
+    let answer = engine.write(text, &mut buffer);
+    (answer, buffer)
+}
+
+#[test]
+fn all_bytes_of_the_strict_text_agree() {
+    let numbers = with_deep_stack(|| {
+        let (mut mixture, mut random) = (Mixture::new(103), Random::new(107));
+        let mut numbers = BTreeSet::new();
+        for _ in 0..CASES {
+            let strict = writer::text(&mixture.accepted_file().0);
+            let some = habits(&mut random);
+            let text = typed(&mut random, &strict, &some);
+            let lent = (room(&mut random, strict.len()), random.number() as u8);
+            let found = written(&mut Library, &text, lent);
+            assert_eq!(found, written(&mut Reference::new(), &text, lent));
+            numbers.insert(found.0.number);
+        }
+        numbers
+    });
+    let numbers = numbers.expect("every byte agrees");
+    assert_eq!(numbers, BTreeSet::from([0, 24]));
 }
 
 /// Both engines with lists that hold this and that before; gives the numbers answered.

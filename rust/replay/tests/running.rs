@@ -1,10 +1,12 @@
-//! The proved library and the Rust evaluator answer whole cases alike: check, start and lines, and iterations on given words.
+//! The proved library and the Rust evaluator answer whole cases alike: check, start and lines, iterations on given words, and
+//! strict texts.
 
 mod support;
 
 use evaluator::answer::{Answer, Board};
 use evaluator::stack::with_deep_stack;
 use generator::mixture::Mixture;
+use generator::typed::TypedMixture;
 use paugmeln::Instance;
 use replay::engine::{Buffers, Engine};
 use replay::format;
@@ -14,15 +16,16 @@ use replay::run::{difference, run};
 use support::{numbers, own_folder, stored, Counts};
 
 const GENERATED: usize = 32_000;
+const TYPED: usize = 16_000;
 
 #[test]
 fn generated_and_damaged_cases_agree() {
     let counts = with_deep_stack(|| {
-        let mut mixture = Mixture::new(53);
+        let (mut mixture, mut typed) = (Mixture::new(53), TypedMixture::new(59));
         let mut rust = Reference::new();
         let mut counts = Counts::new();
-        for _ in 0..GENERATED {
-            let case = mixture.next_case();
+        let strict = (0..GENERATED).map(|_| mixture.next_case());
+        for case in strict.chain((0..TYPED).map(|_| typed.next_case())) {
             let found = run(&mut Library, &case);
             let expected = run(&mut rust, &case);
             assert!(found == expected, "for {}", format::write(&case));
@@ -32,7 +35,7 @@ fn generated_and_damaged_cases_agree() {
     })
     .expect("every case agrees");
     println!("{counts:?}");
-    assert!((0..=23).all(|number| counts.contains_key(&number)));
+    assert!((0..=24).all(|number| counts.contains_key(&number)));
 }
 
 /// An engine that leaves the state untouched.
@@ -58,6 +61,10 @@ impl Engine for Lazy {
         let answer = self.0.iterate(text, board, line, buffers);
         buffers.state = state;
         answer
+    }
+
+    fn write(&mut self, text: &[u8], buffer: &mut [u8]) -> Answer {
+        self.0.write(text, buffer)
     }
 }
 

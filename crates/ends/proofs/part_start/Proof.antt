@@ -1,5 +1,4 @@
 -- The start of a part, by the accessor of its section.
-use mathlib.Core.Path.{_≡_, sym, ap, _∙_}
 use Rattle.ends.specs.Told.{startOf}
 use borrow.Author.Needs.{needs}
 use Rattle.ends.proofs.part_start.Statement.{statement}

@@ -1,5 +1,4 @@
 -- All words cleared, then the cells, the channels, and how many cells are used.
-use mathlib.Core.Path.{_∙_}
 use native.Mathlib.Omega.{arith}
 use Rattle.initial_state.specs.StateLaws.{cleared-board, state-laid}
 use borrow.Author.Needs.{needs}

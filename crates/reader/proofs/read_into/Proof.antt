@@ -18,11 +18,11 @@ text-reading-requires c κs = tt
 returns : tie.Need-returns
 returns c = text-refused (c .before .before .before .before .before .before .pre) (c .before .before .before .judge .ensures) (c .before .enum-told .given .1) (c .text-reading .ensures)
 
-read-lines-requires : tie.Need-read-lines-requires
-read-lines-requires c κs = text-ready (c .before .before .before .before .before .before .before .pre) (c .before .before .before .before .judge .ensures) (c .before .before .j .given .1)
+read-frames-requires : tie.Need-read-frames-requires
+read-frames-requires c κs = text-ready (c .before .before .before .before .before .before .before .pre) (c .before .before .before .before .judge .ensures) (c .before .before .j .given .1)
 
 returns-2 : tie.Need-returns-2
-returns-2 c = (c .read-lines .ensures)
+returns-2 c = (c .read-frames .ensures)
 
 pub read-into-spec : {M : Type 1} → statement M
 read-into-spec =
@@ -33,5 +33,5 @@ read-into-spec =
     enum-told
     text-reading-requires
     returns
-    read-lines-requires
+    read-frames-requires
     returns-2)

@@ -4,25 +4,26 @@ use native.Mathlib.Omega.{arith}
 use lib.ListN.{length}
 use borrow.Author.Tests.{not-false}
 use Rattle.text_lines.specs.Lines.{PairsTo}
-use Rattle.text_lines.specs.LinesSpell.{pairs-start}
+use Rattle.text_lines.specs.LinesPairs.{pairs-start}
 use Rattle.text_lines.specs.LinesEights.{pairs-behind}
 use Rattle.text_lines.proofs.eights_end.Statement.{statement}
 use Rattle.text_lines.proofs.eights_end.Tie as tie
+use Rattle.text_lines.proofs.eight_digits.Reads as eight-digits-reads
 
 abbrev Inv-loop : tie.InvT-loop
-Inv-loop text digits at end₀ end = PairsTo text at end
+Inv-loop text digits at end₀ end = PairsTo digits text at end
 
 abbrev μ-loop : tie.MeasureT-loop
 μ-loop text digits at end₀ end = length text - end
 
 loop-holds : tie.Need-loop-holds Inv-loop μ-loop
-loop-holds c = pairs-start (c .before .before .pre .0)
+loop-holds c = pairs-start (c .before .pre)
 
 sub-loop : tie.Need-sub-loop Inv-loop μ-loop
 sub-loop c = (c .loop .inv .within)
 
 eight-digits-requires : tie.Need-eight-digits-requires Inv-loop μ-loop
-eight-digits-requires c κs = (omega (arith, (c .loop-test .taken), (c .before .loop .inv .within)), (c .before .before .before .before .pre .1))
+eight-digits-requires c κs = omega (arith, (c .loop-test .taken), (c .before .loop .inv .within))
 
 returns : tie.Need-returns Inv-loop μ-loop
 returns c = (c .before .before .before .loop .inv)

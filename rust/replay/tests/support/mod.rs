@@ -4,7 +4,9 @@
 #![allow(dead_code)]
 
 pub mod lists;
+pub mod narrowed;
 
+use evaluator::machine::strict_text;
 use std::collections::BTreeMap;
 use std::fs;
 use std::io::{self, Write};
@@ -22,6 +24,11 @@ pub fn root() -> PathBuf {
 pub fn example(name: &str) -> Vec<u8> {
     let path = root().join("examples").join(format!("{name}.rules"));
     fs::read(path).expect("the rule file is there")
+}
+
+/// The strict text of a rule file of `examples/`, by the Rust evaluator.
+pub fn strict_example(name: &str) -> Vec<u8> {
+    strict_text(&example(name)).expect("a file that is read")
 }
 
 /// The cases of this repository.
@@ -56,10 +63,10 @@ pub fn stored(folder: &Path, name: &str) -> Vec<String> {
 /// How often each number was answered.
 pub type Counts = BTreeMap<u32, usize>;
 
-/// The numbers that a report gives to check, start and iterations.
+/// The numbers that a report gives to check, start, iterations and writing.
 pub fn numbers(report: &str) -> impl Iterator<Item = u32> + '_ {
     let parts = report.split(';').filter_map(|part| part.split_once(':'));
-    let answers = parts.filter(|(name, _)| matches!(*name, "check" | "start" | "it"));
+    let answers = parts.filter(|(name, _)| matches!(*name, "check" | "start" | "it" | "wr"));
     answers.filter_map(|(_, rest)| rest.split(',').next()?.parse().ok())
 }
 

@@ -1,0 +1,4 @@
+pub mod Writes
+pub mod LineLaws
+pub mod LinesLaws
+pub mod FileLaws
