@@ -25,7 +25,10 @@ fn counted(mut next_case: impl FnMut() -> Case) -> Counts {
     counts
 }
 
-fn assert_all_met(counts: Counts, last: Refusal) {
+/// Every number up to that of the last refusal is given.
+fn assert_all_met(next_case: impl FnMut() -> Case + Send + 'static, last: Refusal) {
+    let counts = with_deep_stack(move || counted(next_case));
+    let counts = counts.expect("every case is answered");
     println!("{counts:?}");
     let numbers = 0..=last.number();
     let missing: Vec<u32> = numbers
@@ -37,17 +40,13 @@ fn assert_all_met(counts: Counts, last: Refusal) {
 #[test]
 fn every_number_from_0_to_23_is_met() {
     let mut mixture = Mixture::new(2023);
-    let counts = with_deep_stack(move || counted(|| mixture.next_case()));
-    let counts = counts.expect("every case is answered");
-    assert_all_met(counts, Refusal::ValueTooLarge);
+    assert_all_met(move || mixture.next_case(), Refusal::ValueTooLarge);
 }
 
 #[test]
 fn every_number_from_0_to_24_is_met_with_typed_texts() {
     let mut mixture = TypedMixture::new(2024);
-    let counts = with_deep_stack(move || counted(|| mixture.next_case()));
-    let counts = counts.expect("every case is answered");
-    assert_all_met(counts, Refusal::WriteBuffer);
+    assert_all_met(move || mixture.next_case(), Refusal::WriteBuffer);
 }
 
 #[test]
