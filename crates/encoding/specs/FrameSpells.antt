@@ -11,7 +11,7 @@ use Rattle.language.specs.Format.{fileFrames}
 use Rattle.language.specs.Text.{textFrames}
 use Rattle.language.specs.Reader.{readFile}
 use Rattle.text.specs.Bytes.{bytesOf}
-use Rattle.text_lines.specs.RuleBytes.{frame-bytes-read}
+use Rattle.text_lines.specs.LineBytes.{frame-bytes-read}
 use Rattle.theory.specs.Lists.{look-getD, look-less, look-append, look-past, look-map}
 use Rattle.theory.specs.FileFrames.{frameOfType, frameOfFunction, frameOfInput, frameOfNode}
 use Rattle.theory.specs.ReaderExact.{reader-forth}

@@ -21,7 +21,7 @@ use Rattle.text_lines.specs.declared.LineEnd.the-variants.{At, Bad}
 use Rattle.text.specs.Bytes.{bytesOf}
 use Rattle.text_lines.specs.Lines.{isSome, firstLine, lineEnd}
 use Rattle.text_lines.specs.LinesEnd.{behind, first-line-ended, first-line-last}
-use Rattle.text_lines.specs.LinesSpell.{line-bytes-read}
+use Rattle.text_lines.specs.LineBytes.{line-bytes-read}
 use Rattle.text_lines.specs.LinesJudge.{line-ended}
 use Rattle.input_line.specs.Judges.{InputsJudged, LineJudged}
 

@@ -10,7 +10,7 @@ use Rattle.language.specs.Result.{Result, ok, no}
 use Rattle.language.specs.Syntax.{File}
 use Rattle.language.specs.Reader.{readFrame, readFrames, readFile, emptyFile}
 use Rattle.text.specs.Bytes.{bytesOf}
-use Rattle.text_lines.specs.RuleBytes.{frame-bytes-read}
+use Rattle.text_lines.specs.LineBytes.{frame-bytes-read}
 use Rattle.text_lines.specs.TextJudge.{Accepted}
 use Rattle.encoding.specs.FrameLines.{frameLinesOf, lineAt, line-part, line-within, frames-counted, line-spelled}
 use Rattle.index.specs.Tables.{framesMost, frameTable}

@@ -12,5 +12,5 @@ pub mod GroupWalk
 pub mod RuleLineLaws
 pub mod RuleAnswers
 pub mod RuleFrames
-pub mod RuleBytes
+pub mod LineBytes
 pub mod TextJudge

@@ -1,5 +1,4 @@
--- Where a line that spells bytes ends: behind its pairs of digits, if LF stands there. The bytes of such a line are those that a
--- cursor reads.
+-- Where a line that spells bytes ends: behind its pairs of digits, if LF stands there.
 use Prim.Native.Nat.{ℕ, suc, _+_, _≤_, _<_}
 use mathlib.Core.List.{List, [], _∷_}
 use mathlib.Core.Bool.{Bool, true, false}
@@ -14,8 +13,6 @@ use Rattle.language.specs.Result.{both, when, choose}
 use Rattle.language.specs.Codes.{lineFeed}
 use Rattle.language.specs.Text.{digit, pair, pairs, lineBytes}
 use Rattle.text_lines.specs.declared.LineEnd.the-variants.{At, Bad}
-use Rattle.text.specs.Bytes.{bytesOf}
-use Rattle.text.specs.DigitLaws.{digit-value, digit-no-space, bytes-pair}
 use Rattle.text_lines.specs.Lines.{firstLine, isSome, strictDigit, digitPairs, lineEnd}
 
 -- characters differ where one is a digit and the other is none
@@ -137,21 +134,3 @@ module _ (t : List ℕ) (at : ℕ) where
         let ended : length (firstLine (drop at t)) < length (drop at t) = omega (arith, length-drop at t, line .0, is) in
         let place : end ≡ at + length (firstLine (drop at t)) = omega (arith, is, line .0) in
         rw (lt-ltb _ _ ended, line-of-pairs (firstLine (drop at t)) filled, line .1) (ap At place)
-
--- ---- the bytes of a good line
-pairs-are-bytes : (l bs : List ℕ) → pairs l ≡ some bs → bytesOf l ≡ bs
-unfolding pairs pair bytesOf
-pairs-are-bytes [] bs e = cc
-pairs-are-bytes (a ∷ []) bs e = absurd (let z : _≡_ {A = ℕ} 0 1 = cc in omega arith)
-pairs-are-bytes (a ∷ b ∷ l) bs e = go (digit a) (digit b) (pairs l) refl refl e (pairs-are-bytes l)
-  where
-    go : (x y : Option ℕ) (z : Option (List ℕ)) → digit a ≡ x → digit b ≡ y → pair x y z ≡ some bs → ((cs : List ℕ) → z ≡ some cs → bytesOf l ≡ cs) → bytesOf (a ∷ b ∷ l) ≡ bs
-    go (some i) (some j) (some cs) p q e inner = bytes-pair a b l (digit-no-space a i p) ∙ rw (digit-value a i p, digit-value b j q, inner cs refl) cc
-    go (some i) (some j) none p q e inner = absurd (let z : _≡_ {A = ℕ} 0 1 = cc in omega arith)
-    go (some i) none z p q e inner = absurd (let z : _≡_ {A = ℕ} 0 1 = cc in omega arith)
-    go none y z p q e inner = absurd (let z : _≡_ {A = ℕ} 0 1 = cc in omega arith)
-
-pub line-bytes-read : (l bs : List ℕ) → lineBytes l ≡ some bs → bytesOf l ≡ bs
-unfolding lineBytes
-line-bytes-read [] bs e = absurd (let z : _≡_ {A = ℕ} 0 1 = cc in omega arith)
-line-bytes-read (c ∷ l) bs e = pairs-are-bytes (c ∷ l) bs e

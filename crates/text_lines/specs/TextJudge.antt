@@ -21,7 +21,7 @@ use Rattle.text_lines.specs.Lines.{channelsOf, judged, judgement}
 use Rattle.text_lines.specs.RuleLines.{lineChars, framesBehind}
 use Rattle.text_lines.specs.RuleAnswers.{RuleExtra, RuleFrame, RuleBad}
 use Rattle.text_lines.specs.RuleFrames.{frames-of-text, frames-end, frames-behind-extra, frames-behind-frame, frames-refused}
-use Rattle.text_lines.specs.RuleBytes.{frame-bytes-read}
+use Rattle.text_lines.specs.LineBytes.{frame-bytes-read}
 
 -- ---- the lines up to a place are frames
 pub record Counted (t : List ℕ) (at frames channels : ℕ) (earlier : List (List ℕ)) : Type 0 where
