@@ -1,20 +1,21 @@
 -- What each function of the cycle is asked for: an expression, an expression whose head was read, what a form makes of its operands' cells,
 -- an arm, a branch, the body of a function.
-use Prim.Native.Nat.{ℕ, _-_, _<_}
+use Prim.Native.Nat.{ℕ, _-_, _≤_, _<_}
 use mathlib.Core.List.{List, [], _∷_, _++_}
 use mathlib.Core.Bool.{true}
 use mathlib.Core.Option.{some}
 use mathlib.Core.Path.{_≡_}
 use lib.ListN.{length, getD, take, getElem? as look}
 use lib.Dec.{ltb, leb}
+use Rattle.language.specs.Codes.{operatorAnd}
 use Rattle.language.specs.Refusals.{environmentSpent}
 use Rattle.language.specs.Result.{choose}
-use Rattle.language.specs.Syntax.{ResultType, Expr, Exprs, Function, File}
-use Rattle.language.specs.Format.{exprBytes, exprsBytes, resultBytes}
+use Rattle.language.specs.Syntax.{ResultType, Op, Expr, Exprs, Function, File}
+use Rattle.language.specs.Format.{opCode, exprBytes, exprsBytes, resultBytes}
 use Rattle.language.specs.Scope.{Scope, wider}
 use Rattle.language.specs.Within.{WithinBranches}
-use Rattle.language.specs.Heap.{Cell, truth, cellAt, constantIn, constructorIn, sizeIn, fieldsIn}
-use Rattle.language.specs.Evaluator.{Out, needs, Channels, eval, evalBranch, run}
+use Rattle.language.specs.Heap.{Cell, leaf, truth, applyOp, cellAt, constantIn, constructorIn, sizeIn, fieldsIn}
+use Rattle.language.specs.Evaluator.{Out, needs, alloc, Channels, eval, evalBranch, run}
 use Rattle.text.specs.declared.Cursor.{Cursor}
 use Rattle.text.specs.Places.{past}
 use Rattle.encoding.specs.Spells.{Spells}
@@ -28,7 +29,7 @@ use Rattle.index.specs.Indexed.{framePlace}
 use Rattle.ends.specs.Ended.{EndAt, EndedAll}
 use Rattle.new_cells.specs.declared.Value.{Value}
 use Rattle.evaluation_steps.specs.declared.Context.{Context}
-use Rattle.evaluation_steps.specs.Operands.{operandsOf, finished}
+use Rattle.evaluation_steps.specs.Operands.{operandsOf, rightSide, finished}
 use Rattle.evaluation_steps.specs.Promises.{Stands, Evals, cellsIn}
 
 module _ (text index ends slots : List ℕ) (p : Context) where
@@ -63,6 +64,15 @@ module _ (text index ends slots : List ℕ) (p : Context) where
     pub second : Expr
     pub stands : Stands text index ends (p .line) (wider 1 0 S) (p .at .at) second
     pub is : o ≡ needs (ltb 0 (length slots - p .top)) environmentSpent (eval P (run P cells (p .calls)) cells N second (take (p .top) slots ++ (l ∷ [])) (length slots - p .top - 1) h)
+
+  -- `17`: of two sides' cells l and m, or of the left one's, where the right side stands at the place
+  pub record AskOperator (o l m : ℕ) (P : File) (cells : ℕ) (S : Scope) (N : Channels) (h : List Cell) (out : Out) : Type 0 where
+    pub op : Op
+    pub code : opCode op ≡ o
+    pub second : Expr
+    pub stands : operatorAnd ≤ o → Stands text index ends (p .line) S (p .at .at) second
+    pub left : operatorAnd ≤ o → out ≡ rightSide P (run P cells (p .calls)) cells N op second (take (p .top) slots) (length slots - p .top) l h
+    pub both : o < operatorAnd → out ≡ alloc cells h (leaf (applyOp op (constantIn (cellAt h l)) (constantIn (cellAt h m))))
 
   -- `16`: one of two arms
   pub record AskChoice (l : ℕ) (P : File) (cells : ℕ) (S : Scope) (N : Channels) (h : List Cell) (o : Out) : Type 0 where
@@ -115,6 +125,9 @@ module _ (text index ends now words slots : List ℕ) (p : Context) where
 
   abbrev pub EvalsBound : ℕ → Value → List ℕ → List ℕ → Type 0
   EvalsBound l r words′ slots′ = Evals text index ends now words slots p (AskBound text index ends slots p l) r words′ slots′
+
+  abbrev pub EvalsOperator : ℕ → ℕ → ℕ → Value → List ℕ → List ℕ → Type 0
+  EvalsOperator o l m r words′ slots′ = Evals text index ends now words slots p (AskOperator text index ends slots p o l m) r words′ slots′
 
   abbrev pub EvalsChoice : ℕ → Value → List ℕ → List ℕ → Type 0
   EvalsChoice l r words′ slots′ = Evals text index ends now words slots p (AskChoice text index ends slots p l) r words′ slots′

@@ -1,15 +1,17 @@
 -- What a form makes of its operands' cells, return by return.
-use Prim.Native.Nat.{ℕ, _-_, _<_}
+use Prim.Native.Nat.{ℕ, _-_, _≤_, _<_}
 use mathlib.Core.List.{List, [], _∷_, _++_}
 use mathlib.Core.Bool.{false}
 use mathlib.Core.Path.{_≡_, refl, sym, ap, _∙_, subst}
 use native.Mathlib.Omega.{arith}
 use lib.ListN.{length, getD, take}
 use lib.Dec.{ltb, leb}
+use borrow.Author.Tests.{le-leb, lt-leb}
+use Rattle.language.specs.Codes.{operatorAnd}
 use Rattle.language.specs.Refusals.{environmentSpent}
 use Rattle.language.specs.Result.{choose}
 use Rattle.language.specs.Syntax.{TypeDef, Expr, Exprs, enil, econs, File}
-use Rattle.language.specs.Format.{exprBytes, exprsBytes, resultBytes}
+use Rattle.language.specs.Format.{opCode, exprBytes, exprsBytes, resultBytes}
 use Rattle.language.specs.Scope.{Scope}
 use Rattle.language.specs.Heap.{Cell, leaf, truth, applyOp, cellAt, constantIn, constructorIn, sizeIn, fieldsIn}
 use Rattle.language.specs.Evaluator.{Out, value, needs, alloc, Channels, arity, parameterCount, eval, evalBranch, run}
@@ -30,14 +32,14 @@ use Rattle.ends.specs.Ended.{EndAt}
 use Rattle.new_cells.specs.declared.Value.{Value}
 use Rattle.new_cells.specs.declared.Value.the-variants.{Is, Refused}
 use Rattle.new_cells.specs.Steps.{Gives}
-use Rattle.new_cells.specs.Asked.{Operates, Constructs}
+use Rattle.new_cells.specs.Asked.{Constructs}
 use Rattle.evaluation_steps.specs.declared.Context.{Context}
-use Rattle.evaluation_steps.specs.Operands.{operandsOf, finished}
+use Rattle.evaluation_steps.specs.Operands.{operandsOf, choose-first, choose-second, rightSide, finished}
 use Rattle.evaluation_steps.specs.Promises.{Room, Stage, Stands, Asked, Evals, cellsIn}
-use Rattle.evaluation_steps.specs.Asks.{AskFinish, Finishes, EvalsBound, EvalsChoice, EvalsFit, EvalsBranch, EvalsBody}
+use Rattle.evaluation_steps.specs.Asks.{AskFinish, Finishes, EvalsBound, EvalsOperator, EvalsChoice, EvalsFit, EvalsBranch, EvalsBody}
 use Rattle.evaluation_steps.specs.KeepLaws.{below-same}
 use Rattle.evaluation_steps.specs.ExprLaws.{agrees-value, kept-is, kept-not}
-use Rattle.evaluation_steps.specs.PartLaws.{let-ended, if-ended, case-ended, fit-ended, first-end, first-ended, others-ended, ended-as, ended-at}
+use Rattle.evaluation_steps.specs.PartLaws.{let-ended, if-ended, op-ended, case-ended, fit-ended, left-alone, both-sides, first-end, first-ended, others-ended, ended-as, ended-at}
 
 -- ---- at an equal place
 stands-at : {text index ends : List ℕ} {line at m : ℕ} {S : Scope} {e : Expr} → at ≡ m → Stands text index ends line S m e → Stands text index ends line S at e
@@ -93,18 +95,28 @@ module _ (text index ends now words slots : List ℕ) (p : Context) (row : List 
     below = below-same (p .top) slots;
   })
 
-  pub finish-operator : {form : Form} {o l m : ℕ} {r : Value} {words′ : List ℕ} → form ≡ Operator o → l ≡ getD row 0 0 → m ≡ getD row 1 0 → Gives words (p .used) (Operates o l m) r words′ → Finishes text index ends now words slots p form row n r words′ slots
-  unfolding finished operandsOf exprCount
-  finish-operator {l = l} {m = m} e w x g = as-form e (by-cell g (λ P cells S N h o st ask.
+  pub finish-operator : {form : Form} {o l m : ℕ} {r : Value} {words′ slots′ : List ℕ} → form ≡ Operator o → l ≡ getD row 0 0 → m ≡ getD row 1 0 → EvalsOperator text index ends now words slots p o l m r words′ slots′ →
+      Finishes text index ends now words slots p form row n r words′ slots′
+  unfolding finished exprCount
+  finish-operator {o = o} {l = l} {m = m} e w x v = as-form e (by-part v (λ P cells S N h out st ask.
       let y = op-head (ask .heads) (ask .stands .spelled) (ask .stands .within) refl in
-      let two : 2 ≡ n = counted ask (ap operandsOf (y .is)) in
-      let first : getD (cellsIn row n) 0 0 ≡ l = cell-at 0 (omega arith) ∙ sym w in
-      let second : getD (cellsIn row n) 1 0 ≡ m = cell-at 1 (omega arith) ∙ sym x in
+      let one : operatorAnd ≤ o → operandsOf (ask .expr) ≡ econs (y .first) enil = λ high. ap operandsOf (y .is) ∙ left-alone (y .op) _ _ (omega (arith, y .code)) in
+      let two : o < operatorAnd → 2 ≡ n = λ low. counted ask (ap operandsOf (y .is) ∙ both-sides (y .op) _ _ (omega (arith, y .code))) in
       record {
         op = y .op;
         code = y .code;
-        is = is-finished ask (y .is) ∙ ap (λ a. alloc cells h (leaf (applyOp (y .op) (constantIn (cellAt h a)) (constantIn (cellAt h (getD (cellsIn row n) 1 0)))))) first ∙
-            ap (λ a. alloc cells h (leaf (applyOp (y .op) (constantIn (cellAt h l)) (constantIn (cellAt h a))))) second;
+        second = y .second;
+        stands = λ high. stands-at (behind-one ask (one high) (λ z. let x : _≡_ {A = ℕ} 0 1 = cc in omega arith)) (record {
+          levels = y .left;
+          within = y .within₂;
+          spelled = y .spelled₂;
+          ended = first-ended (others-ended (ended-at (shown (ask .heads) refl .0 .ends) (op-ended (ended-as _ (ask .stands) (y .is)))));
+        });
+        left = λ high. choose-first _ _ _ (is-finished ask (y .is)) (le-leb operatorAnd (opCode (y .op)) (omega (arith, y .code))) ∙
+            ap (λ a. rightSide P (run P cells (p .calls)) cells N (y .op) (y .second) (take (p .top) slots) (length slots - p .top) a h) (sym (first-cell w (counted ask (one high))));
+        both = λ low. choose-second _ _ _ (is-finished ask (y .is)) (lt-leb operatorAnd (opCode (y .op)) (omega (arith, y .code))) ∙
+            ap (λ a. alloc cells h (leaf (applyOp (y .op) (constantIn (cellAt h a)) (constantIn (cellAt h (getD (cellsIn row n) 1 0)))))) (cell-at 0 (omega (arith, two low)) ∙ sym w) ∙
+            ap (λ a. alloc cells h (leaf (applyOp (y .op) (constantIn (cellAt h l)) (constantIn (cellAt h a))))) (cell-at 1 (omega (arith, two low)) ∙ sym x);
       }))
 
   pub finish-construct : {form : Form} {t c : ℕ} {r : Value} {words′ : List ℕ} → form ≡ Construct t c → Gives words (p .used) (Constructs index row t c n) r words′ → Finishes text index ends now words slots p form row n r words′ slots

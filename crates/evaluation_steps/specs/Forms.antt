@@ -1,9 +1,14 @@
 -- What a form asks of the index, and a refusal handed on.
-use Prim.Native.Nat.{ℕ, zero, suc, _+_, _*_, _%_}
+use Prim.Native.Nat.{ℕ, zero, suc, _+_, _*_, _%_, _≤_, _<_}
 use mathlib.Core.List.{List}
+use mathlib.Core.Path.{_≡_}
 use lib.ListN.{getD}
+use lib.Dec.{leb}
+use borrow.Author.Tests.{le-leb, lt-leb}
 use Rattle.language.specs.Limits.{byteRange}
+use Rattle.language.specs.Codes.{operatorAnd}
 use Rattle.language.specs.Refusals.{noRefusal}
+use Rattle.language.specs.Result.{choose}
 use Rattle.index.specs.Tables.{typeWords, constructorWords, functionWords}
 use Rattle.heads.specs.declared.Form.{Form}
 use Rattle.heads.specs.declared.Form.the-variants.{Bool as BoolForm, Int, Variable, Now, Last, Let, If, Operator, Call, Construct, Case, Adjust, Fit, Missing}
@@ -13,9 +18,21 @@ use Rattle.new_cells.specs.declared.Value.the-variants.{Is, Refused}
 use Rattle.evaluation_steps.specs.declared.Values.{Values}
 use Rattle.evaluation_steps.specs.declared.Values.the-variants.{Are, Refused as RefusedAll}
 
+-- how many sides of an operator are operands
+unfoldable pub sideCount : ℕ → ℕ
+sideCount o = choose (leb operatorAnd o) 1 2
+
+pub one-side : (o : ℕ) → operatorAnd ≤ o → sideCount o ≡ 1
+unfolding sideCount choose
+one-side o le = rw (le-leb operatorAnd o le)
+
+pub two-sides : (o : ℕ) → o < operatorAnd → sideCount o ≡ 2
+unfolding sideCount choose
+two-sides o less = rw (lt-leb operatorAnd o less)
+
 -- how many operands, and how many slots wait for them
 abbrev pub operandCount : List ℕ → List ℕ → Form → ℕ
-operandCount types functions (Operator o) = 2
+operandCount types functions (Operator o) = sideCount o
 operandCount types functions (Call f) = getD functions (functionWords * f) 0 % byteRange
 operandCount types functions (Construct t c) = getD types (typeWords * t + 1 + constructorWords * c) 0 % byteRange
 operandCount types functions (BoolForm b) = 1

@@ -15,3 +15,4 @@ pub mod ArgumentLaws
 pub mod PartLaws
 pub mod CompoundLaws
 pub mod FinishLaws
+pub mod SideLaws

@@ -1,5 +1,6 @@
 -- An expression that has parts is evaluated in two steps: its operands, one after the other in its own scope, and then what its form
--- makes of their cells. Equal to the definition, form by form.
+-- makes of their cells. Equal to the definition, form by form. The operands of an operator are its two sides; of `06` and `07`, whose left
+-- side may decide, that side alone.
 use Prim.Native.Nat.{ℕ, _+_, _-_}
 use mathlib.Core.List.{List, [], _∷_, _++_}
 use mathlib.Core.Bool.{Bool, true, false}
@@ -9,11 +10,17 @@ use lib.ListN.{getD}
 use lib.Dec.{ltb, leb}
 use borrow.Author.Tests.{le-leb}
 use Rattle.language.specs.Limits.{sizeMost}
+use Rattle.language.specs.Codes.{operatorAnd}
 use Rattle.language.specs.Refusals.{noRefusal, environmentSpent, valueTooLarge}
 use Rattle.language.specs.Result.{both, choose}
-use Rattle.language.specs.Syntax.{Size, ResultType, Op, Expr, ebool, eint, evar, enow, elast, elet, eif, eop, ecall, econ, ecase, eadj, efit, Exprs, enil, econs, File, fieldsOf}
-use Rattle.language.specs.Heap.{Cell, leaf, con, truth, applyOp, cellAt, constantIn, constructorIn, sizeIn, fieldsIn, ownSum, fieldsWithin}
+use Rattle.language.specs.Syntax.{Size, ResultType, Op, oadd, osub, omul, oeq, olt, ole, oand, oor, Expr, ebool, eint, evar, enow, elast, elet, eif, eop, ecall, econ, ecase, eadj, efit, Exprs, enil, econs, File, fieldsOf}
+use Rattle.language.specs.Format.{opCode}
+use Rattle.language.specs.Heap.{kbool, Cell, leaf, con, truth, applyOp, decides, cellAt, constantIn, constructorIn, sizeIn, fieldsIn, ownSum, fieldsWithin}
 use Rattle.language.specs.Evaluator.{Out, value, refused, values, bindOut, bindOuts, first, rest, needs, alloc, Channels, Body, arity, eval, evals, evalBranch}
+
+-- whether the left side of the operator of a code may decide
+abbrev pub mayDecide : ℕ → Bool
+mayDecide code = leb operatorAnd code
 
 -- the parts that are evaluated first, and the slots that wait for them
 unfoldable pub operandsOf : Expr → Exprs
@@ -24,7 +31,7 @@ operandsOf (enow c) = enil
 operandsOf (elast c) = enil
 operandsOf (elet a b) = econs a enil
 operandsOf (eif a b d) = econs a enil
-operandsOf (eop o a b) = econs a (econs b enil)
+operandsOf (eop o a b) = choose (mayDecide (opCode o)) (econs a enil) (econs a (econs b enil))
 operandsOf (ecall f es) = es
 operandsOf (econ t c es) = es
 operandsOf (ecase t e r bs) = econs e enil
@@ -75,6 +82,12 @@ pub data Compound : Expr → Type 0 where
   c-fit : {k : ℕ} {a b d : Expr} → Compound (efit k a b d)
 
 module _ (P : File) (B : Body) (cells : ℕ) (N : Channels) where
+  -- what an operator makes of its left side's cell l, where the right side is evaluated only if that does not decide
+  unfoldable pub rightSide : Op → Expr → List ℕ → ℕ → ℕ → List Cell → Out
+  rightSide o b E s l h =
+      choose (decides o (truth (constantIn (cellAt h l)))) (alloc cells h (leaf (kbool (truth (constantIn (cellAt h l))))))
+      (bindOut (eval P B cells N b E s h) (λ j i. alloc cells i (leaf (applyOp o (constantIn (cellAt i l)) (constantIn (cellAt i j))))))
+
   -- what the form makes of the operands' cells ls
   unfoldable pub finished : Expr → List ℕ → ℕ → List ℕ → List Cell → Out
   finished (ebool b) E s ls h = refused noRefusal
@@ -84,7 +97,8 @@ module _ (P : File) (B : Body) (cells : ℕ) (N : Channels) where
   finished (elast c) E s ls h = refused noRefusal
   finished (elet a b) E s ls h = needs (ltb 0 s) environmentSpent (eval P B cells N b (E ++ (getD ls 0 0 ∷ [])) (s - 1) h)
   finished (eif a b d) E s ls h = choose (truth (constantIn (cellAt h (getD ls 0 0)))) (eval P B cells N b E s h) (eval P B cells N d E s h)
-  finished (eop o a b) E s ls h = alloc cells h (leaf (applyOp o (constantIn (cellAt h (getD ls 0 0))) (constantIn (cellAt h (getD ls 1 0)))))
+  finished (eop o a b) E s ls h =
+      choose (mayDecide (opCode o)) (rightSide o b E s (getD ls 0 0) h) (alloc cells h (leaf (applyOp o (constantIn (cellAt h (getD ls 0 0))) (constantIn (cellAt h (getD ls 1 0))))))
   finished (ecall f es) E s ls h = B f ls (s - arity P f) h
   finished (econ t c es) E s ls h = needs (both (ltb (ownSum h (fieldsOf P t c) ls) sizeMost) (fieldsWithin h (fieldsOf P t c) ls)) valueTooLarge (alloc cells h (con t c (1 + ownSum h (fieldsOf P t c) ls) ls))
   finished (ecase t e r bs) E s ls h = evalBranch P B cells N bs (constructorIn (cellAt h (getD ls 0 0))) (fieldsIn (cellAt h (getD ls 0 0))) E s h
@@ -124,12 +138,24 @@ module _ (P : File) (B : Body) (cells : ℕ) (N : Channels) where
     unfolding evals
     one-first a o k e = let all : s - 0 ≡ s = omega arith in rw all (e ∙ one-operand (eval P B cells N a E s h) k ∙ free s _)
 
+    two-first : (a b : Expr) (o : Out) (k : List ℕ → List Cell → Out) → o ≡ bindOut (eval P B cells N a E s h) (λ l g. bindOut (eval P B cells N b E s g) (λ j i. k (l ∷ j ∷ []) i)) →
+        o ≡ needs (leb 0 s) environmentSpent (bindOuts (evals P B cells N (econs a (econs b enil)) E (s - 0) h) k)
+    unfolding evals
+    two-first a b o k e = let all : s - 0 ≡ s = omega arith in rw all (e ∙ two-operands (eval P B cells N a E s h) (λ g. eval P B cells N b E s g) k ∙ free s _)
+
     -- an expression with operands is evaluated in two steps
     pub operands-first : (e : Expr) → Compound e → eval P B cells N e E s h ≡ needs (leb (reservedFor P e) s) environmentSpent (bindOuts (evals P B cells N (operandsOf e) E (s - reservedFor P e) h) (λ ls g. finished e E s ls g))
-    unfolding eval operandsOf reservedFor finished
+    unfolding eval operandsOf reservedFor finished rightSide decides choose
     operands-first (elet a b) c-let = one-first a _ _ refl
     operands-first (eif a b d) c-if = one-first a _ _ refl
-    operands-first (eop o a b) c-op = let all : s - 0 ≡ s = omega arith in rw all (two-operands (eval P B cells N a E s h) (λ g. eval P B cells N b E s g) _ ∙ free s _)
+    operands-first (eop oadd a b) c-op = two-first a b _ _ refl
+    operands-first (eop osub a b) c-op = two-first a b _ _ refl
+    operands-first (eop omul a b) c-op = two-first a b _ _ refl
+    operands-first (eop oeq a b) c-op = two-first a b _ _ refl
+    operands-first (eop olt a b) c-op = two-first a b _ _ refl
+    operands-first (eop ole a b) c-op = two-first a b _ _ refl
+    operands-first (eop oand a b) c-op = one-first a _ _ refl
+    operands-first (eop oor a b) c-op = one-first a _ _ refl
     operands-first (ecall f es) c-call = refl
     operands-first (econ t c es) c-con = let all : s - 0 ≡ s = omega arith in rw all (free s _)
     operands-first (ecase t e r bs) c-case = one-first e _ _ refl

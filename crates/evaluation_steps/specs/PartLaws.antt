@@ -1,12 +1,16 @@
 -- What is known of an expression whose head was read: its operands, where they stand and end, and the slots that wait for them.
-use Prim.Native.Nat.{ℕ}
+use Prim.Native.Nat.{ℕ, _≤_, _<_}
 use mathlib.Core.List.{List, []}
-use mathlib.Core.Bool.{true}
+use mathlib.Core.Bool.{Bool, true, false}
 use mathlib.Core.Path.{_≡_, refl, sym, ap, _∙_, subst}
 use native.Mathlib.Omega.{arith}
 use lib.ListN.{length, getD}
+use lib.Dec.{leb}
+use borrow.Author.Tests.{le-leb, lt-leb, leb-true, leb-false}
+use Rattle.language.specs.Codes.{operatorAnd}
+use Rattle.language.specs.Result.{choose}
 use Rattle.language.specs.Syntax.{Size, ResultType, Op, Expr, elet, eif, eop, ecall, econ, ecase, eadj, efit, Exprs, enil, econs, File}
-use Rattle.language.specs.Format.{exprBytes, sizeBytes, resultBytes}
+use Rattle.language.specs.Format.{opCode, exprBytes, sizeBytes, resultBytes}
 use Rattle.language.specs.Scope.{Scope}
 use Rattle.language.specs.Within.{WithinExpr, ws-nil, ws-cons}
 use Rattle.language.specs.Evaluator.{parameterCount}
@@ -27,7 +31,7 @@ use Rattle.index.specs.Indexed.{framePlace, Indexed}
 use Rattle.ends.specs.Ended.{EndAt, Ended, d-let, d-if, d-op, d-call, d-con, d-case, d-adj, d-fit, EndedAll, ds-nil, ds-cons}
 use Rattle.ends.specs.EndOf.{endOf, end-told}
 use Rattle.evaluation_steps.specs.Operands.{operandsOf, reservedFor, Compound, c-let, c-if, c-op, c-call, c-con, c-case, c-adj, c-fit}
-use Rattle.evaluation_steps.specs.Forms.{operandCount, reservedCount, firstAt}
+use Rattle.evaluation_steps.specs.Forms.{one-side, two-sides, operandCount, reservedCount, firstAt}
 use Rattle.evaluation_steps.specs.Promises.{Stands, StandsAll}
 
 -- ---- the ends of the parts, form by form
@@ -77,6 +81,22 @@ module _ {ends : List ℕ} {from : ℕ} {line : List ℕ} {at : ℕ} where
 
   pub others-ended : {e : Expr} {es : Exprs} → EndedAll ends from line at (econs e es) → EndedAll ends from line (past line at (length (exprBytes e))) es
   others-ended (ds-cons a d ds) = ds
+
+-- ---- the operands of an operator
+pub left-alone : (o : Op) (a b : Expr) → operatorAnd ≤ opCode o → operandsOf (eop o a b) ≡ econs a enil
+unfolding operandsOf choose
+left-alone o a b high = rw (le-leb operatorAnd (opCode o) high)
+
+pub both-sides : (o : Op) (a b : Expr) → opCode o < operatorAnd → operandsOf (eop o a b) ≡ econs a (econs b enil)
+unfolding operandsOf choose
+both-sides o a b low = rw (lt-leb operatorAnd (opCode o) low)
+
+le-or-lt : {A : Type 0} (m n : ℕ) → (m ≤ n → A) → (n < m → A) → A
+le-or-lt {A} m n le lt = cases (leb m n) refl
+  where
+    cases : (b : Bool) → leb m n ≡ b → A
+    cases true e = le (leb-true m n e)
+    cases false e = lt (leb-false m n e)
 
 -- ---- what is known of the operands
 pub record Parts (text index ends : List ℕ) (line : ℕ) (P : File) (S : Scope) (form : Form) (next : ℕ) (e : Expr) : Type 0 where
@@ -133,17 +153,20 @@ module _ {text index ends : List ℕ} {line : ℕ} {P : File} {S : Scope} (i : I
       one-part (y .is) c-if refl refl refl (y .within) (y .spelled) (ended-at (shown h refl .ends) (first-alone (if-ended (ended-as _ s (y .is)))))
   parts-of (Operator o) parts h =
       let y = op-head h (s .spelled) (s .within) refl in
-      rw (y .is) (record {
+      let ended = ended-at (shown h refl .0 .ends) (op-ended (ended-as _ s (y .is))) in
+      le-or-lt operatorAnd o
+      (λ high. one-part (y .is) c-op refl (left-alone (y .op) _ _ (omega (arith, y .code))) (one-side o high) (y .within) (y .spelled) (first-alone ended))
+      (λ low. rw (y .is) (record {
         compound = c-op;
         reserved = refl;
-        stands = record {
+        stands = rw (two-sides o low, both-sides (y .op) (y .first) (y .second) (omega (arith, y .code))) (record {
           levels = y .left;
           within = ws-cons (y .within) (ws-cons (y .within₂) ws-nil);
           few = omega arith;
           spelled = list-more (y .spelled) (list-one (y .spelled₂));
-          ended = ended-at (shown h refl .0 .ends) (op-ended (ended-as _ s (y .is)));
-        };
-      })
+          ended = ended;
+        });
+      }))
   parts-of (Call f) parts h =
       let y = call-head h (s .spelled) (s .within) refl in
       let told = known-shapes i k in

@@ -4,7 +4,7 @@ ghost use Prim.Native.Nat.{_<_};
 ghost use Rattle.language.specs.Limits.{byteRange};
 ghost use Rattle.index.specs.Sections.{framesOf, typesOf, functionsOf};
 ghost use Rattle.index.specs.Indexed.{framePlace};
-ghost use Rattle.evaluation_steps.specs.Forms.{operandCount, reservedCount, firstAt, endAfter, handedOn, handedOnAll};
+ghost use Rattle.evaluation_steps.specs.Forms.{sideCount, operandCount, reservedCount, firstAt, endAfter, handedOn, handedOnAll};
 use super::Context;
 use super::Values;
 use ends::end_of;
@@ -12,17 +12,28 @@ use heads::Form;
 use index::INDEX_WORDS;
 use index::functions::arity;
 use index::types::fields;
+use language::codes::OPERATOR_AND;
 use language::limits::TEXT_MOST;
 use language::refusals::NO_REFUSAL;
 use new_cells::Value;
 use text::Cursor;
+
+// How many sides of an operator are operands: of and, or the left one, which may decide.
+fn sides(o: u32) -> u32
+    ensures { λ r. ⌜ (r ≡ sideCount o) × (r < byteRange) ⌝ }
+{
+    if o >= OPERATOR_AND {
+        return 1;
+    }
+    2
+}
 
 // How many parts are evaluated before the form's own step.
 pub fn operands(index: &[u32; INDEX_WORDS], form: Form) -> u32
     ensures { λ r. ⌜ (r ≡ operandCount (typesOf (now (index .entry))) (functionsOf (now (index .entry))) form) × (r < byteRange) ⌝ }
 {
     match form {
-        Form::Operator(_) => 2,
+        Form::Operator(o) => sides(o),
         Form::Call(f) => arity(index, f),
         Form::Construct(t, c) => fields(index, t, c),
         _ => 1,

@@ -2,11 +2,11 @@
 // the line.
 ghost use mathlib.Core.Path.{_≡_};
 ghost use Prim.Native.Nat.{_+_, _≤_};
-ghost use lib.ListN.{length};
+ghost use lib.ListN.{length, getD};
 ghost use Rattle.index.specs.Sections.{framesOf};
 ghost use Rattle.index.specs.Indexed.{framePart};
 ghost use Rattle.evaluation_steps.specs.Promises.{Room, Waits, EvalsAll};
-ghost use Rattle.evaluation_steps.specs.Asks.{EvalsExpr, EvalsForm, Finishes, EvalsBound, EvalsChoice, EvalsFit, EvalsBranch, EvalsBody};
+ghost use Rattle.evaluation_steps.specs.Asks.{EvalsExpr, EvalsForm, Finishes, EvalsBound, EvalsOperator, EvalsChoice, EvalsFit, EvalsBranch, EvalsBody};
 use construction::construct;
 use ends::end_of;
 use evaluation_steps::Context;
@@ -29,9 +29,11 @@ use heads::head_at;
 use heads::variable_at;
 use index::INDEX_WORDS;
 use index::frames::frame_line;
+use index::one_if;
 use index::put;
 use index::types::constructors;
 use index::word_at;
+use language::codes::OPERATOR_AND;
 use language::limits::CHANNELS_MOST;
 use language::limits::PARAMETERS_MOST;
 use language::limits::TEXT_MOST;
@@ -41,6 +43,7 @@ use language::refusals::STACK_SPENT;
 use new_cells::Value;
 use new_cells::new_bool;
 use new_cells::new_int;
+use operators::decides;
 use operators::operate;
 use state_words::channel_cell;
 use state_words::reads::constructor;
@@ -142,16 +145,8 @@ fn arguments(
     let mut used = p.used;
     let mut i: u32 = 0;
     while i < n {
-        let x = operand(
-            text,
-            index,
-            ends,
-            channels,
-            state,
-            slots,
-            line,
-            moved(p, at, used),
-        );
+        let q = moved(p, at, used);
+        let x = operand(text, index, ends, channels, state, slots, line, q);
         let Value::Is(cell, more) = x else {
             return refused_all(x);
         };
@@ -205,7 +200,7 @@ fn finish(
 {
     let first = word_at(row, 0);
     match form {
-        Form::Operator(o) => operate(state, p.used, o, first, word_at(row, 1)),
+        Form::Operator(o) => operator(text, index, ends, channels, state, slots, p, o, row),
         Form::Construct(t, c) => construct(index, state, p.used, t, c, row, n),
         Form::Adjust => Value::Is(first, p.used),
         Form::Call(f) => body(text, index, ends, channels, state, slots, p, f, row, n),
@@ -215,6 +210,37 @@ fn finish(
         Form::Let => binding(text, index, ends, channels, state, slots, p, first),
         _ => Value::Refused(NO_REFUSAL),
     }
+}
+
+// `17`: what an operator gives of its sides' cells, the first words of a row; the right side of and, or is evaluated here, unless the left
+// one decides.
+fn operator(
+    text: &[u8],
+    index: &[u32; INDEX_WORDS],
+    ends: &[u16; TEXT_MOST],
+    channels: &[u32; CHANNELS_MOST],
+    state: &mut [u32],
+    slots: &mut [u32],
+    p: Context,
+    o: u32,
+    row: &[u32; PARAMETERS_MOST],
+) -> Value
+    requires { ⌜ Room (now state) (now slots) p ⌝ }
+    ensures { λ r. ⌜ EvalsOperator (now (text .entry)) (now (index .entry)) (now (ends .entry)) (now (channels .entry)) (now (state .entry)) (now (slots .entry)) p o (getD (now (row .entry)) 0 0) (getD (now (row .entry)) 1 0) r (now (state .exit)) (now (slots .exit)) ⌝ }
+{
+    let left = word_at(row, 0);
+    if o < OPERATOR_AND {
+        return operate(state, p.used, o, left, word_at(row, 1));
+    }
+    let holds = truth(state, p.used, left);
+    if decides(o, holds) {
+        return new_bool(state, p.used, one_if(holds));
+    }
+    let x = expr(text, index, ends, channels, state, slots, p);
+    let Value::Is(cell, used) = x else {
+        return x;
+    };
+    operate(state, used, o, left, cell)
 }
 
 // `15`: the second part of a let, with the first one's cell bound.

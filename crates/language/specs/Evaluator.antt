@@ -1,5 +1,6 @@
 -- The evaluator: figure 4 as a function, with refusals 20 to 23 in the order in which the rules meet them. Document 01, "By
--- place": "a call needs its slots before its arguments and its stack after them; a constructor's size comes before its cell".
+-- place": "a call needs its slots before its arguments and its stack after them; a constructor's size comes before its cell". `06`, `07`
+-- by document 02, R-2: where the left side decides, its value is written to a new cell, and the right side is not evaluated.
 -- Letters as in the figure: E the environment, s free slots, h the heap, u calls left; cap is the board's cells.
 use Prim.Native.Nat.{ℕ, zero, suc, _+_, _-_}
 use mathlib.Core.List.{List, [], _∷_, _++_}
@@ -11,7 +12,7 @@ use Rattle.language.specs.Limits.{sizeMost}
 use Rattle.language.specs.Refusals.{noRefusal, heapSpent, environmentSpent, stackSpent, valueTooLarge}
 use Rattle.language.specs.Result.{both, choose}
 use Rattle.language.specs.Syntax.{Expr, ebool, eint, evar, enow, elast, elet, eif, eop, ecall, econ, ecase, eadj, efit, Exprs, enil, econs, Function, File, fieldsOf}
-use Rattle.language.specs.Heap.{kbool, kint, Cell, leaf, con, truth, applyOp, cellAt, constantIn, constructorIn, sizeIn, fieldsIn, ownSum, fieldsWithin}
+use Rattle.language.specs.Heap.{kbool, kint, Cell, leaf, con, truth, applyOp, decides, cellAt, constantIn, constructorIn, sizeIn, fieldsIn, ownSum, fieldsWithin}
 
 -- a location and a longer heap, or a refusal
 pub data Out : Type 0 where
@@ -76,7 +77,9 @@ module _ (P : File) (B : Body) (cap : ℕ) (N : Channels) where
     eval (elast c) E s h = value (getD (N .last) c 0) h
     eval (elet a b) E s h = bindOut (eval a E s h) (λ l g. needs (ltb 0 s) environmentSpent (eval b (E ++ (l ∷ [])) (s - 1) g))
     eval (eif a b d) E s h = bindOut (eval a E s h) (λ l g. let x : Out = eval b E s g in let y : Out = eval d E s g in choose (truth (constantIn (cellAt g l))) x y)
-    eval (eop o a b) E s h = bindOut (eval a E s h) (λ l g. bindOut (eval b E s g) (λ j i. alloc cap i (leaf (applyOp o (constantIn (cellAt i l)) (constantIn (cellAt i j))))))
+    eval (eop o a b) E s h = bindOut (eval a E s h) (λ l g. let v : Bool = truth (constantIn (cellAt g l)) in
+        let x : Out = alloc cap g (leaf (kbool v)) in
+        let y : Out = bindOut (eval b E s g) (λ j i. alloc cap i (leaf (applyOp o (constantIn (cellAt i l)) (constantIn (cellAt i j))))) in choose (decides o v) x y)
     eval (ecall f es) E s h = needs (leb (arity P f) s) environmentSpent (bindOuts (evals es E (s - arity P f) h) (λ ls g. B f ls (s - arity P f) g))
     eval (econ t c es) E s h = bindOuts (evals es E s h) (λ ls g. let fs = fieldsOf P t c in
         needs (both (ltb (ownSum g fs ls) sizeMost) (fieldsWithin g fs ls)) valueTooLarge (alloc cap g (con t c (1 + ownSum g fs ls) ls)))

@@ -55,6 +55,18 @@ applyOp ole x y = kbool (not (signedLess (number y) (number x)))
 applyOp oand x y = kbool (both (truth x) (truth y))
 applyOp oor x y = kbool (oneOf (truth x) (truth y))
 
+-- whether the left side alone decides: document 02, R-2, "`06` evaluates its right side only when the left is true, `07` only when the
+-- left is false"
+unfoldable pub decides : Op → Bool → Bool
+decides oadd b = false
+decides osub b = false
+decides omul b = false
+decides oeq b = false
+decides olt b = false
+decides ole b = false
+decides oand b = not b
+decides oor b = b
+
 -- ---- cells of a heap
 abbrev pub cellAt : List Cell → ℕ → Cell
 cellAt h l = getD h l (leaf (kbool false))

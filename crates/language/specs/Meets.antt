@@ -12,7 +12,7 @@ use Rattle.language.specs.Limits.{sizeMost}
 use Rattle.language.specs.Refusals.{heapSpent, environmentSpent, stackSpent, valueTooLarge}
 use Rattle.language.specs.Syntax.{Field, other, Constructor, Size, ResultType, Op, Expr, ebool, eint, elet, eif, eop, ecall, econ, ecase, eadj, efit, Exprs, econs, lookExpr, Function, File, constructorsOf}
 use Rattle.language.specs.Sizes.{sum}
-use Rattle.language.specs.Heap.{kbool, Cell, leaf, con}
+use Rattle.language.specs.Heap.{Constant, kbool, Cell, leaf, con, truth, decides}
 use Rattle.language.specs.Evaluator.{Channels, noChannels}
 use Rattle.language.specs.Rules.{FieldSizes, Runs, RunsAll}
 
@@ -36,9 +36,12 @@ module _ (P : File) (cap : ℕ) where
       m-if-else : {N : Channels} {u s k n : ℕ} {E : List ℕ} {h i : List Cell} {a b d : Expr} →
           Runs P cap N u s E h a k i → look i k ≡ some (leaf (kbool false)) → Meets N u s E i d n → Meets N u s E h (eif a b d) n
       m-op-left : {N : Channels} {u s n : ℕ} {E : List ℕ} {h : List Cell} {o : Op} {a b : Expr} → Meets N u s E h a n → Meets N u s E h (eop o a b) n
-      m-op-right : {N : Channels} {u s j n : ℕ} {E : List ℕ} {h i : List Cell} {o : Op} {a b : Expr} → Runs P cap N u s E h a j i → Meets N u s E i b n → Meets N u s E h (eop o a b) n
-      m-op-cell : {N : Channels} {u s j k : ℕ} {E : List ℕ} {h i f : List Cell} {o : Op} {a b : Expr} →
-          Runs P cap N u s E h a j i → Runs P cap N u s E i b k f → cap ≤ length f → Meets N u s E h (eop o a b) heapSpent
+      m-op-decided : {N : Channels} {u s j : ℕ} {E : List ℕ} {h i : List Cell} {o : Op} {a b : Expr} {v : Bool} →
+          Runs P cap N u s E h a j i → look i j ≡ some (leaf (kbool v)) → decides o v ≡ true → cap ≤ length i → Meets N u s E h (eop o a b) heapSpent
+      m-op-right : {N : Channels} {u s j n : ℕ} {E : List ℕ} {h i : List Cell} {o : Op} {a b : Expr} {x : Constant} →
+          Runs P cap N u s E h a j i → look i j ≡ some (leaf x) → decides o (truth x) ≡ false → Meets N u s E i b n → Meets N u s E h (eop o a b) n
+      m-op-cell : {N : Channels} {u s j k : ℕ} {E : List ℕ} {h i f : List Cell} {o : Op} {a b : Expr} {x : Constant} →
+          Runs P cap N u s E h a j i → look i j ≡ some (leaf x) → decides o (truth x) ≡ false → Runs P cap N u s E i b k f → cap ≤ length f → Meets N u s E h (eop o a b) heapSpent
       m-call-slots : {N : Channels} {u s f : ℕ} {E : List ℕ} {h : List Cell} {es : Exprs} {F : Function} →
           look (P .functions) f ≡ some F → s < length (F .parameters) → Meets N u s E h (ecall f es) environmentSpent
       m-call-argument : {N : Channels} {u s r f n : ℕ} {E : List ℕ} {h : List Cell} {es : Exprs} {F : Function} →

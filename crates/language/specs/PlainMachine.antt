@@ -11,7 +11,7 @@ use Rattle.language.specs.Limits.{sizeMost}
 use Rattle.language.specs.Syntax.{Constructor, fbool, fint, own, other, Size, ResultType, Op, Expr, ebool, eint, evar, enow, elast, elet, eif, eop, ecall, econ, ecase, eadj, efit, Exprs, enil, econs, lookExpr, Function, Node, File, constructorsOf, initialValues}
 use Rattle.language.specs.PlainTypes.{operandType}
 use Rattle.language.specs.Sizes.{sum, sizeOfType}
-use Rattle.language.specs.Heap.{Constant, kbool, kint, Tree, vleaf, vcon, Trees, vnil, vcons, constantType, applyOp}
+use Rattle.language.specs.Heap.{Constant, kbool, kint, Tree, vleaf, vcon, Trees, vnil, vcons, constantType, truth, applyOp, decides}
 use Rattle.language.specs.Values.{appendTrees, lookTree, treeCount, treeSize}
 use Rattle.language.specs.Line.{lineTrees}
 
@@ -42,8 +42,9 @@ module _ (P : File) where
       p-let : {N : TreeChannels} {E : Trees} {a b : Expr} {w v : Tree} → Derives N E a w → Derives N (appendTrees E (vcons w vnil)) b v → Derives N E (elet a b) v
       p-if-then : {N : TreeChannels} {E : Trees} {a b d : Expr} {v : Tree} → Derives N E a (vleaf (kbool true)) → Derives N E b v → Derives N E (eif a b d) v
       p-if-else : {N : TreeChannels} {E : Trees} {a b d : Expr} {v : Tree} → Derives N E a (vleaf (kbool false)) → Derives N E d v → Derives N E (eif a b d) v
-      p-op : {N : TreeChannels} {E : Trees} {o : Op} {a b : Expr} {x y z : Constant} → Derives N E a (vleaf x) → Derives N E b (vleaf y) →
+      p-op : {N : TreeChannels} {E : Trees} {o : Op} {a b : Expr} {x y z : Constant} → Derives N E a (vleaf x) → decides o (truth x) ≡ false → Derives N E b (vleaf y) →
           constantType x ≡ operandType o → constantType y ≡ operandType o → z ≡ applyOp o x y → Derives N E (eop o a b) (vleaf z)
+      p-op-decided : {N : TreeChannels} {E : Trees} {o : Op} {a b : Expr} {v : Bool} → Derives N E a (vleaf (kbool v)) → decides o v ≡ true → Derives N E (eop o a b) (vleaf (kbool v))
       p-call : {N : TreeChannels} {E vs : Trees} {f : ℕ} {es : Exprs} {F : Function} {v : Tree} → look (P .functions) f ≡ some F → DerivesAll N E es vs →
           treeCount vs ≡ length (F .parameters) → Derives noTrees vs (F .body) v → Derives N E (ecall f es) v
       p-ctor : {N : TreeChannels} {E vs : Trees} {t c : ℕ} {ks : List ℕ} {es : Exprs} {fs : Constructor} → DerivesAll N E es vs → look (constructorsOf P t) c ≡ some fs →

@@ -1,5 +1,6 @@
 -- Figure 4, with document 01's changes: "the m of E-CASE is the chosen branch's field count, and E-FIT-FAIL starts with t cells
--- free"; and its new premise: "a constructor over size 64, a field above its k".
+-- free"; and its new premise: "a constructor over size 64, a field above its k". Document 02, R-2, gives E-OP two forms: where the left
+-- side decides, its value stands in a new cell; else both sides are evaluated.
 -- Runs N u s E h e l g: with the channels N, u calls left, s free slots, environment E and heap h, of cap cells, the expression e
 -- gives the location l and the heap g. Free cells are cap less the heap's length. A rule bears the paper's name.
 use Prim.Native.Nat.{ℕ, _+_, _≤_, _<_}
@@ -12,7 +13,7 @@ use Rattle.language.specs.Limits.{sizeMost}
 use Rattle.language.specs.Syntax.{Constructor, fbool, fint, own, other, Size, ResultType, Op, Expr, ebool, eint, evar, enow, elast, elet, eif, eop, ecall, econ, ecase, eadj, efit, Exprs, enil, econs, lookExpr, Function, File, constructorsOf}
 use Rattle.language.specs.PlainTypes.{operandType}
 use Rattle.language.specs.Sizes.{sum}
-use Rattle.language.specs.Heap.{Constant, kbool, kint, Cell, leaf, con, constantType, applyOp}
+use Rattle.language.specs.Heap.{Constant, kbool, kint, Cell, leaf, con, constantType, truth, applyOp, decides}
 use Rattle.language.specs.Evaluator.{Channels, noChannels}
 
 -- the next free cell holds c: of all l outside dom(H), the next one is taken
@@ -44,8 +45,10 @@ module _ (P : File) (cap : ℕ) where
       e-if-else : {N : Channels} {u s k l : ℕ} {E : List ℕ} {h i g : List Cell} {a b d : Expr} →
           Runs N u s E h a k i → look i k ≡ some (leaf (kbool false)) → Runs N u s E i d l g → Runs N u s E h (eif a b d) l g
       e-op : {N : Channels} {u s j k l : ℕ} {E : List ℕ} {h i f g : List Cell} {o : Op} {a b : Expr} {x y : Constant} →
-          Runs N u s E h a j i → Runs N u s E i b k f → look f j ≡ some (leaf x) → look f k ≡ some (leaf y) →
+          Runs N u s E h a j i → look i j ≡ some (leaf x) → decides o (truth x) ≡ false → Runs N u s E i b k f → look f j ≡ some (leaf x) → look f k ≡ some (leaf y) →
           constantType x ≡ operandType o → constantType y ≡ operandType o → New cap f (leaf (applyOp o x y)) l g → Runs N u s E h (eop o a b) l g
+      e-op-decided : {N : Channels} {u s j l : ℕ} {E : List ℕ} {h i g : List Cell} {o : Op} {a b : Expr} {v : Bool} →
+          Runs N u s E h a j i → look i j ≡ some (leaf (kbool v)) → decides o v ≡ true → New cap i (leaf (kbool v)) l g → Runs N u s E h (eop o a b) l g
       e-call : {N : Channels} {u v s r f l : ℕ} {E ls : List ℕ} {h i g : List Cell} {es : Exprs} {F : Function} →
           look (P .functions) f ≡ some F → s ≡ length (F .parameters) + r → RunsAll N u r E h es ls i → length ls ≡ length (F .parameters) → u ≡ 1 + v →
           Runs noChannels v r ls i (F .body) l g → Runs N u s E h (ecall f es) l g

@@ -1,6 +1,7 @@
 -- Figures 5, 6 and 7 together, read at instances: "the paper's 'for all sizes' is read at each instance, a function with the
 -- sizes of its named arguments". An expression in a typed scope has a type with a size and the three numbers of figure 7.
--- A rule bears the paper's name. Computed numbers stand as a variable and an equation.
+-- A rule bears the paper's name. Computed numbers stand as a variable and an equation. Both sides of `06` and `07` count, though one may not
+-- be evaluated: document 02, R-2, "The estimate keeps 1 plus both sides, an upper bound".
 use Prim.Native.Nat.{ℕ, suc, _+_, _-_, _≤_, _<_}
 use mathlib.Core.List.{List, [], _∷_, _++_}
 use mathlib.Core.Bool.{Bool, true}

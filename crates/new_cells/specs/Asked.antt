@@ -11,7 +11,7 @@ use Rattle.language.specs.Result.{both, choose}
 use Rattle.language.specs.Syntax.{Field, fbool, fint, own, other, Op, File, constructorsOf, fieldsOf}
 use Rattle.language.specs.Within.{WithinField}
 use Rattle.language.specs.Format.{bit, opCode}
-use Rattle.language.specs.Heap.{Constant, kbool, kint, Cell, leaf, con, applyOp, cellAt, constantIn, sizeIn, ownSum, fieldsWithin}
+use Rattle.language.specs.Heap.{Constant, kbool, kint, Cell, leaf, con, applyOp, decides, cellAt, constantIn, sizeIn, ownSum, fieldsWithin}
 use Rattle.language.specs.Layout.{wordsOf}
 use Rattle.language.specs.Evaluator.{Out, needs, alloc}
 use Rattle.theory.specs.CellWords.{Writable}
@@ -39,6 +39,10 @@ pub record MakesInt (n : ℕ) (P : File) (cells : ℕ) (h : List Cell) (o : Out)
 -- ---- operators: by their codes, on constants and on cells
 pub record Computes (o : ℕ) (x y r : Constant) : Type 0 where
   pub says : (op : Op) → opCode op ≡ o → r ≡ applyOp op x y
+
+-- whether a left side alone decides
+pub record Decides (o : ℕ) (left r : Bool) : Type 0 where
+  pub says : (op : Op) → opCode op ≡ o → r ≡ decides op left
 
 pub record Operates (o l m : ℕ) (P : File) (cells : ℕ) (h : List Cell) (out : Out) : Type 0 where
   pub op : Op

@@ -11,17 +11,17 @@ use lib.ListN.{getElem? as look}
 use lib.Pow.{pow-pos, pow-add}
 use lib.Dec.{eqb, ltb}
 use Rattle.language.specs.Limits.{intRange, signBit}
-use Rattle.language.specs.Codes.{operatorPlus, operatorMinus, operatorEqual, operatorLess, operatorAnd}
+use Rattle.language.specs.Codes.{operatorPlus, operatorMinus, operatorEqual, operatorLess, operatorAnd, operatorOr}
 use Rattle.language.specs.Result.{both, oneOf}
 use Rattle.language.specs.Syntax.{Op, oadd, osub, omul, oeq, olt, ole, oand, oor, File}
 use Rattle.language.specs.ReadExpr.{ops}
 use Rattle.language.specs.Format.{bit, opCode}
-use Rattle.language.specs.Heap.{Constant, kbool, kint, Cell, leaf, truth, number, signedLess, applyOp, cellAt, constantIn}
+use Rattle.language.specs.Heap.{Constant, kbool, kint, Cell, leaf, truth, number, signedLess, applyOp, decides, cellAt, constantIn}
 use Rattle.language.specs.Evaluator.{Out, alloc}
 use Rattle.theory.specs.Lists.{look-less}
 use Rattle.state_words.specs.Holds.{Reads}
 use Rattle.new_cells.specs.Steps.{Lies, Gives}
-use Rattle.new_cells.specs.Asked.{MakesBool, MakesInt, Computes, Operates}
+use Rattle.new_cells.specs.Asked.{MakesBool, MakesInt, Computes, Decides, Operates}
 use Rattle.new_cells.specs.AllocLaws.{gives-asked}
 use Rattle.new_cells.specs.declared.Value.{Value}
 
@@ -90,6 +90,33 @@ module _ {o : ℕ} where
       is : (a : Bool) → kbool (a || b) ≡ applyOp oor (kbool a) (kbool b)
       is true = refl
       is false = refl
+
+-- ---- whether the left side decides
+decided-as : {o : ℕ} {left r : Bool} (op : Op) → o ≡ opCode op → r ≡ decides op left → Decides o left r
+decided-as {left} known is e = record { says = λ op q. e ∙ ap (λ z. decides z left) (sym (same-op known (q ∙ is))) }
+
+module _ {o : ℕ} (left : Bool) where
+  pub and-decided : o ≡ operatorAnd → Decides o left (not left)
+  unfolding decides
+  and-decided is = decided-as oand is refl
+
+  pub or-decided : o ≡ operatorOr → Decides o left left
+  unfolding decides
+  or-decided is = decided-as oor is refl
+
+  pub none-decided : (o ≡ operatorAnd → ⊥) → (o ≡ operatorOr → ⊥) → Decides o left false
+  unfolding decides
+  none-decided not-and not-or = record { says = go }
+    where
+      go : (op : Op) → opCode op ≡ o → false ≡ decides op left
+      go oadd q = refl
+      go osub q = refl
+      go omul q = refl
+      go oeq q = refl
+      go olt q = refl
+      go ole q = refl
+      go oand q = absurd (not-and (sym q))
+      go oor q = absurd (not-or (sym q))
 
 -- ---- cells: an operator below `and` reads two numbers, the others two truths
 on-numbers : (op : Op) (x y : Constant) → opCode op < operatorAnd → applyOp op (kint (number x)) (kint (number y)) ≡ applyOp op x y

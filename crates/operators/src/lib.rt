@@ -1,17 +1,18 @@
-// What an operator gives of two cells: "sums, differences and products wrap", comparisons are signed; of and, or both sides were
-// evaluated before.
+// What an operator gives of two cells: "sums, differences and products wrap", comparisons are signed; and whether the left side of and,
+// or decides alone.
 ghost use mathlib.Core.Path.{_≡_};
 ghost use Prim.Native.Nat.{_*_, _%_, _≤_, _<_};
 ghost use Rattle.language.specs.Limits.{intRange};
 ghost use Rattle.language.specs.Codes.{operatorEqual, operatorAnd};
 ghost use Rattle.language.specs.Heap.{kbool, kint, signedLess};
 ghost use Rattle.new_cells.specs.Steps.{Board, Gives};
-ghost use Rattle.new_cells.specs.Asked.{Computes, Operates};
+ghost use Rattle.new_cells.specs.Asked.{Computes, Decides, Operates};
 use index::one_if;
 use language::codes::OPERATOR_AND;
 use language::codes::OPERATOR_EQUAL;
 use language::codes::OPERATOR_LESS;
 use language::codes::OPERATOR_MINUS;
+use language::codes::OPERATOR_OR;
 use language::codes::OPERATOR_PLUS;
 use language::limits::INT_RANGE;
 use language::limits::SIGN_BIT;
@@ -69,6 +70,17 @@ fn logic(o: u32, a: bool, b: bool) -> bool
         return a & b;
     }
     a | b
+}
+
+// Whether the left side alone decides: of and one that does not hold, of or one that holds.
+pub fn decides(o: u32, left: bool) -> bool
+    ensures { λ r. ⌜ Decides o left r ⌝ }
+{
+    match o {
+        OPERATOR_AND => !left,
+        OPERATOR_OR => left,
+        _ => false,
+    }
 }
 
 // The cell of what an operator gives of the constants in two cells.

@@ -14,15 +14,16 @@ use Rattle.language.specs.Limits.{sizeMost}
 use Rattle.language.specs.Result.{both}
 use Rattle.language.specs.Syntax.{Constructor, Plain, pbool, pint, pnamed, Size, ResultType, Op, Expr, ebool, eint, evar, enow, elast, elet, eif, eop, ecall, econ, ecase, eadj, efit, Exprs, enil, econs, lookExpr, Function, File, constructorsOf}
 use Rattle.language.specs.PlainTypes.{plainFields, plainResult, operandType, opType}
-use Rattle.language.specs.Heap.{kbool, kint, Cell, con, constantType, truth, cellAt, constantIn, sizeIn, fieldsIn, ownSum, fieldsWithin}
+use Rattle.language.specs.Heap.{kbool, kint, Cell, con, constantType, truth, decides, cellAt, constantIn, sizeIn, fieldsIn, ownSum, fieldsWithin}
 use Rattle.language.specs.Evaluator.{Out, value, refused, Channels, noChannels, eval, evals, evalBranch, enterBody, run}
-use Rattle.language.specs.Rules.{Runs, RunsAll, e-bool, e-int, e-var, e-node, e-atlast, e-let, e-if-then, e-if-else, e-op, e-call, e-ctor, e-case, e-adj, e-fit-success, e-fit-fail, es-nil, es-cons}
-use Rattle.language.specs.Meets.{Meets, MeetsIn, m-bool, m-int, m-let-bound, m-let-slot, m-let-body, m-if, m-if-then, m-if-else, m-op-left, m-op-right, m-op-cell, m-call-slots, m-call-argument, m-call-stack, m-call-body, m-ctor-field, m-ctor-above, m-ctor-size, m-ctor-cell, m-case, m-case-slots, m-case-branch, m-adj, m-fit, m-fit-slot, m-fit-success, m-fit-fail, ms-first, ms-later}
+use Rattle.language.specs.Rules.{Runs, RunsAll, e-bool, e-int, e-var, e-node, e-atlast, e-let, e-if-then, e-if-else, e-op, e-op-decided, e-call, e-ctor, e-case, e-adj, e-fit-success, e-fit-fail, es-nil, es-cons}
+use Rattle.language.specs.Meets.{Meets, MeetsIn, m-bool, m-int, m-let-bound, m-let-slot, m-let-body, m-if, m-if-then, m-if-else, m-op-left, m-op-decided, m-op-right, m-op-cell, m-call-slots, m-call-argument, m-call-stack, m-call-body, m-ctor-field, m-ctor-above, m-ctor-size, m-ctor-cell, m-case, m-case-slots, m-case-branch, m-adj, m-fit, m-fit-slot, m-fit-success, m-fit-fail, ms-first, ms-later}
 use Rattle.theory.specs.Lists.{look-getD, none-is-not-some, both-left, both-right, both-first}
+use Rattle.theory.specs.Decided.{decided-operand, decided-result}
 use Rattle.theory.specs.RulesGive.{arity-is, runs-eval, runs-not-refused}
 use Rattle.theory.specs.MeetsGive.{meets-eval, RunRefusal, meets-numbered}
 use Rattle.language.specs.PlainTyping.{PlainTyping, p-bool, p-int, p-var, p-node, p-atlast, p-let, p-if, p-op, p-call, p-ctor, p-case, p-adj, p-fit, PlainTypings, ps-nil, ps-cons, PlainBranches, p-none, p-branch, WellPlain}
-use Rattle.theory.specs.Heaps.{Grown, grown-refl, grown-one, grown-trans}
+use Rattle.theory.specs.Heaps.{cell-at, Grown, look-grown, grown-refl, grown-one, grown-trans}
 use Rattle.theory.specs.PlainValues.{PlainValue, PlainValues, vs-nil, vs-cons, value-grown, values-look, PlainScope, scope-grown, scope-append, scope-one, scope-body, bool-cell, operand-cell, values-length, con-cell, con-length, sizes-at, field-above, new-leaf, new-result, new-con}
 use Rattle.theory.specs.Fates.{Fate, f-value, f-refused, Fates, fs-values, fate-value, fate-refused, fate-map, bind-fate, binds-fate, rest-fates, first-fates, needs-fate, slots-fate, choose-fate, alloc-fate}
 
@@ -141,14 +142,20 @@ module _ {P : File} {cap : ℕ} {N : Channels} {C : List Plain} {u : ℕ} {Γ : 
   }
 
   op-agrees : {o : Op} {a b : Expr} → Agrees P cap N C u Γ a (operandType o) → Agrees P cap N C u Γ b (operandType o) → Agrees P cap N C u Γ (eop o a b) (opType o)
-  unfolding eval
+  unfolding eval constantType constantIn
   op-agrees {o} p q = record {
-    fate = λ E s h S. bind-fate (λ n. m-op-left) (p .fate E s h S) (λ j i x. bind-fate (λ n. m-op-right (x .runs)) (q .fate E s i (scope-grown (x .grown) S)) (λ k f y.
-        let a = operand-cell o (value-grown (y .grown) (x .has)) in let b = operand-cell o (y .has) in alloc-fate cap f _ (m-op-cell (x .runs) (y .runs)) (λ w. record {
-          runs = e-op (x .runs) (y .runs) (a .is) (b .is) (a .typed) (b .typed) w;
+    fate = λ E s h S. bind-fate (λ n. m-op-left) (p .fate E s h S) (λ j i x. choose-fate (decides o (truth (constantIn (cellAt i j))))
+        (λ z. let is = bool-cell _ (subst (PlainValue P i j) (decided-operand o _ z) (x .has)) refl in alloc-fate cap i _ (m-op-decided (x .runs) is z) (λ w. record {
+          runs = e-op-decided (x .runs) is z w;
+          grown = grown-trans (x .grown) (grown-one i _);
+          has = rw (decided-result o _ z) (new-leaf i _);
+        }))
+        (λ z. let a = operand-cell o (x .has) in bind-fate (λ n. m-op-right (x .runs) (a .is) z) (q .fate E s i (scope-grown (x .grown) S)) (λ k f y.
+        let still = look-grown (y .grown) j (a .is) in let b = operand-cell o (y .has) in rw (cell-at f j still) (alloc-fate cap f _ (m-op-cell (x .runs) (a .is) z (y .runs)) (λ w. record {
+          runs = e-op (x .runs) (a .is) z (y .runs) still (b .is) (a .typed) (b .typed) w;
           grown = grown-trans (x .grown) (grown-trans (y .grown) (grown-one f _));
           has = new-result f o _ _;
-        })));
+        })))));
   }
 
   call-agrees : (f : ℕ) {es : Exprs} {F : Function} → AgreeCalls P cap u → look (P .functions) f ≡ some F → AgreeAll P cap N C u Γ es (F .parameters) → Agrees P cap N C u Γ (ecall f es) (plainResult (F .result))

@@ -15,7 +15,7 @@ use Rattle.language.specs.Typing.{outside, channelsAt, Typing, Initials, c-none
 use Rattle.language.specs.Heap.{Tree, vcon, Trees, vnil, treesAt}
 use Rattle.language.specs.Values.{fits}
 use Rattle.language.specs.Line.{treesFit}
-use Rattle.language.specs.PlainMachine.{TreeChannels, noTrees, Derives, p-bool, p-int, p-var, p-node, p-atlast, p-let, p-if-then, p-if-else, p-op, p-call, p-ctor, p-case, p-adj, p-fit-success, p-fit-fail, DerivesAll, ps-nil, ps-cons, initialTree, initialFields, initialTrees}
+use Rattle.language.specs.PlainMachine.{TreeChannels, noTrees, Derives, p-bool, p-int, p-var, p-node, p-atlast, p-let, p-if-then, p-if-else, p-op, p-op-decided, p-call, p-ctor, p-case, p-adj, p-fit-success, p-fit-fail, DerivesAll, ps-nil, ps-cons, initialTree, initialFields, initialTrees}
 use Rattle.theory.specs.Lists.{false-is-not-true, both-left, both-right, both-true}
 use Rattle.theory.specs.Alls.{all-append, all-map, all-to-map, all-each}
 use Rattle.language.specs.PlainTyping.{WellPlain}
@@ -38,7 +38,8 @@ module _ {P : File} where
     initial-tree (p-let p q) i = false-is-not-true i
     initial-tree (p-if-then p q) i = false-is-not-true i
     initial-tree (p-if-else p q) i = false-is-not-true i
-    initial-tree (p-op p q a b e) i = false-is-not-true i
+    initial-tree (p-op p z q a b e) i = false-is-not-true i
+    initial-tree (p-op-decided p z) i = false-is-not-true i
     initial-tree (p-call e p many q) i = false-is-not-true i
     initial-tree (p-ctor {t} {c} p e sizes less) i = ap (vcon t c) (initial-fields p i)
     initial-tree (p-case p known many e q) i = false-is-not-true i

@@ -27,8 +27,10 @@ pub mod CellsMost
 pub mod CellsReached
 pub mod HeapTrees
 pub mod Heaps
+pub mod Decided
 pub mod RulesGive
 pub mod MeetsGive
+pub mod LeftDecides
 pub mod PlainTypesAgree
 pub mod PlainValues
 pub mod Fates

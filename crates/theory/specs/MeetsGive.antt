@@ -14,7 +14,7 @@ use Rattle.language.specs.Syntax.{fbool, fint, own, other, Constructor, Expr, E
 use Rattle.language.specs.Sizes.{sum}
 use Rattle.language.specs.Heap.{Cell, truth, cellAt, constantIn, constructorIn, sizeIn, fieldsIn, fieldsWithin}
 use Rattle.language.specs.Evaluator.{refused, refusedAll, bindOut, bindOuts, first, rest, needs, alloc, Channels, eval, evals, run}
-use Rattle.language.specs.Meets.{FieldAbove, above, above-later, Meets, MeetsIn, m-bool, m-int, m-let-bound, m-let-slot, m-let-body, m-if, m-if-then, m-if-else, m-op-left, m-op-right, m-op-cell, m-call-slots, m-call-argument, m-call-stack, m-call-body, m-ctor-field, m-ctor-above, m-ctor-size, m-ctor-cell, m-case, m-case-slots, m-case-branch, m-adj, m-fit, m-fit-slot, m-fit-success, m-fit-fail, ms-first, ms-later}
+use Rattle.language.specs.Meets.{FieldAbove, above, above-later, Meets, MeetsIn, m-bool, m-int, m-let-bound, m-let-slot, m-let-body, m-if, m-if-then, m-if-else, m-op-left, m-op-decided, m-op-right, m-op-cell, m-call-slots, m-call-argument, m-call-stack, m-call-body, m-ctor-field, m-ctor-above, m-ctor-size, m-ctor-cell, m-case, m-case-slots, m-case-branch, m-adj, m-fit, m-fit-slot, m-fit-success, m-fit-fail, ms-first, ms-later}
 use Rattle.language.specs.Rules.{Runs}
 use Rattle.theory.specs.Lists.{look-getD, both-true, both-never, both-fails}
 use Rattle.theory.specs.Heaps.{cell-at}
@@ -50,8 +50,9 @@ module _ (P : File) (cap : ℕ) where
     meets-eval (m-if-then {k} {i} p e m) = rw (runs-eval P cap p, cell-at i k e) (meets-eval m)
     meets-eval (m-if-else {k} {i} p e m) = rw (runs-eval P cap p, cell-at i k e) (meets-eval m)
     meets-eval (m-op-left m) = rw (meets-eval m)
-    meets-eval (m-op-right p m) = rw (runs-eval P cap p, meets-eval m)
-    meets-eval (m-op-cell {f} p q full) = rw (runs-eval P cap p, runs-eval P cap q) (no-cell f _ full)
+    meets-eval (m-op-decided {j} {i} p c z full) = rw (runs-eval P cap p, cell-at i j c, z) (no-cell i _ full)
+    meets-eval (m-op-right {j} {i} p c z m) = rw (runs-eval P cap p, cell-at i j c, z, meets-eval m)
+    meets-eval (m-op-cell {j} {i} {f} p c z q full) = rw (runs-eval P cap p, cell-at i j c, z, runs-eval P cap q) (no-cell f _ full)
     meets-eval (m-call-slots {s} {f} {F} e few) = rw (arity-is P f e, lt-leb (length (F .parameters)) s few)
     meets-eval (m-call-argument {r} {f} {F} e z m) = rw (arity-is P f e, slots-free (length (F .parameters)) r z, slots-left (length (F .parameters)) z, meets-evals m)
     meets-eval (m-call-stack {r} {f} {ls} {i} {F} e z ps none) =
@@ -95,8 +96,9 @@ module _ {P : File} {cap : ℕ} where
     meets-numbered (m-if-then p e m) = meets-numbered m
     meets-numbered (m-if-else p e m) = meets-numbered m
     meets-numbered (m-op-left m) = meets-numbered m
-    meets-numbered (m-op-right p m) = meets-numbered m
-    meets-numbered (m-op-cell p q full) = omega arith
+    meets-numbered (m-op-decided p c z full) = omega arith
+    meets-numbered (m-op-right p c z m) = meets-numbered m
+    meets-numbered (m-op-cell p c z q full) = omega arith
     meets-numbered (m-call-slots e few) = omega arith
     meets-numbered (m-call-argument e z m) = meets-in-numbered m
     meets-numbered (m-call-stack e z ps none) = omega arith

@@ -1,15 +1,15 @@
 -- The plain machine derives only one tree for an expression, and only one next state for a line.
 use Prim.Native.Nat.{ℕ}
 use mathlib.Core.List.{List, [], _∷_, _++_}
-use mathlib.Core.Bool.{true, false}
+use mathlib.Core.Bool.{Bool, true, false}
 use mathlib.Core.Path.{_≡_, refl, sym, ap, _∙_, subst}
 use native.Mathlib.Omega.{arith}
 use lib.ListN.{length, drop}
-use Rattle.language.specs.Syntax.{Expr, Exprs, Node, File}
-use Rattle.language.specs.Heap.{kbool, Tree, vleaf, vcon, Trees, vnil, vcons}
+use Rattle.language.specs.Syntax.{Op, Expr, Exprs, Node, File}
+use Rattle.language.specs.Heap.{Constant, kbool, truth, decides, Tree, vleaf, vcon, Trees, vnil, vcons}
 use Rattle.language.specs.Values.{appendTrees, treeSize}
-use Rattle.language.specs.PlainMachine.{TreeChannels, Derives, p-bool, p-int, p-var, p-node, p-atlast, p-let, p-if-then, p-if-else, p-op, p-call, p-ctor, p-case, p-adj, p-fit-success, p-fit-fail, DerivesAll, ps-nil, ps-cons, Nodes, no-nodes, next-node, Step, allowed, not-allowed}
-use Rattle.theory.specs.Lists.{none-is-not-some}
+use Rattle.language.specs.PlainMachine.{TreeChannels, Derives, p-bool, p-int, p-var, p-node, p-atlast, p-let, p-if-then, p-if-else, p-op, p-op-decided, p-call, p-ctor, p-case, p-adj, p-fit-success, p-fit-fail, DerivesAll, ps-nil, ps-cons, Nodes, no-nodes, next-node, Step, allowed, not-allowed}
+use Rattle.theory.specs.Lists.{none-is-not-some, false-is-not-true}
 
 -- in an equal scope, of an equal expression
 derives-in : {P : File} {N : TreeChannels} {D E : Trees} {d e : Expr} {v : Tree} → D ≡ E → d ≡ e → Derives P N D d v → Derives P N E e v
@@ -17,6 +17,11 @@ derives-in {P} {N} {E} {d} {v} p q r = subst (λ x. Derives P N E x v) q (subst 
 
 true-is-not-false : vleaf (kbool true) ≡ vleaf (kbool false) → ⊥
 true-is-not-false e = let z : _≡_ {A = ℕ} 0 1 = cc in omega arith
+
+-- a left side does not decide and leave open
+decided-not : {A : Type 0} (o : Op) {x : Constant} {v : Bool} → vleaf x ≡ vleaf (kbool v) → decides o (truth x) ≡ false → decides o v ≡ true → A
+unfolding truth
+decided-not o {x} {v} e more d = let same : x ≡ kbool v = cc in false-is-not-true (sym (rw same at more) ∙ d)
 
 module _ {P : File} where
   mutual
@@ -31,7 +36,10 @@ module _ {P : File} where
     one-tree (p-if-then p q) (p-if-else r s) = absurd (true-is-not-false (one-tree p r))
     one-tree (p-if-else p q) (p-if-then r s) = absurd (true-is-not-false (sym (one-tree p r)))
     one-tree (p-if-else p q) (p-if-else r s) = one-tree q s
-    one-tree (p-op p q a b e) (p-op r s c d f) = let x = one-tree p r in let y = one-tree q s in cc
+    one-tree (p-op p i q a b e) (p-op r j s c d f) = let x = one-tree p r in let y = one-tree q s in cc
+    one-tree (p-op {o} p i q a b e) (p-op-decided r j) = decided-not o (one-tree p r) i j
+    one-tree (p-op-decided {o} p i) (p-op r j s c d f) = decided-not o (sym (one-tree p r)) j i
+    one-tree (p-op-decided p i) (p-op-decided r j) = one-tree p r
     one-tree (p-call {F} e p m q) (p-call {F = G} f r n s) = let same : G ≡ F = cc in one-tree q (derives-in (sym (one-trees p r)) (ap (λ x. x .body) same) s)
     one-tree (p-ctor {t} {c} p e z l) (p-ctor r f y m) = ap (vcon t c) (one-trees p r)
     one-tree (p-case {E} {vs} {b} p k m e q) (p-case {vs = ws} {b = d} r l n f s) =

@@ -16,7 +16,7 @@ use Rattle.language.specs.Checker.{named, atSplits, sized, sizeds, sizedBranche
 use Rattle.language.specs.Values.{appendTrees, lookTree, treeCount, treeCells, treesCells, constantFits, isConstructor, namedAs, treeSize, ownTreeSum, fits, fieldsFit}
 use Rattle.language.specs.Cells.{maxTo, otherCells, ownCells, nextCells, cellsTable, cellsAt, cellsFrom, cellsNamed, cellsOf, channelCells, inputCells, updatesNumbers, numbersNeeded}
 use Rattle.language.specs.Format.{spellAll, intBytes, fieldBytes, plainBytes, declaredBytes, sizeBytes, resultBytes, exprBytes, exprsBytes, conditionBytes, constructorBytes, typeBytes, functionBytes, inputBytes, nodeBytes, fileFrames, pickDigit, digitOf, pairOf, lineText, fileText}
-use Rattle.language.specs.Heap.{constantType, truth, number, signedLess, applyOp, constantIn, constructorIn, sizeIn, fieldsIn, ownSum, fieldsWithin, treesAt, treeOf, grow, trees}
+use Rattle.language.specs.Heap.{constantType, truth, number, signedLess, applyOp, decides, constantIn, constructorIn, sizeIn, fieldsIn, ownSum, fieldsWithin, treesAt, treeOf, grow, trees}
 use Rattle.language.specs.LineFormat.{valueBytes, valuesBytes}
 use Rattle.language.specs.Slide.{mem, reachedFrom, reached, numbersFrom, renumberCell, keepFrom, slide}
 use Rattle.language.specs.Layout.{cellTag, cellValue, padded, wordsOf, stateWords, allZero, constructorOfWords, cellOfWords, cellsOfWords, stateOfWords, cellFits, locationFits, fieldsRight, cellRight, cellsRight, rootsRight, allReached, stateRight, loadState}
@@ -38,5 +38,5 @@ sizing = 0
 
 -- the state, the line, the evaluator and the calls
 unfoldable pub running : ℕ
-unfolding spellAll intBytes fieldBytes plainBytes declaredBytes sizeBytes resultBytes exprBytes exprsBytes conditionBytes constructorBytes typeBytes functionBytes inputBytes nodeBytes fileFrames pickDigit digitOf pairOf lineText fileText constantType truth number signedLess applyOp constantIn constructorIn sizeIn fieldsIn ownSum fieldsWithin treesAt treeOf grow trees valueBytes valuesBytes mem reachedFrom reached numbersFrom renumberCell keepFrom slide cellTag cellValue padded wordsOf stateWords allZero constructorOfWords cellOfWords cellsOfWords stateOfWords cellFits locationFits fieldsRight cellRight cellsRight rootsRight allReached stateRight loadState valueTrees valueBehind valueAt allRead inputTrees treesFit oneLine lineTrees bindOut bindOuts first rest needs alloc parameterCount eval evals evalBranch enterBody run initialTree initialFields boardAllowed recordOf answer checkFile judge judged verdictOf finalList listLent check newCell build buildFields buildAll startState written startWords lengthsLent start channelValue putInputs updateNodes iterateState iterateFile iterated iterate strictText inBuffer write
+unfolding spellAll intBytes fieldBytes plainBytes declaredBytes sizeBytes resultBytes exprBytes exprsBytes conditionBytes constructorBytes typeBytes functionBytes inputBytes nodeBytes fileFrames pickDigit digitOf pairOf lineText fileText constantType truth number signedLess applyOp decides constantIn constructorIn sizeIn fieldsIn ownSum fieldsWithin treesAt treeOf grow trees valueBytes valuesBytes mem reachedFrom reached numbersFrom renumberCell keepFrom slide cellTag cellValue padded wordsOf stateWords allZero constructorOfWords cellOfWords cellsOfWords stateOfWords cellFits locationFits fieldsRight cellRight cellsRight rootsRight allReached stateRight loadState valueTrees valueBehind valueAt allRead inputTrees treesFit oneLine lineTrees bindOut bindOuts first rest needs alloc parameterCount eval evals evalBranch enterBody run initialTree initialFields boardAllowed recordOf answer checkFile judge judged verdictOf finalList listLent check newCell build buildFields buildAll startState written startWords lengthsLent start channelValue putInputs updateNodes iterateState iterateFile iterated iterate strictText inBuffer write
 running = 0

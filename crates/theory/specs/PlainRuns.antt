@@ -12,11 +12,11 @@ use Rattle.language.specs.Syntax.{Constructor, Size, ResultType, Op, Expr, eboo
 use Rattle.language.specs.PlainTypes.{operandType}
 use Rattle.language.specs.Within.{All, all-nil, all-cons}
 use Rattle.language.specs.Sizes.{sum}
-use Rattle.language.specs.Heap.{Constant, kbool, kint, Cell, leaf, con, Tree, vleaf, vcon, Trees, vnil, vcons, constantType, applyOp, treesAt, treeOf, trees, treeAt}
+use Rattle.language.specs.Heap.{Constant, kbool, kint, Cell, leaf, con, Tree, vleaf, vcon, Trees, vnil, vcons, constantType, truth, applyOp, decides, treesAt, treeOf, trees, treeAt}
 use Rattle.language.specs.Values.{appendTrees, lookTree, treeCount, treeSize}
 use Rattle.language.specs.Evaluator.{Channels, noChannels}
-use Rattle.language.specs.Rules.{New, Runs, RunsAll, e-bool, e-int, e-var, e-node, e-atlast, e-let, e-if-then, e-if-else, e-op, e-call, e-ctor, e-case, e-adj, e-fit-success, e-fit-fail, es-nil, es-cons}
-use Rattle.language.specs.PlainMachine.{TreeChannels, TreeSizes, Derives, p-bool, p-int, p-var, p-node, p-atlast, p-let, p-if-then, p-if-else, p-op, p-call, p-ctor, p-case, p-adj, p-fit-success, p-fit-fail, DerivesAll, ps-nil, ps-cons}
+use Rattle.language.specs.Rules.{New, Runs, RunsAll, e-bool, e-int, e-var, e-node, e-atlast, e-let, e-if-then, e-if-else, e-op, e-op-decided, e-call, e-ctor, e-case, e-adj, e-fit-success, e-fit-fail, es-nil, es-cons}
+use Rattle.language.specs.PlainMachine.{TreeChannels, TreeSizes, Derives, p-bool, p-int, p-var, p-node, p-atlast, p-let, p-if-then, p-if-else, p-op, p-op-decided, p-call, p-ctor, p-case, p-adj, p-fit-success, p-fit-fail, DerivesAll, ps-nil, ps-cons}
 use Rattle.theory.specs.Lists.{none-is-not-some, look-getD}
 use Rattle.theory.specs.Alls.{all-map, all-at}
 use Rattle.theory.specs.Places.{look-mapped}
@@ -175,16 +175,22 @@ ctor-runs {P} {t} {c} {fs} {ks} {vs} x e sizes small =
     new-runs (con t c (1 + sum ks) ls) (x .slots) (x .calls) (x .grown) (sound-con (x .sound) t c (1 + sum ks) ls cell) (ap (vcon t c) (x .trees)) (λ cap u s room many deep w.
     e-ctor (x .runs cap u s (omega arith) many deep) e (sizes-read (x .sound) ls (x .low) (x .trees) sizes) small w)
 
-op-runs : {P : File} {N : Channels} {E : List ℕ} {h : List Cell} {o : Op} {a b : Expr} {l r z : Constant} (x : Runnable P N E h a (vleaf l)) (y : Runnable P N E (x .heap) b (vleaf r)) → constantType l ≡ operandType o → constantType r ≡ operandType o → z ≡ applyOp o l r → Runnable P N E h (eop o a b) (vleaf z)
+op-runs : {P : File} {N : Channels} {E : List ℕ} {h : List Cell} {o : Op} {a b : Expr} {l r z : Constant} (x : Runnable P N E h a (vleaf l)) → decides o (truth l) ≡ false → (y : Runnable P N E (x .heap) b (vleaf r)) → constantType l ≡ operandType o → constantType r ≡ operandType o → z ≡ applyOp o l r → Runnable P N E h (eop o a b) (vleaf z)
 unfolding treeOf
-op-runs {o} {l} {r} x y left right is =
+op-runs {o} {l} {r} x more y left right is =
     let j = x .location in
     let i = y .heap in
     let below : j < length i = omega (arith, x .low, grown-length (y .grown)) in
+    let left-cell = leaf-at (x .sound) j (x .low) (x .tree) in
     let first-cell = leaf-at (y .sound) j below (tree-grown (y .grown) j (x .low) ∙ x .tree) in
     let second-cell = leaf-at (y .sound) (y .location) (y .low) (y .tree) in
     new-runs (leaf (applyOp o l r)) (x .slots + y .slots) (x .calls + y .calls) (grown-trans (x .grown) (y .grown)) (sound-leaf (y .sound) (applyOp o l r)) (ap vleaf (sym is)) (λ cap u s room many deep w.
-    e-op (x .runs cap u s (omega (arith, grown-length (y .grown))) (omega arith) (omega arith)) (y .runs cap u s (omega arith) (omega arith) (omega arith)) first-cell second-cell left right w)
+    e-op (x .runs cap u s (omega (arith, grown-length (y .grown))) (omega arith) (omega arith)) left-cell more (y .runs cap u s (omega arith) (omega arith) (omega arith)) first-cell second-cell left right w)
+
+decided-runs : {P : File} {N : Channels} {E : List ℕ} {h : List Cell} {o : Op} {a b : Expr} {v : Bool} → Runnable P N E h a (vleaf (kbool v)) → decides o v ≡ true → Runnable P N E h (eop o a b) (vleaf (kbool v))
+unfolding treeOf
+decided-runs {v} x d = new-runs (leaf (kbool v)) (x .slots) (x .calls) (x .grown) (sound-leaf (x .sound) (kbool v)) refl (λ cap u s room many deep w.
+    e-op-decided (x .runs cap u s (omega arith) many deep) (leaf-at (x .sound) (x .location) (x .low) (x .tree)) d w)
 
 -- the constructor at the subject's location
 subject-at : {P : File} {N : Channels} {E : List ℕ} {h : List Cell} {e : Expr} {t c : ℕ} {vs : Trees} → (x : Runnable P N E h e (vcon t c vs)) → ConAt P (x .heap) (x .location) t c vs
@@ -234,7 +240,8 @@ module _ {P : File} where
     plain-runs (p-let p q) S = let x = plain-runs p S in let-runs x (plain-runs q (stands-with S x))
     plain-runs (p-if-then p q) S = let x = plain-runs p S in then-runs x (plain-runs q (stands-after S x))
     plain-runs (p-if-else p q) S = let x = plain-runs p S in else-runs x (plain-runs q (stands-after S x))
-    plain-runs (p-op p q left right is) S = let x = plain-runs p S in op-runs x (plain-runs q (stands-after S x)) left right is
+    plain-runs (p-op p more q left right is) S = let x = plain-runs p S in op-runs x more (plain-runs q (stands-after S x)) left right is
+    plain-runs (p-op-decided p d) S = decided-runs (plain-runs p S) d
     plain-runs (p-call e ps many q) S = let x = plain-run-all ps S in call-runs e x many (plain-runs q (stands-body (x .sound) (x .low) (x .trees)))
     plain-runs (p-ctor ps e sizes small) S = ctor-runs (plain-run-all ps S) e sizes small
     plain-runs (p-case p known many branch q) S = let x = plain-runs p S in case-runs x known many branch (plain-runs q (stands-fields S x))

@@ -15,7 +15,7 @@ use Rattle.language.specs.Syntax.{Constructor, Expr, Exprs, enil, econs, lookEx
 use Rattle.language.specs.Sizes.{sum}
 use Rattle.language.specs.Heap.{Cell, truth, constantIn, constructorIn, sizeIn, fieldsIn, ownSum, fieldsWithin}
 use Rattle.language.specs.Evaluator.{value, refused, values, bindOut, bindOuts, first, rest, needs, alloc, Channels, noChannels, Body, parameterCount, arity, eval, evals, evalBranch, enterBody, run}
-use Rattle.language.specs.Rules.{New, FieldSizes, z-none, z-bool, z-int, z-own, z-other, Runs, RunsAll, e-bool, e-int, e-var, e-node, e-atlast, e-let, e-if-then, e-if-else, e-op, e-call, e-ctor, e-case, e-adj, e-fit-success, e-fit-fail, es-nil, es-cons}
+use Rattle.language.specs.Rules.{New, FieldSizes, z-none, z-bool, z-int, z-own, z-other, Runs, RunsAll, e-bool, e-int, e-var, e-node, e-atlast, e-let, e-if-then, e-if-else, e-op, e-op-decided, e-call, e-ctor, e-case, e-adj, e-fit-success, e-fit-fail, es-nil, es-cons}
 use Rattle.theory.specs.Lists.{look-getD, none-is-not-some, both-true}
 use Rattle.theory.specs.Heaps.{cell-at}
 
@@ -80,7 +80,8 @@ module _ (P : File) (cap : ℕ) where
     runs-eval (e-let {r} p z q) = rw (runs-eval p, slots-free 1 r z, slots-left 1 z) (runs-eval q)
     runs-eval (e-if-then {k} {i} p e q) = rw (runs-eval p, cell-at i k e) (runs-eval q)
     runs-eval (e-if-else {k} {i} p e q) = rw (runs-eval p, cell-at i k e) (runs-eval q)
-    runs-eval (e-op {j} {k} {f} p q d e x y w) = rw (runs-eval p, runs-eval q, cell-at f j d, cell-at f k e) (new-alloc w)
+    runs-eval (e-op {j} {k} {i} {f} p c z q d e x y w) = rw (runs-eval p, cell-at i j c, z, runs-eval q, cell-at f j d, cell-at f k e) (new-alloc w)
+    runs-eval (e-op-decided {j} {i} p c z w) = rw (runs-eval p, cell-at i j c, z) (new-alloc w)
     runs-eval (e-call {v} {r} {f} {ls} {i} {F} e z ps n w q) =
         rw (arity-is P f e, slots-free (length (F .parameters)) r z, slots-left (length (F .parameters)) z, runs-evals ps, run-enters P cap v f ls r i w e) (runs-eval q)
     runs-eval (e-ctor {t} {c} {ls} {ks} {i} {fs} ps e z small w) =

@@ -14,8 +14,8 @@ use Rattle.language.specs.Sizes.{sum}
 use Rattle.language.specs.Heap.{Constant, kbool, kint, Cell, leaf, con, Tree, vleaf, vcon, Trees, vnil, vcons, treesAt, treeOf, trees, treeAt}
 use Rattle.language.specs.Values.{appendTrees, lookTree, treeSize}
 use Rattle.language.specs.Evaluator.{Channels}
-use Rattle.language.specs.Rules.{New, FieldSizes, Runs, RunsAll, e-bool, e-int, e-var, e-node, e-atlast, e-let, e-if-then, e-if-else, e-op, e-call, e-ctor, e-case, e-adj, e-fit-success, e-fit-fail, es-nil, es-cons}
-use Rattle.language.specs.PlainMachine.{TreeChannels, Derives, p-bool, p-int, p-var, p-node, p-atlast, p-let, p-if-then, p-if-else, p-op, p-call, p-ctor, p-case, p-adj, DerivesAll, ps-nil, ps-cons}
+use Rattle.language.specs.Rules.{New, FieldSizes, Runs, RunsAll, e-bool, e-int, e-var, e-node, e-atlast, e-let, e-if-then, e-if-else, e-op, e-op-decided, e-call, e-ctor, e-case, e-adj, e-fit-success, e-fit-fail, es-nil, es-cons}
+use Rattle.language.specs.PlainMachine.{TreeChannels, Derives, p-bool, p-int, p-var, p-node, p-atlast, p-let, p-if-then, p-if-else, p-op, p-op-decided, p-call, p-ctor, p-case, p-adj, DerivesAll, ps-nil, ps-cons}
 use Rattle.theory.specs.Lists.{look-getD, look-map}
 use Rattle.theory.specs.Alls.{all-map, all-at}
 use Rattle.theory.specs.Heaps.{Grown, grown-refl, grown-one, grown-trans, grown-length}
@@ -104,6 +104,11 @@ unfolding treeOf
 op-given {f} {j} {z} p q d e new rule =
     new-given (grown-trans (p .grown) (q .grown)) (sound-leaf (q .sound) z) new (rule (derives-tree (sym (tree-grown (q .grown) j (p .low)) ∙ tree-leaf f j d) (p .derives)) (if-given q e))
 
+decided-given : {P : File} {h i g : List Cell} {M : TreeChannels} {D : Trees} {e a : Expr} {j cap l : ℕ} {x : Constant} → Given P h M D a j i → look i j ≡ some (leaf x) → New cap i (leaf x) l g →
+    (Derives P M D a (vleaf x) → Derives P M D e (vleaf x)) → Given P h M D e l g
+unfolding treeOf
+decided-given {x} p c new rule = new-given (p .grown) (sound-leaf (p .sound) x) new (rule (if-given p c))
+
 -- ---- every derivation
 module _ {P : File} {cap : ℕ} where
   mutual
@@ -118,7 +123,8 @@ module _ {P : File} {cap : ℕ} where
     rules-plain (e-let p slot q) S = let x = rules-plain p S in let y = rules-plain q (with-given S x) in last-given (x .grown) y (p-let (x .derives) (y .derives))
     rules-plain (e-if-then p e q) S = let x = rules-plain p S in let y = rules-plain q (after-given S x) in last-given (x .grown) y (p-if-then (if-given x e) (y .derives))
     rules-plain (e-if-else p e q) S = let x = rules-plain p S in let y = rules-plain q (after-given S x) in last-given (x .grown) y (p-if-else (if-given x e) (y .derives))
-    rules-plain (e-op p q d e left right w) S = let x = rules-plain p S in let y = rules-plain q (after-given S x) in op-given x y d e w (λ a b. p-op a b left right refl)
+    rules-plain (e-op p c more q d e left right w) S = let x = rules-plain p S in let y = rules-plain q (after-given S x) in op-given x y d e w (λ a b. p-op a more b left right refl)
+    rules-plain (e-op-decided p c d w) S = decided-given (rules-plain p S) c w (λ a. p-op-decided a d)
     rules-plain (e-call {ls} {i} known slots ps many calls q) S =
         let x = rules-plain-all ps S in
         let y = rules-plain q (stands-body (x .sound) (x .low) refl) in

@@ -3,7 +3,7 @@ use Prim.Native.Nat.{ℕ, suc, _-_, _≤_, _<_}
 use mathlib.Core.List.{List, [], _∷_, _++_}
 use mathlib.Core.Bool.{Bool}
 use mathlib.Core.Option.{some}
-use mathlib.Core.Path.{_≡_, refl, sym, ap, _∙_}
+use mathlib.Core.Path.{_≡_, refl, sym, ap, _∙_, subst}
 use native.Mathlib.Omega.{arith}
 use lib.ListN.{length, getElem? as look}
 use Rattle.language.specs.Limits.{intRange}
@@ -14,10 +14,12 @@ use Rattle.language.specs.Estimate.{Estimate, nothing, oneCell, after, either, 
 use Rattle.language.specs.Typing.{baseType}
 use Rattle.language.specs.Heap.{kbool, kint, leaf, applyOp, treesAt, treeOf, treeAt}
 use Rattle.language.specs.Evaluator.{noChannels}
-use Rattle.language.specs.Rules.{e-bool, e-int, e-var, e-node, e-atlast, e-let, e-if-then, e-if-else, e-op, e-call, e-adj, e-fit-success, e-fit-fail, es-nil, es-cons}
-use Rattle.language.specs.PlainMachine.{p-bool, p-int, p-var, p-node, p-atlast, p-let, p-if-then, p-if-else, p-op, p-call, p-adj, ps-nil, ps-cons}
+use Rattle.language.specs.Rules.{e-bool, e-int, e-var, e-node, e-atlast, e-let, e-if-then, e-if-else, e-op, e-op-decided, e-call, e-adj, e-fit-success, e-fit-fail, es-nil, es-cons}
+use Rattle.language.specs.PlainMachine.{p-bool, p-int, p-var, p-node, p-atlast, p-let, p-if-then, p-if-else, p-op, p-op-decided, p-call, p-adj, ps-nil, ps-cons}
 use Rattle.theory.specs.Lists.{look-new, look-map}
 use Rattle.theory.specs.HeapValues.{h-bool, h-int, h-named, Env, env-nil, env-cons, has-grown, scoped-grown, scoped-one, scoped-body, env-look, env-length, has-less, has-larger}
+use Rattle.theory.specs.Heaps.{look-grown}
+use Rattle.theory.specs.Decided.{decided-result, decided-cases}
 use Rattle.theory.specs.Growth.{grew-none, grew-trans}
 use Rattle.theory.specs.ValuesFit.{tree-leaf, val-tree-size, cell-tree}
 use Rattle.theory.specs.ValueCells.{base-constant, result-has, bool-cases, fit-cases, val-cell}
@@ -84,18 +86,22 @@ module _ {P : File} {cap : ℕ} {C Γ : List Ty} where
 
   pub op-simulates : (o : Op) {a b : Expr} {σ τ : Ty} {m n x : Estimate} → σ ≡ baseType (operandType o) → Simulates P cap C Γ a σ m → Simulates P cap C Γ b σ n → τ ≡ baseType (opType o) → x ≡ after (after m n) oneCell →
       Simulates P cap C Γ (eop o a b) τ x
-  unfolding treeOf
+  unfolding treeOf baseType
   op-simulates o operand p q result eq = rw (eq, result) (record {
     ends = λ N u s E h S room.
         then (p .ends N u s E h S (omega arith)) (λ j i x.
-        then (q .ends N u s E i (scoped-grown (x .grew .grown) S) (omega arith)) (λ k f y.
-        let left = base-constant (operandType o) (rw operand at (has-grown (y .grew .grown) (x .has))) in
+        let left = base-constant (operandType o) (rw operand at (x .has)) in
+        decided-cases o (left .constant) (left .typed)
+        (λ v is d. let cell = subst (λ z. look i j ≡ some (leaf z)) is (left .cell) in
+        new-ends (x .grew) (leaf (kbool v)) (omega arith) (omega arith) (rw (decided-result o v d) (h-bool (look-new i (leaf (kbool v)))))
+        (e-op-decided (x .runs) cell d) (p-op-decided (derives-tree (tree-leaf i j cell) (x .derives)) d))
+        (λ more. then (q .ends N u s E i (scoped-grown (x .grew .grown) S) (omega arith)) (λ k f y.
         let right = base-constant (operandType o) (rw operand at (y .has)) in
         let new = applyOp o (left .constant) (right .constant) in
         new-ends (grew-trans (x .grew) (y .grew)) (leaf new) (omega arith) (omega arith) (result-has o (left .constant) (right .constant) (look-new f (leaf new)))
-        (e-op (x .runs) (y .runs) (left .cell) (right .cell) (left .typed) (right .typed))
-        (p-op (derives-tree (sym (tree-grown (y .grew .grown) j (has-less (x .has))) ∙ tree-leaf f j (left .cell)) (x .derives))
-        (derives-before (x .grew .grown) S (derives-tree (tree-leaf f k (right .cell)) (y .derives))) (left .typed) (right .typed) refl)));
+        (e-op (x .runs) (left .cell) more (y .runs) (look-grown (y .grew .grown) j (left .cell)) (right .cell) (left .typed) (right .typed))
+        (p-op (derives-tree (tree-leaf i j (left .cell)) (x .derives)) more
+        (derives-before (x .grew .grown) S (derives-tree (tree-leaf f k (right .cell)) (y .derives))) (left .typed) (right .typed) refl))));
   })
 
   pub call-simulates : (f : ℕ) {F : Function} (ks : List ℕ) {es : Exprs} {τs : List Ty} {τ : Ty} {m n x : Estimate} → SimulatesAll P cap C Γ es τs m → look (P .functions) f ≡ some F → parameterTypes (F .parameters) ks ≡ τs →

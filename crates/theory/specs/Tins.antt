@@ -10,7 +10,7 @@ use mathlib.Core.Path.{_≡_, refl}
 use lib.ListN.{length, getD, replicate, getElem? as look}
 use Rattle.language.specs.Limits.{instancesMost, scratchWords}
 use Rattle.language.specs.Result.{Result, ok, no}
-use Rattle.language.specs.Syntax.{File, Ty, Expr, ebool, eint, Op, oadd, osub, omul, olt, ole, oand, oor, eop}
+use Rattle.language.specs.Syntax.{File, Ty, Expr, ebool, eint, Op, oadd, osub, omul, olt, ole, oand, oor, eop, ecall, enil}
 use Rattle.language.specs.Reader.{readFile, emptyFile}
 use Rattle.language.specs.Sizes.{typeAt, sizeOfType}
 use Rattle.language.specs.Checker.{Counted, enterAt}
@@ -126,6 +126,10 @@ tins =
     -- and, or
     ∷ record { got = onPairs oand; want = boolTag ∷ 0 ∷ boolTag ∷ 0 ∷ boolTag ∷ 0 ∷ boolTag ∷ 1 ∷ [] }
     ∷ record { got = onPairs oor; want = boolTag ∷ 0 ∷ boolTag ∷ 1 ∷ boolTag ∷ 1 ∷ boolTag ∷ 1 ∷ [] }
+    -- document 02, R-2: a right side that would be refused, a call where none is left, after a left side that decides and one that does not
+    ∷ record { got = operated oand (ebool false) (ecall 0 enil); want = constant (leaf (kbool false)) }
+    ∷ record { got = operated oor (ebool true) (ecall 0 enil); want = constant (leaf (kbool true)) }
+    ∷ record { got = operated oand (ebool true) (ecall 0 enil) ++ operated oor (ebool false) (ecall 0 enil); want = [] }
     -- adj from 5 to 4; fit to 4: size 4 passes, size 5 takes the other arm
     ∷ record { got = checked lowered 25 18 5; want = 11 ∷ 2 ∷ 0 ∷ 0 ∷ 0 ∷ [] }
     ∷ record { got = afterLine fitting "05190001110000000119000111000000021900011100000003190000\n"; want = 1 ∷ [] }

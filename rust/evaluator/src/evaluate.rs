@@ -1,5 +1,5 @@
 //! Evaluation with bounded memory: the rules of figure 4, with document 01's
-//! premise on sizes (refusals 20 to 23).
+//! premise on sizes (refusals 20 to 23) and document 02's `06` and `07`.
 
 use crate::answer::Refusal;
 use crate::limits::LARGEST_SIZE;
@@ -153,15 +153,29 @@ impl<'a> Evaluation<'a> {
         }
     }
 
+    /// The Int of an expression, or its Bool as 0 or 1.
+    fn scalar(
+        &mut self,
+        environment: &mut Vec<u32>,
+        room: Room,
+        expression: &Expression,
+    ) -> Result<i32, Refusal> {
+        let at = self.evaluate(environment, room, expression)?;
+        Ok(self.heap.cell(at).content as i32)
+    }
+
+    /// A new cell after what was evaluated, also where the left side decides.
     fn operation(
         &mut self,
         environment: &mut Vec<u32>,
         room: Room,
         parts: &Operation,
     ) -> Evaluated {
-        let left = self.evaluate(environment, room, &parts.left)?;
-        let right = self.evaluate(environment, room, &parts.right)?;
-        let [left, right] = [left, right].map(|at| self.heap.cell(at).content as i32);
+        let left = self.scalar(environment, room, &parts.left)?;
+        if let Some(value) = operators::decided(parts.operator, left) {
+            return self.make(Cell::bool(value));
+        }
+        let right = self.scalar(environment, room, &parts.right)?;
         self.make(match operators::apply(parts.operator, left, right) {
             Scalar::Bool(value) => Cell::bool(value),
             Scalar::Int(value) => Cell::int(value),

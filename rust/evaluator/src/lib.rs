@@ -1,4 +1,4 @@
-//! The reference implementation of document 01 and of R-1 of document 02:
+//! The reference implementation of document 01 and of of document 02:
 //! reader, writer, checker, start, iteration and plain machine, written from the
 //! documents and the paper's figures 4 (evaluation) and 7 (estimation).
 //!

@@ -22,6 +22,16 @@ pub fn apply(operator: Operator, left: i32, right: i32) -> Scalar {
     }
 }
 
+/// What the left side decides alone (document 02, R-2): "`06` evaluates its right
+/// side only when the left is true, `07` only when the left is false".
+pub fn decided(operator: Operator, left: i32) -> Option<bool> {
+    match (operator, left != 0) {
+        (Operator::And, false) => Some(false),
+        (Operator::Or, true) => Some(true),
+        _ => None,
+    }
+}
+
 #[cfg(test)]
 mod tests {
     use super::*;
@@ -40,5 +50,18 @@ mod tests {
     fn comparisons_are_signed() {
         assert_eq!(apply(Operator::Less, -1, 0), Scalar::Bool(true));
         assert_eq!(apply(Operator::AtMost, 0, -1), Scalar::Bool(false));
+    }
+
+    #[test]
+    fn only_false_and_and_true_or_decide() {
+        let deciding = [(Operator::And, 0, false), (Operator::Or, 1, true)];
+        for (operator, left, value) in deciding {
+            assert_eq!(decided(operator, left), Some(value));
+            assert_eq!(decided(operator, 1 - left), None);
+            assert_eq!(apply(operator, left, 0), Scalar::Bool(value));
+            assert_eq!(apply(operator, left, 1), Scalar::Bool(value));
+        }
+        assert_eq!(decided(Operator::Equal, 0), None);
+        assert_eq!(decided(Operator::Multiply, 0), None);
     }
 }

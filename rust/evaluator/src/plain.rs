@@ -151,9 +151,12 @@ impl Derivation<'_> {
     }
 
     fn of_operation(&self, environment: &mut Environment, parts: &Operation) -> Derived {
-        let left = self.of(environment, &parts.left)?;
-        let right = self.of(environment, &parts.right)?;
-        let value = operators::apply(parts.operator, scalar(&left), scalar(&right));
+        let left = scalar(&*self.of(environment, &parts.left)?);
+        if let Some(value) = operators::decided(parts.operator, left) {
+            return Some(Rc::new(Tree::Bool(value)));
+        }
+        let right = scalar(&*self.of(environment, &parts.right)?);
+        let value = operators::apply(parts.operator, left, right);
         Some(Rc::new(match value {
             Scalar::Bool(value) => Tree::Bool(value),
             Scalar::Int(value) => Tree::Int(value),

@@ -17,7 +17,10 @@ use evaluator::syntax::{
 pub enum Level {
     /// In the argument of a call.
     Argument,
+    /// In the left side of an `06`.
     Operand,
+    /// In the right side of an `06` whose left side is true.
+    Right,
     /// In what a let binds.
     Bound,
     /// Under a let.
@@ -34,9 +37,10 @@ pub enum Level {
 }
 
 impl Level {
-    pub const ALL: [Level; 9] = [
+    pub const ALL: [Level; 10] = [
         Level::Argument,
         Level::Operand,
+        Level::Right,
         Level::Bound,
         Level::Under,
         Level::Arm,
@@ -160,6 +164,7 @@ fn around(level: Level, bound: usize, inner: Expression) -> Expression {
     match level {
         Level::Argument => call(IDENTITY, vec![inner]),
         Level::Operand => operation(Operator::And, inner, leaf(level)),
+        Level::Right => operation(Operator::And, Expression::Bool(true), inner),
         Level::Bound => let_in(inner, leaf(level)),
         Level::Under => let_in(leaf(level), inner),
         Level::Arm => if_then(Expression::Bool(true), inner, leaf(level)),

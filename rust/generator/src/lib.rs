@@ -24,4 +24,5 @@ pub mod depths;
 pub mod edges;
 pub mod growth;
 pub mod mixture;
+pub mod sides;
 pub mod typed;

@@ -6,6 +6,7 @@ use crate::damage::{damage_characters, damage_frames, damage_state, damaged_line
 use crate::edges;
 use crate::files::random_file;
 use crate::random::Random;
+use crate::sides;
 use crate::states::lay_out;
 use crate::values::{random_channels, random_line};
 use crate::writer;
@@ -35,7 +36,7 @@ pub struct Mixture {
 type Kind = fn(&mut Mixture) -> Case;
 
 /// How often each kind of case occurs.
-const KINDS: [(usize, Kind); 12] = [
+const KINDS: [(usize, Kind); 13] = [
     (2, Mixture::edge),
     (1, Mixture::board_over_maximum),
     (4, Mixture::board_one_less),
@@ -47,6 +48,7 @@ const KINDS: [(usize, Kind); 12] = [
     (3, Mixture::loose_iteration),
     (3, Mixture::lowered_iteration),
     (1, Mixture::growing_iteration),
+    (3, Mixture::side_iteration),
     (7, Mixture::whole_run),
 ];
 
@@ -227,6 +229,13 @@ impl Mixture {
         let file = edges::growing_list();
         let spare = self.random.below(3) as u32;
         self.iteration(&file, spare, 0, 0)
+    }
+
+    /// A right side of `06` or `07` that costs more or less than is lent.
+    fn side_iteration(&mut self) -> Case {
+        let file = sides::random_file(&mut self.random);
+        let [spare, slots, calls] = [40, 12, 12].map(|below| self.random.below(below) as u32);
+        self.iteration(&file, spare, slots, calls)
     }
 
     /// Sizes that do not agree, with room for the values to grow.

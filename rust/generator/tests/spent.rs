@@ -3,8 +3,7 @@
 mod support;
 
 use evaluator::answer::Board;
-use evaluator::limits::{state_words, LARGEST_SIZE};
-use evaluator::state::State;
+use evaluator::limits::LARGEST_SIZE;
 use evaluator::syntax::{
     Expression, Field, File, Function, Input, Node, PlainType, SizedType, WrittenType,
 };
@@ -18,13 +17,7 @@ use support::Lent;
 
 /// One iteration on a state of the given values: number and frame.
 fn iterated(file: &File, channels: &[Tree], board: Board, line: &[u8]) -> (u32, u32) {
-    let mut lent = Lent::new(board, 0);
-    let mut state = State::new(vec![0; state_words(board.cells)]);
-    for (channel, tree) in channels.iter().enumerate() {
-        let cell = state.make_tree(tree).expect("a cell for each part");
-        state.set_channel(channel, cell);
-    }
-    lent.state = state.words().to_vec();
+    let mut lent = Lent::holding(board, channels);
     let answer = lent.iterate(&writer::text(file), line);
     (answer.number, answer.frame)
 }

@@ -18,9 +18,9 @@ fn answered(engine: &mut dyn Engine, cases: &[Case]) -> Vec<String> {
     cases.iter().map(|case| run(engine, case)).collect()
 }
 
-/// Answers every case of a file by the library and by Rust and compares; gives the number of cases, and how often a number is
-/// now answered where it was 2.
-fn agree(folder: &Path, name: &str) -> (usize, Counts) {
+/// Answers every case of a file by the library and by Rust and compares, leaving out the answers on file for the lines given;
+/// gives the number of cases, and how often a number is now answered where it was 2.
+fn agree(folder: &Path, name: &str, decided: &'static [usize]) -> (usize, Counts) {
     let cases = stored(folder, &format!("{name}.txt"));
     let on_file = stored(folder, &format!("{name}.answers.txt"));
     assert_eq!(cases.len(), on_file.len());
@@ -32,10 +32,16 @@ fn agree(folder: &Path, name: &str) -> (usize, Counts) {
         let by_library = answered(&mut Library, &cases);
         let known = || on_file.iter().zip(&by_rust);
         for (before, (on_file, by_rust)) in known().enumerate() {
-            let expected = expected(on_file, by_rust);
-            assert_eq!(by_rust, expected, "{name}.txt, line {}", before + 1);
+            let line = before + 1;
             let found = &by_library[before];
-            assert_eq!(found, expected, "{name}.txt, line {}", before + 1);
+            if decided.contains(&line) {
+                assert_ne!(by_rust, on_file, "{name}.txt, line {line}");
+                assert_eq!(found, by_rust, "{name}.txt, line {line}");
+                continue;
+            }
+            let expected = expected(on_file, by_rust);
+            assert_eq!(by_rust, expected, "{name}.txt, line {line}");
+            assert_eq!(found, expected, "{name}.txt, line {line}");
         }
         let known = known().map(|(on_file, by_rust)| (on_file.as_str(), by_rust.as_str()));
         (cases.len(), counted(known))
@@ -45,7 +51,7 @@ fn agree(folder: &Path, name: &str) -> (usize, Counts) {
 
 /// The same where no answer has changed.
 fn agree_unchanged(folder: &Path, name: &str) -> usize {
-    let (count, changed) = agree(folder, name);
+    let (count, changed) = agree(folder, name, &[]);
     assert_eq!(changed, Counts::new());
     say(&format!("{count} cases of {name} agree"));
     count
@@ -60,6 +66,7 @@ fn the_sample_of_this_repository_agrees() {
 fn the_copied_shared_cases_agree() {
     assert!(agree_unchanged(&own_folder(), "shared") >= 150);
     assert!(agree_unchanged(&own_folder(), "stage1") >= 80);
+    assert!(agree_unchanged(&own_folder(), "stage2") >= 80);
 }
 
 /// What is now answered where it was 2, and how often, in the shared cases of document 01.
@@ -83,16 +90,22 @@ const NARROWED: [(&str, &[(u32, usize)]); 2] = [
     ),
 ];
 
+/// The lines of the shared cases of document 01 in which a right side of `06` or `07` ran out of memory that is no longer
+/// evaluated (document 02, R-2).
+const DECIDED: [usize; 2] = [47, 216];
+
 #[test]
 #[ignore = "needs the shared cases, which run-tests looks for: cargo test -- --ignored"]
 fn all_shared_cases_agree() {
     let folder = shared_folder();
     for (name, expected) in NARROWED {
-        let (count, changed) = agree(&folder, name);
+        let decided = if name == "run" { &DECIDED[..] } else { &[] };
+        let (count, changed) = agree(&folder, name, decided);
         assert_eq!(changed, expected.iter().copied().collect());
         say(&format!(
             "{count} shared cases of {name} agree; {changed:?} where it was 2"
         ));
     }
     agree_unchanged(&folder, "stage1");
+    agree_unchanged(&folder, "stage2");
 }

@@ -70,7 +70,7 @@ fn instance_line(known: &Instance) -> String {
 }
 
 fn texts() -> Vec<Vec<u8>> {
-    let examples = ["accumulate", "listing3", "top10sum"].map(example);
+    let examples = ["accumulate", "allowed", "listing3", "top10sum"].map(example);
     let deepest = Level::ALL.map(|level| writer::text(&deepest_bodies(level)));
     let empty = vec![vec![]];
     [examples.to_vec(), deepest.to_vec(), edges::all(), empty].concat()

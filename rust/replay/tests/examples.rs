@@ -32,6 +32,11 @@ fn the_two_frame_file() {
 }
 
 #[test]
+fn allowed_colourants() {
+    assert_eq!(checked(&example("allowed")), accepted(38, 22, 6));
+}
+
+#[test]
 fn listing_3() {
     assert_eq!(checked(&example("listing3")), accepted(25, 18, 5));
     assert_eq!(strict_example("listing3"), writer::text(&listing3()));

@@ -37,6 +37,19 @@ impl Lent {
         }
     }
 
+    /// The same with a state that holds values, one a channel.
+    pub fn holding<'a>(board: Board, channels: impl IntoIterator<Item = &'a Tree>) -> Lent {
+        let mut state = State::new(vec![0; state_words(board.cells)]);
+        for (channel, tree) in channels.into_iter().enumerate() {
+            let cell = state.make_tree(tree).expect("a cell for each part");
+            state.set_channel(channel, cell);
+        }
+        Lent {
+            state: state.words().to_vec(),
+            ..Lent::new(board, 0)
+        }
+    }
+
     pub fn check(&mut self, text: &[u8]) -> Answer {
         machine::check(text, self.board, &mut self.instances)
     }

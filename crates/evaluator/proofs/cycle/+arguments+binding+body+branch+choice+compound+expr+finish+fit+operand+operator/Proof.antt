@@ -15,82 +15,88 @@ use Rattle.index.specs.Sections.{framesOf}
 use Rattle.index.specs.Indexed.{framePlace}
 use Rattle.evaluation_steps.specs.Forms.{handedOnAll}
 use Rattle.evaluation_steps.specs.Measures.{measureOf, falls-here, falls-moved, falls-bound, falls-head, falls-body, head-shorter, shorter-behind, later-end, later-branch, later-first, later-all, later-two}
-use Rattle.evaluation_steps.specs.KeepLaws.{room-at, room-bound, room-body, room-cut, room-next}
+use Rattle.evaluation_steps.specs.KeepLaws.{moved-by, board-moved, room-at, room-bound, room-body, room-cut, room-next}
 use Rattle.evaluation_steps.specs.ExprLaws.{expr-bool, expr-int, expr-variable, expr-now, expr-last, expr-missing, expr-compound, operand-variable}
 use Rattle.evaluation_steps.specs.ArmLaws.{bound-full, bound-done, choice-second, choice-third, fit-second, fit-third}
 use Rattle.evaluation_steps.specs.BranchLaws.{branch-beyond, branch-full, branch-done}
 use Rattle.evaluation_steps.specs.BodyLaws.{body-spent, body-done, part-all, part-back, part-long}
 use Rattle.evaluation_steps.specs.ArgumentLaws.{Gathered, gathered-none, gathered-more, gathered-refused, gathered-all}
 use Rattle.evaluation_steps.specs.CompoundLaws.{compound-full, compound-refused, compound-moved, compound-done, so-below, still-free}
+use Rattle.evaluation_steps.specs.SideLaws.{operator-both, operator-decided, operator-refused, operator-done}
 use Rattle.evaluation_steps.specs.FinishLaws.{finish-adjust, finish-operator, finish-construct, finish-call, finish-let, finish-if, finish-fit, finish-case, finish-none}
 use borrow.Author.Needs.{needs}
 use borrow.Fn.Kinds.{In}
 use borrow.Fn.PlainCycle.{Measures, is, falls, and}
 use Rattle.evaluator.proofs.cycle.arguments.Reads as arguments
 use Rattle.evaluator.proofs.cycle.arguments.Kinds as arguments-kinds
-use Rattle.evaluator.proofs.cycle.+arguments+binding+body+branch+choice+compound+expr+finish+fit+operand.Lts-arguments as arguments-lts
+use Rattle.evaluator.proofs.cycle.+arguments+binding+body+branch+choice+compound+expr+finish+fit+operand+operator.Lts-arguments as arguments-lts
 use Rattle.evaluator.proofs.cycle.binding.Reads as binding
 use Rattle.evaluator.proofs.cycle.binding.Kinds as binding-kinds
-use Rattle.evaluator.proofs.cycle.+arguments+binding+body+branch+choice+compound+expr+finish+fit+operand.Lts-binding as binding-lts
+use Rattle.evaluator.proofs.cycle.+arguments+binding+body+branch+choice+compound+expr+finish+fit+operand+operator.Lts-binding as binding-lts
 use Rattle.evaluator.proofs.cycle.body.Reads as body
 use Rattle.evaluator.proofs.cycle.body.Kinds as body-kinds
-use Rattle.evaluator.proofs.cycle.+arguments+binding+body+branch+choice+compound+expr+finish+fit+operand.Lts-body as body-lts
+use Rattle.evaluator.proofs.cycle.+arguments+binding+body+branch+choice+compound+expr+finish+fit+operand+operator.Lts-body as body-lts
 use Rattle.evaluator.proofs.cycle.branch.Reads as branch
 use Rattle.evaluator.proofs.cycle.branch.Kinds as branch-kinds
-use Rattle.evaluator.proofs.cycle.+arguments+binding+body+branch+choice+compound+expr+finish+fit+operand.Lts-branch as branch-lts
+use Rattle.evaluator.proofs.cycle.+arguments+binding+body+branch+choice+compound+expr+finish+fit+operand+operator.Lts-branch as branch-lts
 use Rattle.evaluator.proofs.cycle.choice.Reads as choice
 use Rattle.evaluator.proofs.cycle.choice.Kinds as choice-kinds
-use Rattle.evaluator.proofs.cycle.+arguments+binding+body+branch+choice+compound+expr+finish+fit+operand.Lts-choice as choice-lts
+use Rattle.evaluator.proofs.cycle.+arguments+binding+body+branch+choice+compound+expr+finish+fit+operand+operator.Lts-choice as choice-lts
 use Rattle.evaluator.proofs.cycle.compound.Reads as compound
 use Rattle.evaluator.proofs.cycle.compound.Kinds as compound-kinds
-use Rattle.evaluator.proofs.cycle.+arguments+binding+body+branch+choice+compound+expr+finish+fit+operand.Lts-compound as compound-lts
+use Rattle.evaluator.proofs.cycle.+arguments+binding+body+branch+choice+compound+expr+finish+fit+operand+operator.Lts-compound as compound-lts
 use Rattle.evaluator.proofs.cycle.expr.Reads as expr
 use Rattle.evaluator.proofs.cycle.expr.Kinds as expr-kinds
-use Rattle.evaluator.proofs.cycle.+arguments+binding+body+branch+choice+compound+expr+finish+fit+operand.Lts-expr as expr-lts
+use Rattle.evaluator.proofs.cycle.+arguments+binding+body+branch+choice+compound+expr+finish+fit+operand+operator.Lts-expr as expr-lts
 use Rattle.evaluator.proofs.cycle.finish.Reads as finish
 use Rattle.evaluator.proofs.cycle.finish.Kinds as finish-kinds
-use Rattle.evaluator.proofs.cycle.+arguments+binding+body+branch+choice+compound+expr+finish+fit+operand.Lts-finish as finish-lts
+use Rattle.evaluator.proofs.cycle.+arguments+binding+body+branch+choice+compound+expr+finish+fit+operand+operator.Lts-finish as finish-lts
 use Rattle.evaluator.proofs.cycle.fit.Reads as fit
 use Rattle.evaluator.proofs.cycle.fit.Kinds as fit-kinds
-use Rattle.evaluator.proofs.cycle.+arguments+binding+body+branch+choice+compound+expr+finish+fit+operand.Lts-fit as fit-lts
+use Rattle.evaluator.proofs.cycle.+arguments+binding+body+branch+choice+compound+expr+finish+fit+operand+operator.Lts-fit as fit-lts
 use Rattle.evaluator.proofs.cycle.operand.Reads as operand
 use Rattle.evaluator.proofs.cycle.operand.Kinds as operand-kinds
-use Rattle.evaluator.proofs.cycle.+arguments+binding+body+branch+choice+compound+expr+finish+fit+operand.Lts-operand as operand-lts
+use Rattle.evaluator.proofs.cycle.+arguments+binding+body+branch+choice+compound+expr+finish+fit+operand+operator.Lts-operand as operand-lts
+use Rattle.evaluator.proofs.cycle.operator.Reads as operator
+use Rattle.evaluator.proofs.cycle.operator.Kinds as operator-kinds
+use Rattle.evaluator.proofs.cycle.+arguments+binding+body+branch+choice+compound+expr+finish+fit+operand+operator.Lts-operator as operator-lts
+use Rattle.construction.proofs.construct.Reads as construct-reads
+use Rattle.ends.proofs.end_of.Reads as end-of-reads
+use Rattle.evaluation_steps.proofs.contexts.body_context.Reads as body-context-reads
+use Rattle.evaluation_steps.proofs.contexts.bound.Reads as bound-reads
+use Rattle.evaluation_steps.proofs.contexts.moved.Reads as moved-reads
 use Rattle.evaluation_steps.proofs.forms.branch_at.Reads as branch-at-reads
 use Rattle.evaluation_steps.proofs.forms.first_operand.Reads as first-operand-reads
 use Rattle.evaluation_steps.proofs.forms.operands.Reads as operands-reads
 use Rattle.evaluation_steps.proofs.forms.refused.Reads as refused-reads
 use Rattle.evaluation_steps.proofs.forms.refused_all.Reads as refused-all-reads
 use Rattle.evaluation_steps.proofs.forms.reserved.Reads as reserved-reads
-use Rattle.evaluation_steps.proofs.contexts.body_context.Reads as body-context-reads
-use Rattle.evaluation_steps.proofs.contexts.bound.Reads as bound-reads
-use Rattle.evaluation_steps.proofs.contexts.moved.Reads as moved-reads
 use Rattle.evaluation_steps.proofs.slots.push.Reads as push-reads
 use Rattle.evaluation_steps.proofs.slots.push_fields.Reads as push-fields-reads
 use Rattle.evaluation_steps.proofs.slots.variable.Reads as variable-reads
-use Rattle.construction.proofs.construct.Reads as construct-reads
-use Rattle.ends.proofs.end_of.Reads as end-of-reads
-use Rattle.new_cells.proofs.new_bool.Reads as new-bool-reads
-use Rattle.new_cells.proofs.new_int.Reads as new-int-reads
-use Rattle.operators.proofs.operate.Reads as operate-reads
 use Rattle.heads.proofs.head_at.Reads as head-at-reads
 use Rattle.heads.proofs.variable_at.Reads as variable-at-reads
-use Rattle.heads.specs.Heads.{hasParts}
 use Rattle.index.proofs.frames.frame_line.Reads as frame-line-reads
+use Rattle.index.proofs.one_if.Reads as one-if-reads
 use Rattle.index.proofs.put.Reads as put-reads
 use Rattle.index.proofs.types.constructors.Reads as constructors-reads
 use Rattle.index.proofs.word_at.Reads as word-at-reads
+use Rattle.new_cells.proofs.new_bool.Reads as new-bool-reads
+use Rattle.new_cells.proofs.new_int.Reads as new-int-reads
+use Rattle.operators.proofs.decides.Reads as decides-reads
+use Rattle.operators.proofs.operate.Reads as operate-reads
 use Rattle.state_words.proofs.channel_cell.Reads as channel-cell-reads
 use Rattle.state_words.proofs.reads.constructor.Reads as constructor-reads
 use Rattle.state_words.proofs.reads.fields.Reads as fields-reads
 use Rattle.state_words.proofs.reads.size.Reads as size-reads
 use Rattle.state_words.proofs.reads.truth.Reads as truth-reads
-use Rattle.evaluator.proofs.cycle.+arguments+binding+body+branch+choice+compound+expr+finish+fit+operand.{
+use Rattle.evaluator.proofs.cycle.+arguments+binding+body+branch+choice+compound+expr+finish+fit+operand+operator.{
   statement,
 }
-use Rattle.evaluator.proofs.cycle.+arguments+binding+body+branch+choice+compound+expr+finish+fit+operand.Tie.{
+use Rattle.evaluator.proofs.cycle.+arguments+binding+body+branch+choice+compound+expr+finish+fit+operand+operator.Tie.{
   close,
 }
+use Rattle.heads.specs.Heads.{hasParts}
 
 -- forms by their tags: those with parts, and the others
 abbrev form-tag : Form → ℕ
@@ -164,6 +170,9 @@ abbrev μ-fit : Measures 6 fit-kinds.ps ℕ
 abbrev μ-operand : Measures 7 operand-kinds.ps ℕ
 μ-operand κs a = measureOf (a .0 .now) (a .1 .0 .now) (a .1 .1 .1 .1 .1 .1 .1 .0) 1
 
+abbrev μ-operator : Measures 7 operator-kinds.ps ℕ
+μ-operator κs a = measureOf (a .0 .now) (a .1 .0 .now) (a .1 .1 .1 .1 .1 .1 .0) 1
+
 abbrev arguments-at : ℕ → In 8 arguments-kinds.ps
 arguments-at t = and 8 arguments-kinds.ps (is 8 arguments-kinds.ps μ-arguments t) arguments.Pre
 
@@ -226,13 +235,20 @@ operand-at t = and 7 operand-kinds.ps (is 7 operand-kinds.ps μ-operand t) opera
 abbrev operand-below : ℕ → In 7 operand-kinds.ps
 operand-below t = and 7 operand-kinds.ps (falls 7 operand-kinds.ps _<_ μ-operand t) operand.Pre
 
+abbrev operator-at : ℕ → In 7 operator-kinds.ps
+operator-at t = and 7 operator-kinds.ps (is 7 operator-kinds.ps μ-operator t) operator.Pre
+
+abbrev operator-below : ℕ → In 7 operator-kinds.ps
+operator-below t =
+    and 7 operator-kinds.ps (falls 7 operator-kinds.ps _<_ μ-operator t) operator.Pre
+
 abbrev arguments-Inv-loop : arguments-lts.InvT-loop
 arguments-Inv-loop text index ends channels state₀ slots₀ line row₀ p n at₀ used₀ i₀ state slots row at used i = Gathered text index ends channels state₀ slots₀ p n state slots row at used i
 
 abbrev arguments-μ-loop : arguments-lts.MeasureT-loop
 arguments-μ-loop text index ends channels state₀ slots₀ line row₀ p n at₀ used₀ i₀ state slots row at used i = n - i
 
--- src/cycle.rt:144:5
+-- src/cycle.rt:147:5
 arguments-loop-holds : (t : ℕ) → arguments-lts.Need-loop-holds (
   moved-reads.Asked,
   moved-reads.Learnt,
@@ -247,7 +263,7 @@ arguments-loop-holds : (t : ℕ) → arguments-lts.Need-loop-holds (
 ) (arguments-at t) arguments.Post arguments-Inv-loop arguments-μ-loop
 arguments-loop-holds t c = gathered-none _ _ _ _ _ _ _ _ _ (c .before .before .before .before .before .pre .1 .0)
 
--- src/cycle.rt:153:13
+-- src/cycle.rt:156:13
 arguments-moved-requires : (t : ℕ) → arguments-lts.Need-moved-requires (
   moved-reads.Asked,
   moved-reads.Learnt,
@@ -262,7 +278,7 @@ arguments-moved-requires : (t : ℕ) → arguments-lts.Need-moved-requires (
 ) (arguments-at t) arguments.Post arguments-Inv-loop arguments-μ-loop
 arguments-moved-requires t c κs = tt
 
--- src/cycle.rt:145:13
+-- src/cycle.rt:148:13
 arguments-operand-requires : (t : ℕ) → arguments-lts.Need-operand-requires (
   moved-reads.Asked,
   moved-reads.Learnt,
@@ -275,9 +291,9 @@ arguments-operand-requires : (t : ℕ) → arguments-lts.Need-operand-requires (
   end-of-reads.Asked,
   end-of-reads.Learnt,
 ) (arguments-at t) arguments.Post arguments-Inv-loop arguments-μ-loop
-arguments-operand-requires t c κs = (falls-moved _ _ (c .before .before .before .before .before .before .before .before .before .before .args .p) 2 (c .before .before .before .before .before .before .before .before .before .before .pre .0) 1 (c .moved .ensures) ((c .before .before .before .before .loop .inv .onward)) (omega arith), (room-next (c .before .before .before .before .before .before .before .before .before .before .pre .1 .0) (c .moved .ensures) ((c .before .before .before .before .loop .inv .moved)) ((c .before .before .before .before .loop .inv .below)), rw (c .moved .ensures) ((c .before .before .before .before .before .before .before .before .before .before .pre .1 .1))))
+arguments-operand-requires t c κs = (falls-moved _ _ (c .before .before .before .before .before .before .before .before .before .before .args .p) 2 (c .before .before .before .before .before .before .before .before .before .before .pre .0) 1 (c .before .before .moved .ensures) ((c .before .before .before .before .loop .inv .onward)) (omega arith), (room-next (c .before .before .before .before .before .before .before .before .before .before .pre .1 .0) (c .before .before .moved .ensures) ((c .before .before .before .before .loop .inv .moved)) ((c .before .before .before .before .loop .inv .below)), rw (c .before .before .moved .ensures) ((c .before .before .before .before .before .before .before .before .before .before .pre .1 .1))))
 
--- src/cycle.rt:155:23
+-- src/cycle.rt:158:23
 arguments-enum-known-x : (t : ℕ) → arguments-lts.Need-enum-known-x (
   moved-reads.Asked,
   moved-reads.Learnt,
@@ -292,7 +308,7 @@ arguments-enum-known-x : (t : ℕ) → arguments-lts.Need-enum-known-x (
 ) (arguments-at t) arguments.Post arguments-Inv-loop arguments-μ-loop
 arguments-enum-known-x t c = (c .match .keys1)
 
--- src/cycle.rt:156:13
+-- src/cycle.rt:159:13
 arguments-enum-told : (t : ℕ) → arguments-lts.Need-enum-told (
   moved-reads.Asked,
   moved-reads.Learnt,
@@ -307,7 +323,7 @@ arguments-enum-told : (t : ℕ) → arguments-lts.Need-enum-told (
 ) (arguments-at t) arguments.Post arguments-Inv-loop arguments-μ-loop
 arguments-enum-told t c = (c .match .keys2)
 
--- src/cycle.rt:156:13
+-- src/cycle.rt:159:13
 arguments-refused-all-requires : (t : ℕ) → arguments-lts.Need-refused-all-requires (
   moved-reads.Asked,
   moved-reads.Learnt,
@@ -322,7 +338,7 @@ arguments-refused-all-requires : (t : ℕ) → arguments-lts.Need-refused-all-re
 ) (arguments-at t) arguments.Post arguments-Inv-loop arguments-μ-loop
 arguments-refused-all-requires t c κs = tt
 
--- src/cycle.rt:156:13
+-- src/cycle.rt:159:13
 arguments-same-length : (t : ℕ) → arguments-lts.Need-same-length (
   moved-reads.Asked,
   moved-reads.Learnt,
@@ -337,7 +353,7 @@ arguments-same-length : (t : ℕ) → arguments-lts.Need-same-length (
 ) (arguments-at t) arguments.Post arguments-Inv-loop arguments-μ-loop
 arguments-same-length t c = (c .before .before .before .before .before .before .before .operand .kept .1 .1 .1 .1 .0) ∙ (c .before .before .before .before .before .before .before .before .before .before .before .before .loop .inv .moved .long)
 
--- src/cycle.rt:156:13
+-- src/cycle.rt:159:13
 arguments-same-length-2 : (t : ℕ) → arguments-lts.Need-same-length-2 (
   moved-reads.Asked,
   moved-reads.Learnt,
@@ -352,7 +368,7 @@ arguments-same-length-2 : (t : ℕ) → arguments-lts.Need-same-length-2 (
 ) (arguments-at t) arguments.Post arguments-Inv-loop arguments-μ-loop
 arguments-same-length-2 t c = (c .before .before .before .before .before .before .before .operand .kept .1 .1 .1 .1 .1 .0) ∙ (c .before .before .before .before .before .before .before .before .before .before .before .before .loop .inv .below .long)
 
--- src/cycle.rt:156:13
+-- src/cycle.rt:159:13
 arguments-returns : (t : ℕ) → arguments-lts.Need-returns (
   moved-reads.Asked,
   moved-reads.Learnt,
@@ -365,9 +381,9 @@ arguments-returns : (t : ℕ) → arguments-lts.Need-returns (
   end-of-reads.Asked,
   end-of-reads.Learnt,
 ) (arguments-at t) arguments.Post arguments-Inv-loop arguments-μ-loop
-arguments-returns t c = gathered-refused _ _ _ _ _ _ _ _ (c .before .before .before .before .before .before .before .before .before .before .before .before .loop .inv) (c .before .before .before .before .before .before .before .before .before .before .before .loop-test .taken) (c .before .before .before .before .before .before .before .before .moved .ensures) (c .before .before .before .before .before .before .before .operand .ensures) (c .before .enum-told .given .1) ((c .refused-all .ensures) ∙ ap handedOnAll (c .before .enum-told .given .1))
+arguments-returns t c = gathered-refused _ _ _ _ _ _ _ _ (c .before .before .before .before .before .before .before .before .before .before .before .before .loop .inv) (c .before .before .before .before .before .before .before .before .before .before .before .loop-test .taken) (c .before .before .before .before .before .before .before .before .before .before .moved .ensures) (c .before .before .before .before .before .before .before .operand .ensures) (c .before .enum-told .given .1) ((c .refused-all .ensures) ∙ ap handedOnAll (c .before .enum-told .given .1))
 
--- src/cycle.rt:158:18
+-- src/cycle.rt:161:18
 arguments-cast-put : (t : ℕ) → arguments-lts.Need-cast-put (
   moved-reads.Asked,
   moved-reads.Learnt,
@@ -382,7 +398,7 @@ arguments-cast-put : (t : ℕ) → arguments-lts.Need-cast-put (
 ) (arguments-at t) arguments.Post arguments-Inv-loop arguments-μ-loop
 arguments-cast-put t c = omega arith
 
--- src/cycle.rt:158:9
+-- src/cycle.rt:161:9
 arguments-put-requires : (t : ℕ) → arguments-lts.Need-put-requires (
   moved-reads.Asked,
   moved-reads.Learnt,
@@ -397,7 +413,7 @@ arguments-put-requires : (t : ℕ) → arguments-lts.Need-put-requires (
 ) (arguments-at t) arguments.Post arguments-Inv-loop arguments-μ-loop
 arguments-put-requires t c κs = tt
 
--- src/cycle.rt:159:9
+-- src/cycle.rt:162:9
 arguments-end-of-requires : (t : ℕ) → arguments-lts.Need-end-of-requires (
   moved-reads.Asked,
   moved-reads.Learnt,
@@ -412,7 +428,7 @@ arguments-end-of-requires : (t : ℕ) → arguments-lts.Need-end-of-requires (
 ) (arguments-at t) arguments.Post arguments-Inv-loop arguments-μ-loop
 arguments-end-of-requires t c κs = tt
 
--- src/cycle.rt:161:9
+-- src/cycle.rt:164:9
 arguments-add-i : (t : ℕ) → arguments-lts.Need-add-i (
   moved-reads.Asked,
   moved-reads.Learnt,
@@ -427,7 +443,7 @@ arguments-add-i : (t : ℕ) → arguments-lts.Need-add-i (
 ) (arguments-at t) arguments.Post arguments-Inv-loop arguments-μ-loop
 arguments-add-i t c = omega (arith, (c .before .before .before .before .before .before .before .before .before .before .before .before .before .before .loop-test .taken), (c .before .before .before .before .before .before .before .before .before .before .before .before .before .before .before .before .before .before .before .before .before .good .1 .1 .1 .1 .1 .1 .1 .1 .1 .0))
 
--- src/cycle.rt:144:5
+-- src/cycle.rt:147:5
 arguments-loop-less : (t : ℕ) → arguments-lts.Need-loop-less (
   moved-reads.Asked,
   moved-reads.Learnt,
@@ -442,7 +458,7 @@ arguments-loop-less : (t : ℕ) → arguments-lts.Need-loop-less (
 ) (arguments-at t) arguments.Post arguments-Inv-loop arguments-μ-loop
 arguments-loop-less t c = omega (arith, (c .before .before .before .before .before .before .before .before .before .before .before .before .before .before .loop-test .taken))
 
--- src/cycle.rt:144:5
+-- src/cycle.rt:147:5
 arguments-loop-again : (t : ℕ) → arguments-lts.Need-loop-again (
   moved-reads.Asked,
   moved-reads.Learnt,
@@ -455,9 +471,9 @@ arguments-loop-again : (t : ℕ) → arguments-lts.Need-loop-again (
   end-of-reads.Asked,
   end-of-reads.Learnt,
 ) (arguments-at t) arguments.Post arguments-Inv-loop arguments-μ-loop
-arguments-loop-again t c = gathered-more _ _ _ _ _ _ _ _ (c .before .before .before .before .before .before .before .before .before .before .before .before .before .before .before .loop .inv) (c .before .before .before .before .before .before .before .before .before .before .before .before .before .before .loop-test .taken) (c .before .before .before .before .before .before .before .before .before .before .before .moved .ensures) (c .before .before .before .before .before .before .before .before .before .before .operand .ensures) (c .before .before .before .before .x .given .1) (c .before .before .put-arg .given .0 .1) (c .before .put .ensures) (c .end-of .ensures)
+arguments-loop-again t c = gathered-more _ _ _ _ _ _ _ _ (c .before .before .before .before .before .before .before .before .before .before .before .before .before .before .before .loop .inv) (c .before .before .before .before .before .before .before .before .before .before .before .before .before .before .loop-test .taken) (c .before .before .before .before .before .before .before .before .before .before .before .before .before .moved .ensures) (c .before .before .before .before .before .before .before .before .before .before .operand .ensures) (c .before .before .before .before .x .given .1) (c .before .before .put-arg .given .0 .1) (c .before .put .ensures) (c .end-of .ensures)
 
--- src/cycle.rt:125:1
+-- src/cycle.rt:128:1
 arguments-same-length-3 : (t : ℕ) → arguments-lts.Need-same-length-3 (
   moved-reads.Asked,
   moved-reads.Learnt,
@@ -472,7 +488,7 @@ arguments-same-length-3 : (t : ℕ) → arguments-lts.Need-same-length-3 (
 ) (arguments-at t) arguments.Post arguments-Inv-loop arguments-μ-loop
 arguments-same-length-3 t c = (c .before .loop .inv .moved .long)
 
--- src/cycle.rt:125:1
+-- src/cycle.rt:128:1
 arguments-same-length-4 : (t : ℕ) → arguments-lts.Need-same-length-4 (
   moved-reads.Asked,
   moved-reads.Learnt,
@@ -487,7 +503,7 @@ arguments-same-length-4 : (t : ℕ) → arguments-lts.Need-same-length-4 (
 ) (arguments-at t) arguments.Post arguments-Inv-loop arguments-μ-loop
 arguments-same-length-4 t c = (c .before .loop .inv .below .long)
 
--- src/cycle.rt:125:1
+-- src/cycle.rt:128:1
 arguments-returns-2 : (t : ℕ) → arguments-lts.Need-returns-2 (
   moved-reads.Asked,
   moved-reads.Learnt,
@@ -502,7 +518,7 @@ arguments-returns-2 : (t : ℕ) → arguments-lts.Need-returns-2 (
 ) (arguments-at t) arguments.Post arguments-Inv-loop arguments-μ-loop
 arguments-returns-2 t c = gathered-all _ _ _ _ _ _ _ _ (c .before .loop .inv) (c .loop-test .left) refl
 
--- src/cycle.rt:235:9
+-- src/cycle.rt:269:9
 binding-returns : (t : ℕ) → binding-lts.Need-returns (
   put-reads.Asked,
   put-reads.Learnt,
@@ -513,7 +529,7 @@ binding-returns : (t : ℕ) → binding-lts.Need-returns (
 ) (binding-at t) binding.Post
 binding-returns t c = bound-full _ _ _ _ _ _ _ _ (c .if1 .taken) refl
 
--- src/cycle.rt:237:5
+-- src/cycle.rt:271:5
 binding-put-requires : (t : ℕ) → binding-lts.Need-put-requires (
   put-reads.Asked,
   put-reads.Learnt,
@@ -524,7 +540,7 @@ binding-put-requires : (t : ℕ) → binding-lts.Need-put-requires (
 ) (binding-at t) binding.Post
 binding-put-requires t c κs = tt
 
--- src/cycle.rt:239:9
+-- src/cycle.rt:273:9
 binding-bound-requires : (t : ℕ) → binding-lts.Need-bound-requires (
   put-reads.Asked,
   put-reads.Learnt,
@@ -535,7 +551,7 @@ binding-bound-requires : (t : ℕ) → binding-lts.Need-bound-requires (
 ) (binding-at t) binding.Post
 binding-bound-requires t c κs = omega (arith, (c .before .before .before .before .before .if1 .left), (c .before .before .before .before .before .before .before .before .before .before .good .1 .1 .1 .1 .1 .0 .1))
 
--- src/cycle.rt:240:5
+-- src/cycle.rt:274:5
 binding-expr-requires : (t : ℕ) → binding-lts.Need-expr-requires (
   put-reads.Asked,
   put-reads.Learnt,
@@ -546,7 +562,7 @@ binding-expr-requires : (t : ℕ) → binding-lts.Need-expr-requires (
 ) (binding-at t) binding.Post
 binding-expr-requires t c κs = (falls-bound _ _ (c .before .before .before .before .before .before .before .before .before .before .before .before .before .args .p) 1 (c .before .before .before .before .before .before .before .before .before .before .before .before .before .pre .0) 0 _ (c .before .before .bound .ensures) (le-refl _) (omega arith), room-bound (c .before .before .before .before .before .before .before .before .before .before .before .before .before .pre .1) _ _ (c .before .before .bound .ensures) ((c .before .before .before .before .before .before .put .kept .0)) (omega (arith, (c .before .before .before .before .before .before .before .before .if1 .left))))
 
--- src/cycle.rt:221:1
+-- src/cycle.rt:255:1
 binding-same-length : (t : ℕ) → binding-lts.Need-same-length (
   put-reads.Asked,
   put-reads.Learnt,
@@ -557,7 +573,7 @@ binding-same-length : (t : ℕ) → binding-lts.Need-same-length (
 ) (binding-at t) binding.Post
 binding-same-length t c = (c .before .before .before .before .expr .kept .1 .1 .1 .1 .0)
 
--- src/cycle.rt:221:1
+-- src/cycle.rt:255:1
 binding-same-length-2 : (t : ℕ) → binding-lts.Need-same-length-2 (
   put-reads.Asked,
   put-reads.Learnt,
@@ -568,7 +584,7 @@ binding-same-length-2 : (t : ℕ) → binding-lts.Need-same-length-2 (
 ) (binding-at t) binding.Post
 binding-same-length-2 t c = (c .before .before .before .before .expr .kept .1 .1 .1 .1 .1 .0) ∙ (c .before .before .before .before .before .before .before .before .before .before .before .put .kept .0)
 
--- src/cycle.rt:221:1
+-- src/cycle.rt:255:1
 binding-returns-2 : (t : ℕ) → binding-lts.Need-returns-2 (
   put-reads.Asked,
   put-reads.Learnt,
@@ -579,7 +595,7 @@ binding-returns-2 : (t : ℕ) → binding-lts.Need-returns-2 (
 ) (binding-at t) binding.Post
 binding-returns-2 t c = bound-done _ _ _ _ _ _ _ _ (c .before .before .before .before .before .before .before .before .before .before .before .before .before .if1 .left) (c .before .before .before .before .before .before .before .before .before .before .before .put .ensures) (c .before .before .before .before .before .before .before .bound .ensures) (c .before .before .before .before .expr .ensures)
 
--- src/cycle.rt:339:9
+-- src/cycle.rt:373:9
 body-returns : (t : ℕ) → body-lts.Need-returns (
   push-reads.Asked,
   push-reads.Learnt,
@@ -590,7 +606,7 @@ body-returns : (t : ℕ) → body-lts.Need-returns (
 ) (body-at t) body.Post
 body-returns t c = body-spent _ _ _ _ _ _ _ _ _ _ (c .if1 .taken) refl
 
--- src/cycle.rt:342:5
+-- src/cycle.rt:376:5
 body-push-requires : (t : ℕ) → body-lts.Need-push-requires (
   push-reads.Asked,
   push-reads.Learnt,
@@ -601,7 +617,7 @@ body-push-requires : (t : ℕ) → body-lts.Need-push-requires (
 ) (body-at t) body.Post
 body-push-requires t c κs = (c .before .before .before .before .before .before .pre .1 .0 .top)
 
--- src/cycle.rt:343:9
+-- src/cycle.rt:377:9
 body-body-context-requires : (t : ℕ) → body-lts.Need-body-context-requires (
   push-reads.Asked,
   push-reads.Learnt,
@@ -612,7 +628,7 @@ body-body-context-requires : (t : ℕ) → body-lts.Need-body-context-requires (
 ) (body-at t) body.Post
 body-body-context-requires t c κs = omega (arith, (c .before .before .before .before .if1 .left))
 
--- src/cycle.rt:344:46
+-- src/cycle.rt:378:46
 body-mul-expr : (t : ℕ) → body-lts.Need-mul-expr (
   push-reads.Asked,
   push-reads.Learnt,
@@ -623,7 +639,7 @@ body-mul-expr : (t : ℕ) → body-lts.Need-mul-expr (
 ) (body-at t) body.Post
 body-mul-expr t c = search needs
 
--- src/cycle.rt:344:46
+-- src/cycle.rt:378:46
 body-sub-expr : (t : ℕ) → body-lts.Need-sub-expr (
   push-reads.Asked,
   push-reads.Learnt,
@@ -634,7 +650,7 @@ body-sub-expr : (t : ℕ) → body-lts.Need-sub-expr (
 ) (body-at t) body.Post
 body-sub-expr t c = omega (arith, (c .before .before .before .before .before .before .before .before .before .before .before .pre .1 .0 .top), (c .before .before .before .before .push .kept .0))
 
--- src/cycle.rt:344:46
+-- src/cycle.rt:378:46
 body-part-expr-start : (t : ℕ) → body-lts.Need-part-expr-start (
   push-reads.Asked,
   push-reads.Learnt,
@@ -645,7 +661,7 @@ body-part-expr-start : (t : ℕ) → body-lts.Need-part-expr-start (
 ) (body-at t) body.Post
 body-part-expr-start t c = omega (arith, (c .before .before .before .before .before .before .before .before .before .before .before .pre .1 .0 .top), (c .before .before .before .before .push .kept .0))
 
--- src/cycle.rt:344:46
+-- src/cycle.rt:378:46
 body-part-expr-end : (t : ℕ) → body-lts.Need-part-expr-end (
   push-reads.Asked,
   push-reads.Learnt,
@@ -656,7 +672,7 @@ body-part-expr-end : (t : ℕ) → body-lts.Need-part-expr-end (
 ) (body-at t) body.Post
 body-part-expr-end t c = omega arith
 
--- src/cycle.rt:344:5
+-- src/cycle.rt:378:5
 body-expr-requires : (t : ℕ) → body-lts.Need-expr-requires (
   push-reads.Asked,
   push-reads.Learnt,
@@ -667,7 +683,7 @@ body-expr-requires : (t : ℕ) → body-lts.Need-expr-requires (
 ) (body-at t) body.Post
 body-expr-requires t c κs = (falls-body _ _ (c .before .before .before .before .before .before .before .before .before .before .before .before .args .p) 1 (c .before .before .before .before .before .before .before .before .before .before .before .before .pre .0) _ _ 0 (c .before .before .body-context .ensures) (omega (arith, (c .before .before .before .before .before .before .before .before .before .before .before .before .good .0 .1))) (c .before .before .before .before .before .before .before .if1 .left) (omega arith), room-body (c .before .before .before .before .before .before .before .before .before .before .before .before .pre .1 .0) _ _ _ (c .before .before .before .before .before .push .last .0) (c .before .before .body-context .ensures) ((c .before .before .before .before .before .push .kept .0)) (c .before .before .before .before .before .before .before .before .before .before .before .before .pre .1 .1))
 
--- src/cycle.rt:322:1
+-- src/cycle.rt:356:1
 body-same-length : (t : ℕ) → body-lts.Need-same-length (
   push-reads.Asked,
   push-reads.Learnt,
@@ -678,7 +694,7 @@ body-same-length : (t : ℕ) → body-lts.Need-same-length (
 ) (body-at t) body.Post
 body-same-length t c = (c .before .before .before .before .expr .kept .1 .1 .1 .1 .0)
 
--- src/cycle.rt:322:1
+-- src/cycle.rt:356:1
 body-same-length-2 : (t : ℕ) → body-lts.Need-same-length-2 (
   push-reads.Asked,
   push-reads.Learnt,
@@ -689,7 +705,7 @@ body-same-length-2 : (t : ℕ) → body-lts.Need-same-length-2 (
 ) (body-at t) body.Post
 body-same-length-2 t c = part-long (c .before .before .before .before .before .before .before .before .before .before .push .last .0) (c .before .before .before .before .expr .last .1 .1 .1 .1 .1 .0) (c .before .before .before .before .before .before .before .before .before .before .before .before .before .before .before .before .before .args .p .top) (omega (arith, (c .before .before .before .before .before .before .before .before .before .before .before .before .before .before .before .before .before .pre .1 .0 .top), (c .before .before .before .before .before .before .before .before .before .before .push .kept .0))) (c .before .before .before .before .expr .ensures .below .long) ∙ (c .before .before .before .before .before .before .before .before .before .before .push .kept .0)
 
--- src/cycle.rt:322:1
+-- src/cycle.rt:356:1
 body-returns-2 : (t : ℕ) → body-lts.Need-returns-2 (
   push-reads.Asked,
   push-reads.Learnt,
@@ -700,7 +716,7 @@ body-returns-2 : (t : ℕ) → body-lts.Need-returns-2 (
 ) (body-at t) body.Post
 body-returns-2 t c = body-done _ _ _ _ _ _ _ _ _ _ (c .before .before .before .before .before .before .before .before .before .before .before .before .if1 .left) (c .before .before .before .before .before .before .before .before .before .before .before .before .before .before .before .before .before .pre .1 .1) (c .before .before .before .before .before .before .before .before .before .before .push .ensures) (c .before .before .before .before .before .before .before .body-context .ensures) (part-all (c .before .before .before .before .before .before .before .before .before .before .push .last .0) (c .before .before .before .before .before .before .before .before .before .before .before .before .before .before .before .before .before .args .p .top)) (part-back (c .before .before .before .before .before .before .before .before .before .before .push .last .0) (c .before .before .before .before .expr .last .1 .1 .1 .1 .1 .0) (c .before .before .before .before .before .before .before .before .before .before .before .before .before .before .before .before .before .args .p .top)) (c .before .before .before .before .expr .ensures)
 
--- src/cycle.rt:305:9
+-- src/cycle.rt:339:9
 branch-constructor-requires : (t : ℕ) → branch-lts.Need-constructor-requires (
   constructor-reads.Asked,
   constructor-reads.Learnt,
@@ -721,7 +737,7 @@ branch-constructor-requires : (t : ℕ) → branch-lts.Need-constructor-requires
 ) (branch-at t) branch.Post
 branch-constructor-requires t c κs = tt
 
--- src/cycle.rt:306:8
+-- src/cycle.rt:340:8
 branch-constructors-requires : (t : ℕ) → branch-lts.Need-constructors-requires (
   constructor-reads.Asked,
   constructor-reads.Learnt,
@@ -742,7 +758,7 @@ branch-constructors-requires : (t : ℕ) → branch-lts.Need-constructors-requir
 ) (branch-at t) branch.Post
 branch-constructors-requires t c κs = tt
 
--- src/cycle.rt:307:9
+-- src/cycle.rt:341:9
 branch-same-length : (t : ℕ) → branch-lts.Need-same-length (
   constructor-reads.Asked,
   constructor-reads.Learnt,
@@ -763,7 +779,7 @@ branch-same-length : (t : ℕ) → branch-lts.Need-same-length (
 ) (branch-at t) branch.Post
 branch-same-length t c = refl
 
--- src/cycle.rt:307:9
+-- src/cycle.rt:341:9
 branch-returns : (t : ℕ) → branch-lts.Need-returns (
   constructor-reads.Asked,
   constructor-reads.Learnt,
@@ -784,7 +800,7 @@ branch-returns : (t : ℕ) → branch-lts.Need-returns (
 ) (branch-at t) branch.Post
 branch-returns t c = branch-beyond _ _ _ _ _ _ _ _ _ (c .before .before .constructor .ensures) (c .before .constructors .ensures) (c .if1 .taken) refl
 
--- src/cycle.rt:309:9
+-- src/cycle.rt:343:9
 branch-fields-requires : (t : ℕ) → branch-lts.Need-fields-requires (
   constructor-reads.Asked,
   constructor-reads.Learnt,
@@ -805,7 +821,7 @@ branch-fields-requires : (t : ℕ) → branch-lts.Need-fields-requires (
 ) (branch-at t) branch.Post
 branch-fields-requires t c κs = tt
 
--- src/cycle.rt:310:8
+-- src/cycle.rt:344:8
 branch-sub-if2 : (t : ℕ) → branch-lts.Need-sub-if2 (
   constructor-reads.Asked,
   constructor-reads.Learnt,
@@ -826,7 +842,7 @@ branch-sub-if2 : (t : ℕ) → branch-lts.Need-sub-if2 (
 ) (branch-at t) branch.Post
 branch-sub-if2 t c = (c .before .before .before .before .before .before .before .before .before .before .pre .1 .top)
 
--- src/cycle.rt:310:31
+-- src/cycle.rt:344:31
 branch-cast-if2 : (t : ℕ) → branch-lts.Need-cast-if2 (
   constructor-reads.Asked,
   constructor-reads.Learnt,
@@ -847,7 +863,7 @@ branch-cast-if2 : (t : ℕ) → branch-lts.Need-cast-if2 (
 ) (branch-at t) branch.Post
 branch-cast-if2 t c = omega arith
 
--- src/cycle.rt:311:9
+-- src/cycle.rt:345:9
 branch-same-length-2 : (t : ℕ) → branch-lts.Need-same-length-2 (
   constructor-reads.Asked,
   constructor-reads.Learnt,
@@ -868,7 +884,7 @@ branch-same-length-2 : (t : ℕ) → branch-lts.Need-same-length-2 (
 ) (branch-at t) branch.Post
 branch-same-length-2 t c = refl
 
--- src/cycle.rt:311:9
+-- src/cycle.rt:345:9
 branch-returns-2 : (t : ℕ) → branch-lts.Need-returns-2 (
   constructor-reads.Asked,
   constructor-reads.Learnt,
@@ -889,7 +905,7 @@ branch-returns-2 : (t : ℕ) → branch-lts.Need-returns-2 (
 ) (branch-at t) branch.Post
 branch-returns-2 t c = branch-full _ _ _ _ _ _ _ _ _ (c .before .before .before .before .before .before .constructor .ensures) (c .before .before .before .before .before .constructors .ensures) (c .before .before .before .before .if1 .left) (c .before .before .fields .ensures) (c .if2 .taken) refl
 
--- src/cycle.rt:313:5
+-- src/cycle.rt:347:5
 branch-push-fields-requires : (t : ℕ) → branch-lts.Need-push-fields-requires (
   constructor-reads.Asked,
   constructor-reads.Learnt,
@@ -910,7 +926,7 @@ branch-push-fields-requires : (t : ℕ) → branch-lts.Need-push-fields-requires
 ) (branch-at t) branch.Post
 branch-push-fields-requires t c κs = (c .before .before .before .before .before .before .before .before .before .before .before .before .before .pre .1 .top)
 
--- src/cycle.rt:315:9
+-- src/cycle.rt:349:9
 branch-end-of-requires : (t : ℕ) → branch-lts.Need-end-of-requires (
   constructor-reads.Asked,
   constructor-reads.Learnt,
@@ -931,7 +947,7 @@ branch-end-of-requires : (t : ℕ) → branch-lts.Need-end-of-requires (
 ) (branch-at t) branch.Post
 branch-end-of-requires t c κs = tt
 
--- src/cycle.rt:316:9
+-- src/cycle.rt:350:9
 branch-branch-at-requires : (t : ℕ) → branch-lts.Need-branch-at-requires (
   constructor-reads.Asked,
   constructor-reads.Learnt,
@@ -952,7 +968,7 @@ branch-branch-at-requires : (t : ℕ) → branch-lts.Need-branch-at-requires (
 ) (branch-at t) branch.Post
 branch-branch-at-requires t c κs = tt
 
--- src/cycle.rt:317:26
+-- src/cycle.rt:351:26
 branch-cast-bound : (t : ℕ) → branch-lts.Need-cast-bound (
   constructor-reads.Asked,
   constructor-reads.Learnt,
@@ -973,7 +989,7 @@ branch-cast-bound : (t : ℕ) → branch-lts.Need-cast-bound (
 ) (branch-at t) branch.Post
 branch-cast-bound t c = omega arith
 
--- src/cycle.rt:317:9
+-- src/cycle.rt:351:9
 branch-bound-requires : (t : ℕ) → branch-lts.Need-bound-requires (
   constructor-reads.Asked,
   constructor-reads.Learnt,
@@ -994,7 +1010,7 @@ branch-bound-requires : (t : ℕ) → branch-lts.Need-bound-requires (
 ) (branch-at t) branch.Post
 branch-bound-requires t c κs = omega (arith, (c .before .before .before .before .before .before .before .before .if2 .left), (c .before .before .before .before .before .before .before .before .before .before .before .before .before .before .before .before .before .before .before .pre .1 .top), (c .before .before .before .before .before .before .before .before .before .before .before .before .before .before .before .before .before .before .before .good .1 .1 .1 .1 .1 .0 .1))
 
--- src/cycle.rt:318:5
+-- src/cycle.rt:352:5
 branch-expr-requires : (t : ℕ) → branch-lts.Need-expr-requires (
   constructor-reads.Asked,
   constructor-reads.Learnt,
@@ -1015,7 +1031,7 @@ branch-expr-requires : (t : ℕ) → branch-lts.Need-expr-requires (
 ) (branch-at t) branch.Post
 branch-expr-requires t c κs = (falls-bound _ _ (c .before .before .before .before .before .before .before .before .before .before .before .before .before .before .before .before .before .before .before .before .before .before .args .p) 1 (c .before .before .before .before .before .before .before .before .before .before .before .before .before .before .before .before .before .before .before .before .before .before .pre .0) 0 _ (c .before .before .bound .ensures) (later-branch _ _ _ _ (c .before .before .before .before .end-of .ensures) (c .before .before .before .branch-at .ensures)) (omega arith), room-bound (c .before .before .before .before .before .before .before .before .before .before .before .before .before .before .before .before .before .before .before .before .before .before .pre .1) _ _ (c .before .before .bound .ensures) ((c .before .before .before .before .before .before .before .before .push-fields .kept .0)) (omega (arith, (c .before .before .before .before .before .before .before .before .before .before .before .if2 .left), (c .before .before .before .before .before .before .before .before .before .before .before .before .before .before .before .before .before .before .before .before .before .before .pre .1 .top))))
 
--- src/cycle.rt:291:1
+-- src/cycle.rt:325:1
 branch-same-length-3 : (t : ℕ) → branch-lts.Need-same-length-3 (
   constructor-reads.Asked,
   constructor-reads.Learnt,
@@ -1036,7 +1052,7 @@ branch-same-length-3 : (t : ℕ) → branch-lts.Need-same-length-3 (
 ) (branch-at t) branch.Post
 branch-same-length-3 t c = (c .before .before .before .before .expr .kept .1 .1 .1 .1 .0)
 
--- src/cycle.rt:291:1
+-- src/cycle.rt:325:1
 branch-same-length-4 : (t : ℕ) → branch-lts.Need-same-length-4 (
   constructor-reads.Asked,
   constructor-reads.Learnt,
@@ -1057,7 +1073,7 @@ branch-same-length-4 : (t : ℕ) → branch-lts.Need-same-length-4 (
 ) (branch-at t) branch.Post
 branch-same-length-4 t c = (c .before .before .before .before .expr .kept .1 .1 .1 .1 .1 .0) ∙ (c .before .before .before .before .before .before .before .before .before .before .before .before .before .push-fields .kept .0)
 
--- src/cycle.rt:291:1
+-- src/cycle.rt:325:1
 branch-returns-3 : (t : ℕ) → branch-lts.Need-returns-3 (
   constructor-reads.Asked,
   constructor-reads.Learnt,
@@ -1078,7 +1094,7 @@ branch-returns-3 : (t : ℕ) → branch-lts.Need-returns-3 (
 ) (branch-at t) branch.Post
 branch-returns-3 t c = branch-done _ _ _ _ _ _ _ _ _ (c .before .before .before .before .before .before .before .before .before .before .before .before .before .before .before .before .before .before .before .before .before .before .constructor .ensures) (c .before .before .before .before .before .before .before .before .before .before .before .before .before .before .before .before .before .before .before .before .before .constructors .ensures) (c .before .before .before .before .before .before .before .before .before .before .before .before .before .before .before .before .before .before .before .before .if1 .left) (c .before .before .before .before .before .before .before .before .before .before .before .before .before .before .before .before .before .before .fields .ensures) (c .before .before .before .before .before .before .before .before .before .before .before .before .before .before .before .before .before .before .before .before .before .before .before .before .before .before .before .pre .1 .top) (c .before .before .before .before .before .before .before .before .before .before .before .before .before .before .before .before .if2 .left) (c .before .before .before .before .before .before .before .before .before .before .before .before .before .push-fields .ensures) (c .before .before .before .before .before .before .before .before .before .end-of .ensures) (c .before .before .before .before .before .before .before .before .branch-at .ensures) (c .before .before .before .before .before .before .before .bound .ensures) (c .before .before .before .before .expr .ensures)
 
--- src/cycle.rt:257:8
+-- src/cycle.rt:291:8
 choice-truth-requires : (t : ℕ) → choice-lts.Need-truth-requires (
   truth-reads.Asked,
   truth-reads.Learnt,
@@ -1091,7 +1107,7 @@ choice-truth-requires : (t : ℕ) → choice-lts.Need-truth-requires (
 ) (choice-at t) choice.Post
 choice-truth-requires t c κs = tt
 
--- src/cycle.rt:258:9
+-- src/cycle.rt:292:9
 choice-expr-requires : (t : ℕ) → choice-lts.Need-expr-requires (
   truth-reads.Asked,
   truth-reads.Learnt,
@@ -1104,7 +1120,7 @@ choice-expr-requires : (t : ℕ) → choice-lts.Need-expr-requires (
 ) (choice-at t) choice.Post
 choice-expr-requires t c κs = (falls-here _ _ (c .before .before .before .before .before .before .before .before .args .p) 1 (c .before .before .before .before .before .before .before .before .pre .0) 0 (omega arith), (c .before .before .before .before .before .before .before .before .pre .1))
 
--- src/cycle.rt:258:9
+-- src/cycle.rt:292:9
 choice-same-length : (t : ℕ) → choice-lts.Need-same-length (
   truth-reads.Asked,
   truth-reads.Learnt,
@@ -1117,7 +1133,7 @@ choice-same-length : (t : ℕ) → choice-lts.Need-same-length (
 ) (choice-at t) choice.Post
 choice-same-length t c = (c .before .before .before .before .expr .kept .1 .1 .1 .1 .0)
 
--- src/cycle.rt:258:9
+-- src/cycle.rt:292:9
 choice-same-length-2 : (t : ℕ) → choice-lts.Need-same-length-2 (
   truth-reads.Asked,
   truth-reads.Learnt,
@@ -1130,7 +1146,7 @@ choice-same-length-2 : (t : ℕ) → choice-lts.Need-same-length-2 (
 ) (choice-at t) choice.Post
 choice-same-length-2 t c = (c .before .before .before .before .expr .kept .1 .1 .1 .1 .1 .0)
 
--- src/cycle.rt:258:9
+-- src/cycle.rt:292:9
 choice-returns : (t : ℕ) → choice-lts.Need-returns (
   truth-reads.Asked,
   truth-reads.Learnt,
@@ -1143,7 +1159,7 @@ choice-returns : (t : ℕ) → choice-lts.Need-returns (
 ) (choice-at t) choice.Post
 choice-returns t c = choice-second _ _ _ _ _ _ _ _ (c .before .before .before .before .before .before .before .before .truth .ensures) (c .before .before .before .before .before .before .before .if1 .taken) (c .before .before .before .before .expr .ensures)
 
--- src/cycle.rt:261:9
+-- src/cycle.rt:295:9
 choice-end-of-requires : (t : ℕ) → choice-lts.Need-end-of-requires (
   truth-reads.Asked,
   truth-reads.Learnt,
@@ -1156,7 +1172,7 @@ choice-end-of-requires : (t : ℕ) → choice-lts.Need-end-of-requires (
 ) (choice-at t) choice.Post
 choice-end-of-requires t c κs = tt
 
--- src/cycle.rt:262:9
+-- src/cycle.rt:296:9
 choice-moved-requires : (t : ℕ) → choice-lts.Need-moved-requires (
   truth-reads.Asked,
   truth-reads.Learnt,
@@ -1169,7 +1185,7 @@ choice-moved-requires : (t : ℕ) → choice-lts.Need-moved-requires (
 ) (choice-at t) choice.Post
 choice-moved-requires t c κs = tt
 
--- src/cycle.rt:263:5
+-- src/cycle.rt:297:5
 choice-expr-requires-2 : (t : ℕ) → choice-lts.Need-expr-requires-2 (
   truth-reads.Asked,
   truth-reads.Learnt,
@@ -1182,7 +1198,7 @@ choice-expr-requires-2 : (t : ℕ) → choice-lts.Need-expr-requires-2 (
 ) (choice-at t) choice.Post
 choice-expr-requires-2 t c κs = (falls-moved _ _ (c .before .before .before .before .before .before .before .before .before .before .before .args .p) 1 (c .before .before .before .before .before .before .before .before .before .before .before .pre .0) 0 (c .before .before .moved .ensures) (later-end _ _ _ (c .before .before .before .end-of .ensures)) (omega arith), room-at (c .before .before .before .before .before .before .before .before .before .before .before .pre .1) (c .before .before .moved .ensures))
 
--- src/cycle.rt:244:1
+-- src/cycle.rt:278:1
 choice-same-length-3 : (t : ℕ) → choice-lts.Need-same-length-3 (
   truth-reads.Asked,
   truth-reads.Learnt,
@@ -1195,7 +1211,7 @@ choice-same-length-3 : (t : ℕ) → choice-lts.Need-same-length-3 (
 ) (choice-at t) choice.Post
 choice-same-length-3 t c = (c .before .before .before .before .expr2 .kept .1 .1 .1 .1 .0)
 
--- src/cycle.rt:244:1
+-- src/cycle.rt:278:1
 choice-same-length-4 : (t : ℕ) → choice-lts.Need-same-length-4 (
   truth-reads.Asked,
   truth-reads.Learnt,
@@ -1208,7 +1224,7 @@ choice-same-length-4 : (t : ℕ) → choice-lts.Need-same-length-4 (
 ) (choice-at t) choice.Post
 choice-same-length-4 t c = (c .before .before .before .before .expr2 .kept .1 .1 .1 .1 .1 .0)
 
--- src/cycle.rt:244:1
+-- src/cycle.rt:278:1
 choice-returns-2 : (t : ℕ) → choice-lts.Need-returns-2 (
   truth-reads.Asked,
   truth-reads.Learnt,
@@ -1221,7 +1237,7 @@ choice-returns-2 : (t : ℕ) → choice-lts.Need-returns-2 (
 ) (choice-at t) choice.Post
 choice-returns-2 t c = choice-third _ _ _ _ _ _ _ _ (c .before .before .before .before .before .before .before .before .before .before .before .truth .ensures) (c .before .before .before .before .before .before .before .before .before .before .if1 .left) (c .before .before .before .before .before .before .before .before .end-of .ensures) (c .before .before .before .before .before .before .before .moved .ensures) (c .before .before .before .before .expr2 .ensures)
 
--- src/cycle.rt:97:9
+-- src/cycle.rt:100:9
 compound-operands-requires : (t : ℕ) → compound-lts.Need-operands-requires (
   operands-reads.Asked,
   operands-reads.Learnt,
@@ -1240,7 +1256,7 @@ compound-operands-requires : (t : ℕ) → compound-lts.Need-operands-requires (
 ) (compound-at t) compound.Post
 compound-operands-requires t c κs = tt
 
--- src/cycle.rt:98:19
+-- src/cycle.rt:101:19
 compound-reserved-requires : (t : ℕ) → compound-lts.Need-reserved-requires (
   operands-reads.Asked,
   operands-reads.Learnt,
@@ -1259,7 +1275,7 @@ compound-reserved-requires : (t : ℕ) → compound-lts.Need-reserved-requires (
 ) (compound-at t) compound.Post
 compound-reserved-requires t c κs = tt
 
--- src/cycle.rt:98:19
+-- src/cycle.rt:101:19
 compound-cast-waiting : (t : ℕ) → compound-lts.Need-cast-waiting (
   operands-reads.Asked,
   operands-reads.Learnt,
@@ -1278,7 +1294,7 @@ compound-cast-waiting : (t : ℕ) → compound-lts.Need-cast-waiting (
 ) (compound-at t) compound.Post
 compound-cast-waiting t c = omega (arith, (c .reserved .ensures .1))
 
--- src/cycle.rt:99:8
+-- src/cycle.rt:102:8
 compound-sub-if1 : (t : ℕ) → compound-lts.Need-sub-if1 (
   operands-reads.Asked,
   operands-reads.Learnt,
@@ -1297,7 +1313,7 @@ compound-sub-if1 : (t : ℕ) → compound-lts.Need-sub-if1 (
 ) (compound-at t) compound.Post
 compound-sub-if1 t c = (c .before .before .before .before .before .before .before .pre .1 .0 .top)
 
--- src/cycle.rt:100:9
+-- src/cycle.rt:103:9
 compound-returns : (t : ℕ) → compound-lts.Need-returns (
   operands-reads.Asked,
   operands-reads.Learnt,
@@ -1316,7 +1332,7 @@ compound-returns : (t : ℕ) → compound-lts.Need-returns (
 ) (compound-at t) compound.Post
 compound-returns t c = compound-full _ _ _ _ _ _ _ _ (c .before .before .reserved .ensures) (c .if1 .taken) refl
 
--- src/cycle.rt:102:16
+-- src/cycle.rt:105:16
 compound-sub-room : (t : ℕ) → compound-lts.Need-sub-room (
   operands-reads.Asked,
   operands-reads.Learnt,
@@ -1335,7 +1351,7 @@ compound-sub-room : (t : ℕ) → compound-lts.Need-sub-room (
 ) (compound-at t) compound.Post
 compound-sub-room t c = omega (arith, (c .if1 .left))
 
--- src/cycle.rt:103:26
+-- src/cycle.rt:106:26
 compound-first-operand-requires : (t : ℕ) → compound-lts.Need-first-operand-requires (
   operands-reads.Asked,
   operands-reads.Learnt,
@@ -1354,7 +1370,7 @@ compound-first-operand-requires : (t : ℕ) → compound-lts.Need-first-operand-
 ) (compound-at t) compound.Post
 compound-first-operand-requires t c κs = tt
 
--- src/cycle.rt:103:9
+-- src/cycle.rt:106:9
 compound-moved-requires : (t : ℕ) → compound-lts.Need-moved-requires (
   operands-reads.Asked,
   operands-reads.Learnt,
@@ -1373,7 +1389,7 @@ compound-moved-requires : (t : ℕ) → compound-lts.Need-moved-requires (
 ) (compound-at t) compound.Post
 compound-moved-requires t c κs = tt
 
--- src/cycle.rt:111:9
+-- src/cycle.rt:114:9
 compound-slice-relend-prefix-arguments : (t : ℕ) → compound-lts.Need-slice-relend-prefix-arguments (
   operands-reads.Asked,
   operands-reads.Learnt,
@@ -1392,7 +1408,7 @@ compound-slice-relend-prefix-arguments : (t : ℕ) → compound-lts.Need-slice-r
 ) (compound-at t) compound.Post
 compound-slice-relend-prefix-arguments t c = omega arith
 
--- src/cycle.rt:111:9
+-- src/cycle.rt:114:9
 compound-slice-aggregate-arguments : (t : ℕ) → compound-lts.Need-slice-aggregate-arguments (
   operands-reads.Asked,
   operands-reads.Learnt,
@@ -1411,7 +1427,7 @@ compound-slice-aggregate-arguments : (t : ℕ) → compound-lts.Need-slice-aggre
 ) (compound-at t) compound.Post
 compound-slice-aggregate-arguments t c = sym (length-take-le (length ((c .before .before .before .before .before .before .before .before .before .before .before .before .args .slots .now)) - (c .before .before .before .before .before .before .reserved .result)) ((c .before .before .before .before .before .before .before .before .before .before .before .before .args .slots .now)) (omega arith))
 
--- src/cycle.rt:105:9
+-- src/cycle.rt:108:9
 compound-arguments-requires : (t : ℕ) → compound-lts.Need-arguments-requires (
   operands-reads.Asked,
   operands-reads.Learnt,
@@ -1430,7 +1446,7 @@ compound-arguments-requires : (t : ℕ) → compound-lts.Need-arguments-requires
 ) (compound-at t) compound.Post
 compound-arguments-requires t c κs = (falls-moved _ _ (c .before .before .before .before .before .before .before .before .before .before .before .before .before .args .p) 4 (c .before .before .before .before .before .before .before .before .before .before .before .before .before .pre .0) 2 (c .before .before .before .moved .ensures) (later-first ((c .before .before .before .before .before .before .before .before .before .before .before .before .before .args .ends .now)) (framePlace (framesOf ((c .before .before .before .before .before .before .before .before .before .before .before .before .before .args .index .now))) ((c .before .before .before .before .before .before .before .before .before .before .before .before .before .args .p .line))) (c .before .before .before .before .before .before .before .before .before .before .before .before .before .args .form) ((c .before .before .before .before .before .before .before .before .before .before .before .before .before .args .p .at .at)) (c .before .before .before .before .first-operand .ensures)) (omega arith), (room-cut (c .before .before .before .before .before .before .before .before .before .before .before .before .before .pre .1 .0) (length ((c .before .before .before .before .before .before .before .before .before .before .before .before .before .args .slots .now)) - (c .before .before .before .before .before .before .before .reserved .result)) (c .before .before .before .moved .ensures) (omega arith) (omega (arith, (c .before .before .before .before .before .if1 .left), (c .before .before .before .before .before .before .before .before .before .before .before .before .before .pre .1 .0 .top))), rw (c .before .before .before .moved .ensures) ((c .before .before .before .before .before .before .before .before .before .before .before .before .before .pre .1 .1))))
 
--- src/cycle.rt:117:21
+-- src/cycle.rt:120:21
 compound-enum-known-x : (t : ℕ) → compound-lts.Need-enum-known-x (
   operands-reads.Asked,
   operands-reads.Learnt,
@@ -1449,7 +1465,7 @@ compound-enum-known-x : (t : ℕ) → compound-lts.Need-enum-known-x (
 ) (compound-at t) compound.Post
 compound-enum-known-x t c = (c .match .keys1)
 
--- src/cycle.rt:118:9
+-- src/cycle.rt:121:9
 compound-enum-told : (t : ℕ) → compound-lts.Need-enum-told (
   operands-reads.Asked,
   operands-reads.Learnt,
@@ -1468,7 +1484,7 @@ compound-enum-told : (t : ℕ) → compound-lts.Need-enum-told (
 ) (compound-at t) compound.Post
 compound-enum-told t c = (c .match .keys2)
 
--- src/cycle.rt:118:9
+-- src/cycle.rt:121:9
 compound-refused-requires : (t : ℕ) → compound-lts.Need-refused-requires (
   operands-reads.Asked,
   operands-reads.Learnt,
@@ -1487,7 +1503,7 @@ compound-refused-requires : (t : ℕ) → compound-lts.Need-refused-requires (
 ) (compound-at t) compound.Post
 compound-refused-requires t c κs = tt
 
--- src/cycle.rt:118:9
+-- src/cycle.rt:121:9
 compound-same-length : (t : ℕ) → compound-lts.Need-same-length (
   operands-reads.Asked,
   operands-reads.Learnt,
@@ -1506,7 +1522,7 @@ compound-same-length : (t : ℕ) → compound-lts.Need-same-length (
 ) (compound-at t) compound.Post
 compound-same-length t c = (c .before .before .before .before .before .before .before .arguments .kept .1 .1 .1 .1 .0)
 
--- src/cycle.rt:118:9
+-- src/cycle.rt:121:9
 compound-same-length-2 : (t : ℕ) → compound-lts.Need-same-length-2 (
   operands-reads.Asked,
   operands-reads.Learnt,
@@ -1525,7 +1541,7 @@ compound-same-length-2 : (t : ℕ) → compound-lts.Need-same-length-2 (
 ) (compound-at t) compound.Post
 compound-same-length-2 t c = (so-below _ _ _ _ _ _ _ (c .before .before .before .before .before .before .before .before .before .before .before .before .before .before .before .before .before .before .before .before .before .args .form) (c .before .before .before .before .before .before .before .before .before .before .before .before .before .before .before .reserved .ensures) (c .before .before .before .before .before .before .before .before .before .before .before .before .before .before .before .before .before .before .before .before .before .pre .1 .0) (c .before .before .before .before .before .before .before .before .before .before .before .before .before .if1 .left) (c .before .before .before .before .before .before .before .before .before .before .before .before .before .before .before .before .operands .ensures) (c .before .before .before .before .before .before .before .before .before .before .before .before .first-operand .ensures) (c .before .before .before .before .before .before .before .before .before .before .before .moved .ensures) refl refl refl (c .before .before .before .before .before .before .before .arguments .ensures)) .long
 
--- src/cycle.rt:118:9
+-- src/cycle.rt:121:9
 compound-returns-2 : (t : ℕ) → compound-lts.Need-returns-2 (
   operands-reads.Asked,
   operands-reads.Learnt,
@@ -1544,7 +1560,7 @@ compound-returns-2 : (t : ℕ) → compound-lts.Need-returns-2 (
 ) (compound-at t) compound.Post
 compound-returns-2 t c = compound-refused _ _ _ _ _ _ _ _ (c .before .before .before .before .before .before .before .before .before .before .before .before .before .before .before .reserved .ensures) (c .before .before .before .before .before .before .before .before .before .before .before .before .before .before .before .before .before .before .before .before .before .pre .1 .0) (c .before .before .before .before .before .before .before .before .before .before .before .before .before .if1 .left) (c .before .before .before .before .before .before .before .before .before .before .before .before .before .before .before .before .operands .ensures) (c .before .before .before .before .before .before .before .before .before .before .before .before .first-operand .ensures) (c .before .before .before .before .before .before .before .before .before .before .before .moved .ensures) refl refl refl (c .before .before .before .before .before .before .before .arguments .ensures) (c .before .enum-told .given .1) (c .refused .ensures)
 
--- src/cycle.rt:120:9
+-- src/cycle.rt:123:9
 compound-moved-requires-2 : (t : ℕ) → compound-lts.Need-moved-requires-2 (
   operands-reads.Asked,
   operands-reads.Learnt,
@@ -1563,7 +1579,7 @@ compound-moved-requires-2 : (t : ℕ) → compound-lts.Need-moved-requires-2 (
 ) (compound-at t) compound.Post
 compound-moved-requires-2 t c κs = tt
 
--- src/cycle.rt:121:5
+-- src/cycle.rt:124:5
 compound-finish-requires : (t : ℕ) → compound-lts.Need-finish-requires (
   operands-reads.Asked,
   operands-reads.Learnt,
@@ -1582,7 +1598,7 @@ compound-finish-requires : (t : ℕ) → compound-lts.Need-finish-requires (
 ) (compound-at t) compound.Post
 compound-finish-requires t c κs = (falls-moved _ _ (c .before .before .before .before .before .before .before .before .before .before .before .before .before .before .before .before .before .before .before .before .before .before .before .before .before .args .p) 4 (c .before .before .before .before .before .before .before .before .before .before .before .before .before .before .before .before .before .before .before .before .before .before .before .before .before .pre .0) 3 (c .before .before .before .moved2 .ensures) (later-two (c .before .before .before .before .before .before .before .before .before .before .before .before .before .before .before .before .before .before .before .before .before .before .before .before .before .args .p) (later-first ((c .before .before .before .before .before .before .before .before .before .before .before .before .before .before .before .before .before .before .before .before .before .before .before .before .before .args .ends .now)) (framePlace (framesOf ((c .before .before .before .before .before .before .before .before .before .before .before .before .before .before .before .before .before .before .before .before .before .before .before .before .before .args .index .now))) ((c .before .before .before .before .before .before .before .before .before .before .before .before .before .before .before .before .before .before .before .before .before .before .before .before .before .args .p .line))) (c .before .before .before .before .before .before .before .before .before .before .before .before .before .before .before .before .before .before .before .before .before .before .before .before .before .args .form) ((c .before .before .before .before .before .before .before .before .before .before .before .before .before .before .before .before .before .before .before .before .before .before .before .before .before .args .p .at .at)) (c .before .before .before .before .before .before .before .before .before .before .before .before .before .before .before .before .first-operand .ensures)) (c .before .before .before .before .before .before .before .before .before .before .before .before .before .before .before .moved .ensures) (later-all (c .before .before .before .before .before .before .before .before .before .before .before .arguments .ensures .onward) (c .before .before .before .before .before .x .given .1))) (omega arith), (room-next (c .before .before .before .before .before .before .before .before .before .before .before .before .before .before .before .before .before .before .before .before .before .before .before .before .before .pre .1 .0) (c .before .before .before .moved2 .ensures) (compound-moved _ _ _ _ _ _ _ (c .before .before .before .before .before .before .before .before .before .before .before .before .before .before .before .before .before .before .before .before .before .before .before .before .before .args .form) (c .before .before .before .before .before .before .before .before .before .before .before .before .before .before .before .before .before .before .before .reserved .ensures) (c .before .before .before .before .before .before .before .before .before .before .before .before .before .before .before .before .before .before .before .before .before .before .before .before .before .pre .1 .0) (c .before .before .before .before .before .before .before .before .before .before .before .before .before .before .before .before .before .if1 .left) (c .before .before .before .before .before .before .before .before .before .before .before .before .before .before .before .before .before .before .before .before .operands .ensures) (c .before .before .before .before .before .before .before .before .before .before .before .before .before .before .before .before .first-operand .ensures) (c .before .before .before .before .before .before .before .before .before .before .before .before .before .before .before .moved .ensures) refl refl refl (c .before .before .before .before .before .before .before .before .before .before .before .arguments .ensures) (c .before .before .before .before .before .x .given .1)) (so-below _ _ _ _ _ _ _ (c .before .before .before .before .before .before .before .before .before .before .before .before .before .before .before .before .before .before .before .before .before .before .before .before .before .args .form) (c .before .before .before .before .before .before .before .before .before .before .before .before .before .before .before .before .before .before .before .reserved .ensures) (c .before .before .before .before .before .before .before .before .before .before .before .before .before .before .before .before .before .before .before .before .before .before .before .before .before .pre .1 .0) (c .before .before .before .before .before .before .before .before .before .before .before .before .before .before .before .before .before .if1 .left) (c .before .before .before .before .before .before .before .before .before .before .before .before .before .before .before .before .before .before .before .before .operands .ensures) (c .before .before .before .before .before .before .before .before .before .before .before .before .before .before .before .before .first-operand .ensures) (c .before .before .before .before .before .before .before .before .before .before .before .before .before .before .before .moved .ensures) refl refl refl (c .before .before .before .before .before .before .before .before .before .before .before .arguments .ensures)), rw (c .before .before .before .moved2 .ensures) (still-free _ _ _ _ _ _ _ (c .before .before .before .before .before .before .before .before .before .before .before .before .before .before .before .before .before .before .before .before .before .before .before .before .before .args .form) (c .before .before .before .before .before .before .before .before .before .before .before .before .before .before .before .before .before .before .before .reserved .ensures) (c .before .before .before .before .before .before .before .before .before .before .before .before .before .before .before .before .before .before .before .before .before .before .before .before .before .pre .1 .0) (c .before .before .before .before .before .before .before .before .before .before .before .before .before .before .before .before .before .if1 .left) (c .before .before .before .before .before .before .before .before .before .before .before .before .before .before .before .before .before .before .before .before .operands .ensures) (c .before .before .before .before .before .before .before .before .before .before .before .before .before .before .before .before .first-operand .ensures) (c .before .before .before .before .before .before .before .before .before .before .before .before .before .before .before .moved .ensures) refl refl refl (c .before .before .before .before .before .before .before .before .before .before .before .arguments .ensures))))
 
--- src/cycle.rt:82:1
+-- src/cycle.rt:85:1
 compound-same-length-3 : (t : ℕ) → compound-lts.Need-same-length-3 (
   operands-reads.Asked,
   operands-reads.Learnt,
@@ -1601,7 +1617,7 @@ compound-same-length-3 : (t : ℕ) → compound-lts.Need-same-length-3 (
 ) (compound-at t) compound.Post
 compound-same-length-3 t c = (c .before .before .before .before .finish .kept .1 .1 .1 .1 .0) ∙ (c .before .before .before .before .before .before .before .before .before .before .before .before .before .before .before .before .arguments .kept .1 .1 .1 .1 .0)
 
--- src/cycle.rt:82:1
+-- src/cycle.rt:85:1
 compound-same-length-4 : (t : ℕ) → compound-lts.Need-same-length-4 (
   operands-reads.Asked,
   operands-reads.Learnt,
@@ -1620,7 +1636,7 @@ compound-same-length-4 : (t : ℕ) → compound-lts.Need-same-length-4 (
 ) (compound-at t) compound.Post
 compound-same-length-4 t c = (c .before .before .before .before .finish .kept .1 .1 .1 .1 .1 .0) ∙ (so-below _ _ _ _ _ _ _ (c .before .before .before .before .before .before .before .before .before .before .before .before .before .before .before .before .before .before .before .before .before .before .before .before .before .before .before .before .before .before .args .form) (c .before .before .before .before .before .before .before .before .before .before .before .before .before .before .before .before .before .before .before .before .before .before .before .before .reserved .ensures) (c .before .before .before .before .before .before .before .before .before .before .before .before .before .before .before .before .before .before .before .before .before .before .before .before .before .before .before .before .before .before .pre .1 .0) (c .before .before .before .before .before .before .before .before .before .before .before .before .before .before .before .before .before .before .before .before .before .before .if1 .left) (c .before .before .before .before .before .before .before .before .before .before .before .before .before .before .before .before .before .before .before .before .before .before .before .before .before .operands .ensures) (c .before .before .before .before .before .before .before .before .before .before .before .before .before .before .before .before .before .before .before .before .before .first-operand .ensures) (c .before .before .before .before .before .before .before .before .before .before .before .before .before .before .before .before .before .before .before .before .moved .ensures) refl refl refl (c .before .before .before .before .before .before .before .before .before .before .before .before .before .before .before .before .arguments .ensures)) .long
 
--- src/cycle.rt:82:1
+-- src/cycle.rt:85:1
 compound-returns-3 : (t : ℕ) → compound-lts.Need-returns-3 (
   operands-reads.Asked,
   operands-reads.Learnt,
@@ -1639,7 +1655,7 @@ compound-returns-3 : (t : ℕ) → compound-lts.Need-returns-3 (
 ) (compound-at t) compound.Post
 compound-returns-3 t c = compound-done _ _ _ _ _ _ _ _ (c .before .before .before .before .before .before .before .before .before .before .before .before .before .before .before .before .before .before .before .before .before .before .before .before .reserved .ensures) (c .before .before .before .before .before .before .before .before .before .before .before .before .before .before .before .before .before .before .before .before .before .before .before .before .before .before .before .before .before .before .pre .1 .0) (c .before .before .before .before .before .before .before .before .before .before .before .before .before .before .before .before .before .before .before .before .before .before .if1 .left) (c .before .before .before .before .before .before .before .before .before .before .before .before .before .before .before .before .before .before .before .before .before .before .before .before .before .operands .ensures) (c .before .before .before .before .before .before .before .before .before .before .before .before .before .before .before .before .before .before .before .before .before .first-operand .ensures) (c .before .before .before .before .before .before .before .before .before .before .before .before .before .before .before .before .before .before .before .before .moved .ensures) refl refl refl (c .before .before .before .before .before .before .before .before .before .before .before .before .before .before .before .before .arguments .ensures) (c .before .before .before .before .before .before .before .before .before .before .x .given .1) (c .before .before .before .before .before .before .before .before .moved2 .ensures) (c .before .before .before .before .finish .ensures)
 
--- src/cycle.rt:64:9
+-- src/cycle.rt:67:9
 expr-frame-line-requires : (t : ℕ) → expr-lts.Need-frame-line-requires (
   frame-line-reads.Asked,
   frame-line-reads.Learnt,
@@ -1662,7 +1678,7 @@ expr-frame-line-requires : (t : ℕ) → expr-lts.Need-frame-line-requires (
 ) (expr-at t) expr.Post
 expr-frame-line-requires t c κs = tt
 
--- src/cycle.rt:66:9
+-- src/cycle.rt:69:9
 expr-head-at-requires : (t : ℕ) → expr-lts.Need-head-at-requires (
   frame-line-reads.Asked,
   frame-line-reads.Learnt,
@@ -1685,7 +1701,7 @@ expr-head-at-requires : (t : ℕ) → expr-lts.Need-head-at-requires (
 ) (expr-at t) expr.Post
 expr-head-at-requires t c κs = tt
 
--- src/cycle.rt:69:9
+-- src/cycle.rt:72:9
 expr-moved-requires : (t : ℕ) → expr-lts.Need-moved-requires (
   frame-line-reads.Asked,
   frame-line-reads.Learnt,
@@ -1708,7 +1724,7 @@ expr-moved-requires : (t : ℕ) → expr-lts.Need-moved-requires (
 ) (expr-at t) expr.Post
 expr-moved-requires t c κs = tt
 
--- src/cycle.rt:71:20
+-- src/cycle.rt:74:20
 expr-enum-known-form : (t : ℕ) → expr-lts.Need-enum-known-form (
   frame-line-reads.Asked,
   frame-line-reads.Learnt,
@@ -1731,7 +1747,7 @@ expr-enum-known-form : (t : ℕ) → expr-lts.Need-enum-known-form (
 ) (expr-at t) expr.Post
 expr-enum-known-form t c = (c .match .keys1)
 
--- src/cycle.rt:71:26
+-- src/cycle.rt:74:26
 expr-new-bool-requires : (t : ℕ) → expr-lts.Need-new-bool-requires (
   frame-line-reads.Asked,
   frame-line-reads.Learnt,
@@ -1754,7 +1770,7 @@ expr-new-bool-requires : (t : ℕ) → expr-lts.Need-new-bool-requires (
 ) (expr-at t) expr.Post
 expr-new-bool-requires t c κs = (c .before .before .before .before .before .before .before .before .before .before .before .before .pre .1 .board)
 
--- src/cycle.rt:72:19
+-- src/cycle.rt:75:19
 expr-enum-known-form-2 : (t : ℕ) → expr-lts.Need-enum-known-form-2 (
   frame-line-reads.Asked,
   frame-line-reads.Learnt,
@@ -1777,7 +1793,7 @@ expr-enum-known-form-2 : (t : ℕ) → expr-lts.Need-enum-known-form-2 (
 ) (expr-at t) expr.Post
 expr-enum-known-form-2 t c = (c .match .keys2)
 
--- src/cycle.rt:72:25
+-- src/cycle.rt:75:25
 expr-new-int-requires : (t : ℕ) → expr-lts.Need-new-int-requires (
   frame-line-reads.Asked,
   frame-line-reads.Learnt,
@@ -1800,7 +1816,7 @@ expr-new-int-requires : (t : ℕ) → expr-lts.Need-new-int-requires (
 ) (expr-at t) expr.Post
 expr-new-int-requires t c κs = (c .before .before .before .before .before .before .before .before .before .before .before .before .pre .1 .board)
 
--- src/cycle.rt:73:24
+-- src/cycle.rt:76:24
 expr-enum-known-form-3 : (t : ℕ) → expr-lts.Need-enum-known-form-3 (
   frame-line-reads.Asked,
   frame-line-reads.Learnt,
@@ -1823,7 +1839,7 @@ expr-enum-known-form-3 : (t : ℕ) → expr-lts.Need-enum-known-form-3 (
 ) (expr-at t) expr.Post
 expr-enum-known-form-3 t c = (c .match .keys3)
 
--- src/cycle.rt:73:40
+-- src/cycle.rt:76:40
 expr-variable-requires : (t : ℕ) → expr-lts.Need-variable-requires (
   frame-line-reads.Asked,
   frame-line-reads.Learnt,
@@ -1846,7 +1862,7 @@ expr-variable-requires : (t : ℕ) → expr-lts.Need-variable-requires (
 ) (expr-at t) expr.Post
 expr-variable-requires t c κs = tt
 
--- src/cycle.rt:74:19
+-- src/cycle.rt:77:19
 expr-enum-known-form-4 : (t : ℕ) → expr-lts.Need-enum-known-form-4 (
   frame-line-reads.Asked,
   frame-line-reads.Learnt,
@@ -1869,7 +1885,7 @@ expr-enum-known-form-4 : (t : ℕ) → expr-lts.Need-enum-known-form-4 (
 ) (expr-at t) expr.Post
 expr-enum-known-form-4 t c = (c .match .keys4)
 
--- src/cycle.rt:74:53
+-- src/cycle.rt:77:53
 expr-cast-word-at : (t : ℕ) → expr-lts.Need-cast-word-at (
   frame-line-reads.Asked,
   frame-line-reads.Learnt,
@@ -1892,7 +1908,7 @@ expr-cast-word-at : (t : ℕ) → expr-lts.Need-cast-word-at (
 ) (expr-at t) expr.Post
 expr-cast-word-at t c = omega arith
 
--- src/cycle.rt:74:35
+-- src/cycle.rt:77:35
 expr-word-at-requires : (t : ℕ) → expr-lts.Need-word-at-requires (
   frame-line-reads.Asked,
   frame-line-reads.Learnt,
@@ -1915,7 +1931,7 @@ expr-word-at-requires : (t : ℕ) → expr-lts.Need-word-at-requires (
 ) (expr-at t) expr.Post
 expr-word-at-requires t c κs = tt
 
--- src/cycle.rt:75:20
+-- src/cycle.rt:78:20
 expr-enum-known-form-5 : (t : ℕ) → expr-lts.Need-enum-known-form-5 (
   frame-line-reads.Asked,
   frame-line-reads.Learnt,
@@ -1938,7 +1954,7 @@ expr-enum-known-form-5 : (t : ℕ) → expr-lts.Need-enum-known-form-5 (
 ) (expr-at t) expr.Post
 expr-enum-known-form-5 t c = (c .match .keys5)
 
--- src/cycle.rt:75:36
+-- src/cycle.rt:78:36
 expr-channel-cell-requires : (t : ℕ) → expr-lts.Need-channel-cell-requires (
   frame-line-reads.Asked,
   frame-line-reads.Learnt,
@@ -1961,7 +1977,7 @@ expr-channel-cell-requires : (t : ℕ) → expr-lts.Need-channel-cell-requires (
 ) (expr-at t) expr.Post
 expr-channel-cell-requires t c κs = tt
 
--- src/cycle.rt:76:26
+-- src/cycle.rt:79:26
 expr-enum-told : (t : ℕ) → expr-lts.Need-enum-told (
   frame-line-reads.Asked,
   frame-line-reads.Learnt,
@@ -1984,7 +2000,7 @@ expr-enum-told : (t : ℕ) → expr-lts.Need-enum-told (
 ) (expr-at t) expr.Post
 expr-enum-told t c = (c .match .keys6)
 
--- src/cycle.rt:77:14
+-- src/cycle.rt:80:14
 expr-compound-requires : (t : ℕ) → expr-lts.Need-compound-requires (
   frame-line-reads.Asked,
   frame-line-reads.Learnt,
@@ -2007,7 +2023,7 @@ expr-compound-requires : (t : ℕ) → expr-lts.Need-compound-requires (
 ) (expr-at t) expr.Post
 expr-compound-requires t c κs = (falls-head _ _ (c .before .before .before .before .before .before .before .before .before .before .before .args .p) 0 (c .before .before .before .before .before .before .before .before .before .before .before .pre .0) 4 (c .before .before .before .moved .ensures) (shorter-behind _ _ (c .before .before .before .before .before .before .before .frame-line .ensures) (head-shorter (c .before .before .before .before .before .head-at .ensures) (c .before .before .before .before .before .head-at .result .form) refl (no-leaf (c .before .before .before .before .before .head-at .result .form) (behind-leaves _ (c .before .before .match .keys7))))) (omega arith), (room-at (c .before .before .before .before .before .before .before .before .before .before .before .pre .1) (c .before .before .before .moved .ensures), rw (c .before .before .before .moved .ensures) ((c .before .before .before .before .before .before .before .frame-line .ensures))))
 
--- src/cycle.rt:52:1
+-- src/cycle.rt:55:1
 expr-same-length : (t : ℕ) → expr-lts.Need-same-length (
   frame-line-reads.Asked,
   frame-line-reads.Learnt,
@@ -2030,7 +2046,7 @@ expr-same-length : (t : ℕ) → expr-lts.Need-same-length (
 ) (expr-at t) expr.Post
 expr-same-length t c = (c .before .before .new-bool .kept .0)
 
--- src/cycle.rt:52:1
+-- src/cycle.rt:55:1
 expr-returns : (t : ℕ) → expr-lts.Need-returns (
   frame-line-reads.Asked,
   frame-line-reads.Learnt,
@@ -2053,7 +2069,7 @@ expr-returns : (t : ℕ) → expr-lts.Need-returns (
 ) (expr-at t) expr.Post
 expr-returns t c = expr-bool _ _ _ _ _ _ _ (c .before .before .before .before .before .before .before .before .before .before .before .before .before .before .before .pre .1) (c .before .before .before .before .before .before .before .before .before .before .before .frame-line .ensures) (c .before .before .before .before .before .before .before .before .before .head-at .ensures) (c .before .before .before .before .before .form .given .1) (c .before .before .new-bool .ensures)
 
--- src/cycle.rt:52:1
+-- src/cycle.rt:55:1
 expr-same-length-2 : (t : ℕ) → expr-lts.Need-same-length-2 (
   frame-line-reads.Asked,
   frame-line-reads.Learnt,
@@ -2076,7 +2092,7 @@ expr-same-length-2 : (t : ℕ) → expr-lts.Need-same-length-2 (
 ) (expr-at t) expr.Post
 expr-same-length-2 t c = (c .before .before .new-int .kept .0)
 
--- src/cycle.rt:52:1
+-- src/cycle.rt:55:1
 expr-returns-2 : (t : ℕ) → expr-lts.Need-returns-2 (
   frame-line-reads.Asked,
   frame-line-reads.Learnt,
@@ -2099,7 +2115,7 @@ expr-returns-2 : (t : ℕ) → expr-lts.Need-returns-2 (
 ) (expr-at t) expr.Post
 expr-returns-2 t c = expr-int _ _ _ _ _ _ _ (c .before .before .before .before .before .before .before .before .before .before .before .before .before .before .before .pre .1) (c .before .before .before .before .before .before .before .before .before .before .before .frame-line .ensures) (c .before .before .before .before .before .before .before .before .before .head-at .ensures) (c .before .before .before .before .before .form2 .given .1) (c .before .before .new-int .ensures)
 
--- src/cycle.rt:52:1
+-- src/cycle.rt:55:1
 expr-same-length-3 : (t : ℕ) → expr-lts.Need-same-length-3 (
   frame-line-reads.Asked,
   frame-line-reads.Learnt,
@@ -2122,7 +2138,7 @@ expr-same-length-3 : (t : ℕ) → expr-lts.Need-same-length-3 (
 ) (expr-at t) expr.Post
 expr-same-length-3 t c = refl
 
--- src/cycle.rt:52:1
+-- src/cycle.rt:55:1
 expr-returns-3 : (t : ℕ) → expr-lts.Need-returns-3 (
   frame-line-reads.Asked,
   frame-line-reads.Learnt,
@@ -2145,7 +2161,7 @@ expr-returns-3 : (t : ℕ) → expr-lts.Need-returns-3 (
 ) (expr-at t) expr.Post
 expr-returns-3 t c = expr-variable _ _ _ _ _ _ _ (c .before .before .before .before .before .before .before .before .before .before .before .before .before .pre .1) (c .before .before .before .before .before .before .before .before .before .frame-line .ensures) (c .before .before .before .before .before .before .before .head-at .ensures) refl (c .before .before .before .form3 .given .1) (c .variable .ensures)
 
--- src/cycle.rt:52:1
+-- src/cycle.rt:55:1
 expr-returns-4 : (t : ℕ) → expr-lts.Need-returns-4 (
   frame-line-reads.Asked,
   frame-line-reads.Learnt,
@@ -2168,7 +2184,7 @@ expr-returns-4 : (t : ℕ) → expr-lts.Need-returns-4 (
 ) (expr-at t) expr.Post
 expr-returns-4 t c = expr-now _ _ _ _ _ _ _ (c .before .before .before .before .before .before .before .before .before .before .before .before .before .pre .1) (c .before .before .before .before .before .before .before .before .before .frame-line .ensures) (c .before .before .before .before .before .before .before .head-at .ensures) refl (c .before .before .before .form4 .given .1) (c .word-at .ensures)
 
--- src/cycle.rt:52:1
+-- src/cycle.rt:55:1
 expr-same-length-4 : (t : ℕ) → expr-lts.Need-same-length-4 (
   frame-line-reads.Asked,
   frame-line-reads.Learnt,
@@ -2191,7 +2207,7 @@ expr-same-length-4 : (t : ℕ) → expr-lts.Need-same-length-4 (
 ) (expr-at t) expr.Post
 expr-same-length-4 t c = refl
 
--- src/cycle.rt:52:1
+-- src/cycle.rt:55:1
 expr-returns-5 : (t : ℕ) → expr-lts.Need-returns-5 (
   frame-line-reads.Asked,
   frame-line-reads.Learnt,
@@ -2214,7 +2230,7 @@ expr-returns-5 : (t : ℕ) → expr-lts.Need-returns-5 (
 ) (expr-at t) expr.Post
 expr-returns-5 t c = expr-last _ _ _ _ _ _ _ (c .before .before .before .before .before .before .before .before .before .before .before .before .before .pre .1) (c .before .before .before .before .before .before .before .before .before .frame-line .ensures) (c .before .before .before .before .before .before .before .head-at .ensures) refl (c .before .before .before .form5 .given .1) (c .channel-cell .ensures)
 
--- src/cycle.rt:52:1
+-- src/cycle.rt:55:1
 expr-returns-6 : (t : ℕ) → expr-lts.Need-returns-6 (
   frame-line-reads.Asked,
   frame-line-reads.Learnt,
@@ -2237,7 +2253,7 @@ expr-returns-6 : (t : ℕ) → expr-lts.Need-returns-6 (
 ) (expr-at t) expr.Post
 expr-returns-6 t c = expr-missing _ _ _ _ _ _ _ (c .before .before .before .before .before .before .before .before .before .before .pre .1) (c .before .before .before .before .before .before .frame-line .ensures) (c .before .before .before .before .head-at .ensures) (c .enum-told .given .1) refl
 
--- src/cycle.rt:52:1
+-- src/cycle.rt:55:1
 expr-same-length-5 : (t : ℕ) → expr-lts.Need-same-length-5 (
   frame-line-reads.Asked,
   frame-line-reads.Learnt,
@@ -2260,7 +2276,7 @@ expr-same-length-5 : (t : ℕ) → expr-lts.Need-same-length-5 (
 ) (expr-at t) expr.Post
 expr-same-length-5 t c = (c .before .before .before .before .compound .kept .1 .1 .1 .1 .0)
 
--- src/cycle.rt:52:1
+-- src/cycle.rt:55:1
 expr-same-length-6 : (t : ℕ) → expr-lts.Need-same-length-6 (
   frame-line-reads.Asked,
   frame-line-reads.Learnt,
@@ -2283,7 +2299,7 @@ expr-same-length-6 : (t : ℕ) → expr-lts.Need-same-length-6 (
 ) (expr-at t) expr.Post
 expr-same-length-6 t c = (c .before .before .before .before .compound .kept .1 .1 .1 .1 .1 .0)
 
--- src/cycle.rt:52:1
+-- src/cycle.rt:55:1
 expr-returns-7 : (t : ℕ) → expr-lts.Need-returns-7 (
   frame-line-reads.Asked,
   frame-line-reads.Learnt,
@@ -2306,12 +2322,12 @@ expr-returns-7 : (t : ℕ) → expr-lts.Need-returns-7 (
 ) (expr-at t) expr.Post
 expr-returns-7 t c = expr-compound _ _ _ _ _ _ _ (c .before .before .before .before .before .before .before .before .before .before .before .before .before .before .before .before .pre .1) (c .before .before .before .before .before .before .before .before .before .before .before .before .frame-line .ensures) (c .before .before .before .before .before .before .before .before .before .before .head-at .ensures) (c .before .before .before .before .before .before .before .before .moved .ensures) refl (no-leaf (c .before .before .before .before .before .before .before .before .before .before .head-at .result .form) (behind-leaves _ (c .before .before .before .before .before .before .before .match .keys7))) (c .before .before .before .before .compound .ensures)
 
--- src/cycle.rt:206:9
+-- src/cycle.rt:209:9
 finish-word-at-requires : (t : ℕ) → finish-lts.Need-word-at-requires (
   word-at-reads.Asked,
   word-at-reads.Learnt,
-  operate-reads.Asked,
-  operate-reads.Learnt,
+  operator-below t,
+  operator.Post,
   construct-reads.Asked,
   construct-reads.Learnt,
   body-below t,
@@ -2327,12 +2343,12 @@ finish-word-at-requires : (t : ℕ) → finish-lts.Need-word-at-requires (
 ) (finish-at t) finish.Post
 finish-word-at-requires t c κs = tt
 
--- src/cycle.rt:208:24
+-- src/cycle.rt:211:24
 finish-enum-known-form : (t : ℕ) → finish-lts.Need-enum-known-form (
   word-at-reads.Asked,
   word-at-reads.Learnt,
-  operate-reads.Asked,
-  operate-reads.Learnt,
+  operator-below t,
+  operator.Post,
   construct-reads.Asked,
   construct-reads.Learnt,
   body-below t,
@@ -2348,12 +2364,12 @@ finish-enum-known-form : (t : ℕ) → finish-lts.Need-enum-known-form (
 ) (finish-at t) finish.Post
 finish-enum-known-form t c = (c .match .keys1)
 
--- src/cycle.rt:208:63
-finish-word-at-requires-2 : (t : ℕ) → finish-lts.Need-word-at-requires-2 (
+-- src/cycle.rt:211:30
+finish-operator-requires : (t : ℕ) → finish-lts.Need-operator-requires (
   word-at-reads.Asked,
   word-at-reads.Learnt,
-  operate-reads.Asked,
-  operate-reads.Learnt,
+  operator-below t,
+  operator.Post,
   construct-reads.Asked,
   construct-reads.Learnt,
   body-below t,
@@ -2367,35 +2383,14 @@ finish-word-at-requires-2 : (t : ℕ) → finish-lts.Need-word-at-requires-2 (
   binding-below t,
   binding.Post,
 ) (finish-at t) finish.Post
-finish-word-at-requires-2 t c κs = tt
+finish-operator-requires t c κs = (falls-here _ _ (c .before .before .before .before .before .before .before .before .before .before .args .p) 3 (c .before .before .before .before .before .before .before .before .before .before .pre .0) 1 (omega arith), (c .before .before .before .before .before .before .before .before .before .before .pre .1 .0))
 
--- src/cycle.rt:208:30
-finish-operate-requires : (t : ℕ) → finish-lts.Need-operate-requires (
-  word-at-reads.Asked,
-  word-at-reads.Learnt,
-  operate-reads.Asked,
-  operate-reads.Learnt,
-  construct-reads.Asked,
-  construct-reads.Learnt,
-  body-below t,
-  body.Post,
-  branch-below t,
-  branch.Post,
-  choice-below t,
-  choice.Post,
-  fit-below t,
-  fit.Post,
-  binding-below t,
-  binding.Post,
-) (finish-at t) finish.Post
-finish-operate-requires t c κs = (c .before .before .before .before .before .before .before .before .before .before .before .pre .1 .0 .board)
-
--- src/cycle.rt:209:25
+-- src/cycle.rt:212:25
 finish-enum-known-form-2 : (t : ℕ) → finish-lts.Need-enum-known-form-2 (
   word-at-reads.Asked,
   word-at-reads.Learnt,
-  operate-reads.Asked,
-  operate-reads.Learnt,
+  operator-below t,
+  operator.Post,
   construct-reads.Asked,
   construct-reads.Learnt,
   body-below t,
@@ -2411,12 +2406,12 @@ finish-enum-known-form-2 : (t : ℕ) → finish-lts.Need-enum-known-form-2 (
 ) (finish-at t) finish.Post
 finish-enum-known-form-2 t c = (c .match .keys2)
 
--- src/cycle.rt:209:34
+-- src/cycle.rt:212:34
 finish-construct-requires : (t : ℕ) → finish-lts.Need-construct-requires (
   word-at-reads.Asked,
   word-at-reads.Learnt,
-  operate-reads.Asked,
-  operate-reads.Learnt,
+  operator-below t,
+  operator.Post,
   construct-reads.Asked,
   construct-reads.Learnt,
   body-below t,
@@ -2432,12 +2427,12 @@ finish-construct-requires : (t : ℕ) → finish-lts.Need-construct-requires (
 ) (finish-at t) finish.Post
 finish-construct-requires t c κs = (c .before .before .before .before .before .before .before .before .before .pre .1 .0 .board)
 
--- src/cycle.rt:210:25
+-- src/cycle.rt:213:25
 finish-enum-told : (t : ℕ) → finish-lts.Need-enum-told (
   word-at-reads.Asked,
   word-at-reads.Learnt,
-  operate-reads.Asked,
-  operate-reads.Learnt,
+  operator-below t,
+  operator.Post,
   construct-reads.Asked,
   construct-reads.Learnt,
   body-below t,
@@ -2453,12 +2448,12 @@ finish-enum-told : (t : ℕ) → finish-lts.Need-enum-told (
 ) (finish-at t) finish.Post
 finish-enum-told t c = (c .match .keys3)
 
--- src/cycle.rt:211:20
+-- src/cycle.rt:214:20
 finish-enum-known-form-3 : (t : ℕ) → finish-lts.Need-enum-known-form-3 (
   word-at-reads.Asked,
   word-at-reads.Learnt,
-  operate-reads.Asked,
-  operate-reads.Learnt,
+  operator-below t,
+  operator.Post,
   construct-reads.Asked,
   construct-reads.Learnt,
   body-below t,
@@ -2474,12 +2469,12 @@ finish-enum-known-form-3 : (t : ℕ) → finish-lts.Need-enum-known-form-3 (
 ) (finish-at t) finish.Post
 finish-enum-known-form-3 t c = (c .match .keys4)
 
--- src/cycle.rt:211:26
+-- src/cycle.rt:214:26
 finish-body-requires : (t : ℕ) → finish-lts.Need-body-requires (
   word-at-reads.Asked,
   word-at-reads.Learnt,
-  operate-reads.Asked,
-  operate-reads.Learnt,
+  operator-below t,
+  operator.Post,
   construct-reads.Asked,
   construct-reads.Learnt,
   body-below t,
@@ -2495,12 +2490,12 @@ finish-body-requires : (t : ℕ) → finish-lts.Need-body-requires (
 ) (finish-at t) finish.Post
 finish-body-requires t c κs = (falls-here _ _ (c .before .before .before .before .before .before .before .before .before .before .args .p) 3 (c .before .before .before .before .before .before .before .before .before .before .pre .0) 1 (omega arith), ((c .before .before .before .before .before .before .before .before .before .before .pre .1 .0), (c .before .before .before .before .before .before .before .before .before .before .pre .1 .1) _ (c .before .before .before .form3 .given .1)))
 
--- src/cycle.rt:212:20
+-- src/cycle.rt:215:20
 finish-enum-known-form-4 : (t : ℕ) → finish-lts.Need-enum-known-form-4 (
   word-at-reads.Asked,
   word-at-reads.Learnt,
-  operate-reads.Asked,
-  operate-reads.Learnt,
+  operator-below t,
+  operator.Post,
   construct-reads.Asked,
   construct-reads.Learnt,
   body-below t,
@@ -2516,12 +2511,12 @@ finish-enum-known-form-4 : (t : ℕ) → finish-lts.Need-enum-known-form-4 (
 ) (finish-at t) finish.Post
 finish-enum-known-form-4 t c = (c .match .keys5)
 
--- src/cycle.rt:212:26
+-- src/cycle.rt:215:26
 finish-branch-requires : (t : ℕ) → finish-lts.Need-branch-requires (
   word-at-reads.Asked,
   word-at-reads.Learnt,
-  operate-reads.Asked,
-  operate-reads.Learnt,
+  operator-below t,
+  operator.Post,
   construct-reads.Asked,
   construct-reads.Learnt,
   body-below t,
@@ -2537,12 +2532,12 @@ finish-branch-requires : (t : ℕ) → finish-lts.Need-branch-requires (
 ) (finish-at t) finish.Post
 finish-branch-requires t c κs = (falls-here _ _ (c .before .before .before .before .before .before .before .before .before .before .args .p) 3 (c .before .before .before .before .before .before .before .before .before .before .pre .0) 1 (omega arith), (c .before .before .before .before .before .before .before .before .before .before .pre .1 .0))
 
--- src/cycle.rt:213:57
+-- src/cycle.rt:216:57
 finish-enum-told-2 : (t : ℕ) → finish-lts.Need-enum-told-2 (
   word-at-reads.Asked,
   word-at-reads.Learnt,
-  operate-reads.Asked,
-  operate-reads.Learnt,
+  operator-below t,
+  operator.Post,
   construct-reads.Asked,
   construct-reads.Learnt,
   body-below t,
@@ -2558,12 +2553,12 @@ finish-enum-told-2 : (t : ℕ) → finish-lts.Need-enum-told-2 (
 ) (finish-at t) finish.Post
 finish-enum-told-2 t c = (c .match .keys6)
 
--- src/cycle.rt:213:21
+-- src/cycle.rt:216:21
 finish-choice-requires : (t : ℕ) → finish-lts.Need-choice-requires (
   word-at-reads.Asked,
   word-at-reads.Learnt,
-  operate-reads.Asked,
-  operate-reads.Learnt,
+  operator-below t,
+  operator.Post,
   construct-reads.Asked,
   construct-reads.Learnt,
   body-below t,
@@ -2579,12 +2574,12 @@ finish-choice-requires : (t : ℕ) → finish-lts.Need-choice-requires (
 ) (finish-at t) finish.Post
 finish-choice-requires t c κs = (falls-here _ _ (c .before .before .before .before .before .before .before .before .before .args .p) 3 (c .before .before .before .before .before .before .before .before .before .pre .0) 1 (omega arith), (c .before .before .before .before .before .before .before .before .before .pre .1 .0))
 
--- src/cycle.rt:214:19
+-- src/cycle.rt:217:19
 finish-enum-known-form-5 : (t : ℕ) → finish-lts.Need-enum-known-form-5 (
   word-at-reads.Asked,
   word-at-reads.Learnt,
-  operate-reads.Asked,
-  operate-reads.Learnt,
+  operator-below t,
+  operator.Post,
   construct-reads.Asked,
   construct-reads.Learnt,
   body-below t,
@@ -2600,12 +2595,12 @@ finish-enum-known-form-5 : (t : ℕ) → finish-lts.Need-enum-known-form-5 (
 ) (finish-at t) finish.Post
 finish-enum-known-form-5 t c = (c .match .keys7)
 
--- src/cycle.rt:214:25
+-- src/cycle.rt:217:25
 finish-fit-requires : (t : ℕ) → finish-lts.Need-fit-requires (
   word-at-reads.Asked,
   word-at-reads.Learnt,
-  operate-reads.Asked,
-  operate-reads.Learnt,
+  operator-below t,
+  operator.Post,
   construct-reads.Asked,
   construct-reads.Learnt,
   body-below t,
@@ -2621,12 +2616,12 @@ finish-fit-requires : (t : ℕ) → finish-lts.Need-fit-requires (
 ) (finish-at t) finish.Post
 finish-fit-requires t c κs = (falls-here _ _ (c .before .before .before .before .before .before .before .before .before .before .args .p) 3 (c .before .before .before .before .before .before .before .before .before .before .pre .0) 2 (omega arith), (c .before .before .before .before .before .before .before .before .before .before .pre .1 .0))
 
--- src/cycle.rt:215:59
+-- src/cycle.rt:218:59
 finish-enum-told-3 : (t : ℕ) → finish-lts.Need-enum-told-3 (
   word-at-reads.Asked,
   word-at-reads.Learnt,
-  operate-reads.Asked,
-  operate-reads.Learnt,
+  operator-below t,
+  operator.Post,
   construct-reads.Asked,
   construct-reads.Learnt,
   body-below t,
@@ -2642,12 +2637,12 @@ finish-enum-told-3 : (t : ℕ) → finish-lts.Need-enum-told-3 (
 ) (finish-at t) finish.Post
 finish-enum-told-3 t c = (c .match .keys8)
 
--- src/cycle.rt:215:22
+-- src/cycle.rt:218:22
 finish-binding-requires : (t : ℕ) → finish-lts.Need-binding-requires (
   word-at-reads.Asked,
   word-at-reads.Learnt,
-  operate-reads.Asked,
-  operate-reads.Learnt,
+  operator-below t,
+  operator.Post,
   construct-reads.Asked,
   construct-reads.Learnt,
   body-below t,
@@ -2663,12 +2658,12 @@ finish-binding-requires : (t : ℕ) → finish-lts.Need-binding-requires (
 ) (finish-at t) finish.Post
 finish-binding-requires t c κs = (falls-here _ _ (c .before .before .before .before .before .before .before .before .before .args .p) 3 (c .before .before .before .before .before .before .before .before .before .pre .0) 1 (omega arith), (c .before .before .before .before .before .before .before .before .before .pre .1 .0))
 
--- src/cycle.rt:190:1
+-- src/cycle.rt:193:1
 finish-same-length : (t : ℕ) → finish-lts.Need-same-length (
   word-at-reads.Asked,
   word-at-reads.Learnt,
-  operate-reads.Asked,
-  operate-reads.Learnt,
+  operator-below t,
+  operator.Post,
   construct-reads.Asked,
   construct-reads.Learnt,
   body-below t,
@@ -2682,35 +2677,14 @@ finish-same-length : (t : ℕ) → finish-lts.Need-same-length (
   binding-below t,
   binding.Post,
 ) (finish-at t) finish.Post
-finish-same-length t c = (c .before .before .operate .kept .0)
+finish-same-length t c = (c .before .before .before .before .operator .kept .1 .1 .1 .1 .0)
 
--- src/cycle.rt:190:1
-finish-returns : (t : ℕ) → finish-lts.Need-returns (
-  word-at-reads.Asked,
-  word-at-reads.Learnt,
-  operate-reads.Asked,
-  operate-reads.Learnt,
-  construct-reads.Asked,
-  construct-reads.Learnt,
-  body-below t,
-  body.Post,
-  branch-below t,
-  branch.Post,
-  choice-below t,
-  choice.Post,
-  fit-below t,
-  fit.Post,
-  binding-below t,
-  binding.Post,
-) (finish-at t) finish.Post
-finish-returns t c = finish-operator _ _ _ _ _ _ _ _ _ (c .before .before .before .before .before .before .before .form .given .1) (c .before .before .before .before .before .before .before .before .before .word-at .ensures) (c .before .before .before .word-at2 .ensures) (c .before .before .operate .ensures)
-
--- src/cycle.rt:190:1
+-- src/cycle.rt:193:1
 finish-same-length-2 : (t : ℕ) → finish-lts.Need-same-length-2 (
   word-at-reads.Asked,
   word-at-reads.Learnt,
-  operate-reads.Asked,
-  operate-reads.Learnt,
+  operator-below t,
+  operator.Post,
   construct-reads.Asked,
   construct-reads.Learnt,
   body-below t,
@@ -2724,14 +2698,56 @@ finish-same-length-2 : (t : ℕ) → finish-lts.Need-same-length-2 (
   binding-below t,
   binding.Post,
 ) (finish-at t) finish.Post
-finish-same-length-2 t c = (c .before .before .construct .kept .1 .0)
+finish-same-length-2 t c = (c .before .before .before .before .operator .kept .1 .1 .1 .1 .1 .0)
 
--- src/cycle.rt:190:1
+-- src/cycle.rt:193:1
+finish-returns : (t : ℕ) → finish-lts.Need-returns (
+  word-at-reads.Asked,
+  word-at-reads.Learnt,
+  operator-below t,
+  operator.Post,
+  construct-reads.Asked,
+  construct-reads.Learnt,
+  body-below t,
+  body.Post,
+  branch-below t,
+  branch.Post,
+  choice-below t,
+  choice.Post,
+  fit-below t,
+  fit.Post,
+  binding-below t,
+  binding.Post,
+) (finish-at t) finish.Post
+finish-returns t c = finish-operator _ _ _ _ _ _ _ _ _ (c .before .before .before .before .before .before .before .before .form .given .1) refl refl (c .before .before .before .before .operator .ensures)
+
+-- src/cycle.rt:193:1
+finish-same-length-3 : (t : ℕ) → finish-lts.Need-same-length-3 (
+  word-at-reads.Asked,
+  word-at-reads.Learnt,
+  operator-below t,
+  operator.Post,
+  construct-reads.Asked,
+  construct-reads.Learnt,
+  body-below t,
+  body.Post,
+  branch-below t,
+  branch.Post,
+  choice-below t,
+  choice.Post,
+  fit-below t,
+  fit.Post,
+  binding-below t,
+  binding.Post,
+) (finish-at t) finish.Post
+finish-same-length-3 t c = (c .before .before .construct .kept .1 .0)
+
+-- src/cycle.rt:193:1
 finish-returns-2 : (t : ℕ) → finish-lts.Need-returns-2 (
   word-at-reads.Asked,
   word-at-reads.Learnt,
-  operate-reads.Asked,
-  operate-reads.Learnt,
+  operator-below t,
+  operator.Post,
   construct-reads.Asked,
   construct-reads.Learnt,
   body-below t,
@@ -2747,12 +2763,12 @@ finish-returns-2 : (t : ℕ) → finish-lts.Need-returns-2 (
 ) (finish-at t) finish.Post
 finish-returns-2 t c = finish-construct _ _ _ _ _ _ _ _ _ (c .before .before .before .before .before .form2 .given .1) (c .before .before .construct .ensures)
 
--- src/cycle.rt:190:1
+-- src/cycle.rt:193:1
 finish-returns-3 : (t : ℕ) → finish-lts.Need-returns-3 (
   word-at-reads.Asked,
   word-at-reads.Learnt,
-  operate-reads.Asked,
-  operate-reads.Learnt,
+  operator-below t,
+  operator.Post,
   construct-reads.Asked,
   construct-reads.Learnt,
   body-below t,
@@ -2768,33 +2784,12 @@ finish-returns-3 : (t : ℕ) → finish-lts.Need-returns-3 (
 ) (finish-at t) finish.Post
 finish-returns-3 t c = finish-adjust _ _ _ _ _ _ _ _ _ (c .before .before .before .before .before .before .before .pre .1 .0) (c .enum-told .given .1) (c .before .before .word-at .ensures) refl
 
--- src/cycle.rt:190:1
-finish-same-length-3 : (t : ℕ) → finish-lts.Need-same-length-3 (
-  word-at-reads.Asked,
-  word-at-reads.Learnt,
-  operate-reads.Asked,
-  operate-reads.Learnt,
-  construct-reads.Asked,
-  construct-reads.Learnt,
-  body-below t,
-  body.Post,
-  branch-below t,
-  branch.Post,
-  choice-below t,
-  choice.Post,
-  fit-below t,
-  fit.Post,
-  binding-below t,
-  binding.Post,
-) (finish-at t) finish.Post
-finish-same-length-3 t c = (c .before .before .before .before .body .kept .1 .1 .1 .1 .0)
-
--- src/cycle.rt:190:1
+-- src/cycle.rt:193:1
 finish-same-length-4 : (t : ℕ) → finish-lts.Need-same-length-4 (
   word-at-reads.Asked,
   word-at-reads.Learnt,
-  operate-reads.Asked,
-  operate-reads.Learnt,
+  operator-below t,
+  operator.Post,
   construct-reads.Asked,
   construct-reads.Learnt,
   body-below t,
@@ -2808,14 +2803,35 @@ finish-same-length-4 : (t : ℕ) → finish-lts.Need-same-length-4 (
   binding-below t,
   binding.Post,
 ) (finish-at t) finish.Post
-finish-same-length-4 t c = (c .before .before .before .before .body .kept .1 .1 .1 .1 .1 .0)
+finish-same-length-4 t c = (c .before .before .before .before .body .kept .1 .1 .1 .1 .0)
 
--- src/cycle.rt:190:1
+-- src/cycle.rt:193:1
+finish-same-length-5 : (t : ℕ) → finish-lts.Need-same-length-5 (
+  word-at-reads.Asked,
+  word-at-reads.Learnt,
+  operator-below t,
+  operator.Post,
+  construct-reads.Asked,
+  construct-reads.Learnt,
+  body-below t,
+  body.Post,
+  branch-below t,
+  branch.Post,
+  choice-below t,
+  choice.Post,
+  fit-below t,
+  fit.Post,
+  binding-below t,
+  binding.Post,
+) (finish-at t) finish.Post
+finish-same-length-5 t c = (c .before .before .before .before .body .kept .1 .1 .1 .1 .1 .0)
+
+-- src/cycle.rt:193:1
 finish-returns-4 : (t : ℕ) → finish-lts.Need-returns-4 (
   word-at-reads.Asked,
   word-at-reads.Learnt,
-  operate-reads.Asked,
-  operate-reads.Learnt,
+  operator-below t,
+  operator.Post,
   construct-reads.Asked,
   construct-reads.Learnt,
   body-below t,
@@ -2831,33 +2847,12 @@ finish-returns-4 : (t : ℕ) → finish-lts.Need-returns-4 (
 ) (finish-at t) finish.Post
 finish-returns-4 t c = finish-call _ _ _ _ _ _ _ _ _ (c .before .before .before .before .before .before .before .before .form3 .given .1) (c .before .before .before .before .body .ensures)
 
--- src/cycle.rt:190:1
-finish-same-length-5 : (t : ℕ) → finish-lts.Need-same-length-5 (
-  word-at-reads.Asked,
-  word-at-reads.Learnt,
-  operate-reads.Asked,
-  operate-reads.Learnt,
-  construct-reads.Asked,
-  construct-reads.Learnt,
-  body-below t,
-  body.Post,
-  branch-below t,
-  branch.Post,
-  choice-below t,
-  choice.Post,
-  fit-below t,
-  fit.Post,
-  binding-below t,
-  binding.Post,
-) (finish-at t) finish.Post
-finish-same-length-5 t c = (c .before .before .before .before .branch .kept .1 .1 .1 .1 .0)
-
--- src/cycle.rt:190:1
+-- src/cycle.rt:193:1
 finish-same-length-6 : (t : ℕ) → finish-lts.Need-same-length-6 (
   word-at-reads.Asked,
   word-at-reads.Learnt,
-  operate-reads.Asked,
-  operate-reads.Learnt,
+  operator-below t,
+  operator.Post,
   construct-reads.Asked,
   construct-reads.Learnt,
   body-below t,
@@ -2871,14 +2866,35 @@ finish-same-length-6 : (t : ℕ) → finish-lts.Need-same-length-6 (
   binding-below t,
   binding.Post,
 ) (finish-at t) finish.Post
-finish-same-length-6 t c = (c .before .before .before .before .branch .kept .1 .1 .1 .1 .1 .0)
+finish-same-length-6 t c = (c .before .before .before .before .branch .kept .1 .1 .1 .1 .0)
 
--- src/cycle.rt:190:1
+-- src/cycle.rt:193:1
+finish-same-length-7 : (t : ℕ) → finish-lts.Need-same-length-7 (
+  word-at-reads.Asked,
+  word-at-reads.Learnt,
+  operator-below t,
+  operator.Post,
+  construct-reads.Asked,
+  construct-reads.Learnt,
+  body-below t,
+  body.Post,
+  branch-below t,
+  branch.Post,
+  choice-below t,
+  choice.Post,
+  fit-below t,
+  fit.Post,
+  binding-below t,
+  binding.Post,
+) (finish-at t) finish.Post
+finish-same-length-7 t c = (c .before .before .before .before .branch .kept .1 .1 .1 .1 .1 .0)
+
+-- src/cycle.rt:193:1
 finish-returns-5 : (t : ℕ) → finish-lts.Need-returns-5 (
   word-at-reads.Asked,
   word-at-reads.Learnt,
-  operate-reads.Asked,
-  operate-reads.Learnt,
+  operator-below t,
+  operator.Post,
   construct-reads.Asked,
   construct-reads.Learnt,
   body-below t,
@@ -2894,33 +2910,12 @@ finish-returns-5 : (t : ℕ) → finish-lts.Need-returns-5 (
 ) (finish-at t) finish.Post
 finish-returns-5 t c = finish-case _ _ _ _ _ _ _ _ _ (c .before .before .before .before .before .before .before .before .form4 .given .1) (c .before .before .before .before .before .before .before .before .before .before .word-at .ensures) (c .before .before .before .before .branch .ensures)
 
--- src/cycle.rt:190:1
-finish-same-length-7 : (t : ℕ) → finish-lts.Need-same-length-7 (
-  word-at-reads.Asked,
-  word-at-reads.Learnt,
-  operate-reads.Asked,
-  operate-reads.Learnt,
-  construct-reads.Asked,
-  construct-reads.Learnt,
-  body-below t,
-  body.Post,
-  branch-below t,
-  branch.Post,
-  choice-below t,
-  choice.Post,
-  fit-below t,
-  fit.Post,
-  binding-below t,
-  binding.Post,
-) (finish-at t) finish.Post
-finish-same-length-7 t c = (c .before .before .before .before .choice .kept .1 .1 .1 .1 .0)
-
--- src/cycle.rt:190:1
+-- src/cycle.rt:193:1
 finish-same-length-8 : (t : ℕ) → finish-lts.Need-same-length-8 (
   word-at-reads.Asked,
   word-at-reads.Learnt,
-  operate-reads.Asked,
-  operate-reads.Learnt,
+  operator-below t,
+  operator.Post,
   construct-reads.Asked,
   construct-reads.Learnt,
   body-below t,
@@ -2934,14 +2929,35 @@ finish-same-length-8 : (t : ℕ) → finish-lts.Need-same-length-8 (
   binding-below t,
   binding.Post,
 ) (finish-at t) finish.Post
-finish-same-length-8 t c = (c .before .before .before .before .choice .kept .1 .1 .1 .1 .1 .0)
+finish-same-length-8 t c = (c .before .before .before .before .choice .kept .1 .1 .1 .1 .0)
 
--- src/cycle.rt:190:1
+-- src/cycle.rt:193:1
+finish-same-length-9 : (t : ℕ) → finish-lts.Need-same-length-9 (
+  word-at-reads.Asked,
+  word-at-reads.Learnt,
+  operator-below t,
+  operator.Post,
+  construct-reads.Asked,
+  construct-reads.Learnt,
+  body-below t,
+  body.Post,
+  branch-below t,
+  branch.Post,
+  choice-below t,
+  choice.Post,
+  fit-below t,
+  fit.Post,
+  binding-below t,
+  binding.Post,
+) (finish-at t) finish.Post
+finish-same-length-9 t c = (c .before .before .before .before .choice .kept .1 .1 .1 .1 .1 .0)
+
+-- src/cycle.rt:193:1
 finish-returns-6 : (t : ℕ) → finish-lts.Need-returns-6 (
   word-at-reads.Asked,
   word-at-reads.Learnt,
-  operate-reads.Asked,
-  operate-reads.Learnt,
+  operator-below t,
+  operator.Post,
   construct-reads.Asked,
   construct-reads.Learnt,
   body-below t,
@@ -2957,33 +2973,12 @@ finish-returns-6 : (t : ℕ) → finish-lts.Need-returns-6 (
 ) (finish-at t) finish.Post
 finish-returns-6 t c = finish-if _ _ _ _ _ _ _ _ _ (c .before .before .before .before .before .before .before .enum-told2 .given .1) (c .before .before .before .before .before .before .before .before .before .word-at .ensures) (c .before .before .before .before .choice .ensures)
 
--- src/cycle.rt:190:1
-finish-same-length-9 : (t : ℕ) → finish-lts.Need-same-length-9 (
-  word-at-reads.Asked,
-  word-at-reads.Learnt,
-  operate-reads.Asked,
-  operate-reads.Learnt,
-  construct-reads.Asked,
-  construct-reads.Learnt,
-  body-below t,
-  body.Post,
-  branch-below t,
-  branch.Post,
-  choice-below t,
-  choice.Post,
-  fit-below t,
-  fit.Post,
-  binding-below t,
-  binding.Post,
-) (finish-at t) finish.Post
-finish-same-length-9 t c = (c .before .before .before .before .fit .kept .1 .1 .1 .1 .0)
-
--- src/cycle.rt:190:1
+-- src/cycle.rt:193:1
 finish-same-length-10 : (t : ℕ) → finish-lts.Need-same-length-10 (
   word-at-reads.Asked,
   word-at-reads.Learnt,
-  operate-reads.Asked,
-  operate-reads.Learnt,
+  operator-below t,
+  operator.Post,
   construct-reads.Asked,
   construct-reads.Learnt,
   body-below t,
@@ -2997,14 +2992,35 @@ finish-same-length-10 : (t : ℕ) → finish-lts.Need-same-length-10 (
   binding-below t,
   binding.Post,
 ) (finish-at t) finish.Post
-finish-same-length-10 t c = (c .before .before .before .before .fit .kept .1 .1 .1 .1 .1 .0)
+finish-same-length-10 t c = (c .before .before .before .before .fit .kept .1 .1 .1 .1 .0)
 
--- src/cycle.rt:190:1
+-- src/cycle.rt:193:1
+finish-same-length-11 : (t : ℕ) → finish-lts.Need-same-length-11 (
+  word-at-reads.Asked,
+  word-at-reads.Learnt,
+  operator-below t,
+  operator.Post,
+  construct-reads.Asked,
+  construct-reads.Learnt,
+  body-below t,
+  body.Post,
+  branch-below t,
+  branch.Post,
+  choice-below t,
+  choice.Post,
+  fit-below t,
+  fit.Post,
+  binding-below t,
+  binding.Post,
+) (finish-at t) finish.Post
+finish-same-length-11 t c = (c .before .before .before .before .fit .kept .1 .1 .1 .1 .1 .0)
+
+-- src/cycle.rt:193:1
 finish-returns-7 : (t : ℕ) → finish-lts.Need-returns-7 (
   word-at-reads.Asked,
   word-at-reads.Learnt,
-  operate-reads.Asked,
-  operate-reads.Learnt,
+  operator-below t,
+  operator.Post,
   construct-reads.Asked,
   construct-reads.Learnt,
   body-below t,
@@ -3020,33 +3036,12 @@ finish-returns-7 : (t : ℕ) → finish-lts.Need-returns-7 (
 ) (finish-at t) finish.Post
 finish-returns-7 t c = finish-fit _ _ _ _ _ _ _ _ _ (c .before .before .before .before .before .before .before .before .form5 .given .1) (c .before .before .before .before .before .before .before .before .before .before .word-at .ensures) (c .before .before .before .before .fit .ensures)
 
--- src/cycle.rt:190:1
-finish-same-length-11 : (t : ℕ) → finish-lts.Need-same-length-11 (
-  word-at-reads.Asked,
-  word-at-reads.Learnt,
-  operate-reads.Asked,
-  operate-reads.Learnt,
-  construct-reads.Asked,
-  construct-reads.Learnt,
-  body-below t,
-  body.Post,
-  branch-below t,
-  branch.Post,
-  choice-below t,
-  choice.Post,
-  fit-below t,
-  fit.Post,
-  binding-below t,
-  binding.Post,
-) (finish-at t) finish.Post
-finish-same-length-11 t c = (c .before .before .before .before .binding .kept .1 .1 .1 .1 .0)
-
--- src/cycle.rt:190:1
+-- src/cycle.rt:193:1
 finish-same-length-12 : (t : ℕ) → finish-lts.Need-same-length-12 (
   word-at-reads.Asked,
   word-at-reads.Learnt,
-  operate-reads.Asked,
-  operate-reads.Learnt,
+  operator-below t,
+  operator.Post,
   construct-reads.Asked,
   construct-reads.Learnt,
   body-below t,
@@ -3060,14 +3055,35 @@ finish-same-length-12 : (t : ℕ) → finish-lts.Need-same-length-12 (
   binding-below t,
   binding.Post,
 ) (finish-at t) finish.Post
-finish-same-length-12 t c = (c .before .before .before .before .binding .kept .1 .1 .1 .1 .1 .0)
+finish-same-length-12 t c = (c .before .before .before .before .binding .kept .1 .1 .1 .1 .0)
 
--- src/cycle.rt:190:1
+-- src/cycle.rt:193:1
+finish-same-length-13 : (t : ℕ) → finish-lts.Need-same-length-13 (
+  word-at-reads.Asked,
+  word-at-reads.Learnt,
+  operator-below t,
+  operator.Post,
+  construct-reads.Asked,
+  construct-reads.Learnt,
+  body-below t,
+  body.Post,
+  branch-below t,
+  branch.Post,
+  choice-below t,
+  choice.Post,
+  fit-below t,
+  fit.Post,
+  binding-below t,
+  binding.Post,
+) (finish-at t) finish.Post
+finish-same-length-13 t c = (c .before .before .before .before .binding .kept .1 .1 .1 .1 .1 .0)
+
+-- src/cycle.rt:193:1
 finish-returns-8 : (t : ℕ) → finish-lts.Need-returns-8 (
   word-at-reads.Asked,
   word-at-reads.Learnt,
-  operate-reads.Asked,
-  operate-reads.Learnt,
+  operator-below t,
+  operator.Post,
   construct-reads.Asked,
   construct-reads.Learnt,
   body-below t,
@@ -3083,12 +3099,12 @@ finish-returns-8 : (t : ℕ) → finish-lts.Need-returns-8 (
 ) (finish-at t) finish.Post
 finish-returns-8 t c = finish-let _ _ _ _ _ _ _ _ _ (c .before .before .before .before .before .before .before .enum-told3 .given .1) (c .before .before .before .before .before .before .before .before .before .word-at .ensures) (c .before .before .before .before .binding .ensures)
 
--- src/cycle.rt:190:1
+-- src/cycle.rt:193:1
 finish-returns-9 : (t : ℕ) → finish-lts.Need-returns-9 (
   word-at-reads.Asked,
   word-at-reads.Learnt,
-  operate-reads.Asked,
-  operate-reads.Learnt,
+  operator-below t,
+  operator.Post,
   construct-reads.Asked,
   construct-reads.Learnt,
   body-below t,
@@ -3104,7 +3120,7 @@ finish-returns-9 : (t : ℕ) → finish-lts.Need-returns-9 (
 ) (finish-at t) finish.Post
 finish-returns-9 t c = finish-none _ _ _ _ _ _ _ _ _ (no-parts (c .before .before .before .before .before .before .args .form) (leaf-or-missing _ (c .match .keys9))) refl
 
--- src/cycle.rt:281:8
+-- src/cycle.rt:315:8
 fit-size-requires : (t : ℕ) → fit-lts.Need-size-requires (
   size-reads.Asked,
   size-reads.Learnt,
@@ -3119,7 +3135,7 @@ fit-size-requires : (t : ℕ) → fit-lts.Need-size-requires (
 ) (fit-at t) fit.Post
 fit-size-requires t c κs = tt
 
--- src/cycle.rt:282:9
+-- src/cycle.rt:316:9
 fit-binding-requires : (t : ℕ) → fit-lts.Need-binding-requires (
   size-reads.Asked,
   size-reads.Learnt,
@@ -3134,7 +3150,7 @@ fit-binding-requires : (t : ℕ) → fit-lts.Need-binding-requires (
 ) (fit-at t) fit.Post
 fit-binding-requires t c κs = (falls-here _ _ (c .before .before .before .before .before .before .before .before .args .p) 2 (c .before .before .before .before .before .before .before .before .pre .0) 1 (omega arith), (c .before .before .before .before .before .before .before .before .pre .1))
 
--- src/cycle.rt:282:9
+-- src/cycle.rt:316:9
 fit-same-length : (t : ℕ) → fit-lts.Need-same-length (
   size-reads.Asked,
   size-reads.Learnt,
@@ -3149,7 +3165,7 @@ fit-same-length : (t : ℕ) → fit-lts.Need-same-length (
 ) (fit-at t) fit.Post
 fit-same-length t c = (c .before .before .before .before .binding .kept .1 .1 .1 .1 .0)
 
--- src/cycle.rt:282:9
+-- src/cycle.rt:316:9
 fit-same-length-2 : (t : ℕ) → fit-lts.Need-same-length-2 (
   size-reads.Asked,
   size-reads.Learnt,
@@ -3164,7 +3180,7 @@ fit-same-length-2 : (t : ℕ) → fit-lts.Need-same-length-2 (
 ) (fit-at t) fit.Post
 fit-same-length-2 t c = (c .before .before .before .before .binding .kept .1 .1 .1 .1 .1 .0)
 
--- src/cycle.rt:282:9
+-- src/cycle.rt:316:9
 fit-returns : (t : ℕ) → fit-lts.Need-returns (
   size-reads.Asked,
   size-reads.Learnt,
@@ -3179,7 +3195,7 @@ fit-returns : (t : ℕ) → fit-lts.Need-returns (
 ) (fit-at t) fit.Post
 fit-returns t c = fit-second _ _ _ _ _ _ _ _ (c .before .before .before .before .before .before .before .before .size .ensures) (c .before .before .before .before .before .before .before .if1 .taken) (c .before .before .before .before .binding .ensures)
 
--- src/cycle.rt:285:9
+-- src/cycle.rt:319:9
 fit-end-of-requires : (t : ℕ) → fit-lts.Need-end-of-requires (
   size-reads.Asked,
   size-reads.Learnt,
@@ -3194,7 +3210,7 @@ fit-end-of-requires : (t : ℕ) → fit-lts.Need-end-of-requires (
 ) (fit-at t) fit.Post
 fit-end-of-requires t c κs = tt
 
--- src/cycle.rt:286:9
+-- src/cycle.rt:320:9
 fit-moved-requires : (t : ℕ) → fit-lts.Need-moved-requires (
   size-reads.Asked,
   size-reads.Learnt,
@@ -3209,7 +3225,7 @@ fit-moved-requires : (t : ℕ) → fit-lts.Need-moved-requires (
 ) (fit-at t) fit.Post
 fit-moved-requires t c κs = tt
 
--- src/cycle.rt:287:5
+-- src/cycle.rt:321:5
 fit-expr-requires : (t : ℕ) → fit-lts.Need-expr-requires (
   size-reads.Asked,
   size-reads.Learnt,
@@ -3224,7 +3240,7 @@ fit-expr-requires : (t : ℕ) → fit-lts.Need-expr-requires (
 ) (fit-at t) fit.Post
 fit-expr-requires t c κs = (falls-moved _ _ (c .before .before .before .before .before .before .before .before .before .before .before .args .p) 2 (c .before .before .before .before .before .before .before .before .before .before .before .pre .0) 0 (c .before .before .moved .ensures) (later-end _ _ _ (c .before .before .before .end-of .ensures)) (omega arith), room-at (c .before .before .before .before .before .before .before .before .before .before .before .pre .1) (c .before .before .moved .ensures))
 
--- src/cycle.rt:267:1
+-- src/cycle.rt:301:1
 fit-same-length-3 : (t : ℕ) → fit-lts.Need-same-length-3 (
   size-reads.Asked,
   size-reads.Learnt,
@@ -3239,7 +3255,7 @@ fit-same-length-3 : (t : ℕ) → fit-lts.Need-same-length-3 (
 ) (fit-at t) fit.Post
 fit-same-length-3 t c = (c .before .before .before .before .expr .kept .1 .1 .1 .1 .0)
 
--- src/cycle.rt:267:1
+-- src/cycle.rt:301:1
 fit-same-length-4 : (t : ℕ) → fit-lts.Need-same-length-4 (
   size-reads.Asked,
   size-reads.Learnt,
@@ -3254,7 +3270,7 @@ fit-same-length-4 : (t : ℕ) → fit-lts.Need-same-length-4 (
 ) (fit-at t) fit.Post
 fit-same-length-4 t c = (c .before .before .before .before .expr .kept .1 .1 .1 .1 .1 .0)
 
--- src/cycle.rt:267:1
+-- src/cycle.rt:301:1
 fit-returns-2 : (t : ℕ) → fit-lts.Need-returns-2 (
   size-reads.Asked,
   size-reads.Learnt,
@@ -3269,7 +3285,7 @@ fit-returns-2 : (t : ℕ) → fit-lts.Need-returns-2 (
 ) (fit-at t) fit.Post
 fit-returns-2 t c = fit-third _ _ _ _ _ _ _ _ (c .before .before .before .before .before .before .before .before .before .before .before .size .ensures) (c .before .before .before .before .before .before .before .before .before .before .if1 .left) (c .before .before .before .before .before .before .before .before .end-of .ensures) (c .before .before .before .before .before .before .before .moved .ensures) (c .before .before .before .before .expr .ensures)
 
--- src/cycle.rt:182:9
+-- src/cycle.rt:185:9
 operand-variable-at-requires : (t : ℕ) → operand-lts.Need-variable-at-requires (
   variable-at-reads.Asked,
   variable-at-reads.Learnt,
@@ -3280,7 +3296,7 @@ operand-variable-at-requires : (t : ℕ) → operand-lts.Need-variable-at-requir
 ) (operand-at t) operand.Post
 operand-variable-at-requires t c κs = tt
 
--- src/cycle.rt:184:24
+-- src/cycle.rt:187:24
 operand-enum-known-x : (t : ℕ) → operand-lts.Need-enum-known-x (
   variable-at-reads.Asked,
   variable-at-reads.Learnt,
@@ -3291,7 +3307,7 @@ operand-enum-known-x : (t : ℕ) → operand-lts.Need-enum-known-x (
 ) (operand-at t) operand.Post
 operand-enum-known-x t c = (c .match .keys1)
 
--- src/cycle.rt:184:43
+-- src/cycle.rt:187:43
 operand-variable-requires : (t : ℕ) → operand-lts.Need-variable-requires (
   variable-at-reads.Asked,
   variable-at-reads.Learnt,
@@ -3302,7 +3318,7 @@ operand-variable-requires : (t : ℕ) → operand-lts.Need-variable-requires (
 ) (operand-at t) operand.Post
 operand-variable-requires t c κs = tt
 
--- src/cycle.rt:185:64
+-- src/cycle.rt:188:64
 operand-enum-told : (t : ℕ) → operand-lts.Need-enum-told (
   variable-at-reads.Asked,
   variable-at-reads.Learnt,
@@ -3313,7 +3329,7 @@ operand-enum-told : (t : ℕ) → operand-lts.Need-enum-told (
 ) (operand-at t) operand.Post
 operand-enum-told t c = (c .match .keys2)
 
--- src/cycle.rt:185:30
+-- src/cycle.rt:188:30
 operand-expr-requires : (t : ℕ) → operand-lts.Need-expr-requires (
   variable-at-reads.Asked,
   variable-at-reads.Learnt,
@@ -3324,7 +3340,7 @@ operand-expr-requires : (t : ℕ) → operand-lts.Need-expr-requires (
 ) (operand-at t) operand.Post
 operand-expr-requires t c κs = (falls-here _ _ (c .before .before .before .before .before .before .before .before .before .before .args .p) 1 (c .before .before .before .before .before .before .before .before .before .before .pre .0) 0 (omega arith), (c .before .before .before .before .before .before .before .before .before .before .pre .1 .0))
 
--- src/cycle.rt:167:1
+-- src/cycle.rt:170:1
 operand-same-length : (t : ℕ) → operand-lts.Need-same-length (
   variable-at-reads.Asked,
   variable-at-reads.Learnt,
@@ -3335,7 +3351,7 @@ operand-same-length : (t : ℕ) → operand-lts.Need-same-length (
 ) (operand-at t) operand.Post
 operand-same-length t c = refl
 
--- src/cycle.rt:167:1
+-- src/cycle.rt:170:1
 operand-returns : (t : ℕ) → operand-lts.Need-returns (
   variable-at-reads.Asked,
   variable-at-reads.Learnt,
@@ -3346,7 +3362,7 @@ operand-returns : (t : ℕ) → operand-lts.Need-returns (
 ) (operand-at t) operand.Post
 operand-returns t c = operand-variable _ _ _ _ _ _ _ (c .before .before .before .before .before .before .before .before .before .before .before .pre .1 .0) (c .before .before .before .before .before .before .before .before .before .before .before .pre .1 .1) (c .before .before .before .before .before .variable-at .ensures) (c .before .before .before .x .given .1) (c .variable .ensures) refl
 
--- src/cycle.rt:167:1
+-- src/cycle.rt:170:1
 operand-same-length-2 : (t : ℕ) → operand-lts.Need-same-length-2 (
   variable-at-reads.Asked,
   variable-at-reads.Learnt,
@@ -3357,7 +3373,7 @@ operand-same-length-2 : (t : ℕ) → operand-lts.Need-same-length-2 (
 ) (operand-at t) operand.Post
 operand-same-length-2 t c = (c .before .before .before .before .expr .kept .1 .1 .1 .1 .0)
 
--- src/cycle.rt:167:1
+-- src/cycle.rt:170:1
 operand-same-length-3 : (t : ℕ) → operand-lts.Need-same-length-3 (
   variable-at-reads.Asked,
   variable-at-reads.Learnt,
@@ -3368,7 +3384,7 @@ operand-same-length-3 : (t : ℕ) → operand-lts.Need-same-length-3 (
 ) (operand-at t) operand.Post
 operand-same-length-3 t c = (c .before .before .before .before .expr .kept .1 .1 .1 .1 .1 .0)
 
--- src/cycle.rt:167:1
+-- src/cycle.rt:170:1
 operand-returns-2 : (t : ℕ) → operand-lts.Need-returns-2 (
   variable-at-reads.Asked,
   variable-at-reads.Learnt,
@@ -3379,9 +3395,408 @@ operand-returns-2 : (t : ℕ) → operand-lts.Need-returns-2 (
 ) (operand-at t) operand.Post
 operand-returns-2 t c = (c .before .before .before .before .expr .ensures)
 
-pub +arguments+binding+body+branch+choice+compound+expr+finish+fit+operand-spec :
+-- src/cycle.rt:239:9
+operator-word-at-requires : (t : ℕ) → operator-lts.Need-word-at-requires (
+  word-at-reads.Asked,
+  word-at-reads.Learnt,
+  operate-reads.Asked,
+  operate-reads.Learnt,
+  truth-reads.Asked,
+  truth-reads.Learnt,
+  decides-reads.Asked,
+  decides-reads.Learnt,
+  one-if-reads.Asked,
+  one-if-reads.Learnt,
+  new-bool-reads.Asked,
+  new-bool-reads.Learnt,
+  expr-below t,
+  expr.Post,
+) (operator-at t) operator.Post
+operator-word-at-requires t c κs = tt
+
+-- src/cycle.rt:241:48
+operator-word-at-requires-2 : (t : ℕ) → operator-lts.Need-word-at-requires-2 (
+  word-at-reads.Asked,
+  word-at-reads.Learnt,
+  operate-reads.Asked,
+  operate-reads.Learnt,
+  truth-reads.Asked,
+  truth-reads.Learnt,
+  decides-reads.Asked,
+  decides-reads.Learnt,
+  one-if-reads.Asked,
+  one-if-reads.Learnt,
+  new-bool-reads.Asked,
+  new-bool-reads.Learnt,
+  expr-below t,
+  expr.Post,
+) (operator-at t) operator.Post
+operator-word-at-requires-2 t c κs = tt
+
+-- src/cycle.rt:241:9
+operator-operate-requires : (t : ℕ) → operator-lts.Need-operate-requires (
+  word-at-reads.Asked,
+  word-at-reads.Learnt,
+  operate-reads.Asked,
+  operate-reads.Learnt,
+  truth-reads.Asked,
+  truth-reads.Learnt,
+  decides-reads.Asked,
+  decides-reads.Learnt,
+  one-if-reads.Asked,
+  one-if-reads.Learnt,
+  new-bool-reads.Asked,
+  new-bool-reads.Learnt,
+  expr-below t,
+  expr.Post,
+) (operator-at t) operator.Post
+operator-operate-requires t c κs = (c .before .before .before .before .before .before .before .before .before .pre .1 .board)
+
+-- src/cycle.rt:241:9
+operator-same-length : (t : ℕ) → operator-lts.Need-same-length (
+  word-at-reads.Asked,
+  word-at-reads.Learnt,
+  operate-reads.Asked,
+  operate-reads.Learnt,
+  truth-reads.Asked,
+  truth-reads.Learnt,
+  decides-reads.Asked,
+  decides-reads.Learnt,
+  one-if-reads.Asked,
+  one-if-reads.Learnt,
+  new-bool-reads.Asked,
+  new-bool-reads.Learnt,
+  expr-below t,
+  expr.Post,
+) (operator-at t) operator.Post
+operator-same-length t c = (c .before .before .operate .kept .0)
+
+-- src/cycle.rt:241:9
+operator-returns : (t : ℕ) → operator-lts.Need-returns (
+  word-at-reads.Asked,
+  word-at-reads.Learnt,
+  operate-reads.Asked,
+  operate-reads.Learnt,
+  truth-reads.Asked,
+  truth-reads.Learnt,
+  decides-reads.Asked,
+  decides-reads.Learnt,
+  one-if-reads.Asked,
+  one-if-reads.Learnt,
+  new-bool-reads.Asked,
+  new-bool-reads.Learnt,
+  expr-below t,
+  expr.Post,
+) (operator-at t) operator.Post
+operator-returns t c = operator-both _ _ _ _ _ _ _ _ _ _ (c .before .before .before .before .before .before .if1 .taken) (c .before .before .before .before .before .before .before .word-at .ensures) (c .before .before .before .word-at2 .ensures) (c .before .before .operate .ensures)
+
+-- src/cycle.rt:243:9
+operator-truth-requires : (t : ℕ) → operator-lts.Need-truth-requires (
+  word-at-reads.Asked,
+  word-at-reads.Learnt,
+  operate-reads.Asked,
+  operate-reads.Learnt,
+  truth-reads.Asked,
+  truth-reads.Learnt,
+  decides-reads.Asked,
+  decides-reads.Learnt,
+  one-if-reads.Asked,
+  one-if-reads.Learnt,
+  new-bool-reads.Asked,
+  new-bool-reads.Learnt,
+  expr-below t,
+  expr.Post,
+) (operator-at t) operator.Post
+operator-truth-requires t c κs = tt
+
+-- src/cycle.rt:244:8
+operator-decides-requires : (t : ℕ) → operator-lts.Need-decides-requires (
+  word-at-reads.Asked,
+  word-at-reads.Learnt,
+  operate-reads.Asked,
+  operate-reads.Learnt,
+  truth-reads.Asked,
+  truth-reads.Learnt,
+  decides-reads.Asked,
+  decides-reads.Learnt,
+  one-if-reads.Asked,
+  one-if-reads.Learnt,
+  new-bool-reads.Asked,
+  new-bool-reads.Learnt,
+  expr-below t,
+  expr.Post,
+) (operator-at t) operator.Post
+operator-decides-requires t c κs = tt
+
+-- src/cycle.rt:245:40
+operator-one-if-requires : (t : ℕ) → operator-lts.Need-one-if-requires (
+  word-at-reads.Asked,
+  word-at-reads.Learnt,
+  operate-reads.Asked,
+  operate-reads.Learnt,
+  truth-reads.Asked,
+  truth-reads.Learnt,
+  decides-reads.Asked,
+  decides-reads.Learnt,
+  one-if-reads.Asked,
+  one-if-reads.Learnt,
+  new-bool-reads.Asked,
+  new-bool-reads.Learnt,
+  expr-below t,
+  expr.Post,
+) (operator-at t) operator.Post
+operator-one-if-requires t c κs = tt
+
+-- src/cycle.rt:245:9
+operator-new-bool-requires : (t : ℕ) → operator-lts.Need-new-bool-requires (
+  word-at-reads.Asked,
+  word-at-reads.Learnt,
+  operate-reads.Asked,
+  operate-reads.Learnt,
+  truth-reads.Asked,
+  truth-reads.Learnt,
+  decides-reads.Asked,
+  decides-reads.Learnt,
+  one-if-reads.Asked,
+  one-if-reads.Learnt,
+  new-bool-reads.Asked,
+  new-bool-reads.Learnt,
+  expr-below t,
+  expr.Post,
+) (operator-at t) operator.Post
+operator-new-bool-requires t c κs = (c .before .before .before .before .before .before .before .before .before .before .before .before .pre .1 .board)
+
+-- src/cycle.rt:245:9
+operator-same-length-2 : (t : ℕ) → operator-lts.Need-same-length-2 (
+  word-at-reads.Asked,
+  word-at-reads.Learnt,
+  operate-reads.Asked,
+  operate-reads.Learnt,
+  truth-reads.Asked,
+  truth-reads.Learnt,
+  decides-reads.Asked,
+  decides-reads.Learnt,
+  one-if-reads.Asked,
+  one-if-reads.Learnt,
+  new-bool-reads.Asked,
+  new-bool-reads.Learnt,
+  expr-below t,
+  expr.Post,
+) (operator-at t) operator.Post
+operator-same-length-2 t c = (c .before .before .new-bool .kept .0)
+
+-- src/cycle.rt:245:9
+operator-returns-2 : (t : ℕ) → operator-lts.Need-returns-2 (
+  word-at-reads.Asked,
+  word-at-reads.Learnt,
+  operate-reads.Asked,
+  operate-reads.Learnt,
+  truth-reads.Asked,
+  truth-reads.Learnt,
+  decides-reads.Asked,
+  decides-reads.Learnt,
+  one-if-reads.Asked,
+  one-if-reads.Learnt,
+  new-bool-reads.Asked,
+  new-bool-reads.Learnt,
+  expr-below t,
+  expr.Post,
+) (operator-at t) operator.Post
+operator-returns-2 t c = operator-decided _ _ _ _ _ _ _ _ _ _ (c .before .before .before .before .before .before .before .before .before .if1 .left) (c .before .before .before .before .before .before .before .before .before .before .word-at .ensures) (c .before .before .before .before .before .before .before .truth .ensures) (c .before .before .before .before .before .before .decides .ensures) (c .before .before .before .before .before .if2 .taken) (c .before .before .before .one-if .ensures .0) (c .before .before .new-bool .ensures)
+
+-- src/cycle.rt:247:9
+operator-expr-requires : (t : ℕ) → operator-lts.Need-expr-requires (
+  word-at-reads.Asked,
+  word-at-reads.Learnt,
+  operate-reads.Asked,
+  operate-reads.Learnt,
+  truth-reads.Asked,
+  truth-reads.Learnt,
+  decides-reads.Asked,
+  decides-reads.Learnt,
+  one-if-reads.Asked,
+  one-if-reads.Learnt,
+  new-bool-reads.Asked,
+  new-bool-reads.Learnt,
+  expr-below t,
+  expr.Post,
+) (operator-at t) operator.Post
+operator-expr-requires t c κs = (falls-here _ _ (c .before .before .before .before .before .before .before .before .before .before .before .before .args .p) 1 (c .before .before .before .before .before .before .before .before .before .before .before .before .pre .0) 0 (omega arith), (c .before .before .before .before .before .before .before .before .before .before .before .before .pre .1))
+
+-- src/cycle.rt:248:19
+operator-enum-known-x : (t : ℕ) → operator-lts.Need-enum-known-x (
+  word-at-reads.Asked,
+  word-at-reads.Learnt,
+  operate-reads.Asked,
+  operate-reads.Learnt,
+  truth-reads.Asked,
+  truth-reads.Learnt,
+  decides-reads.Asked,
+  decides-reads.Learnt,
+  one-if-reads.Asked,
+  one-if-reads.Learnt,
+  new-bool-reads.Asked,
+  new-bool-reads.Learnt,
+  expr-below t,
+  expr.Post,
+) (operator-at t) operator.Post
+operator-enum-known-x t c = (c .match .keys1)
+
+-- src/cycle.rt:249:9
+operator-enum-told : (t : ℕ) → operator-lts.Need-enum-told (
+  word-at-reads.Asked,
+  word-at-reads.Learnt,
+  operate-reads.Asked,
+  operate-reads.Learnt,
+  truth-reads.Asked,
+  truth-reads.Learnt,
+  decides-reads.Asked,
+  decides-reads.Learnt,
+  one-if-reads.Asked,
+  one-if-reads.Learnt,
+  new-bool-reads.Asked,
+  new-bool-reads.Learnt,
+  expr-below t,
+  expr.Post,
+) (operator-at t) operator.Post
+operator-enum-told t c = (c .match .keys2)
+
+-- src/cycle.rt:249:9
+operator-same-length-3 : (t : ℕ) → operator-lts.Need-same-length-3 (
+  word-at-reads.Asked,
+  word-at-reads.Learnt,
+  operate-reads.Asked,
+  operate-reads.Learnt,
+  truth-reads.Asked,
+  truth-reads.Learnt,
+  decides-reads.Asked,
+  decides-reads.Learnt,
+  one-if-reads.Asked,
+  one-if-reads.Learnt,
+  new-bool-reads.Asked,
+  new-bool-reads.Learnt,
+  expr-below t,
+  expr.Post,
+) (operator-at t) operator.Post
+operator-same-length-3 t c = (c .before .before .before .before .before .before .expr .kept .1 .1 .1 .1 .0)
+
+-- src/cycle.rt:249:9
+operator-same-length-4 : (t : ℕ) → operator-lts.Need-same-length-4 (
+  word-at-reads.Asked,
+  word-at-reads.Learnt,
+  operate-reads.Asked,
+  operate-reads.Learnt,
+  truth-reads.Asked,
+  truth-reads.Learnt,
+  decides-reads.Asked,
+  decides-reads.Learnt,
+  one-if-reads.Asked,
+  one-if-reads.Learnt,
+  new-bool-reads.Asked,
+  new-bool-reads.Learnt,
+  expr-below t,
+  expr.Post,
+) (operator-at t) operator.Post
+operator-same-length-4 t c = (c .before .before .before .before .before .before .expr .kept .1 .1 .1 .1 .1 .0)
+
+-- src/cycle.rt:249:9
+operator-returns-3 : (t : ℕ) → operator-lts.Need-returns-3 (
+  word-at-reads.Asked,
+  word-at-reads.Learnt,
+  operate-reads.Asked,
+  operate-reads.Learnt,
+  truth-reads.Asked,
+  truth-reads.Learnt,
+  decides-reads.Asked,
+  decides-reads.Learnt,
+  one-if-reads.Asked,
+  one-if-reads.Learnt,
+  new-bool-reads.Asked,
+  new-bool-reads.Learnt,
+  expr-below t,
+  expr.Post,
+) (operator-at t) operator.Post
+operator-returns-3 t c = operator-refused _ _ _ _ _ _ _ _ _ _ (c .before .before .before .before .before .before .before .before .before .before .before .before .before .if1 .left) (c .before .before .before .before .before .before .before .before .before .before .before .before .before .before .word-at .ensures) (c .before .before .before .before .before .before .before .before .before .before .before .truth .ensures) (c .before .before .before .before .before .before .before .before .before .before .decides .ensures) (c .before .before .before .before .before .before .before .before .before .if2 .left) (c .before .before .before .before .before .before .expr .ensures) (c .enum-told .given .1) refl
+
+-- src/cycle.rt:251:5
+operator-operate-requires-2 : (t : ℕ) → operator-lts.Need-operate-requires-2 (
+  word-at-reads.Asked,
+  word-at-reads.Learnt,
+  operate-reads.Asked,
+  operate-reads.Learnt,
+  truth-reads.Asked,
+  truth-reads.Learnt,
+  decides-reads.Asked,
+  decides-reads.Learnt,
+  one-if-reads.Asked,
+  one-if-reads.Learnt,
+  new-bool-reads.Asked,
+  new-bool-reads.Learnt,
+  expr-below t,
+  expr.Post,
+) (operator-at t) operator.Post
+operator-operate-requires-2 t c κs = board-moved (moved-by (c .before .before .before .before .before .before .before .before .expr .ensures .kept) (c .before .before .x .given .1)) (c .before .before .before .before .before .before .before .before .before .before .before .before .before .before .before .before .before .before .before .before .before .pre .1 .board)
+
+-- src/cycle.rt:225:1
+operator-same-length-5 : (t : ℕ) → operator-lts.Need-same-length-5 (
+  word-at-reads.Asked,
+  word-at-reads.Learnt,
+  operate-reads.Asked,
+  operate-reads.Learnt,
+  truth-reads.Asked,
+  truth-reads.Learnt,
+  decides-reads.Asked,
+  decides-reads.Learnt,
+  one-if-reads.Asked,
+  one-if-reads.Learnt,
+  new-bool-reads.Asked,
+  new-bool-reads.Learnt,
+  expr-below t,
+  expr.Post,
+) (operator-at t) operator.Post
+operator-same-length-5 t c = (c .before .before .operate2 .kept .0) ∙ (c .before .before .before .before .before .before .before .before .before .before .before .expr .kept .1 .1 .1 .1 .0)
+
+-- src/cycle.rt:225:1
+operator-same-length-6 : (t : ℕ) → operator-lts.Need-same-length-6 (
+  word-at-reads.Asked,
+  word-at-reads.Learnt,
+  operate-reads.Asked,
+  operate-reads.Learnt,
+  truth-reads.Asked,
+  truth-reads.Learnt,
+  decides-reads.Asked,
+  decides-reads.Learnt,
+  one-if-reads.Asked,
+  one-if-reads.Learnt,
+  new-bool-reads.Asked,
+  new-bool-reads.Learnt,
+  expr-below t,
+  expr.Post,
+) (operator-at t) operator.Post
+operator-same-length-6 t c = (c .before .before .before .before .before .before .before .before .before .before .before .expr .kept .1 .1 .1 .1 .1 .0)
+
+-- src/cycle.rt:225:1
+operator-returns-4 : (t : ℕ) → operator-lts.Need-returns-4 (
+  word-at-reads.Asked,
+  word-at-reads.Learnt,
+  operate-reads.Asked,
+  operate-reads.Learnt,
+  truth-reads.Asked,
+  truth-reads.Learnt,
+  decides-reads.Asked,
+  decides-reads.Learnt,
+  one-if-reads.Asked,
+  one-if-reads.Learnt,
+  new-bool-reads.Asked,
+  new-bool-reads.Learnt,
+  expr-below t,
+  expr.Post,
+) (operator-at t) operator.Post
+operator-returns-4 t c = operator-done _ _ _ _ _ _ _ _ _ _ (c .before .before .before .before .before .before .before .before .before .before .before .before .before .before .before .before .before .before .if1 .left) (c .before .before .before .before .before .before .before .before .before .before .before .before .before .before .before .before .before .before .before .word-at .ensures) (c .before .before .before .before .before .before .before .before .before .before .before .before .before .before .before .before .truth .ensures) (c .before .before .before .before .before .before .before .before .before .before .before .before .before .before .before .decides .ensures) (c .before .before .before .before .before .before .before .before .before .before .before .before .before .before .if2 .left) (c .before .before .before .before .before .before .before .before .before .before .before .expr .ensures) (c .before .before .before .before .before .x .given .1) (c .before .before .operate2 .ensures)
+
+pub +arguments+binding+body+branch+choice+compound+expr+finish+fit+operand+operator-spec :
     {M : Type 1} → statement M
-+arguments+binding+body+branch+choice+compound+expr+finish+fit+operand-spec =
++arguments+binding+body+branch+choice+compound+expr+finish+fit+operand+operator-spec =
     close
     μ-arguments
     μ-binding
@@ -3393,6 +3808,7 @@ pub +arguments+binding+body+branch+choice+compound+expr+finish+fit+operand-spec 
     μ-finish
     μ-fit
     μ-operand
+    μ-operator
     (λ t. arguments-lts.spec (
       moved-reads.Asked,
       moved-reads.Learnt,
@@ -3620,8 +4036,8 @@ pub +arguments+binding+body+branch+choice+compound+expr+finish+fit+operand-spec 
     (λ t. finish-lts.spec (
       word-at-reads.Asked,
       word-at-reads.Learnt,
-      operate-reads.Asked,
-      operate-reads.Learnt,
+      operator-below t,
+      operator.Post,
       construct-reads.Asked,
       construct-reads.Learnt,
       body-below t,
@@ -3639,8 +4055,7 @@ pub +arguments+binding+body+branch+choice+compound+expr+finish+fit+operand-spec 
     finish.Post
     (finish-word-at-requires t)
     (finish-enum-known-form t)
-    (finish-word-at-requires-2 t)
-    (finish-operate-requires t)
+    (finish-operator-requires t)
     (finish-enum-known-form-2 t)
     (finish-construct-requires t)
     (finish-enum-told t)
@@ -3655,24 +4070,25 @@ pub +arguments+binding+body+branch+choice+compound+expr+finish+fit+operand-spec 
     (finish-enum-told-3 t)
     (finish-binding-requires t)
     (finish-same-length t)
-    (finish-returns t)
     (finish-same-length-2 t)
+    (finish-returns t)
+    (finish-same-length-3 t)
     (finish-returns-2 t)
     (finish-returns-3 t)
-    (finish-same-length-3 t)
     (finish-same-length-4 t)
-    (finish-returns-4 t)
     (finish-same-length-5 t)
+    (finish-returns-4 t)
     (finish-same-length-6 t)
-    (finish-returns-5 t)
     (finish-same-length-7 t)
+    (finish-returns-5 t)
     (finish-same-length-8 t)
-    (finish-returns-6 t)
     (finish-same-length-9 t)
+    (finish-returns-6 t)
     (finish-same-length-10 t)
-    (finish-returns-7 t)
     (finish-same-length-11 t)
+    (finish-returns-7 t)
     (finish-same-length-12 t)
+    (finish-same-length-13 t)
     (finish-returns-8 t)
     (finish-returns-9 t))
     (λ t. fit-lts.spec (
@@ -3700,7 +4116,7 @@ pub +arguments+binding+body+branch+choice+compound+expr+finish+fit+operand-spec 
     (fit-same-length-3 t)
     (fit-same-length-4 t)
     (fit-returns-2 t))
-    λ t. operand-lts.spec (
+    (λ t. operand-lts.spec (
       variable-at-reads.Asked,
       variable-at-reads.Learnt,
       variable-reads.Asked,
@@ -3719,4 +4135,43 @@ pub +arguments+binding+body+branch+choice+compound+expr+finish+fit+operand-spec 
     (operand-returns t)
     (operand-same-length-2 t)
     (operand-same-length-3 t)
-    (operand-returns-2 t)
+    (operand-returns-2 t))
+    λ t. operator-lts.spec (
+      word-at-reads.Asked,
+      word-at-reads.Learnt,
+      operate-reads.Asked,
+      operate-reads.Learnt,
+      truth-reads.Asked,
+      truth-reads.Learnt,
+      decides-reads.Asked,
+      decides-reads.Learnt,
+      one-if-reads.Asked,
+      one-if-reads.Learnt,
+      new-bool-reads.Asked,
+      new-bool-reads.Learnt,
+      expr-below t,
+      expr.Post,
+    )
+    (operator-at t)
+    operator.Post
+    (operator-word-at-requires t)
+    (operator-word-at-requires-2 t)
+    (operator-operate-requires t)
+    (operator-same-length t)
+    (operator-returns t)
+    (operator-truth-requires t)
+    (operator-decides-requires t)
+    (operator-one-if-requires t)
+    (operator-new-bool-requires t)
+    (operator-same-length-2 t)
+    (operator-returns-2 t)
+    (operator-expr-requires t)
+    (operator-enum-known-x t)
+    (operator-enum-told t)
+    (operator-same-length-3 t)
+    (operator-same-length-4 t)
+    (operator-returns-3 t)
+    (operator-operate-requires-2 t)
+    (operator-same-length-5 t)
+    (operator-same-length-6 t)
+    (operator-returns-4 t)
