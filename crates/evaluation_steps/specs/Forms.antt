@@ -1,6 +1,7 @@
 -- What a form asks of the index, and a refusal handed on.
 use Prim.Native.Nat.{ℕ, zero, suc, _+_, _*_, _%_, _≤_, _<_}
 use mathlib.Core.List.{List}
+use mathlib.Core.Bool.{Bool}
 use mathlib.Core.Path.{_≡_}
 use lib.ListN.{getD}
 use lib.Dec.{leb}
@@ -18,9 +19,13 @@ use Rattle.new_cells.specs.declared.Value.the-variants.{Is, Refused}
 use Rattle.evaluation_steps.specs.declared.Values.{Values}
 use Rattle.evaluation_steps.specs.declared.Values.the-variants.{Are, Refused as RefusedAll}
 
+-- whether the left side of the operator of a code may decide
+abbrev pub mayDecide : ℕ → Bool
+mayDecide code = leb operatorAnd code
+
 -- how many sides of an operator are operands
 unfoldable pub sideCount : ℕ → ℕ
-sideCount o = choose (leb operatorAnd o) 1 2
+sideCount o = choose (mayDecide o) 1 2
 
 pub one-side : (o : ℕ) → operatorAnd ≤ o → sideCount o ≡ 1
 unfolding sideCount choose

@@ -10,17 +10,13 @@ use lib.ListN.{getD}
 use lib.Dec.{ltb, leb}
 use borrow.Author.Tests.{le-leb}
 use Rattle.language.specs.Limits.{sizeMost}
-use Rattle.language.specs.Codes.{operatorAnd}
 use Rattle.language.specs.Refusals.{noRefusal, environmentSpent, valueTooLarge}
 use Rattle.language.specs.Result.{both, choose}
 use Rattle.language.specs.Syntax.{Size, ResultType, Op, oadd, osub, omul, oeq, olt, ole, oand, oor, Expr, ebool, eint, evar, enow, elast, elet, eif, eop, ecall, econ, ecase, eadj, efit, Exprs, enil, econs, File, fieldsOf}
 use Rattle.language.specs.Format.{opCode}
 use Rattle.language.specs.Heap.{kbool, Cell, leaf, con, truth, applyOp, decides, cellAt, constantIn, constructorIn, sizeIn, fieldsIn, ownSum, fieldsWithin}
 use Rattle.language.specs.Evaluator.{Out, value, refused, values, bindOut, bindOuts, first, rest, needs, alloc, Channels, Body, arity, eval, evals, evalBranch}
-
--- whether the left side of the operator of a code may decide
-abbrev pub mayDecide : ℕ → Bool
-mayDecide code = leb operatorAnd code
+use Rattle.evaluation_steps.specs.Forms.{mayDecide}
 
 -- the parts that are evaluated first, and the slots that wait for them
 unfoldable pub operandsOf : Expr → Exprs

@@ -1,12 +1,11 @@
 -- What is known of an expression whose head was read: its operands, where they stand and end, and the slots that wait for them.
 use Prim.Native.Nat.{ℕ, _≤_, _<_}
 use mathlib.Core.List.{List, []}
-use mathlib.Core.Bool.{Bool, true, false}
+use mathlib.Core.Bool.{true}
 use mathlib.Core.Path.{_≡_, refl, sym, ap, _∙_, subst}
 use native.Mathlib.Omega.{arith}
 use lib.ListN.{length, getD}
-use lib.Dec.{leb}
-use borrow.Author.Tests.{le-leb, lt-leb, leb-true, leb-false}
+use borrow.Author.Tests.{le-leb, lt-leb}
 use Rattle.language.specs.Codes.{operatorAnd}
 use Rattle.language.specs.Result.{choose}
 use Rattle.language.specs.Syntax.{Size, ResultType, Op, Expr, elet, eif, eop, ecall, econ, ecase, eadj, efit, Exprs, enil, econs, File}
@@ -14,7 +13,7 @@ use Rattle.language.specs.Format.{opCode, exprBytes, sizeBytes, resultBytes}
 use Rattle.language.specs.Scope.{Scope}
 use Rattle.language.specs.Within.{WithinExpr, ws-nil, ws-cons}
 use Rattle.language.specs.Evaluator.{parameterCount}
-use Rattle.theory.specs.Lists.{false-is-not-true}
+use Rattle.theory.specs.Lists.{false-is-not-true, le-or-lt}
 use Rattle.text.specs.declared.Cursor.{Cursor}
 use Rattle.text.specs.Places.{past}
 use Rattle.encoding.specs.Spells.{Spells}
@@ -90,13 +89,6 @@ left-alone o a b high = rw (le-leb operatorAnd (opCode o) high)
 pub both-sides : (o : Op) (a b : Expr) → opCode o < operatorAnd → operandsOf (eop o a b) ≡ econs a (econs b enil)
 unfolding operandsOf choose
 both-sides o a b low = rw (lt-leb operatorAnd (opCode o) low)
-
-le-or-lt : {A : Type 0} (m n : ℕ) → (m ≤ n → A) → (n < m → A) → A
-le-or-lt {A} m n le lt = cases (leb m n) refl
-  where
-    cases : (b : Bool) → leb m n ≡ b → A
-    cases true e = le (leb-true m n e)
-    cases false e = lt (leb-false m n e)
 
 -- ---- what is known of the operands
 pub record Parts (text index ends : List ℕ) (line : ℕ) (P : File) (S : Scope) (form : Form) (next : ℕ) (e : Expr) : Type 0 where

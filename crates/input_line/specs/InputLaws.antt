@@ -20,6 +20,7 @@ use Rattle.language.specs.Values.{treeSize, fits}
 use Rattle.language.specs.Within.{WithinDeclared, w-tbool, w-tint, w-tnamed}
 use Rattle.language.specs.Parser.{Read, got, bad, Parser, andThen, byte, many}
 use Rattle.language.specs.Line.{valueAt, allRead, inputTrees, treesFit}
+use Rattle.theory.specs.Lists.{both-never}
 use Rattle.theory.specs.Alls.{all-at}
 use Rattle.theory.specs.Places.{look-at, look-mapped}
 use Rattle.theory.specs.HeldChannels.{inputTypes}
@@ -55,16 +56,8 @@ module _ (P : File) (τ : Ty) (τs : List Ty) where
   one-fits : (v : Tree) (y : Read (List Tree)) → allFit P (τ ∷ τs) (andThen y (λ vs ds. got (v ∷ vs) ds)) ≡ both (fits P v τ) (allFit P τs y)
   unfolding andThen allRead chain treesFit both isSome
   one-fits v (got vs []) = some-when (both (fits P v τ) (treesFit P vs τs)) (v ∷ vs) ∙ ap (both (fits P v τ)) (sym (some-when (treesFit P vs τs) vs))
-  one-fits v (got vs (b ∷ bs)) = sym (never (fits P v τ))
-    where
-      never : (a : Bool) → both a false ≡ false
-      never true = refl
-      never false = refl
-  one-fits v (bad n) = sym (never (fits P v τ))
-    where
-      never : (a : Bool) → both a false ≡ false
-      never true = refl
-      never false = refl
+  one-fits v (got vs (b ∷ bs)) = sym (both-never (fits P v τ) refl)
+  one-fits v (bad n) = sym (both-never (fits P v τ) refl)
 
   fit-step : (p : Parser Tree) (m : ℕ) (bs : List ℕ) → allFit P (τ ∷ τs) (many p (suc m) bs) ≡ fitThen (sized P τ (p bs)) (λ cs. allFit P τs (many p m cs))
   unfolding many andThen sized fitThen choose both allRead chain isSome

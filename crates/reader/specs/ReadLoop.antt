@@ -6,6 +6,7 @@ use native.Mathlib.Omega.{arith}
 use native.Mathlib.Numerals.{add-one}
 use lib.ListN.{length, getD, take, drop, drop-of-length-le}
 use lib.Seq.{drop-cons}
+use Rattle.language.specs.Refusals.{badFrame}
 use Rattle.language.specs.Result.{Result, ok, no}
 use Rattle.language.specs.Syntax.{File}
 use Rattle.language.specs.Reader.{readFrame, readFrames, readFile, emptyFile}
@@ -76,12 +77,12 @@ module _ {t index : List ℕ} {count all read : ℕ} {known : Counts} (s : Frame
     next-frame = drop-cons (s .accepted .frames) read [] there
 
     -- where the sum of all limits is reached, every kind has as many frames as it may have
-    pub too-many : {r : Reading} {index′ : List ℕ} → framesMost ≤ read → r ≡ Fault 3 (read + 1) → FramesRead t r index′ (readFile t)
+    pub too-many : {r : Reading} {index′ : List ℕ} → framesMost ≤ read → r ≡ Fault badFrame (read + 1) → FramesRead t r index′ (readFile t)
     too-many le e =
         let h = s .held in
         let bytes = frame-some (lineAt t read) _ (line-spelled t (s .accepted .frames) (s .accepted .are) read there) in
         let full = full-when (s .file) (omega (arith, le, read-so-far)) (h .fewTypes) (h .fewFunctions) (h .fewInputs) (h .fewNodes) in
-        text-fault t e (s .is ∙ frame-refused all (suc read) (s .file) next-frame (one-too-many all (suc read) (s .file) (getD (s .accepted .frames) read []) full bytes) ∙ ap (no 3) (sym (add-one read)))
+        text-fault t e (s .is ∙ frame-refused all (suc read) (s .file) next-frame (one-too-many all (suc read) (s .file) (getD (s .accepted .frames) read []) full bytes) ∙ ap (no badFrame) (sym (add-one read)))
 
     module _ (room : read < framesMost) {l : List ℕ} (cut : l ≡ framePart t (framesOf index) read) where
       in-lines : read < length (frameLinesOf t)
@@ -140,8 +141,8 @@ module _ {t index : List ℕ} {count all read : ℕ} {known : Counts} (s : Frame
   last-read : count ≤ read → readFile t ≡ readFrames all (suc read) (s .file) []
   last-read le = s .is ∙ ap (readFrames all (suc read) (s .file)) (drop-of-length-le (s .accepted .frames) {i = read} (omega (arith, le, s .accepted .counted)))
 
-  without : {index′ : List ℕ} → count ≤ read → known .nodes ≡ 0 → FramesRead t (Fault 3 (read + 1)) index′ (readFile t)
-  without le none = text-fault t refl (last-read le ∙ no-node all (suc read) (s .file) (s .held .counted .nodeCount ∙ none) ∙ ap (no 3) (sym (add-one read)))
+  without : {index′ : List ℕ} → count ≤ read → known .nodes ≡ 0 → FramesRead t (Fault badFrame (read + 1)) index′ (readFile t)
+  without le none = text-fault t refl (last-read le ∙ no-node all (suc read) (s .file) (s .held .counted .nodeCount ∙ none) ∙ ap (no badFrame) (sym (add-one read)))
 
   -- with the counts every section is the file's
   with-some : {index′ : List ℕ} → count ≤ read → (known .nodes ≡ 0 → ⊥) → CountsPut known index index′ → length index′ ≡ indexWords → FramesRead t Done index′ (readFile t)

@@ -3,6 +3,7 @@ use Prim.Native.Nat.{ℕ}
 use mathlib.Core.List.{List}
 use mathlib.Core.Path.{_≡_}
 use lib.ListN.{length, replicate}
+use Rattle.language.specs.Refusals.{badFrame}
 use Rattle.language.specs.Result.{Result, ok, no}
 use Rattle.language.specs.Syntax.{File}
 use Rattle.text_lines.specs.declared.Judged.{Judged}
@@ -30,7 +31,7 @@ textReading (TextRefused m frame) = Fault m frame
 
 -- behind the last frame: "no node (frame: one after the last)", or the counts are written
 pub data Finished (n : Counts) (next : ℕ) (index : List ℕ) : Reading → List ℕ → Type 0 where
-  without-node : {index′ : List ℕ} → n .nodes ≡ 0 → Finished n next index (Fault 3 next) index′
+  without-node : {index′ : List ℕ} → n .nodes ≡ 0 → Finished n next index (Fault badFrame next) index′
   with-node : {index′ : List ℕ} → (n .nodes ≡ 0 → ⊥) → CountsPut n index index′ → length index′ ≡ indexWords → Finished n next index Done index′
 
 -- a text judged: its answer is the definition's, and where there is no refusal the index has the lines of its frames

@@ -10,41 +10,49 @@ use Rattle.language.specs.PlainTypes.{operandType, opType}
 use Rattle.language.specs.Heap.{Constant, kbool, kint, constantType, truth, applyOp, decides}
 use Rattle.theory.specs.Lists.{false-is-not-true}
 
-pub decided-operand : (o : Op) (v : Bool) → decides o v ≡ true → operandType o ≡ pbool
-unfolding decides operandType
-decided-operand oadd v e = false-is-not-true e
-decided-operand osub v e = false-is-not-true e
-decided-operand omul v e = false-is-not-true e
-decided-operand oeq v e = false-is-not-true e
-decided-operand olt v e = false-is-not-true e
-decided-operand ole v e = false-is-not-true e
-decided-operand oand v e = refl
-decided-operand oor v e = refl
+-- the left sides that decide: of `06` a false one, of `07` a true one
+pub data Deciding : Op → Bool → Type 0 where
+  false-decides : Deciding oand false
+  true-decides : Deciding oor true
 
--- and its value is of the type of its operands
-pub decided-result : (o : Op) (v : Bool) → decides o v ≡ true → opType o ≡ pbool
-unfolding decides opType
-decided-result oadd v e = false-is-not-true e
-decided-result osub v e = false-is-not-true e
-decided-result omul v e = false-is-not-true e
-decided-result oeq v e = false-is-not-true e
-decided-result olt v e = false-is-not-true e
-decided-result ole v e = false-is-not-true e
-decided-result oand v e = refl
-decided-result oor v e = refl
+pub deciding : (o : Op) (v : Bool) → decides o v ≡ true → Deciding o v
+unfolding decides
+deciding oadd v e = false-is-not-true e
+deciding osub v e = false-is-not-true e
+deciding omul v e = false-is-not-true e
+deciding oeq v e = false-is-not-true e
+deciding olt v e = false-is-not-true e
+deciding ole v e = false-is-not-true e
+deciding oand false e = false-decides
+deciding oand true e = false-is-not-true e
+deciding oor true e = true-decides
+deciding oor false e = false-is-not-true e
 
-pub decided-value : (o : Op) (v : Bool) (y : Constant) → decides o v ≡ true → applyOp o (kbool v) y ≡ kbool v
-unfolding decides applyOp truth both oneOf
-decided-value oadd v y e = false-is-not-true e
-decided-value osub v y e = false-is-not-true e
-decided-value omul v y e = false-is-not-true e
-decided-value oeq v y e = false-is-not-true e
-decided-value olt v y e = false-is-not-true e
-decided-value ole v y e = false-is-not-true e
-decided-value oand false y e = refl
-decided-value oand true y e = false-is-not-true e
-decided-value oor true y e = refl
-decided-value oor false y e = false-is-not-true e
+module _ (o : Op) (v : Bool) (d : decides o v ≡ true) where
+  pub decided-operand : operandType o ≡ pbool
+  unfolding operandType
+  decided-operand = go (deciding o v d)
+    where
+      go : {p : Op} {w : Bool} → Deciding p w → operandType p ≡ pbool
+      go false-decides = refl
+      go true-decides = refl
+
+  -- and its value is of the type of its operands
+  pub decided-result : opType o ≡ pbool
+  unfolding opType
+  decided-result = go (deciding o v d)
+    where
+      go : {p : Op} {w : Bool} → Deciding p w → opType p ≡ pbool
+      go false-decides = refl
+      go true-decides = refl
+
+  pub decided-value : (y : Constant) → applyOp o (kbool v) y ≡ kbool v
+  unfolding applyOp truth both oneOf
+  decided-value y = go (deciding o v d)
+    where
+      go : {p : Op} {w : Bool} → Deciding p w → applyOp p (kbool w) y ≡ kbool w
+      go false-decides = refl
+      go true-decides = refl
 
 int-is-not-bool : {A : Type 0} → pint ≡ pbool → A
 int-is-not-bool e = absurd (let z : _≡_ {A = ℕ} 0 1 = cc in omega arith)

@@ -8,6 +8,8 @@ use native.Mathlib.Omega.{arith}
 use native.Mathlib.Nat.{add-zero, zero-add, suc-add}
 use lib.ListN.{length, getD, take, drop, set, getElem? as look}
 use lib.Seq.{take-take, drop-drop, sets}
+use lib.Dec.{leb}
+use borrow.Author.Tests.{leb-true, leb-false}
 use Rattle.language.specs.Result.{both}
 
 pub none-is-not-some : {A B : Type 0} {a : A} → none ≡ some a → B
@@ -90,6 +92,13 @@ pub both-never : (a : Bool) {b : Bool} → b ≡ false → both a b ≡ false
 unfolding both
 both-never true e = e
 both-never false e = refl
+
+pub le-or-lt : {A : Type 0} (m n : ℕ) → (m ≤ n → A) → (n < m → A) → A
+le-or-lt {A} m n le lt = cases (leb m n) refl
+  where
+    cases : (b : Bool) → leb m n ≡ b → A
+    cases true e = le (leb-true m n e)
+    cases false e = lt (leb-false m n e)
 
 -- ---- several written one after the other, and then several more
 pub sets-append : (xs ys l : List ℕ) (i : ℕ) → sets l i (xs ++ ys) ≡ sets (sets l i xs) (i + length xs) ys

@@ -1,19 +1,17 @@
 -- The cell of a location that has a type, by the forms of values; and new cells that have a type.
 use Prim.Native.Nat.{ℕ, suc, _+_, _≤_, _<_}
 use mathlib.Core.List.{List, [], _∷_, _++_}
-use mathlib.Core.Bool.{Bool, true, false}
+use mathlib.Core.Bool.{true, false}
 use mathlib.Core.Option.{some}
 use mathlib.Core.Path.{_≡_, refl}
 use native.Mathlib.Omega.{arith}
 use lib.ListN.{length, getElem? as look}
-use lib.Dec.{leb}
-use borrow.Author.Tests.{leb-true, leb-false}
 use Rattle.language.specs.Syntax.{Constructor, Plain, pbool, pint, pnamed, tbool, tnamed, Op, oadd, osub, omul, oeq, olt, ole, oand, oor, File, constructorsOf}
 use Rattle.language.specs.PlainTypes.{opType}
 use Rattle.language.specs.Sizes.{sum}
 use Rattle.language.specs.Typing.{baseType}
 use Rattle.language.specs.Heap.{Constant, kbool, kint, Cell, leaf, con, constantType, applyOp}
-use Rattle.theory.specs.Lists.{look-new}
+use Rattle.theory.specs.Lists.{look-new, le-or-lt}
 use Rattle.theory.specs.Heaps.{grown-one}
 use Rattle.theory.specs.HeapValues.{Has, h-bool, h-int, h-named, Val, v-con, Vals, vals-grown, val-positive}
 
@@ -47,11 +45,7 @@ bool-cases (h-bool {b = true} e) holds fails = holds e
 bool-cases (h-bool {b = false} e) holds fails = fails e
 
 pub fit-cases : {P : File} {h : List Cell} {l t j : ℕ} {A : Type 0} (k : ℕ) → Has P h l (tnamed t j) → ((n : ℕ) → Val P h l t n → n ≤ k → A) → ((n : ℕ) → Val P h l t n → k < n → A) → A
-fit-cases {P} {h} {l} {t} {A} k (h-named {j = n} v le) fits fails = cases (leb n k) refl
-  where
-    cases : (b : Bool) → leb n k ≡ b → A
-    cases true e = fits n v (leb-true n k e)
-    cases false e = fails n v (leb-false n k e)
+fit-cases k (h-named {j = n} v le) fits fails = le-or-lt n k (fits n v) (fails n v)
 
 pub record ValCell (h : List Cell) (l t n : ℕ) : Type 0 where
   pub constructor : ℕ

@@ -34,10 +34,10 @@ use Rattle.reader.specs.Indexes.{file-frames, ReadIndexed, read-fault}
 use Rattle.answers.specs.declared.Answer.{Answer}
 use Rattle.answers.specs.Boards.{said, refusalOf, readAnswer}
 use Rattle.answers.specs.LendLaws.{as-long}
-use Rattle.writer.specs.Writes.{Writes, frameCount, strictLine, strictLines, Cleared}
+use Rattle.writer.specs.Writes.{Writes, framesIndexed, strictLine, strictLines, Cleared}
 use Rattle.index.specs.Entries.{spell-more}
 
-pub frames-summed : {n : Counts} (index : List ℕ) → n ≡ countsIn index → n .types + n .functions + n .inputs + n .nodes ≡ frameCount index
+pub frames-summed : {n : Counts} (index : List ℕ) → n ≡ countsIn index → n .types + n .functions + n .inputs + n .nodes ≡ framesIndexed index
 frames-summed index e = ap (λ (n : Counts). n .types + n .functions + n .inputs + n .nodes) e
 
 -- ---- the lines that an index names, of a file that was read
@@ -56,10 +56,10 @@ module _ {text index : List ℕ} {P : File} (h : Indexed text index P) where
       ap (λ l. l ++ strictLine line) (lines-taken i (omega arith)) ∙ ap (λ bs. spellAll lineText (take i frames) ++ lineText bs) (part-spells i (omega arith))
       ∙ sym (spell-more lineText (take i frames) (getD frames i [])) ∙ ap (spellAll lineText) (sym (take-suc frames i [] (omega arith)))
 
-  frames-many : frameCount index ≡ length (fileFrames P)
+  frames-many : framesIndexed index ≡ length (fileFrames P)
   frames-many = let n = h .counted in omega (arith, n .typeCount, n .functionCount, n .inputCount, n .nodeCount, file-frames P)
 
-  file-lines : {frames : ℕ} → frames ≡ frameCount index → strictLines text index frames ≡ fileText P
+  file-lines : {frames : ℕ} → frames ≡ framesIndexed index → strictLines text index frames ≡ fileText P
   unfolding fileText
   file-lines {frames} e =
       ap (strictLines text index) (e ∙ frames-many) ∙ lines-taken (length (fileFrames P)) (omega arith) ∙ ap (spellAll lineText) (take-all (length (fileFrames P)) (fileFrames P) (omega arith))
@@ -69,7 +69,7 @@ abbrev behind : List ℕ → Result File → Written
 behind buffer o = inBuffer (bind o (λ P. need (leb (length (fileText P)) (length buffer)) bufferShort noFrame (ok (fileText P)))) buffer
 
 -- a file that was read, and a buffer of zeros
-module _ {text index : List ℕ} (z : ReadIndexed text index) {frames : ℕ} (count : frames ≡ frameCount index) where
+module _ {text index : List ℕ} (z : ReadIndexed text index) {frames : ℕ} (count : frames ≡ framesIndexed index) where
   is-file : strictLines text index frames ≡ fileText (z .file)
   is-file = file-lines (z .indexed) count
 

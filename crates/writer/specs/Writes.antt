@@ -17,8 +17,8 @@ pub record Writes (text buffer : List ℕ) (r : Answer) (buffer′ : List ℕ) :
   pub is : _≡_ {A = Written} (record { answer = said r; buffer = buffer′ }) (write text buffer)
 
 -- ---- the strict text, as far as an index names frames
-abbrev pub frameCount : List ℕ → ℕ
-frameCount index = countsIn index .types + countsIn index .functions + countsIn index .inputs + countsIn index .nodes
+abbrev pub framesIndexed : List ℕ → ℕ
+framesIndexed index = countsIn index .types + countsIn index .functions + countsIn index .inputs + countsIn index .nodes
 
 -- of the bytes that a line spells
 abbrev pub strictLine : List ℕ → List ℕ

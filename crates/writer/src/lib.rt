@@ -8,7 +8,7 @@ ghost use Rattle.language.specs.Limits.{byteRange, textMost};
 ghost use Rattle.language.specs.Format.{digitOf, pairOf};
 ghost use Rattle.text.specs.Bytes.{bytesLeft};
 ghost use Rattle.reader.specs.Indexes.{ReadIndexed};
-ghost use Rattle.writer.specs.Writes.{Writes, frameCount, strictLine, strictLines, Cleared, PutsLine};
+ghost use Rattle.writer.specs.Writes.{Writes, framesIndexed, strictLine, strictLines, Cleared, PutsLine};
 use answers::Answer;
 use answers::read_answer;
 use answers::refusal;
@@ -29,9 +29,9 @@ use text::Number;
 // So many digits are decimal. Each adds its value to this: `0` to `9` are 30 to 39, `A` to `F` are 41 to 46.
 const DECIMAL_DIGITS: u32 = 10;
 
-const DECIMALS_FROM: u32 = 0x30;
+const DECIMAL_OFFSET: u32 = 0x30;
 
-const LETTERS_FROM: u32 = 0x37;
+const LETTER_OFFSET: u32 = 0x37;
 
 // Every byte 0.
 fn clear(row: &mut [u8])
@@ -50,9 +50,9 @@ fn digit_character(d: u32) -> u8
     ensures { λ r. ⌜ r ≡ digitOf d ⌝ }
 {
     if d < DECIMAL_DIGITS {
-        return (DECIMALS_FROM + d) as u8;
+        return (DECIMAL_OFFSET + d) as u8;
     }
-    (LETTERS_FROM + d) as u8
+    (LETTER_OFFSET + d) as u8
 }
 
 // Stores the pair of a byte at a place and behind it.
@@ -102,7 +102,7 @@ fn put_line(line: &[u8], buffer: &mut [u8], from: usize) -> usize
 
 // How many frames the file has.
 fn frame_count(index: &[u32; INDEX_WORDS]) -> u32
-    ensures { λ r. ⌜ r ≡ frameCount (now (index .entry)) ⌝ }
+    ensures { λ r. ⌜ r ≡ framesIndexed (now (index .entry)) ⌝ }
 {
     let n = frame_counts(index);
     n.types + n.functions + n.inputs + n.nodes
