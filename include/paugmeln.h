@@ -92,11 +92,12 @@ struct paugmeln_instance {
  *   20, 21, 22  heap, environment or stack is spent
  *   23  a value is too large
  *   24  the buffer is shorter than the strict text
+ *   25  a node reads itself by 13, directly or through others
  *
- * The reader answers 1 to 8, the writer 1 to 8 and 24, checker and start 1 to 18, an iteration 1 to 9 and 18 to 23. Of several the
- * first in this order is answered, but 18 follows 9; 20 to 23 where the evaluation meets them, with the frame of the channel that
- * is being given its value. A file that start accepts answers every line with 0 or 19, whatever it holds, as long as the board
- * has what the file needs.
+ * The reader answers 1 to 8, the writer 1 to 8 and 24, checker and start 1 to 18 and 25, an iteration 1 to 9, 18 to 23 and 25. Of
+ * several the first in this order is answered, but 25, then 18 follow 9; 20 to 23 where the evaluation meets them, with the frame of
+ * the channel that is being given its value. 25 names the frame of the lowest node that reads itself. A file that start accepts
+ * answers every line with 0 or 19, whatever it holds, as long as the board has what the file needs.
  *
  * The bounds are the cells, slots and calls that a board needs at most, whatever the inputs. They stop at 65,535, and are 0
  * except on acceptance by checker or start and with 15 to 17. */

@@ -63,6 +63,7 @@ static const char *const sentences[] = {
     "stack is spent",
     "a value is too large",
     "the buffer is shorter than the strict text",
+    "a node reads itself by 13, directly or through others",
 };
 
 static struct paugmeln_answer start(struct board *of)

@@ -10,7 +10,7 @@ use Rattle.language.specs.Limits.{channelsMost}
 use Rattle.language.specs.Syntax.{Ty, tbool, Input, Node, File, declaredTypes}
 use Rattle.language.specs.Sizes.{sum}
 use Rattle.language.specs.Format.{spellAll}
-use Rattle.language.specs.Within.{All, all-nil, all-cons, WithinDeclared, WithinNodes, wn-nil, wn-cons, Within}
+use Rattle.language.specs.Within.{All, WithinDeclared, Within}
 use Rattle.language.specs.Estimate.{stop}
 use Rattle.language.specs.Cells.{cellsOf, channelCells, inputCells}
 use Rattle.theory.specs.Alls.{all-append, all-map, all-to-map, all-getD}
@@ -25,12 +25,8 @@ use Rattle.cells.specs.MostLaws.{types-next}
 use Rattle.cells.specs.CountLaws.{counts-given, counts-as, counts-sum}
 
 -- ---- the declared types are within the limits, and the index has their words
-nodes-declared : {P : File} {earlier : ℕ} {ns : List Node} → WithinNodes P earlier ns → All (WithinDeclared (length (P .types))) (map (λ (n : Node). n .declared) ns)
-nodes-declared wn-nil = all-nil
-nodes-declared (wn-cons w ws) = all-cons (w .declared) (nodes-declared ws)
-
 types-declared : {P : File} → Within P → All (WithinDeclared (length (P .types))) (declaredTypes P)
-types-declared w = all-append (all-to-map (λ (i : Input). i .declared) (all-map (λ i v. v .declared) (w .inputs))) (nodes-declared (w .nodes))
+types-declared w = all-append (all-to-map (λ (i : Input). i .declared) (all-map (λ i v. v .declared) (w .inputs))) (all-to-map (λ (n : Node). n .declared) (all-map (λ n v. v .declared) (w .nodes)))
 
 channel-count : (P : File) → length (declaredTypes P) ≡ length (P .inputs) + length (P .nodes)
 channel-count P = length-append (map (λ (i : Input). i .declared) (P .inputs)) (map (λ (n : Node). n .declared) (P .nodes)) ∙ omega (arith, length-map (P .inputs) (λ (i : Input). i .declared), length-map (P .nodes) (λ (n : Node). n .declared))

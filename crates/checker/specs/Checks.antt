@@ -5,6 +5,8 @@ use mathlib.Core.Bool.{Bool}
 use mathlib.Core.Path.{_≡_}
 use Rattle.language.specs.Refusals.{noRefusal, noFrame}
 use Rattle.language.specs.Syntax.{File}
+use Rattle.language.specs.PlainTyping.{WellPlain}
+use Rattle.language.specs.Order.{Acyclic}
 use Rattle.language.specs.Within.{Within}
 use Rattle.language.specs.Estimate.{Estimate as Exact, stopped}
 use Rattle.language.specs.Cells.{updatesNumbers, numbersNeeded}
@@ -49,6 +51,12 @@ pub record ReadHeld (text index : List ℕ) : Type 0 where
   pub file : File
   pub indexed : Indexed text index file
   pub sections : FileSections text index file
+
+-- and it is of right plain types, and no node reads itself
+pub record OrderedHeld (text index : List ℕ) : Type 0 where
+  pub held : ReadHeld text index
+  pub plain : WellPlain (held .file)
+  pub acyclic : Acyclic (held .file)
 
 -- ---- the parts
 pub record Needs (index : List ℕ) (updates r : Held) : Type 0 where

@@ -10,6 +10,7 @@ use Rattle.language.specs.Result.{Result, ok, bind, need}
 use Rattle.language.specs.Syntax.{File}
 use Rattle.language.specs.Reader.{readFile}
 use Rattle.language.specs.PlainTypes.{plainTypes}
+use Rattle.language.specs.Order.{orderly}
 use Rattle.language.specs.Machine.{listLent, checkFile}
 use Rattle.index.specs.Whole.{indexOf, whole-sections}
 use Rattle.reader.specs.declared.Reading.{Reading}
@@ -26,7 +27,7 @@ use Rattle.checker.specs.Outcomes.{sizesOf, refused, checked}
 pub reading-refused : {text index words′ : List ℕ} {b : Board} {x : Reading} {r : Answer} {m frame : ℕ} (k : ℕ) → TextRead text x index (readFile text) → x ≡ Fault m frame → r ≡ readAnswer x → words′ ≡ replicate k 0 →
     (given : Bool) → ChecksGiven text b given r words′
 unfolding readAnswer checkFile bind
-reading-refused {text} {b = b} k v q e z given = refused text b given k (ap (λ u. bind u (λ P. plainTypes P (need given notLent noFrame (sizesOf P)))) (read-fault v q)) (e ∙ ap readAnswer q) z
+reading-refused {text} {b = b} k v q e z given = refused text b given k (ap (λ u. bind u (λ P. plainTypes P (orderly P (need given notLent noFrame (sizesOf P))))) (read-fault v q)) (e ∙ ap readAnswer q) z
 
 pub check-unread : {text index words′ : List ℕ} {b : Board} {records : ℕ} {x : Reading} {r : Answer} {m frame : ℕ} (k : ℕ) → TextRead text x index (readFile text) → x ≡ Fault m frame → r ≡ readAnswer x → words′ ≡ replicate k 0 → ChecksWords text b records r words′
 check-unread {b = b} {records = records} k v q e z = checked (record { is = refl }) (reading-refused k v q e z (listLent (boardOf b) (lentRecords records)))

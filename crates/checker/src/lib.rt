@@ -1,8 +1,8 @@
-// The checker of rule files: refusals 1 to 18, the three bounds, and the list of instances.
+// The checker of rule files: refusals 1 to 18 and 25, the three bounds, and the list of instances.
 ghost use mathlib.Core.Path.{_≡_};
 ghost use lib.ListN.{length};
 ghost use Rattle.instance_list.specs.Records.{listWords};
-ghost use Rattle.checker.specs.Checks.{sizingRefusal, ReadHeld, Needs, ChecksGiven, ChecksWords};
+ghost use Rattle.checker.specs.Checks.{sizingRefusal, ReadHeld, OrderedHeld, Needs, ChecksGiven, ChecksWords};
 use answers::Answer;
 use answers::Board;
 use answers::judge;
@@ -11,16 +11,20 @@ use answers::read_answer;
 use answers::refusal;
 use cells::CELLS_TABLE;
 use cells::channels_cells;
+use ends::find_readings;
 use estimate::Estimate;
 use estimate::capped_sum;
 use index::INDEX_WORDS;
 use index::frame_counts;
 use instance_list::put_used;
 use instances::clear;
+use language::limits::NODES_MOST;
 use language::refusals::NO_FRAME;
 use language::refusals::NO_REFUSAL;
 use language::refusals::NOT_LENT;
+use language::refusals::SELF_READING;
 use language::refusals::TYPES_DISAGREE;
+use node_order::self_reading_frame;
 use plain_types::plain_types;
 use reader::Reading;
 use reader::read;
@@ -54,24 +58,18 @@ fn needed(index: &[u32; INDEX_WORDS], updates: Estimate) -> Estimate
     }
 }
 
-// Checks a file that was read: plain types, what is lent, sizes, and what the board has. Whether enough is lent was judged before.
-// The words end with the records of the instances in order of entry, and how many they are; after a refusal all are zero.
-pub fn check_read(
+// Checks a file of right plain types, no node of which reads itself: what is lent, sizes, and what the board has.
+fn check_ordered(
     text: &[u8],
     index: &[u32; INDEX_WORDS],
     b: Board,
     given: bool,
     words: &mut [u32],
 ) -> Answer
-    requires { ⌜ ReadHeld (now text) (now index) ⌝ }
+    requires { ⌜ OrderedHeld (now text) (now index) ⌝ }
     requires { ⌜ length (now words) ≡ listWords ⌝ }
     ensures { λ r. ⌜ ChecksGiven (now (text .entry)) b given r (now (words .exit)) ⌝ }
 {
-    let frame = plain_types(text, index);
-    if frame != NO_FRAME {
-        clear(words);
-        return refusal(TYPES_DISAGREE, frame);
-    }
     if !given {
         clear(words);
         return refusal(NOT_LENT, NO_FRAME);
@@ -88,6 +86,34 @@ pub fn check_read(
     }
     put_used(words, k.used);
     r
+}
+
+// Checks a file that was read: plain types, order, and what follows. Whether enough is lent was judged before. The words end with the
+// records of the instances in order of entry, and how many they are; after a refusal all are zero.
+pub fn check_read(
+    text: &[u8],
+    index: &[u32; INDEX_WORDS],
+    b: Board,
+    given: bool,
+    words: &mut [u32],
+) -> Answer
+    requires { ⌜ ReadHeld (now text) (now index) ⌝ }
+    requires { ⌜ length (now words) ≡ listWords ⌝ }
+    ensures { λ r. ⌜ ChecksGiven (now (text .entry)) b given r (now (words .exit)) ⌝ }
+{
+    let frame = plain_types(text, index);
+    if frame != NO_FRAME {
+        clear(words);
+        return refusal(TYPES_DISAGREE, frame);
+    }
+    let mut readings = [0u32; NODES_MOST];
+    find_readings(text, index, &mut readings);
+    let node = self_reading_frame(index, &readings);
+    if node != NO_FRAME {
+        clear(words);
+        return refusal(SELF_READING, node);
+    }
+    check_ordered(text, index, b, given, words)
 }
 
 // Checks a text on a board that lends a list of so many records; the list is kept in words.

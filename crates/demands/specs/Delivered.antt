@@ -7,7 +7,7 @@ use mathlib.Core.Logic.{_↔_}
 use mathlib.Core.Option.{some}
 use mathlib.Core.Path.{_≡_}
 use lib.ListN.{length, drop, replicate}
-use Rattle.language.specs.Refusals.{noRefusal, notLent, badInputLine, heapSpent}
+use Rattle.language.specs.Refusals.{noRefusal, notLent, badInputLine, heapSpent, valueTooLarge, selfReading}
 use Rattle.language.specs.Result.{ok, both}
 use Rattle.language.specs.Syntax.{File, initialValues}
 use Rattle.language.specs.Reader.{readFile}
@@ -21,7 +21,7 @@ use Rattle.language.specs.Machine.{accepted, refusal, answer, zeros, written, l
 use Rattle.language.specs.PlainMachine.{noTrees, Derives, Step, initialTree, initialTrees}
 use Rattle.language.specs.InitialValues.{FileBegins}
 use Rattle.language.specs.Answers.{Refused, FileAnswer, IterateAnswers, WriteAnswers}
-use Rattle.language.specs.Acceptance.{TextOf, CheckerDemand}
+use Rattle.language.specs.Acceptance.{TextOf, CheckerDemand, SelfReading}
 use Rattle.language.specs.Writing.{WriterDemand}
 use Rattle.language.specs.Evaluation.{NotLent, LineWrong, FileIterates, FileMeets}
 use Rattle.language.specs.Run.{channelTrees, Call, StartAllowed, CallAllowed, Holds, lineVerdict}
@@ -81,11 +81,12 @@ pub record LeftIterated (text : List ℕ) (b : Board) (lent : Bool) (state line 
 
 -- an iteration's answer and what it left, by the rules
 pub record IterateJudged (text : List ℕ) (b : Board) (lent : Bool) (state line : List ℕ) (r : Answer) (state′ : List ℕ) : Type 0 where
+  pub order : (frame : ℕ) → ((r .number ≡ selfReading) × (r .frame ≡ frame)) ↔ SelfReading text frame
   pub lending : (r .number ≡ notLent) ↔ NotLent text (boardOf b) lent state
   pub wrong : (r .number ≡ badInputLine) ↔ LineWrong text (boardOf b) lent state line
   pub leads : (r .number ≡ noRefusal) ↔ ((after : State) × FileIterates text (boardOf b) lent state line after)
   pub done : r .number ≡ noRefusal → LeftIterated text b lent state line state′
-  pub meets : (n frame : ℕ) → ((said r ≡ answer (refusal n frame)) × (heapSpent ≤ n)) ↔ FileMeets text (boardOf b) lent state line n frame
+  pub meets : (n frame : ℕ) → ((said r ≡ answer (refusal n frame)) × (heapSpent ≤ n) × (n ≤ valueTooLarge)) ↔ FileMeets text (boardOf b) lent state line n frame
 
 pub record Delivered2 : Type 0 where
   pub checks : {text : List ℕ} {list list′ : List Instance} {b : Board} {r : Answer} → Checks text b list r list′ → CheckerDemand text (listLent (boardOf b) (recordsOf list)) (boardOf b) (said r)

@@ -48,6 +48,9 @@ module _ {text state scratch slots line state′ scratch′ slots′ : List ℕ}
   number-is : machine .answer .number ≡ r .number
   number-is = sym (λ k. i .is k .answer .number)
 
+  frame-is : machine .answer .frame ≡ r .frame
+  frame-is = sym (λ k. i .is k .answer .frame)
+
   state-is : state′ ≡ machine .state
   state-is = λ k. i .is k .state
 
@@ -60,6 +63,7 @@ module _ {text state scratch slots line state′ scratch′ slots′ : List ℕ}
   iterate-judged =
       let d = evaluator-demand in
       record {
+        order = λ frame. rw (number-is, frame-is) at (d .order text (boardOf b) state scratch slots line frame);
         lending = rw number-is at (d .lending text (boardOf b) state scratch slots line);
         wrong = rw number-is at (d .wrong text (boardOf b) state scratch slots line);
         leads = rw number-is at (d .leads text (boardOf b) state scratch slots line);

@@ -8,7 +8,7 @@ use native.Mathlib.Omega.{arith}
 use lib.ListN.{length, getD, take, getElem? as look}
 use lib.Seq.{append-snoc}
 use Rattle.language.specs.Syntax.{TypeDef, Function, Input, Node, File}
-use Rattle.language.specs.Within.{WithinType, WithinTypes, wt-nil, wt-cons, WithinFunction, WithinFunctions, wf-nil, wf-cons, WithinInput, WithinNode, WithinNodes, wn-nil, wn-cons, Within}
+use Rattle.language.specs.Within.{WithinType, WithinTypes, wt-nil, wt-cons, WithinFunction, WithinFunctions, wf-nil, wf-cons, WithinInput, WithinNode, Within}
 use Rattle.theory.specs.Lists.{none-is-not-some}
 use Rattle.theory.specs.Alls.{all-at}
 
@@ -23,11 +23,6 @@ function-at earlier wf-nil f e = none-is-not-some e
 function-at {types} {F} earlier (wf-cons {F = G} w ws) zero e = let same : G ≡ F = cc in rw (append-nil earlier) (rw same at w)
 function-at {types} {F} earlier (wf-cons {F = G} {Fs = Fs} w ws) (suc f) e = rw (append-snoc earlier G (take f Fs)) at (function-at (earlier ++ (G ∷ [])) ws f e)
 
-node-at : {P : File} {ns : List Node} {n : Node} (earlier : ℕ) → WithinNodes P earlier ns → (m : ℕ) → look ns m ≡ some n → WithinNode P (earlier + m) n
-node-at earlier wn-nil m e = none-is-not-some e
-node-at {n} earlier (wn-cons {n = k} w ws) zero e = let same : k ≡ n = cc in rw (add-zero earlier) (rw same at w)
-node-at {P} {n} earlier (wn-cons w ws) (suc m) e = let on : suc earlier + m ≡ earlier + suc m = omega arith in rw on at (node-at (suc earlier) ws m e)
-
 module _ {P : File} (w : Within P) where
   pub type-within : (t : ℕ) → t < length (P .types) → WithinType t (getD (P .types) t [])
   type-within t less = rw (zero-add t) at (type-at 0 (w .types) t less)
@@ -38,5 +33,5 @@ module _ {P : File} (w : Within P) where
   pub input-within : (c : ℕ) {i : Input} → look (P .inputs) c ≡ some i → WithinInput P i
   input-within c e = all-at (w .inputs) c e
 
-  pub node-within : (m : ℕ) {n : Node} → look (P .nodes) m ≡ some n → WithinNode P m n
-  node-within m e = rw (zero-add m) at (node-at 0 (w .nodes) m e)
+  pub node-within : (m : ℕ) {n : Node} → look (P .nodes) m ≡ some n → WithinNode P n
+  node-within m e = all-at (w .nodes) m e

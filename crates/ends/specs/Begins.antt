@@ -11,9 +11,10 @@ use Rattle.text.specs.declared.Cursor.{Cursor}
 use Rattle.text.specs.Places.{past, bytesLeft, past-past, past-least, place-most, left-past}
 use Rattle.encoding.specs.Spells.{Spells, spells-left, spells-within}
 use Rattle.heads.specs.Parted.{lastParts, partsPlace}
+use Rattle.ends.specs.declared.walk.Passed.{Passed}
 use Rattle.ends.specs.Ended.{EndAt, Ended, d-bool, d-int, d-var, d-now, d-last, d-let, d-if, d-op, d-call, d-con, d-case, d-adj, d-fit, EndedAll, ds-nil, ds-cons}
 use Rattle.ends.specs.Lengths.{size-some, result-some, case-long, adj-long}
-use Rattle.ends.specs.Walks.{Kept, Noted, Walked, EndedHere}
+use Rattle.ends.specs.Walks.{Kept, Noted, EndedHere, WalkedOver}
 use Rattle.ends.specs.KeptLaws.{past-beyond, Same, same-inside, Both, here-kept, case-kept, size-kept}
 
 abbrev pub Before : List ℕ → ℕ → List ℕ → ℕ → Expr → Type 0
@@ -108,21 +109,21 @@ pub record Began (line : List ℕ) (from at : ℕ) (e : Expr) (ends ends′ : Li
   pub kept : Kept (from + at) (from + partsPlace line at e) ends ends′
 
 -- ---- a case: its subject was walked over, and where the return type ends was noted
-module _ {line ends walked ends′ : List ℕ} {from at next : ℕ} {result first : Cursor} where
+module _ {line ends walked ends′ : List ℕ} {from at next : ℕ} {subject : Passed} {first : Cursor} where
   pub case-began : (t : ℕ) {e : Expr} {r : ResultType} (bs : Exprs) → next ≡ past line at 2 → Spells exprBytes line next e → Spells resultBytes line (past line next (length (exprBytes e))) r → from + length line ≤ textMost →
-      Walked (EndedHere from line next e) line from next (length (exprBytes e)) ends walked result → first .at ≡ past line (past line next (length (exprBytes e))) (length (resultBytes r)) → length walked ≡ textMost →
-      Noted from (result .at) (first .at) walked ends′ → Began line from at (ecase t e r bs) ends ends′
+      WalkedOver line from next e ends walked subject → first .at ≡ past line (past line next (length (exprBytes e))) (length (resultBytes r)) → length walked ≡ textMost →
+      Noted from (subject .behind .at) (first .at) walked ends′ → Began line from at (ecase t e r bs) ends ends′
   case-began t {e} {r} bs q s s₂ room w stops long n =
-      let place : result .at ≡ past line next (length (exprBytes e)) = w .stops in
+      let place : subject .behind .at ≡ past line next (length (exprBytes e)) = w .stops in
       let noted : Noted from (past line next (length (exprBytes e))) (first .at) walked ends′ = subst (λ m. Noted from m (first .at) walked ends′) place n in
-      let subject : EndedHere from line next e ends′ = here-kept walked ends′ from line (w .told) (record { fits = spells-left s; same = noted-before noted }) in
+      let told : EndedHere from line next e ends′ = here-kept walked ends′ from line (w .told) (record { fits = spells-left s; same = noted-before noted }) in
       let type : EndAt resultBytes ends′ from line (past line next (length (exprBytes e))) r = noted-end noted long room (result-some r) s₂ stops in
       let later : at ≤ next = omega (arith, q, past-least line at 2) in
       let ends : past line next (length (exprBytes e)) < first .at = omega (arith, stops, past-beyond line (past line next (length (exprBytes e))) (length (resultBytes r)) (result-some r) (spells-left s₂)) in
       let whole : first .at ≡ partsPlace line at (ecase t e r bs) = stops ∙ ap (λ (m : ℕ). past line (past line m (length (exprBytes e))) (length (resultBytes r))) q in
       let onward : next ≤ past line next (length (exprBytes e)) = past-least line next (length (exprBytes e)) in
       record {
-        told = subst (λ (m : ℕ). EndedAll ends′ from line m (econs e enil) × EndAt resultBytes ends′ from line (past line m (length (exprBytes e))) r) q (ds-cons (subject .end) (subject .parts) ds-nil, type);
+        told = subst (λ (m : ℕ). EndedAll ends′ from line m (econs e enil) × EndAt resultBytes ends′ from line (past line m (length (exprBytes e))) r) q (ds-cons (told .end) (told .parts) ds-nil, type);
         kept = record {
           before = λ i less. noted .others i (λ same. omega (arith, less, same, later, onward)) ∙ w .kept .before i (omega (arith, less, later));
           behind = λ i le. noted .others i (λ same. omega (arith, le, same, ends, whole)) ∙ w .kept .behind i (omega (arith, le, ends, whole));

@@ -1,5 +1,6 @@
 pub mod Ended
 pub mod EndOf
+pub mod Gathered
 pub mod Lengths
 pub mod Walks
 pub mod KeptLaws

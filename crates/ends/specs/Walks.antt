@@ -1,11 +1,13 @@
 -- What the functions that note ends promise: for every scope whose types and arities the tables tell, and every expression within the
--- limits that is spelled there, where it ends, that the table tells it and its parts, and that all other words are as they were.
+-- limits that is spelled there, where it ends, that the table tells it and its parts, that all other words are as they were, and which
+-- channels its `13`s name.
 use Prim.Native.Nat.{ℕ, _+_, _≤_, _<_}
 use mathlib.Core.List.{List}
 use mathlib.Core.Path.{_≡_}
 use lib.ListN.{length, getD}
 use Rattle.language.specs.Limits.{textMost}
 use Rattle.language.specs.Syntax.{Expr, Exprs}
+use Rattle.language.specs.Order.{readings, allReadings}
 use Rattle.language.specs.Format.{exprBytes, exprsBytes}
 use Rattle.language.specs.Scope.{Scope}
 use Rattle.language.specs.Within.{WithinExpr}
@@ -13,6 +15,8 @@ use Rattle.text.specs.declared.Cursor.{Cursor}
 use Rattle.text.specs.Places.{past}
 use Rattle.encoding.specs.Spells.{Spells}
 use Rattle.heads.specs.Skips.{Shapes, Skippable, Over}
+use Rattle.ends.specs.declared.walk.Passed.{Passed}
+use Rattle.ends.specs.Gathered.{Gathers, Joins}
 use Rattle.ends.specs.Ended.{endIn, EndAt, Ended, EndedAll}
 
 -- the words outside a range are as they were
@@ -31,10 +35,16 @@ pub record NotedOver {A : Type 0} (bytes : A → List ℕ) (Limited : A → Type
   pub long : length ends ≡ textMost
   pub noted : Noted from at (r .at) ends ends′
 
--- n bytes from a place on were walked over, and the table tells of them
-pub record Walked (Told : List ℕ → Type 0) (line : List ℕ) (from at n : ℕ) (ends ends′ : List ℕ) (r : Cursor) : Type 0 where
-  pub stops : r .at ≡ past line at n
+-- a cursor, and the set of what was read up to it
+pub record Reached (behind : Cursor) (readings : ℕ) (r : Passed) : Type 0 where
+  pub place : r .behind ≡ behind
+  pub read : r .readings ≡ readings
+
+-- n bytes from a place on were walked over, the table tells of them, and what they read was gathered
+pub record Walked (Told : List ℕ → Type 0) (Read : ℕ → Type 0) (line : List ℕ) (from at n : ℕ) (ends ends′ : List ℕ) (r : Passed) : Type 0 where
+  pub stops : r .behind .at ≡ past line at n
   pub told : Told ends′
+  pub read : Read (r .readings)
   pub kept : Kept (from + at) (from + past line at n) ends ends′
 
 -- where an expression ends, and its parts
@@ -42,14 +52,20 @@ pub record EndedHere (from : ℕ) (line : List ℕ) (at : ℕ) (e : Expr) (ends 
   pub end : EndAt exprBytes ends from line at e
   pub parts : Ended ends from line at e
 
-pub record Walks (line types functions : List ℕ) (from : ℕ) (c : Cursor) (levels : ℕ) (ends ends′ : List ℕ) (r : Cursor) : Type 0 where
-  pub says : (S : Scope) (e : Expr) → Shapes types functions S → WithinExpr levels S e → Spells exprBytes line (c .at) e → from + length line ≤ textMost →
-      Walked (EndedHere from line (c .at) e) line from (c .at) (length (exprBytes e)) ends ends′ r
+-- an expression was walked over; several were, behind what was passed before
+abbrev pub WalkedOver : List ℕ → ℕ → ℕ → Expr → List ℕ → List ℕ → Passed → Type 0
+WalkedOver line from at e ends ends′ r = Walked (EndedHere from line at e) (Gathers (readings e)) line from at (length (exprBytes e)) ends ends′ r
 
-pub record WalksAll (line types functions : List ℕ) (from : ℕ) (c : Cursor) (levels n : ℕ) (ends ends′ : List ℕ) (r : Cursor) : Type 0 where
-  pub says : (es : Exprs) → Skippable types functions levels n es → Spells exprsBytes line (c .at) es → from + length line ≤ textMost →
-      Walked (λ (t : List ℕ). EndedAll t from line (c .at) es) line from (c .at) (length (exprsBytes es)) ends ends′ r
+abbrev pub WalkedBehind : List ℕ → ℕ → Passed → Exprs → List ℕ → List ℕ → Passed → Type 0
+WalkedBehind line from d es ends ends′ r =
+    Walked (λ (t : List ℕ). EndedAll t from line (d .behind .at) es) (Joins (allReadings es) (d .readings)) line from (d .behind .at) (length (exprsBytes es)) ends ends′ r
 
--- of n expressions m are left, from d on: what is done with these decides the whole
-pub record WalksOn (line types functions : List ℕ) (from : ℕ) (c : Cursor) (levels n : ℕ) (ends : List ℕ) (d : Cursor) (m : ℕ) (ends′ : List ℕ) : Type 0 where
-  pub rest : {t : List ℕ} {r : Cursor} → WalksAll line types functions from d levels m ends′ t r → WalksAll line types functions from c levels n ends t r
+pub record Walks (line types functions : List ℕ) (from : ℕ) (c : Cursor) (levels : ℕ) (ends ends′ : List ℕ) (r : Passed) : Type 0 where
+  pub says : (S : Scope) (e : Expr) → Shapes types functions S → WithinExpr levels S e → Spells exprBytes line (c .at) e → from + length line ≤ textMost → WalkedOver line from (c .at) e ends ends′ r
+
+pub record WalksAll (line types functions : List ℕ) (from : ℕ) (d : Passed) (levels n : ℕ) (ends ends′ : List ℕ) (r : Passed) : Type 0 where
+  pub says : (es : Exprs) → Skippable types functions levels n es → Spells exprsBytes line (d .behind .at) es → from + length line ≤ textMost → WalkedBehind line from d es ends ends′ r
+
+-- of n expressions m are left, behind d: what is done with these decides the whole
+pub record WalksOn (line types functions : List ℕ) (from : ℕ) (c : Passed) (levels n : ℕ) (ends : List ℕ) (d : Passed) (m : ℕ) (ends′ : List ℕ) : Type 0 where
+  pub rest : {t : List ℕ} {r : Passed} → WalksAll line types functions from d levels m ends′ t r → WalksAll line types functions from c levels n ends t r

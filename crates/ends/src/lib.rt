@@ -1,14 +1,15 @@
-// Where the expressions of a file end: a table over the places of the text, filled once.
+// Where the expressions of a file end: a table over the places of the text, filled once. On the same walk, what each node reads by `13`.
 mod walk;
 
 ghost use mathlib.Core.Path.{_≡_};
 ghost use Prim.Native.Nat.{_*_, _<_};
 ghost use Rattle.language.specs.Limits.{byteRange};
-ghost use Rattle.index.specs.Sections.{framesOf};
+ghost use Rattle.index.specs.Sections.{SmallCounts, framesOf};
 ghost use Rattle.index.specs.Indexed.{framePlace};
 ghost use Rattle.ends.specs.Ended.{endIn};
 ghost use Rattle.ends.specs.EndOf.{endOf};
-ghost use Rattle.ends.specs.Told.{startOf, LineEnds, TellsLines, TellsUpdates, TellsInitials};
+ghost use Rattle.ends.specs.Told.{startOf, LineEnds, TellsLines, WalksUpdates, TellsUpdates, TellsInitials, TellsReadings};
+use index::Counts;
 use index::INDEX_WORDS;
 use index::channels::initial_start;
 use index::channels::update_start;
@@ -16,7 +17,9 @@ use index::frame_counts;
 use index::frames::frame_line;
 use index::frames::frame_place;
 use index::functions::body_start;
+use index::put;
 use language::limits::NESTING_MOST;
+use language::limits::NODES_MOST;
 use language::limits::TEXT_MOST;
 use text::Cursor;
 use walk::expression;
@@ -60,19 +63,20 @@ pub fn end_of(ends: &[u16; TEXT_MOST], index: &[u32; INDEX_WORDS], line: u32, at
     end_from(ends, frame_place(index, line), at)
 }
 
-// Notes the ends in the expression that starts at a place of line i, from 0.
+// Notes the ends in the expression that starts at a place of line i, from 0, and gives the channels that its `13`s name.
 fn line_ends(
     text: &[u8],
     index: &[u32; INDEX_WORDS],
     ends: &mut [u16; TEXT_MOST],
     i: u32,
     at: Cursor,
-)
-    ensures { λ _. ⌜ LineEnds (now (text .entry)) (now (index .entry)) i (at .at) (now (ends .entry)) (now (ends .exit)) ⌝ }
+) -> u32
+    ensures { λ r. ⌜ LineEnds (now (text .entry)) (now (index .entry)) i (at .at) (now (ends .entry)) (now (ends .exit)) r ⌝ }
 {
     let line = frame_line(text, index, i);
     let from = frame_place(index, i);
-    expression(line, index, ends, from, at, NESTING_MOST);
+    let whole = expression(line, index, ends, from, at, NESTING_MOST);
+    whole.readings
 }
 
 // Where such a part of function or channel i starts in its line.
@@ -114,17 +118,50 @@ fn lines_ends(
     }
 }
 
-// Fills the table for the body of every function and the update of every node of a file that was read.
-pub fn find_ends(text: &[u8], index: &[u32; INDEX_WORDS], ends: &mut [u16; TEXT_MOST])
-    ensures { λ _. ⌜ TellsUpdates (now (text .entry)) (now (index .entry)) (now (ends .exit)) ⌝ }
+// Notes the ends in the update of every node, and stores the channels that it reads by `13`.
+fn updates_ends(
+    text: &[u8],
+    index: &[u32; INDEX_WORDS],
+    ends: &mut [u16; TEXT_MOST],
+    readings: &mut [u32; NODES_MOST],
+    c: Counts,
+)
+    requires { ⌜ SmallCounts c ⌝ }
+    ensures { λ _. ⌜ WalksUpdates (now (text .entry)) (now (index .entry)) c (c .nodes) (now (ends .entry)) (now (ends .exit)) (now (readings .exit)) ⌝ }
+{
+    let before = c.types + c.functions + c.inputs;
+    let mut k: u32 = 0;
+    while k < c.nodes {
+        let at = part_start(index, Part::Update, c.inputs + k);
+        let set = line_ends(text, index, ends, before + k, at);
+        put(readings, k as usize, set);
+        k += 1;
+    }
+}
+
+// Fills the table for the body of every function and the update of every node of a file that was read, and stores what each node reads.
+pub fn find_ends(
+    text: &[u8],
+    index: &[u32; INDEX_WORDS],
+    ends: &mut [u16; TEXT_MOST],
+    readings: &mut [u32; NODES_MOST],
+)
+    ensures { λ _. ⌜ TellsUpdates (now (text .entry)) (now (index .entry)) (now (ends .exit)) × TellsReadings (now (text .entry)) (now (index .entry)) (now (readings .exit)) ⌝ }
 {
     let c = frame_counts(index);
     lines_ends(text, index, ends, Part::Body, c.types, 0, c.functions);
-    let before = c.types + c.functions + c.inputs;
-    lines_ends(text, index, ends, Part::Update, before, c.inputs, c.nodes);
+    updates_ends(text, index, ends, readings, c);
 }
 
-// The same for the initial value of every channel in place of the updates.
+// What each node of a file that was read reads by `13`: a set of channels for each.
+pub fn find_readings(text: &[u8], index: &[u32; INDEX_WORDS], readings: &mut [u32; NODES_MOST])
+    ensures { λ _. ⌜ TellsReadings (now (text .entry)) (now (index .entry)) (now (readings .exit)) ⌝ }
+{
+    let mut ends = [0u16; TEXT_MOST];
+    updates_ends(text, index, &mut ends, readings, frame_counts(index));
+}
+
+// Fills the table for the body of every function and the initial value of every channel.
 pub fn find_initial_ends(text: &[u8], index: &[u32; INDEX_WORDS], ends: &mut [u16; TEXT_MOST])
     ensures { λ _. ⌜ TellsInitials (now (text .entry)) (now (index .entry)) (now (ends .exit)) ⌝ }
 {

@@ -13,8 +13,9 @@ use Rattle.language.specs.Format.{opCode, exprBytes, sizeBytes, resultBytes}
 use Rattle.language.specs.Scope.{Scope}
 use Rattle.language.specs.Within.{WithinExpr, ws-nil, ws-cons}
 use Rattle.language.specs.Evaluator.{parameterCount}
-use Rattle.theory.specs.Lists.{false-is-not-true, le-or-lt}
+use Rattle.theory.specs.Lists.{false-is-not-true}
 use Rattle.text.specs.declared.Cursor.{Cursor}
+use Rattle.theory.specs.Places.{below-or-not}
 use Rattle.text.specs.Places.{past}
 use Rattle.encoding.specs.Spells.{Spells}
 use Rattle.encoding.specs.FrameLines.{lineAt}
@@ -146,8 +147,7 @@ module _ {text index ends : List ℕ} {line : ℕ} {P : File} {S : Scope} (i : I
   parts-of (Operator o) parts h =
       let y = op-head h (s .spelled) (s .within) refl in
       let ended = ended-at (shown h refl .0 .ends) (op-ended (ended-as _ s (y .is))) in
-      le-or-lt operatorAnd o
-      (λ high. one-part (y .is) c-op refl (left-alone (y .op) _ _ (omega (arith, y .code))) (one-side o high) (y .within) (y .spelled) (first-alone ended))
+      below-or-not o operatorAnd
       (λ low. rw (y .is) (record {
         compound = c-op;
         reserved = refl;
@@ -159,6 +159,7 @@ module _ {text index ends : List ℕ} {line : ℕ} {P : File} {S : Scope} (i : I
           ended = ended;
         });
       }))
+      (λ high. one-part (y .is) c-op refl (left-alone (y .op) _ _ (omega (arith, y .code))) (one-side o high) (y .within) (y .spelled) (first-alone ended))
   parts-of (Call f) parts h =
       let y = call-head h (s .spelled) (s .within) refl in
       let told = known-shapes i k in

@@ -39,7 +39,6 @@ use Rattle.input_cells.specs.declared.Inputs.{Inputs}
 use Rattle.input_cells.specs.declared.Inputs.the-variants.{Used as FedUsed, Full}
 use Rattle.input_cells.specs.Lays.{InputsLaid, PutAs, put-all, put-full, within, Within as FedWithin}
 use Rattle.new_cells.specs.Steps.{Board as BoardHas, not-grown}
-use Rattle.ends.specs.Told.{TellsUpdates}
 use Rattle.evaluation_steps.specs.KeepLaws.{Moved, kept-then, channel-kept}
 use Rattle.iteration.specs.declared.nodes.Updated.{Updated}
 use Rattle.iteration.specs.declared.nodes.Updated.the-variants.{Refused}
@@ -137,9 +136,9 @@ was-within {cells} {used} {n} w d = go (subst (FedWithin cells used) d w)
     go : FedWithin cells used (FedUsed n) → (used ≤ n) × (n ≤ cells)
     go (within le few) = (le, few)
 
-module _ (text index line : List ℕ) (cells calls : ℕ) (row words slots : List ℕ) (b : Begun index words cells) {used : ℕ} (u : used ≡ usedIn words) {x : Inputs} {words₁ row₁ : List ℕ} (v : InputsLaid line index cells used words row x words₁ row₁) where
+module _ (text index ends readings line : List ℕ) (cells calls : ℕ) (row words slots : List ℕ) (b : Begun index words cells) {used : ℕ} (u : used ≡ usedIn words) {x : Inputs} {words₁ row₁ : List ℕ} (v : InputsLaid line index cells used words row x words₁ row₁) where
   -- what is known of a valid state
-  module _ {P : File} {s : State} {vs : List Tree} (g : Given text index line cells words P s vs) where
+  module _ {P : File} {s : State} {vs : List Tree} (g : Given text index ends readings line cells words P s vs) where
     limits : Within P
     limits = g .indexed .within
 
@@ -161,7 +160,7 @@ module _ (text index line : List ℕ) (cells calls : ℕ) (row words slots : Lis
     put-as : PutAs P row row₁ words₁ (putInputs P cells 0 vs (s .heap) []) x
     put-as = v .says text P (g .indexed) (s .heap) heap (g .allowed)
 
-  pub fed-full : {c : ℕ} {r : Updated} → x ≡ Full c → r ≡ fullAt x → FeedsAndUpdates text index line cells calls row words slots r row₁ words₁ slots
+  pub fed-full : {c : ℕ} {r : Updated} → x ≡ Full c → r ≡ fullAt x → FeedsAndUpdates text index ends readings line cells calls row words slots r row₁ words₁ slots
   unfolding bind
   fed-full {c} {r} d q =
       let told : r ≡ Refused heapSpent c = q ∙ ap fullAt d in
@@ -187,7 +186,7 @@ module _ (text index line : List ℕ) (cells calls : ℕ) (row words slots : Lis
     pub fed-board : BoardHas words₁ n
     fed-board = record { fits = omega (arith, cells-within .1, b .board, v .kept .long); small = omega (arith, b .board, b .most, v .kept .long) }
 
-    module _ {ends : List ℕ} (t : TellsUpdates text index ends) {P : File} {s : State} {vs : List Tree} (g : Given text index line cells words P s vs) (taken : ChannelsTaken words row) where
+    module _ {P : File} {s : State} {vs : List Tree} (g : Given text index ends readings line cells words P s vs) (taken : ChannelsTaken words row) where
       fed : WasFed P row row₁ words₁ (putInputs P cells 0 vs (s .heap) []) n
       fed = was-fed (put-as g) d
 
@@ -197,15 +196,15 @@ module _ (text index line : List ℕ) (cells calls : ℕ) (row words slots : Lis
       now-long : length (fed .state .roots) ≡ length (P .inputs)
       now-long = ap (λ (q : State). length (q .roots)) (sym built) ∙ all-roots P vs (s .heap) [] ∙ omega (arith, inputs-count P vs (fit g))
 
-      old-long : length (drop (length (P .inputs)) (s .roots)) ≡ length (P .nodes)
-      old-long = length-drop (length (P .inputs)) (s .roots) ∙ omega (arith, roots-long g)
+      all-long : length (fed .state .roots ++ drop (length (P .inputs)) (s .roots)) ≡ channelTotal P
+      all-long = length-append (fed .state .roots) (drop (length (P .inputs)) (s .roots)) ∙ omega (arith, now-long, length-drop (length (P .inputs)) (s .roots), roots-long g)
 
-      stage : NodeStage text index ends row₁ words₁ n P cells (s .roots) (fed .state .roots) (drop (length (P .inputs)) (s .roots)) (fed .state .heap)
+      stage : NodeStage text index ends row₁ words₁ n P cells (s .roots) (fed .state .roots ++ drop (length (P .inputs)) (s .roots)) (fed .state .heap)
       stage =
           let w = limits g in
           record {
             indexed = g .indexed;
-            told = t .says P (g .indexed);
+            told = g .told;
             standing = fed-row words row row₁ (fed .state .roots) (s .roots) (length (P .inputs)) (channelTotal P) now-long (roots-long g) (omega arith) (omega (arith, w .fewInputs, w .fewNodes)) (roots-are g) taken (fed .roots);
             before = λ k less. channel-kept fed-moved k (omega (arith, less, w .fewInputs, w .fewNodes)) ∙ roots-are g k less;
             lies = record {
@@ -215,10 +214,10 @@ module _ (text index line : List ℕ) (cells calls : ℕ) (row words slots : Lis
             };
           }
 
-    pub fed-done : {ends : List ℕ} {r : Updated} {row₂ words₂ slots₂ : List ℕ} → TellsUpdates text index ends → UpdatesNodes text index ends n calls row₁ words₁ slots r row₂ words₂ slots₂ → FeedsAndUpdates text index line cells calls row words slots r row₂ words₂ slots₂
+    pub fed-done : {r : Updated} {row₂ words₂ slots₂ : List ℕ} → UpdatesNodes text index ends readings n calls row₁ words₁ slots r row₂ words₂ slots₂ → FeedsAndUpdates text index ends readings line cells calls row words slots r row₂ words₂ slots₂
     unfolding bind
-    fed-done t w = record {
-      says = λ {P} {s} {vs} g taken. rw (fed t g taken .is) (w .says (stage t g taken) (now-long t g taken) (old-long t g taken));
+    fed-done w = record {
+      says = λ {P} {s} {vs} g taken. rw (fed g taken .is) (w .says (stage g taken) (g .gathered) (all-long g taken));
       kept = kept-then fed-moved (w .kept);
       long = w .long;
     }

@@ -1,6 +1,6 @@
 -- A node's update, return by return.
 use Prim.Native.Nat.{ℕ, _+_, _*_, _%_, _≤_, _<_}
-use mathlib.Core.List.{List, [], _++_}
+use mathlib.Core.List.{List, []}
 use mathlib.Core.Option.{some}
 use mathlib.Core.Path.{_≡_, refl, sym, ap, _∙_, subst, subst₂}
 use native.Mathlib.Omega.{arith}
@@ -46,9 +46,9 @@ word-is-named word le e = rw (le-ltb word tagStep le) e
 
 -- ---- the evaluation of an update
 module _ (text index ends row : List ℕ) (c used calls : ℕ) (words slots : List ℕ) {at : Cursor} (e : at .at ≡ updateAt (channelsOf index) c) {x : Value} {words′ slots′ : List ℕ} (v : EvalsChannel text index ends row c (at .at) used calls words slots x words′ slots′) where
-  module _ {P : File} {cells : ℕ} {last now old : List ℕ} {h : List Cell} (m : ℕ) (n : Node) (st : NodeStage text index ends row words used P cells last now old h) (its : c ≡ length (P .inputs) + m) (there : look (P .nodes) m ≡ some n) where
+  module _ {P : File} {cells : ℕ} {last now : List ℕ} {h : List Cell} (m : ℕ) (n : Node) (st : NodeStage text index ends row words used P cells last now h) (its : c ≡ length (P .inputs) + m) (there : look (P .nodes) m ≡ some n) where
     abbrev UpdateAt : ℕ → ℕ → Type 0
-    UpdateAt i j = OfChannel text index ends row words used P cells i j i (channelTotal P) (record { now = now ++ old; last = last }) h (n .update)
+    UpdateAt i j = OfChannel text index ends row words used P cells i j (channelTotal P) (channelTotal P) (record { now = now; last = last }) h (n .update)
 
     update-known : UpdateAt c (at .at)
     update-known =
@@ -57,7 +57,7 @@ module _ (text index ends row : List ℕ) (c used calls : ℕ) (words slots : Li
           indexed = st .indexed;
           bodies = st .told .bodies;
           less = omega (arith, less);
-          nowCells = λ k below. st .standing k (omega (arith, below, less));
+          nowCells = st .standing;
           lastCells = st .before;
           few = omega (arith, st .indexed .within .fewInputs, st .indexed .within .fewNodes);
           lies = st .lies;
@@ -66,7 +66,7 @@ module _ (text index ends row : List ℕ) (c used calls : ℕ) (words slots : Li
           ended = st .told .each m there;
         })
 
-    answer : Agrees P words′ x (eval P (run P cells calls) cells (record { now = now ++ old; last = last }) (n .update) [] (length slots) h)
+    answer : Agrees P words′ x (eval P (run P cells calls) cells (record { now = now; last = last }) (n .update) [] (length slots) h)
     answer = v .says update-known
 
     declared : declaredAt (channelsOf index) c ≡ declaredWord (n .declared)
@@ -78,7 +78,7 @@ module _ (text index ends row : List ℕ) (c used calls : ℕ) (words slots : Li
   pub node-refused : {k : ℕ} → x ≡ Refused k → UpdatesNode text index ends row c used calls words slots x words′ slots′
   unfolding nodeValue bindOut
   node-refused d = record {
-    says = λ {P} {cells} {last} {now} {old} m n st at there.
+    says = λ {P} {cells} {last} {now} m n st at there.
         let k = not-valued (answer m n st at there) d in
         rw (d, k) is-refused;
     kept = v .kept;
@@ -89,7 +89,7 @@ module _ (text index ends row : List ℕ) (c used calls : ℕ) (words slots : Li
     pub node-large : {r : Value} → bound < size → r ≡ Refused valueTooLarge → UpdatesNode text index ends row c used calls words slots r words′ slots′
     unfolding nodeValue bindOut needs
     node-large large q = rw q (record {
-      says = λ {P} {cells} {last} {now} {old} m n st at there.
+      says = λ {P} {cells} {last} {now} m n st at there.
           let u = valued (answer m n st at there) d in
           rw (u .is, lt-leb (sizeIn (cellAt (u .heap) cell)) (sizeOfType (n .declared)) (omega (arith, large, b, most m n st at there, s .says (u .heap) (u .held)))) is-refused;
       kept = record { long = v .kept .long; low = v .kept .low; grown = not-grown };
@@ -99,7 +99,7 @@ module _ (text index ends row : List ℕ) (c used calls : ℕ) (words slots : Li
     pub node-done : {r : Value} → size ≤ bound → r ≡ Is cell more → UpdatesNode text index ends row c used calls words slots r words′ slots′
     unfolding nodeValue bindOut needs
     node-done {r} small q = rw q (record {
-      says = λ {P} {cells} {last} {now} {old} m n st at there.
+      says = λ {P} {cells} {last} {now} m n st at there.
           let u = valued (answer m n st at there) d in
           rw (u .is, le-leb (sizeIn (cellAt (u .heap) cell)) (sizeOfType (n .declared)) (omega (arith, small, b, most m n st at there, s .says (u .heap) (u .held)))) (is-value (u .held) (u .writable));
       kept = subst (Kept words words′ used) d (v .kept);

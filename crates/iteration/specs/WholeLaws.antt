@@ -15,8 +15,9 @@ use Rattle.language.specs.Syntax.{File, channelFrame}
 use Rattle.language.specs.Within.{All}
 use Rattle.language.specs.Heap.{Cell, Tree}
 use Rattle.language.specs.Slide.{State, slide}
+use Rattle.language.specs.Order.{order}
 use Rattle.language.specs.Layout.{padded, stateLength, stateWords, allZero}
-use Rattle.language.specs.Machine.{written, putInputs, updateNodes, iterateState}
+use Rattle.language.specs.Machine.{written, putInputs, updateNodes, iterateIn, iterateState}
 use Rattle.theory.specs.FrameNumbers.{channelTotal}
 use Rattle.theory.specs.Lists.{both-right, take-fewer, drop-more, sets-append}
 use Rattle.theory.specs.Places.{below-or-not}
@@ -80,14 +81,14 @@ put-done {row} {words} {words₁} {c} {n} g le all = let same : c ≡ n = omega 
 
 -- ---- what the definition does, in two steps
 abbrev fedAndUpdated : File → ℕ → ℕ → ℕ → State → List Tree → Result State
-fedAndUpdated P cells slots calls s vs = bind (putInputs P cells 0 vs (s .heap) []) (λ q. updateNodes P (record { cells = cells; slots = slots; calls = calls }) (s .roots) (length (P .inputs)) (P .nodes) (q .heap) (q .roots) (drop (length (P .inputs)) (s .roots)))
+fedAndUpdated P cells slots calls s vs = bind (putInputs P cells 0 vs (s .heap) []) (λ q. updateNodes P (record { cells = cells; slots = slots; calls = calls }) (s .roots) (order P) (q .heap) (q .roots ++ drop (length (P .inputs)) (s .roots)))
 
 whole-is : (P : File) (cells slots calls : ℕ) (s : State) (vs : List Tree) → iterateState P (record { cells = cells; slots = slots; calls = calls }) s vs ≡ bind (fedAndUpdated P cells slots calls s vs) (λ r. ok (slide r))
-unfolding iterateState bind
+unfolding iterateState iterateIn bind
 whole-is P cells slots calls s vs = by (putInputs P cells 0 vs (s .heap) [])
   where
     on : State → Result State
-    on q = updateNodes P (record { cells = cells; slots = slots; calls = calls }) (s .roots) (length (P .inputs)) (P .nodes) (q .heap) (q .roots) (drop (length (P .inputs)) (s .roots))
+    on q = updateNodes P (record { cells = cells; slots = slots; calls = calls }) (s .roots) (order P) (q .heap) (q .roots ++ drop (length (P .inputs)) (s .roots))
 
     by : (o : Result State) → bind o (λ q. bind (on q) (λ r. ok (slide r))) ≡ bind (bind o on) (λ r. ok (slide r))
     by (ok q) = refl
@@ -97,14 +98,14 @@ whole-is P cells slots calls s vs = by (putInputs P cells 0 vs (s .heap) [])
 record Stepped (P : File) (cells slots calls : ℕ) (s : State) (vs : List Tree) (full : State) : Type 0 where
   fed : State
   put : putInputs P cells 0 vs (s .heap) [] ≡ ok fed
-  updated : updateNodes P (record { cells = cells; slots = slots; calls = calls }) (s .roots) (length (P .inputs)) (P .nodes) (fed .heap) (fed .roots) (drop (length (P .inputs)) (s .roots)) ≡ ok full
+  updated : updateNodes P (record { cells = cells; slots = slots; calls = calls }) (s .roots) (order P) (fed .heap) (fed .roots ++ drop (length (P .inputs)) (s .roots)) ≡ ok full
 
 stepped : (P : File) (cells slots calls : ℕ) (s : State) (vs : List Tree) (full : State) → fedAndUpdated P cells slots calls s vs ≡ ok full → Stepped P cells slots calls s vs full
 unfolding bind
 stepped P cells slots calls s vs full e = by (putInputs P cells 0 vs (s .heap) []) refl e
   where
     on : State → Result State
-    on q = updateNodes P (record { cells = cells; slots = slots; calls = calls }) (s .roots) (length (P .inputs)) (P .nodes) (q .heap) (q .roots) (drop (length (P .inputs)) (s .roots))
+    on q = updateNodes P (record { cells = cells; slots = slots; calls = calls }) (s .roots) (order P) (q .heap) (q .roots ++ drop (length (P .inputs)) (s .roots))
 
     by : (o : Result State) → putInputs P cells 0 vs (s .heap) [] ≡ o → bind o on ≡ ok full → Stepped P cells slots calls s vs full
     by (ok q) p e = record { fed = q; put = p; updated = e }
@@ -162,8 +163,8 @@ zero-later (suc k) [] e = e
 zero-later (suc k) (x ∷ l) e = zero-later k l (both-right (eqb x 0) (allZero l) e)
 
 -- ---- a refusal, and the slide
-module _ (text index line : List ℕ) (cells calls : ℕ) (words scratch slots : List ℕ) (b : Begun index words cells) {row row₁ words₁ slots₁ : List ℕ} {x : Updated} (taken : ChannelsTaken words row) (f : FeedsAndUpdates text index line cells calls row words slots x row₁ words₁ slots₁) where
-  module _ {P : File} {s : State} {vs : List Tree} (g : Given text index line cells words P s vs) where
+module _ (text index ends readings line : List ℕ) (cells calls : ℕ) (words scratch slots : List ℕ) (b : Begun index words cells) {row row₁ words₁ slots₁ : List ℕ} {x : Updated} (taken : ChannelsTaken words row) (f : FeedsAndUpdates text index ends readings line cells calls row words slots x row₁ words₁ slots₁) where
+  module _ {P : File} {s : State} {vs : List Tree} (g : Given text index ends readings line cells words P s vs) where
     held : HoldsState cells words s
     held = loaded-held (g .indexed .within) (omega (arith, b .board)) (g .loaded)
 
@@ -177,10 +178,10 @@ module _ (text index line : List ℕ) (cells calls : ℕ) (words scratch slots :
   nothing-behind : (words₂ : List ℕ) → length words₂ ≡ length words → drop (stateLength cells) words₂ ≡ []
   nothing-behind words₂ long = ap (λ n. drop n words₂) (sym (b .board) ∙ sym long) ∙ drop-length words₂
 
-  pub iterates-refused : {used n c : ℕ} {words₂ : List ℕ} → used ≡ usedIn words → x ≡ Refused n c → words₂ ≡ cleared words₁ used cells → IteratesState text index line cells calls words scratch slots x words₂ scratch slots₁
+  pub iterates-refused : {used n c : ℕ} {words₂ : List ℕ} → used ≡ usedIn words → x ≡ Refused n c → words₂ ≡ cleared words₁ used cells → IteratesState text index ends readings line cells calls words scratch slots x words₂ scratch slots₁
   unfolding bind
   iterates-refused {used} {n} {c} {words₂} u d w =
-      subst (λ r. IteratesState text index line cells calls words scratch slots r words₂ scratch slots₁) (sym d) (record {
+      subst (λ r. IteratesState text index ends readings line cells calls words scratch slots r words₂ scratch slots₁) (sym d) (record {
         says = λ {P} {s} {vs} g zero. rw (whole-is P cells (length slots) calls s vs, not-full (f .says g taken) d) (is-refused (w ∙ cleared-restores words words₁ used cells (omega (arith, u, b .used)) (omega (arith, b .board))
             (ap (λ m. allZero (take (cellWords * (cells - m)) (drop (stateLength m) words))) (u ∙ held g .used) ∙ held g .beyond)
             (ap (λ m. take (stateLength m) words₁) u ∙ f .kept .low ∙ ap (λ m. take (stateLength m) words) (sym u))
@@ -210,18 +211,18 @@ module _ (text index line : List ℕ) (cells calls : ℕ) (words scratch slots :
       standing-long = row-length (λ k. getD row₁ k 0) n
 
       room : 1 + length standing ≤ length words₁
-      room = omega (arith, standing-long, all, b .few, b .board, full-moved .long)
+      room = omega (arith, standing-long, all, b .few .few, b .board, full-moved .long)
 
       all-long : length words₂ ≡ length words
       all-long = put-long put ∙ full-moved .long
 
       pub collects-there : {m : ℕ} → cells ≤ m → (n ≤ channelsMost) × ((stateLength top ≤ length words₂) × (top ≤ m))
-      collects-there enough = (omega (arith, all, b .few), (omega (arith, all-long, full-moved .fits), omega (arith, top-within, enough)))
+      collects-there enough = (omega (arith, all, b .few .few), (omega (arith, all-long, full-moved .fits), omega (arith, top-within, enough)))
 
       behind : (m : ℕ) → 1 + n ≤ m → drop m words₂ ≡ drop m words₁
       behind m le = ap (drop m) (put .is) ∙ row-behind words₁ standing room m (omega (arith, standing-long))
 
-      module _ {P : File} {s : State} {vs : List Tree} (g : Given text index line cells words P s vs) where
+      module _ {P : File} {s : State} {vs : List Tree} (g : Given text index ends readings line cells words P s vs) where
         last : IsFull P words₁ row₁ top (fedAndUpdated P cells (length slots) calls s vs)
         last = is-full (f .says g taken) d
 
@@ -242,7 +243,7 @@ module _ (text index line : List ℕ) (cells calls : ℕ) (words scratch slots :
 
         unused : allZero (drop n (take channelsMost (drop 1 words₂))) ≡ true
         unused =
-            let few : n ≤ channelsMost = omega (arith, all, b .few) in
+            let few : n ≤ channelsMost = omega (arith, all, b .few .few) in
             let as-roots : n ≡ length (s .roots) = counted ∙ sym (env-length (state-loaded (g .indexed .within) (g .loaded) .typed .holds .channels) ∙ channel-count P) in
             sym (channels-tested words₂ n few) ∙ ap (λ z. allZero (take (headerWords - (1 + n)) z)) (behind (1 + n) (le-refl (1 + n))) ∙ channels-tested words₁ n few ∙ ap (λ z. allZero (drop n z)) (header ∙ held g .channels) ∙
             ap (λ m. allZero (drop m (padded channelsMost (s .roots)))) as-roots ∙ padded-rest channelsMost (s .roots) (omega (arith, few, as-roots))
@@ -252,7 +253,7 @@ module _ (text index line : List ℕ) (cells calls : ℕ) (words scratch slots :
             let more = full-moved .more in
             let k : ℕ = cellWords * (top - usedIn words) in
             let place : stateLength (usedIn words) + k ≡ stateLength top = omega (arith, more) in
-            let same : drop (stateLength top) words₂ ≡ drop (stateLength top) words = behind (stateLength top) (omega (arith, all, b .few)) ∙ full-moved .high in
+            let same : drop (stateLength top) words₂ ≡ drop (stateLength top) words = behind (stateLength top) (omega (arith, all, b .few .few)) ∙ full-moved .high in
             let long : length (drop (stateLength top) words) ≤ cellWords * (cells - top) = omega (arith, length-drop (stateLength top) words, b .board, top-within) in
             ap (λ z. allZero (take (cellWords * (cells - top)) z)) same ∙ ap allZero (take-all (cellWords * (cells - top)) (drop (stateLength top) words) long) ∙
             ap allZero (sym (drop-drop k (stateLength (usedIn words)) words ∙ ap (λ m. drop m words) place)) ∙ zero-later k (drop (stateLength (usedIn words)) words) (clear g)
@@ -262,7 +263,7 @@ module _ (text index line : List ℕ) (cells calls : ℕ) (words scratch slots :
           text = text;
           file = P;
           indexed = g .indexed;
-          holds = subst (λ z. Holds z top (last .full .heap)) (sym (put .is)) (holds-sets standing words₁ 1 (omega (arith, standing-long, all, b .few)) (last .held));
+          holds = subst (λ z. Holds z top (last .full .heap)) (sym (put .is)) (holds-sets standing words₁ 1 (omega (arith, standing-long, all, b .few .few)) (last .held));
           writable = last .writable;
           linked = subst (λ (rs : List ℕ). Linked (record { heap = last .full .heap; roots = rs })) (sym roots-are) linked;
           room = top-within;
@@ -271,7 +272,7 @@ module _ (text index line : List ℕ) (cells calls : ℕ) (words scratch slots :
           beyond = beyond;
         }
 
-      pub iterates-done : {words₃ scratch₃ : List ℕ} → Collects index n top words₂ scratch words₃ scratch₃ → IteratesState text index line cells calls words scratch slots (Used top) words₃ scratch₃ slots₁
+      pub iterates-done : {words₃ scratch₃ : List ℕ} → Collects index n top words₂ scratch words₃ scratch₃ → IteratesState text index ends readings line cells calls words scratch slots (Used top) words₃ scratch₃ slots₁
       unfolding bind written
       iterates-done {words₃} {scratch₃} c = record {
         says = λ {P} {s} {vs} g zero. rw (whole-is P cells (length slots) calls s vs, last g .is) (is-done (c .says cells (last g .full .heap) (unslid g) zero ∙

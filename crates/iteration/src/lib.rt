@@ -1,11 +1,10 @@
-// One iteration on a valid state with an allowed line: the inputs' cells, then the nodes' updates in channel order, then the slide.
+// One iteration on a valid state with an allowed line: the inputs' cells, then the nodes' updates, then the slide.
 pub mod nodes;
 
 ghost use mathlib.Core.Path.{_≡_};
 ghost use Prim.Native.Nat.{_≤_};
 ghost use lib.ListN.{length};
 ghost use Rattle.iteration.specs.Whole.{ChannelsTaken, ChannelsPut, FeedsAndUpdates, Begun, IteratesState, fullAt};
-use ends::find_ends;
 use index::INDEX_WORDS;
 use index::frame_counts;
 use index::put;
@@ -13,6 +12,7 @@ use index::word_at;
 use input_cells::Inputs;
 use input_cells::put_inputs;
 use language::limits::CHANNELS_MOST;
+use language::limits::NODES_MOST;
 use language::limits::TEXT_MOST;
 use language::refusals::HEAP_SPENT;
 use language::refusals::NO_REFUSAL;
@@ -57,9 +57,11 @@ fn full_at(x: Inputs) -> Updated
 }
 
 // The inputs' values laid, and all nodes updated.
-fn feed_and_update(
+fn update(
     text: &[u8],
     index: &[u32; INDEX_WORDS],
+    ends: &[u16; TEXT_MOST],
+    readings: &[u32; NODES_MOST],
     channels: &mut [u32; CHANNELS_MOST],
     state: &mut [u32],
     slots: &mut [u32],
@@ -68,22 +70,32 @@ fn feed_and_update(
     calls: u32,
 ) -> Updated
     requires { ⌜ Begun (now index) (now state) cells ⌝ }
-    ensures { λ r. ⌜ FeedsAndUpdates (now (text .entry)) (now (index .entry)) (now (line .entry)) cells calls (now (channels .entry)) (now (state .entry)) (now (slots .entry)) r (now (channels .exit)) (now (state .exit)) (now (slots .exit)) ⌝ }
+    ensures { λ r. ⌜ FeedsAndUpdates (now (text .entry)) (now (index .entry)) (now (ends .entry)) (now (readings .entry)) (now (line .entry)) cells calls (now (channels .entry)) (now (state .entry)) (now (slots .entry)) r (now (channels .exit)) (now (state .exit)) (now (slots .exit)) ⌝ }
 {
     let used = used_cells(state);
     let x = put_inputs(line, index, state, channels, cells, used);
     let Inputs::Used(fed) = x else {
         return full_at(x);
     };
-    let mut ends = [0u16; TEXT_MOST];
-    find_ends(text, index, &mut ends);
-    update_nodes(text, index, &ends, channels, state, slots, fed, calls)
+    update_nodes(
+        text,
+        index,
+        ends,
+        readings,
+        channels,
+        state,
+        slots,
+        fed,
+        calls,
+    )
 }
 
 // The whole: a refusal leaves the state as it was; else it is slid.
 pub fn iterate_state(
     text: &[u8],
     index: &[u32; INDEX_WORDS],
+    ends: &[u16; TEXT_MOST],
+    readings: &[u32; NODES_MOST],
     state: &mut [u32],
     scratch: &mut [u32],
     slots: &mut [u32],
@@ -93,12 +105,23 @@ pub fn iterate_state(
 ) -> Updated
     requires { ⌜ Begun (now index) (now state) cells ⌝ }
     requires { ⌜ cells ≤ length (now scratch) ⌝ }
-    ensures { λ r. ⌜ IteratesState (now (text .entry)) (now (index .entry)) (now (line .entry)) cells calls (now (state .entry)) (now (scratch .entry)) (now (slots .entry)) r (now (state .exit)) (now (scratch .exit)) (now (slots .exit)) ⌝ }
+    ensures { λ r. ⌜ IteratesState (now (text .entry)) (now (index .entry)) (now (ends .entry)) (now (readings .entry)) (now (line .entry)) cells calls (now (state .entry)) (now (scratch .entry)) (now (slots .entry)) r (now (state .exit)) (now (scratch .exit)) (now (slots .exit)) ⌝ }
 {
     let mut channels = [0u32; CHANNELS_MOST];
     take_channels(state, &mut channels);
     let used = used_cells(state);
-    let x = feed_and_update(text, index, &mut channels, state, slots, line, cells, calls);
+    let x = update(
+        text,
+        index,
+        ends,
+        readings,
+        &mut channels,
+        state,
+        slots,
+        line,
+        cells,
+        calls,
+    );
     let Updated::Used(top) = x else {
         clear_cells(state, used, cells);
         return x;

@@ -1,9 +1,12 @@
-// The nodes' updates, one after the other: each is evaluated with the channels as they stand by then.
+// The nodes' updates, in the iteration's order: each is evaluated with the channels as they stand by then.
 ghost use mathlib.Core.Path.{_≡_};
 ghost use Rattle.new_cells.specs.Steps.{Board};
 ghost use Rattle.index.specs.Sections.{channelsOf};
 ghost use Rattle.index.specs.Indexed.{declaredAt};
+ghost use Rattle.node_order.specs.Files.{FewChannels};
 ghost use Rattle.iteration.specs.Promises.{sizeInWord, UpdatesNode, UpdatesNodes, handedOn};
+use channel_sets::first;
+use channel_sets::single;
 use evaluator::channels::channel_value;
 use index::INDEX_WORDS;
 use index::channels::declared_word;
@@ -11,10 +14,12 @@ use index::channels::update_start;
 use index::frame_counts;
 use index::put;
 use language::limits::CHANNELS_MOST;
+use language::limits::NODES_MOST;
 use language::limits::TEXT_MOST;
 use language::refusals::NO_REFUSAL;
 use language::refusals::VALUE_TOO_LARGE;
 use new_cells::Value;
+use node_order::next_node;
 use state_words::reads::size;
 use state_words::tags::CONSTRUCTOR_TAGS;
 use state_words::tags::word_size;
@@ -83,11 +88,12 @@ fn update_node(
     x
 }
 
-// All of them, in channel order.
+// All of them: again and again the lowest-numbered node not yet done whose readings of nodes are all done.
 pub fn update_nodes(
     text: &[u8],
     index: &[u32; INDEX_WORDS],
     ends: &[u16; TEXT_MOST],
+    readings: &[u32; NODES_MOST],
     channels: &mut [u32; CHANNELS_MOST],
     state: &mut [u32],
     slots: &mut [u32],
@@ -95,20 +101,29 @@ pub fn update_nodes(
     calls: u32,
 ) -> Updated
     requires { ⌜ Board (now state) used ⌝ }
-    ensures { λ r. ⌜ UpdatesNodes (now (text .entry)) (now (index .entry)) (now (ends .entry)) used calls (now (channels .entry)) (now (state .entry)) (now (slots .entry)) r (now (channels .exit)) (now (state .exit)) (now (slots .exit)) ⌝ }
+    requires { ⌜ FewChannels (now index) ⌝ }
+    ensures { λ r. ⌜ UpdatesNodes (now (text .entry)) (now (index .entry)) (now (ends .entry)) (now (readings .entry)) used calls (now (channels .entry)) (now (state .entry)) (now (slots .entry)) r (now (channels .exit)) (now (state .exit)) (now (slots .exit)) ⌝ }
 {
     let counts = frame_counts(index);
-    let end = counts.inputs + counts.nodes;
+    let inputs = counts.inputs;
+    let nodes = counts.nodes;
+    let mut done = first(inputs);
     let mut top = used;
-    let mut c = counts.inputs;
-    while c < end {
+    let mut k: u32 = 0;
+    while k < nodes {
+        let i = next_node(readings, done, inputs, nodes);
+        if nodes <= i {
+            return Updated::Used(top);
+        }
+        let c = inputs + i;
         let x = update_node(text, index, ends, channels, state, slots, c, top, calls);
         let Value::Is(cell, more) = x else {
             return refused_at(x, c);
         };
         put(channels, c as usize, cell);
         top = more;
-        c += 1;
+        done = done | single(c);
+        k += 1;
     }
     Updated::Used(top)
 }

@@ -7,13 +7,14 @@ use mathlib.Core.Logic.{_↔_}
 use mathlib.Core.Path.{_≡_}
 use lib.ListN.{length}
 use Rattle.language.specs.Limits.{textMost, instancesMost}
-use Rattle.language.specs.Refusals.{noFrame, textTooLong, noBaseConstructor, typesDisagree, sizeOutside, tooManyInstances, heapShort, environmentShort, stackShort, notLent}
+use Rattle.language.specs.Refusals.{noFrame, textTooLong, noBaseConstructor, typesDisagree, sizeOutside, tooManyInstances, heapShort, environmentShort, stackShort, notLent, selfReading}
 use Rattle.language.specs.Result.{ok}
-use Rattle.language.specs.Syntax.{File}
+use Rattle.language.specs.Syntax.{File, nodeChannel, channelFrame}
 use Rattle.language.specs.Format.{fileFrames}
 use Rattle.language.specs.Text.{textFrames}
 use Rattle.language.specs.Within.{Within}
 use Rattle.language.specs.PlainTyping.{WellPlain}
+use Rattle.language.specs.Order.{Acyclic, LowestSelfReader}
 use Rattle.language.specs.Estimate.{Estimate, stopped}
 use Rattle.language.specs.Typing.{WellSized}
 use Rattle.language.specs.Instances.{MoreThan, AtMost, Needed}
@@ -27,16 +28,27 @@ pub record TextOf (P : File) (t : List ℕ) : Type 0 where
   pub frames : textFrames t ≡ ok (fileFrames P)
   pub within : Within P
 
+-- 25: "some node reads itself through `13`, directly or by others .. the frame is the lowest such node's" (document 02, R-3)
+pub record SelfReading (t : List ℕ) (frame : ℕ) : Type 0 where
+  pub file : File
+  pub is : TextOf file t
+  pub plain : WellPlain file
+  pub node : ℕ
+  pub lowest : LowestSelfReader file node
+  pub named : frame ≡ channelFrame file (nodeChannel file node)
+
 -- the rules derive a file's sizes, its updates having the numbers xs, with at most 1,024 different instances
 pub record FewInstances (P : File) (xs : List Estimate) : Type 0 where
   pub sizes : WellSized P xs
   pub few : AtMost instancesMost (Needed sizes)
 
--- the text's frames are a file's, within the limits; its plain types agree; the rules derive its sizes, and x is what it needs
+-- the text's frames are a file's, within the limits; its plain types agree; no node reads itself; the rules derive its sizes, and x is
+-- what it needs
 pub record Derived (t : List ℕ) (x : Estimate) : Type 0 where
   pub file : File
   pub is : TextOf file t
   pub plain : WellPlain file
+  pub acyclic : Acyclic file
   pub updates : List Estimate
   pub sizes : FewInstances file updates
   pub numbers : x ≡ numbersNeeded file updates
@@ -63,17 +75,19 @@ pub record RefusedShort (t : List ℕ) (lent : Bool) (b : Board) (a : Answer) : 
   pub bounds : a .bounds ≡ stopped numbers
 
 -- demand 2 of the answer a to a text on a board, lent being whether all is lent that the call asks for. "Places go top to bottom, but 18
--- follows 9": each place of document 01's table by its condition.
+-- follows 9", and 25 is "tested after 9, before 18": each place of the table by its condition.
 pub record CheckerDemand (t : List ℕ) (lent : Bool) (b : Board) (a : Answer) : Type 0 where
   -- text and frame: 1 to 8
   pub text : ((textTooLong ≤ a .number) × (a .number ≤ noBaseConstructor)) ↔ ((P : File) → TextOf P t → ⊥)
   -- types: 9
   pub types : (a .number ≡ typesDisagree) ↔ ((P : File) × TextOf P t × (WellPlain P → ⊥))
+  -- order: 25, with its frame
+  pub order : (frame : ℕ) → ((a .number ≡ selfReading) × (a .frame ≡ frame)) ↔ SelfReading t frame
   -- lending: 18
-  pub lending : (a .number ≡ notLent) ↔ ((P : File) × TextOf P t × WellPlain P × (lent ≡ false))
+  pub lending : (a .number ≡ notLent) ↔ ((P : File) × TextOf P t × WellPlain P × Acyclic P × (lent ≡ false))
   -- sizes: 10 to 14; and 14 of a file whose sizes the rules derive
-  pub sizes : ((sizeOutside ≤ a .number) × (a .number ≤ tooManyInstances)) ↔ ((P : File) × TextOf P t × WellPlain P × (lent ≡ true) × ((x : Estimate) → Derived t x → ⊥))
-  pub many : {P : File} {xs : List Estimate} → TextOf P t → WellPlain P → (w : WellSized P xs) → (a .number ≡ tooManyInstances) ↔ ((lent ≡ true) × MoreThan instancesMost (Needed w))
+  pub sizes : ((sizeOutside ≤ a .number) × (a .number ≤ tooManyInstances)) ↔ ((P : File) × TextOf P t × WellPlain P × Acyclic P × (lent ≡ true) × ((x : Estimate) → Derived t x → ⊥))
+  pub many : {P : File} {xs : List Estimate} → TextOf P t → WellPlain P → Acyclic P → (w : WellSized P xs) → (a .number ≡ tooManyInstances) ↔ ((lent ≡ true) × MoreThan instancesMost (Needed w))
   -- board: 15 to 17
   pub short : (c : Answer) → heapShort ≤ c .number → c .number ≤ stackShort → (a ≡ c) ↔ RefusedShort t lent b c
   -- accepted

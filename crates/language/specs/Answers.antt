@@ -1,9 +1,10 @@
--- Demand 1 as types: what `check`, `start`, `iterate` and `write` answer and leave, for all input. Document 01, "By place"; document 02, R-1.
+-- Demand 1 as types: what `check`, `start`, `iterate` and `write` answer and leave, for all input. Document 01, "By place"; document 02, R-1
+-- and R-3.
 use Prim.Native.Nat.{ℕ, _+_, _≤_, _<_}
 use mathlib.Core.List.{List}
 use mathlib.Core.Path.{_≡_}
 use lib.ListN.{length, drop, replicate}
-use Rattle.language.specs.Refusals.{noRefusal, noFrame, textTooLong, badLine, badFrame, noBaseConstructor, typesDisagree, tooManyInstances, heapShort, notLent, badInputLine, heapSpent, valueTooLarge, bufferShort}
+use Rattle.language.specs.Refusals.{noRefusal, noFrame, textTooLong, badLine, badFrame, noBaseConstructor, typesDisagree, tooManyInstances, heapShort, notLent, badInputLine, heapSpent, valueTooLarge, bufferShort, selfReading}
 use Rattle.language.specs.Result.{choose}
 use Rattle.language.specs.Text.{isEmpty, linesOf, frameLines}
 use Rattle.language.specs.Estimate.{nothing}
@@ -23,6 +24,7 @@ pub record FrameNamed (t : List ℕ) (n frame : ℕ) : Type 0 where
   pub none-at-buffer : n ≡ bufferShort → frame ≡ noFrame
   pub least : badLine ≤ n → n ≤ tooManyInstances → 1 ≤ frame
   pub least-in-run : heapSpent ≤ n → n ≤ valueTooLarge → 1 ≤ frame
+  pub least-in-order : n ≡ selfReading → 1 ≤ frame
   pub most : (n ≡ badFrame → ⊥) → frame ≤ frameCount t
   pub one-after : frame ≤ frameCount t + 1
 
@@ -30,17 +32,19 @@ pub record FrameNamed (t : List ℕ) (n frame : ℕ) : Type 0 where
 abbrev pub Refused : Answer → Type 0
 Refused a = a .number ≡ noRefusal → ⊥
 
--- an answer of `check` or `start` is 0 or one of 1 to 18; "three bounds, zero except on acceptance by checker or start and in 15 to 17"
+-- an answer of `check` or `start` is 0, one of 1 to 18 or 25; "three bounds, zero except on acceptance by checker or start and in 15 to 17"
 pub record FileAnswer (t : List ℕ) (a : Answer) : Type 0 where
-  pub most : a .number ≤ notLent
+  pub most : a .number ≤ selfReading
+  pub gap : notLent < a .number → a .number ≡ selfReading
   pub bounds : Refused a → a .number ≤ tooManyInstances → a .bounds ≡ nothing
-  pub bounds-not-lent : a .number ≡ notLent → a .bounds ≡ nothing
+  pub bounds-beyond : notLent ≤ a .number → a .bounds ≡ nothing
   pub frame : FrameNamed t (a .number) (a .frame)
 
--- an answer of `iterate` is 0 or one of 1 to 9 and 18 to 23, and its bounds are zero
+-- an answer of `iterate` is 0, one of 1 to 9 and 18 to 23 or 25, and its bounds are zero
 pub record LineAnswer (t : List ℕ) (a : Answer) : Type 0 where
-  pub most : a .number ≤ valueTooLarge
+  pub most : a .number ≤ selfReading
   pub gap : typesDisagree < a .number → notLent ≤ a .number
+  pub gap-in-order : valueTooLarge < a .number → a .number ≡ selfReading
   pub bounds : a .bounds ≡ nothing
   pub frame : FrameNamed t (a .number) (a .frame)
 

@@ -12,7 +12,7 @@ use Rattle.language.specs.declared.codes.TextCodes.{TextCodes}
 use Rattle.language.specs.Limits.{byteRange, intRange, signBit, textMost, typesMost, functionsMost, inputsMost, nodesMost, channelsMost, constructorsMost, fieldsMost, sizeMost, parametersMost, conditionsMost, measuresMost, variablesMost, sizeVariablesMost, nestingMost, instancesMost, numberMost, cellsMost, slotsMost, callsMost, headerWords, cellWords, scratchWords}
 use Rattle.language.specs.ReadExpr.{fieldForms, typeForms, sizeForms, forms, ops, bools}
 use Rattle.language.specs.Reader.{relations}
-use Rattle.language.specs.Refusals.{noRefusal, noFrame, textTooLong, badLine, badFrame, badLength, badCode, badIndex, outsideLimits, noBaseConstructor, typesDisagree, sizeOutside, sizesDisagree, conditionFails, measureNotLess, tooManyInstances, heapShort, environmentShort, stackShort, notLent, badInputLine, heapSpent, environmentSpent, stackSpent, valueTooLarge, bufferShort}
+use Rattle.language.specs.Refusals.{noRefusal, noFrame, textTooLong, badLine, badFrame, badLength, badCode, badIndex, outsideLimits, noBaseConstructor, typesDisagree, sizeOutside, sizesDisagree, conditionFails, measureNotLess, tooManyInstances, heapShort, environmentShort, stackShort, notLent, badInputLine, heapSpent, environmentSpent, stackSpent, valueTooLarge, bufferShort, selfReading}
 use Rattle.language.specs.Codes.{kindType, kindFunction, kindInput, kindNode, kindFirst, kindInputLine}
 use Rattle.language.specs.Codes.{typeBool, typeInt, typeNamed, typeFirst, fieldBool, fieldInt, fieldOwn, fieldOther, fieldFirst}
 use Rattle.language.specs.Codes.{sizeNumber, sizeVariable, sizeSum, sizeDifference, sizeFirst, relationEqual, relationLess, relationAtMost, relationFirst}
@@ -27,7 +27,7 @@ abbrev pub boardLimits : BoardLimits
 boardLimits = record { instances = instancesMost; number = numberMost; cells = cellsMost; slots = slotsMost; calls = callsMost; «header_words» = headerWords; «cell_words» = cellWords; «scratch_words» = scratchWords }
 
 abbrev pub refusalNumbers : RefusalNumbers
-refusalNumbers = record { «no_refusal» = noRefusal; «no_frame» = noFrame; «text_too_long» = textTooLong; «bad_line» = badLine; «bad_frame» = badFrame; «bad_length» = badLength; «bad_code» = badCode; «bad_index» = badIndex; «outside_limits» = outsideLimits; «no_base_constructor» = noBaseConstructor; «types_disagree» = typesDisagree; «size_outside» = sizeOutside; «sizes_disagree» = sizesDisagree; «condition_fails» = conditionFails; «measure_not_less» = measureNotLess; «too_many_instances» = tooManyInstances; «heap_short» = heapShort; «environment_short» = environmentShort; «stack_short» = stackShort; «not_lent» = notLent; «bad_input_line» = badInputLine; «heap_spent» = heapSpent; «environment_spent» = environmentSpent; «stack_spent» = stackSpent; «value_too_large» = valueTooLarge; «buffer_short» = bufferShort }
+refusalNumbers = record { «no_refusal» = noRefusal; «no_frame» = noFrame; «text_too_long» = textTooLong; «bad_line» = badLine; «bad_frame» = badFrame; «bad_length» = badLength; «bad_code» = badCode; «bad_index» = badIndex; «outside_limits» = outsideLimits; «no_base_constructor» = noBaseConstructor; «types_disagree» = typesDisagree; «size_outside» = sizeOutside; «sizes_disagree» = sizesDisagree; «condition_fails» = conditionFails; «measure_not_less» = measureNotLess; «too_many_instances» = tooManyInstances; «heap_short» = heapShort; «environment_short» = environmentShort; «stack_short» = stackShort; «not_lent» = notLent; «bad_input_line» = badInputLine; «heap_spent» = heapSpent; «environment_spent» = environmentSpent; «stack_spent» = stackSpent; «value_too_large» = valueTooLarge; «buffer_short» = bufferShort; «self_reading» = selfReading }
 
 abbrev pub kindCodes : KindCodes
 kindCodes = record { «kind_type» = kindType; «kind_function» = kindFunction; «kind_input» = kindInput; «kind_node» = kindNode; «kind_first» = kindFirst; «kind_input_line» = kindInputLine }

@@ -5,12 +5,13 @@ use mathlib.Core.Bool.{Bool, true}
 use mathlib.Core.Logic.{_↔_}
 use mathlib.Core.Option.{none, some}
 use mathlib.Core.Path.{_≡_}
-use Rattle.language.specs.Refusals.{noRefusal, notLent, badInputLine, heapSpent}
+use Rattle.language.specs.Refusals.{noRefusal, notLent, badInputLine, heapSpent, valueTooLarge, selfReading}
 use Rattle.language.specs.Syntax.{Input, File, initialValues}
 use Rattle.language.specs.Within.{All, Within}
 use Rattle.language.specs.PlainTyping.{WellPlain}
 use Rattle.language.specs.Heap.{Tree, vnil}
 use Rattle.language.specs.Slide.{State}
+use Rattle.language.specs.Order.{Acyclic}
 use Rattle.language.specs.Layout.{loadState}
 use Rattle.language.specs.LineFormat.{inputText}
 use Rattle.language.specs.Line.{treesFit, lineTrees}
@@ -19,17 +20,19 @@ use Rattle.language.specs.Machine.{Board, Record, answer, refusal, writt
 use Rattle.language.specs.InitialValues.{FileBegins}
 use Rattle.language.specs.Iteration.{Iterates, IterationMeets}
 use Rattle.language.specs.Run.{channelTrees}
-use Rattle.language.specs.Acceptance.{TextOf}
+use Rattle.language.specs.Acceptance.{TextOf, SelfReading}
 
 -- values of the inputs' types, "no size above the declaration or a field's k"
 abbrev pub InputsFit : File → List Tree → Type 0
 InputsFit P vs = treesFit P vs (map (λ (i : Input). i .declared) (P .inputs)) ≡ true
 
--- what an iteration runs on, where none of 1 to 9, 18 and 19 is met: a file of right plain types, enough lent, a valid state, an allowed line
+-- what an iteration runs on, where none of 1 to 9, 25, 18 and 19 is met: a file of right plain types, no node of which reads itself, enough
+-- lent, a valid state, an allowed line
 pub record Runnable (t : List ℕ) (b : Board) (lent : Bool) (ws line : List ℕ) : Type 0 where
   pub file : File
   pub is : TextOf file t
   pub plain : WellPlain file
+  pub acyclic : Acyclic file
   pub enough : lent ≡ true
   pub before : State
   pub loads : loadState file (b .cells) ws ≡ some before
@@ -42,6 +45,7 @@ pub record NotLent (t : List ℕ) (b : Board) (lent : Bool) (ws : List ℕ) : Ty
   pub file : File
   pub is : TextOf file t
   pub plain : WellPlain file
+  pub acyclic : Acyclic file
   pub invalid : lent ≡ true → loadState file (b .cells) ws ≡ none
 
 -- 19: "input line wrong"
@@ -49,6 +53,7 @@ pub record LineWrong (t : List ℕ) (b : Board) (lent : Bool) (ws line : List �
   pub file : File
   pub is : TextOf file t
   pub plain : WellPlain file
+  pub acyclic : Acyclic file
   pub enough : lent ≡ true
   pub before : State
   pub loads : loadState file (b .cells) ws ≡ some before
@@ -88,10 +93,12 @@ pub record IterateDone (t : List ℕ) (b : Board) (state scratch slots line : Li
 pub record EvaluatorDemand : Type 0 where
   pub line : (P : File) → Within P → (line : List ℕ) (vs : List Tree) → (lineTrees P line ≡ some vs) ↔ ((line ≡ inputText vs) × InputsFit P vs)
   pub starts : (t : List ℕ) (b : Board) (list : List Record) (state scratch slots : List ℕ) → start t b list state scratch slots .answer .number ≡ noRefusal → StartDone t b list state scratch slots
+  pub order : (t : List ℕ) (b : Board) (state scratch slots line : List ℕ) (frame : ℕ) →
+      ((iterate t b state scratch slots line .answer .number ≡ selfReading) × (iterate t b state scratch slots line .answer .frame ≡ frame)) ↔ SelfReading t frame
   pub lending : (t : List ℕ) (b : Board) (state scratch slots line : List ℕ) → (iterate t b state scratch slots line .answer .number ≡ notLent) ↔ NotLent t b (buffersLent b state scratch slots) state
   pub wrong : (t : List ℕ) (b : Board) (state scratch slots line : List ℕ) → (iterate t b state scratch slots line .answer .number ≡ badInputLine) ↔ LineWrong t b (buffersLent b state scratch slots) state line
   pub done : (t : List ℕ) (b : Board) (state scratch slots line : List ℕ) → iterate t b state scratch slots line .answer .number ≡ noRefusal → IterateDone t b state scratch slots line
   pub leads : (t : List ℕ) (b : Board) (state scratch slots line : List ℕ) →
       (iterate t b state scratch slots line .answer .number ≡ noRefusal) ↔ ((after : State) × FileIterates t b (buffersLent b state scratch slots) state line after)
   pub meets : (t : List ℕ) (b : Board) (state scratch slots line : List ℕ) (n frame : ℕ) →
-      ((iterate t b state scratch slots line .answer ≡ answer (refusal n frame)) × (heapSpent ≤ n)) ↔ FileMeets t b (buffersLent b state scratch slots) state line n frame
+      ((iterate t b state scratch slots line .answer ≡ answer (refusal n frame)) × (heapSpent ≤ n) × (n ≤ valueTooLarge)) ↔ FileMeets t b (buffersLent b state scratch slots) state line n frame

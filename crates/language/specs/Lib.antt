@@ -24,6 +24,7 @@ pub mod LineFormat
 pub mod Values
 pub mod Cells
 pub mod Slide
+pub mod Order
 pub mod Layout
 pub mod Line
 pub mod Evaluator

@@ -3,12 +3,12 @@
 use Prim.Native.Nat.{ℕ, suc, _+_, _-_}
 use mathlib.Core.List.{List, [], _∷_, _++_, map}
 use mathlib.Core.Bool.{Bool}
-use lib.ListN.{length, drop, replicate}
+use lib.ListN.{length, drop, set, replicate}
 use lib.Dec.{leb}
 use Rattle.language.specs.Limits.{parametersMost, instancesMost, cellsMost, slotsMost, callsMost, scratchWords}
 use Rattle.language.specs.Refusals.{noRefusal, noFrame, heapShort, environmentShort, stackShort, notLent, badInputLine, heapSpent, valueTooLarge}
 use Rattle.language.specs.Result.{Result, ok, no, bind, need, from, both, choose}
-use Rattle.language.specs.Syntax.{Node, File, channelFrame}
+use Rattle.language.specs.Syntax.{File, nodeAt, nodeChannel, channelFrame}
 use Rattle.language.specs.Reader.{readFile}
 use Rattle.language.specs.PlainTypes.{plainTypes}
 use Rattle.language.specs.Sizes.{sizeOfType}
@@ -18,6 +18,7 @@ use Rattle.language.specs.Cells.{numbersNeeded}
 use Rattle.language.specs.Heap.{Cell, leaf, con, Tree, vleaf, vcon, Trees, vnil, vcons, cellAt, sizeIn}
 use Rattle.language.specs.Values.{treeSize}
 use Rattle.language.specs.Slide.{State, slide}
+use Rattle.language.specs.Order.{orderly, order}
 use Rattle.language.specs.Layout.{padded, stateLength, stateWords, loadState}
 use Rattle.language.specs.Line.{lineTrees}
 use Rattle.language.specs.Evaluator.{Out, value, refused, eval, run}
@@ -65,13 +66,13 @@ answer (refusal n frame) = record { number = n; frame = frame; bounds = nothing 
 answer (short n x) = record { number = n; frame = noFrame; bounds = x }
 
 -- ---- checking
--- 1 to 9, 18 where what is lent is not enough, then 10 to 14
+-- 1 to 9, 25, 18 where what is lent is not enough, then 10 to 14
 pub record Accepted : Type 0 where
   pub file : File
   pub sizes : SizedFile
 
 unfoldable pub checkFile : List ℕ → Bool → Result Accepted
-checkFile t lent = bind (readFile t) (λ P. plainTypes P (need lent notLent noFrame (bind (sizedFile P) (λ q. ok (record { file = P; sizes = q })))))
+checkFile t lent = bind (readFile t) (λ P. plainTypes P (orderly P (need lent notLent noFrame (bind (sizedFile P) (λ q. ok (record { file = P; sizes = q }))))))
 
 -- 15, 16, 17: "heap, environment, stack needed above the board's"; x is what is reported
 unfoldable pub judge : Board → Estimate → Verdict
@@ -180,21 +181,24 @@ putInputs P cells c [] h roots = ok (record { heap = h; roots = roots })
 putInputs P cells c (v ∷ vs) h roots = let r = build P v h in
     need (leb (length (r .heap)) cells) heapSpent (channelFrame P c) (putInputs P cells (suc c) vs (r .heap) (roots ++ (r .location ∷ [])))
 
--- the nodes from channel c on; "a node's value above its declared size is refusal 23". now: the channels before; old: those left.
-unfoldable pub updateNodes : File → Board → List ℕ → ℕ → List Node → List Cell → List ℕ → List ℕ → Result State
-updateNodes P b last c [] h now old = ok (record { heap = h; roots = now })
-updateNodes P b last c (n ∷ ns) h now old =
-    channelValue (channelFrame P c) (eval P (run P (b .cells) (b .calls)) (b .cells) (record { now = now ++ old; last = last }) (n .update) [] (b .slots) h)
-    (λ l g. need (leb (sizeIn (cellAt g l)) (sizeOfType (n .declared))) valueTooLarge (channelFrame P c) (updateNodes P b last (suc c) ns g (now ++ (l ∷ [])) (drop 1 old)))
+-- the nodes at these places, one after the other; "a node's value above its declared size is refusal 23". now: the cells of all channels.
+unfoldable pub updateNodes : File → Board → List ℕ → List ℕ → List Cell → List ℕ → Result State
+updateNodes P b last [] h now = ok (record { heap = h; roots = now })
+updateNodes P b last (i ∷ is) h now =
+    channelValue (channelFrame P (nodeChannel P i)) (eval P (run P (b .cells) (b .calls)) (b .cells) (record { now = now; last = last }) (nodeAt P i .update) [] (b .slots) h)
+    (λ l g. need (leb (sizeIn (cellAt g l)) (sizeOfType (nodeAt P i .declared))) valueTooLarge (channelFrame P (nodeChannel P i)) (updateNodes P b last is g (set now (nodeChannel P i) l)))
 
--- an iteration on a valid state with an allowed line's trees
+-- an iteration on a valid state with an allowed line's trees, its nodes in a given order
+unfoldable pub iterateIn : List ℕ → File → Board → State → List Tree → Result State
+iterateIn is P b s vs = bind (putInputs P (b .cells) 0 vs (s .heap) []) (λ q.
+    bind (updateNodes P b (s .roots) is (q .heap) (q .roots ++ drop (length (P .inputs)) (s .roots))) (λ r. ok (slide r)))
+
 unfoldable pub iterateState : File → Board → State → List Tree → Result State
-iterateState P b s vs = bind (putInputs P (b .cells) 0 vs (s .heap) []) (λ q.
-    bind (updateNodes P b (s .roots) (length (P .inputs)) (P .nodes) (q .heap) (q .roots) (drop (length (P .inputs)) (s .roots))) (λ r. ok (slide r)))
+iterateState P b s vs = iterateIn (order P) P b s vs
 
--- "An iteration runs 1 to 9, 18, 19, then 20 to 23 where the rules meet them"
+-- "An iteration runs 1 to 9, 18, 19, then 20 to 23 where the rules meet them"; R-3: 25 "tested after 9, before 18"
 unfoldable pub iterateFile : List ℕ → Board → Bool → List ℕ → List ℕ → Result State
-iterateFile t b lent state line = bind (readFile t) (λ P. plainTypes P (need lent notLent noFrame (from (loadState P (b .cells) state) notLent noFrame (λ s. from (lineTrees P line) badInputLine noFrame (λ vs. iterateState P b s vs)))))
+iterateFile t b lent state line = bind (readFile t) (λ P. plainTypes P (orderly P (need lent notLent noFrame (from (loadState P (b .cells) state) notLent noFrame (λ s. from (lineTrees P line) badInputLine noFrame (λ vs. iterateState P b s vs))))))
 
 pub record Iterated : Type 0 where
   pub answer : Answer

@@ -6,14 +6,15 @@ use mathlib.Core.List.{List, [], _∷_, _++_, map}
 use mathlib.Core.Bool.{Bool, true, false}
 use mathlib.Core.Option.{none, some}
 use mathlib.Core.Path.{_≡_}
-use lib.ListN.{length, drop, getElem? as look}
+use lib.ListN.{length, drop, set, getElem? as look}
 use Rattle.language.specs.Limits.{sizeMost}
-use Rattle.language.specs.Syntax.{Constructor, fbool, fint, own, other, Size, ResultType, Op, Expr, ebool, eint, evar, enow, elast, elet, eif, eop, ecall, econ, ecase, eadj, efit, Exprs, enil, econs, lookExpr, Function, Node, File, constructorsOf, initialValues}
+use Rattle.language.specs.Syntax.{Constructor, fbool, fint, own, other, Size, ResultType, Op, Expr, ebool, eint, evar, enow, elast, elet, eif, eop, ecall, econ, ecase, eadj, efit, Exprs, enil, econs, lookExpr, Function, File, nodeAt, nodeChannel, constructorsOf, initialValues}
 use Rattle.language.specs.PlainTypes.{operandType}
 use Rattle.language.specs.Sizes.{sum, sizeOfType}
 use Rattle.language.specs.Heap.{Constant, kbool, kint, Tree, vleaf, vcon, Trees, vnil, vcons, constantType, truth, applyOp, decides}
 use Rattle.language.specs.Values.{appendTrees, lookTree, treeCount, treeSize}
 use Rattle.language.specs.Line.{lineTrees}
+use Rattle.language.specs.Order.{order}
 
 -- the trees that `13` and `14` read: as they stand now, and before the line
 pub record TreeChannels : Type 0 where
@@ -61,16 +62,16 @@ module _ (P : File) where
       ps-cons : {N : TreeChannels} {E vs : Trees} {e : Expr} {es : Exprs} {v : Tree} → Derives N E e v → DerivesAll N E es vs → DerivesAll N E (econs e es) (vcons v vs)
 
   -- "then for each node, in the iteration's order, the tree that the evaluation rules derive for its update: `13` reads the trees as
-  -- they then stand, `14` those from before the line". done: the trees of the channels before; old: those of the nodes left.
-  pub data Nodes (last : List Tree) : List Node → List Tree → List Tree → List Tree → Type 0 where
-    no-nodes : {done old : List Tree} → Nodes last [] done old done
-    next-node : {n : Node} {ns : List Node} {done old result : List Tree} {v : Tree} →
-        Derives (record { now = done ++ old; last = last }) vnil (n .update) v → treeSize P v ≤ sizeOfType (n .declared) →
-        Nodes last ns (done ++ (v ∷ [])) (drop 1 old) result → Nodes last (n ∷ ns) done old result
+  -- they then stand, `14` those from before the line". The nodes at these places, one after the other; now: the trees of all channels.
+  pub data Nodes (last : List Tree) : List ℕ → List Tree → List Tree → Type 0 where
+    no-nodes : {now : List Tree} → Nodes last [] now now
+    next-node : {i : ℕ} {is : List ℕ} {now result : List Tree} {v : Tree} →
+        Derives (record { now = now; last = last }) vnil (nodeAt P i .update) v → treeSize P v ≤ sizeOfType (nodeAt P i .declared) →
+        Nodes last is (set now (nodeChannel P i) v) result → Nodes last (i ∷ is) now result
 
   -- "An allowed line puts in its own trees for the inputs"; "Any other line changes nothing."
   pub data Step (before : List Tree) (line : List ℕ) : List Tree → Type 0 where
-    allowed : {vs result : List Tree} → lineTrees P line ≡ some vs → Nodes before (P .nodes) vs (drop (length (P .inputs)) before) result → Step before line result
+    allowed : {vs result : List Tree} → lineTrees P line ≡ some vs → Nodes before (order P) (vs ++ drop (length (P .inputs)) before) result → Step before line result
     not-allowed : lineTrees P line ≡ none → Step before line before
 
 -- the tree of an initial value, which uses `10`, `11`, `19` and `1B` only

@@ -50,7 +50,7 @@ unfoldable pub node : ℕ → File → Parser Node
 node channels known = do
   τ ← declared (length (known .types))
   e ← expr (outerScope (known .types) (known .functions) 0 0)
-  u ← expr (outerScope (known .types) (known .functions) (length (known .inputs) + length (known .nodes)) channels)
+  u ← expr (outerScope (known .types) (known .functions) channels channels)
   return (record { declared = τ; initial = e; update = u })
 
 -- "bytes end early or go on": 4

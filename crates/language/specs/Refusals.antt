@@ -99,3 +99,7 @@ valueTooLarge = 23
 -- Document 02, R-1: "lent buffer shorter than the strict text"
 abbrev pub bufferShort : ℕ
 bufferShort = 24
+
+-- Document 02, R-3: "some node reads itself through `13`, directly or by others"
+abbrev pub selfReading : ℕ
+selfReading = 25

@@ -1,10 +1,10 @@
 -- Demand 3 as a type: "a single claim about the whole list of lines, the empty list too". Document 01, "The third demand's run".
-use Prim.Native.Nat.{ℕ, _≤_}
-use mathlib.Core.List.{List, [], _∷_, map}
+use Prim.Native.Nat.{ℕ, _+_, _≤_}
+use mathlib.Core.List.{List, [], _∷_, _++_, map}
 use mathlib.Core.Bool.{true}
 use mathlib.Core.Option.{Option, none, some}
 use mathlib.Core.Path.{_≡_}
-use lib.ListN.{length}
+use lib.ListN.{length, drop}
 use Rattle.language.specs.Syntax.{File, declaredTypes}
 use Rattle.language.specs.Result.{ok}
 use Rattle.language.specs.Refusals.{noFrame, badInputLine}
@@ -13,10 +13,11 @@ use Rattle.language.specs.Estimate.{Estimate}
 use Rattle.language.specs.Cells.{channelCells}
 use Rattle.language.specs.Heap.{Tree, treeAt}
 use Rattle.language.specs.Slide.{State}
+use Rattle.language.specs.Order.{nodeReadings, order, Respects}
 use Rattle.language.specs.Layout.{loadState}
 use Rattle.language.specs.Line.{lineTrees, treesFit}
-use Rattle.language.specs.Machine.{Board, Record, Verdict, accepted, done, refusal, answer, check, listLent, buffersLent, start, Started, iterate, Iterated}
-use Rattle.language.specs.PlainMachine.{Step, initialTrees}
+use Rattle.language.specs.Machine.{Board, Record, Verdict, accepted, done, refusal, answer, check, listLent, buffersLent, start, Started, iterateIn, iterateState, iterate, Iterated}
+use Rattle.language.specs.PlainMachine.{Nodes, Step, initialTrees}
 
 -- "A channel's value is the tree written out from its cell"
 abbrev pub channelTrees : State → List Tree
@@ -110,6 +111,26 @@ pub data Alike (t : List ℕ) (P : File) (m n : ℕ) : List ℕ → List ℕ →
 
 abbrev pub linesIn : List Call → List (List ℕ)
 linesIn cs = map (λ (c : Call). c .line) cs
+
+-- Document 02, R-3: "a valid state and an allowed line give the same values in every order that respects the readings". An iteration in the
+-- order of these places, and one in the iteration's own: neither is refused, the values are equal, and the plain machine has them in
+-- the order of these places.
+pub record SameValues (P : File) (b : Board) (s : State) (us : List Tree) (places : List ℕ) : Type 0 where
+  pub own : State
+  pub own-is : iterateState P b s us ≡ ok own
+  pub after : State
+  pub after-is : iterateIn places P b s us ≡ ok after
+  pub same : channelTrees after ≡ channelTrees own
+  pub plain : Nodes P (channelTrees s) places (us ++ drop (length (P .inputs)) (channelTrees s)) (channelTrees own)
+
+pub record EveryOrder : Type 0 where
+  -- the iteration's own order is one of them
+  pub own : (t : List ℕ) (P : File) (x : Estimate) → readFile t ≡ ok P → Reported t x → Respects (nodeReadings P) (order P)
+  pub same : (t : List ℕ) (P : File) (x : Estimate) → readFile t ≡ ok P → Reported t x → (b : Board) → Enough x b → (cells : ℕ) (ws : List ℕ) (s : State) → loadState P cells ws ≡ some s →
+      (line : List ℕ) (us : List Tree) → lineTrees P line ≡ some us → (is : List ℕ) → Respects (nodeReadings P) is → SameValues P b s us is
+  -- the plain machine of any file: two such orders do not lead to different trees
+  pub plain : (P : File) (last now vs ws : List Tree) → length now ≡ length (P .inputs) + length (P .nodes) → (is js : List ℕ) → Respects (nodeReadings P) is → Respects (nodeReadings P) js →
+      Nodes P last is now vs → Nodes P last js now ws → vs ≡ ws
 
 -- demand 3
 pub record Demand3 : Type 0 where

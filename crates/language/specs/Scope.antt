@@ -40,6 +40,6 @@ aritiesOf Fs = map (λ (F : Function). length (F .parameters)) Fs
 unfoldable pub bodyScope : List TypeDef → List Function → List Plain → Scope
 bodyScope types earlier ps = record { variables = length ps; sizes = namedCount ps; now = 0; last = 0; types = types; arities = aritiesOf earlier ++ (length ps ∷ []) }
 
--- a scope outside all functions: "`13` names inputs and earlier nodes; `14` names any channel"
+-- a scope outside all functions: "`13` may name any channel" (R-3), as "`14` names any channel"
 unfoldable pub outerScope : List TypeDef → List Function → ℕ → ℕ → Scope
 outerScope types functions now last = record { variables = 0; sizes = 0; now = now; last = last; types = types; arities = aritiesOf functions }

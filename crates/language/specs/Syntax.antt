@@ -95,6 +95,17 @@ pub record File : Type 0 where
   pub inputs : List Input
   pub nodes : List Node
 
+-- The node at a place among the nodes, from 0; noNode stands where there is none.
+abbrev pub noNode : Node
+noNode = record { declared = tbool; initial = ebool false; update = ebool false }
+
+abbrev pub nodeAt : File → ℕ → Node
+nodeAt P i = getD (P .nodes) i noNode
+
+-- Channel is document 01's term: "an input or a node, inputs counted first". The channel of that node.
+abbrev pub nodeChannel : File → ℕ → ℕ
+nodeChannel P i = length (P .inputs) + i
+
 -- The constructors of a type; the fields of a constructor.
 abbrev pub constructorsOf : File → ℕ → List Constructor
 constructorsOf P t = getD (P .types) t []
@@ -102,7 +113,7 @@ constructorsOf P t = getD (P .types) t []
 abbrev pub fieldsOf : File → ℕ → ℕ → List Field
 fieldsOf P t c = getD (constructorsOf P t) c []
 
--- Channel is document 01's term: "an input or a node, inputs counted first". Their declared types and initial values.
+-- The channels' declared types and initial values.
 abbrev pub declaredTypes : File → List Ty
 declaredTypes P = map (λ (i : Input). i .declared) (P .inputs) ++ map (λ (n : Node). n .declared) (P .nodes)
 

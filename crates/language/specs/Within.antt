@@ -115,15 +115,11 @@ pub record WithinInput (P : File) (i : Input) : Type 0 where
   pub declared : WithinDeclared (length (P .types)) (i .declared)
   pub initial : WithinExpr nestingMost (outerScope (P .types) (P .functions) 0 0) (i .initial)
 
--- a node before which so many nodes stand
-pub record WithinNode (P : File) (earlier : ℕ) (n : Node) : Type 0 where
+-- "`13` may name any channel" (R-3), and so may `14`
+pub record WithinNode (P : File) (n : Node) : Type 0 where
   pub declared : WithinDeclared (length (P .types)) (n .declared)
   pub initial : WithinExpr nestingMost (outerScope (P .types) (P .functions) 0 0) (n .initial)
-  pub update : WithinExpr nestingMost (outerScope (P .types) (P .functions) (length (P .inputs) + earlier) (length (P .inputs) + length (P .nodes))) (n .update)
-
-pub data WithinNodes (P : File) : ℕ → List Node → Type 0 where
-  wn-nil : {earlier : ℕ} → WithinNodes P earlier []
-  wn-cons : {earlier : ℕ} {n : Node} {ns : List Node} → WithinNode P earlier n → WithinNodes P (suc earlier) ns → WithinNodes P earlier (n ∷ ns)
+  pub update : WithinExpr nestingMost (outerScope (P .types) (P .functions) (length (P .inputs) + length (P .nodes)) (length (P .inputs) + length (P .nodes))) (n .update)
 
 pub record Within (P : File) : Type 0 where
   pub text : length (fileText P) ≤ textMost
@@ -135,4 +131,4 @@ pub record Within (P : File) : Type 0 where
   pub types : WithinTypes 0 (P .types)
   pub functions : WithinFunctions (P .types) [] (P .functions)
   pub inputs : All (WithinInput P) (P .inputs)
-  pub nodes : WithinNodes P 0 (P .nodes)
+  pub nodes : All (WithinNode P) (P .nodes)

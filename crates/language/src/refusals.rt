@@ -75,6 +75,9 @@ pub const VALUE_TOO_LARGE: u32 = 23;
 // Document 02, R-1: "lent buffer shorter than the strict text"
 pub const BUFFER_SHORT: u32 = 24;
 
+// Document 02, R-3: "some node reads itself through `13`, directly or by others"
+pub const SELF_READING: u32 = 25;
+
 pub struct RefusalNumbers {
     pub no_refusal: u32,
     pub no_frame: u32,
@@ -102,6 +105,7 @@ pub struct RefusalNumbers {
     pub stack_spent: u32,
     pub value_too_large: u32,
     pub buffer_short: u32,
+    pub self_reading: u32,
 }
 
 // The constants are the numbers of the definitions.
@@ -135,5 +139,6 @@ pub fn refusal_numbers() -> RefusalNumbers
         stack_spent: STACK_SPENT,
         value_too_large: VALUE_TOO_LARGE,
         buffer_short: BUFFER_SHORT,
+        self_reading: SELF_READING,
     }
 }

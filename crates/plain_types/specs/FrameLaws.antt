@@ -243,7 +243,7 @@ module _ (text index : List ℕ) (i c : ℕ) where
     pub node-unfit : b ≡ false → NodeFits text index i c false
     unfolding plainNode
     node-unfit z = record {
-      says = λ {P} {n} h q less j k ni w.
+      says = λ {P} {n} h q less ni w.
           sym (both-not (isPlain (plainDeclared (n .declared)) (plainOf P (channelTypes h) (n .update) [])) (sym (a .says h q less (ni .channel) (w .declared) (w .initial)) ∙ z));
     }
 
@@ -251,11 +251,11 @@ module _ (text index : List ℕ) (i c : ℕ) where
         NodeFits text index i c r
     unfolding plainNode
     node-fits z place number v = record {
-      says = λ {P} {n} h q less j k ni w.
+      says = λ {P} {n} h q less ni w.
           let part = part-named text (channel-line number h q less) place (record { within = w .update; spelled = ni .update; ends = refl }) in
           let C = channelTypes h in
           v .says (plainDeclared (n .declared)) refl
-          (outer-place C (length (P .inputs) + j) (length (P .inputs) + length (P .nodes)) h (channel-less number h q less) (channel-told h) (omega (arith, channels-count h, less, k)) (omega (arith, channels-count h)))
+          (outer-place C (length (P .inputs) + length (P .nodes)) (length (P .inputs) + length (P .nodes)) h (channel-less number h q less) (channel-told h) (omega (arith, channels-count h)) (omega (arith, channels-count h)))
           part (ap (λ d. meaning (typeAt d)) (ni .channel .declared) ∙ declared-at (omega (arith, h .within .fewTypes)) (w .declared))
           ∙ sym (both-first (sym (a .says h q less (ni .channel) (w .declared) (w .initial)) ∙ z));
     }

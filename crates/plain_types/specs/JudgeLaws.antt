@@ -8,13 +8,14 @@ use native.Mathlib.Omega.{arith}
 use lib.ListN.{length, getD, length-append, length-map, List·getD-eq-default, getElem? as look}
 use Rattle.language.specs.Limits.{functionsMost, channelsMost}
 use Rattle.language.specs.Refusals.{typesDisagree}
-use Rattle.language.specs.Result.{Result, ok, no, need, needEach, choose}
+use Rattle.language.specs.Result.{Result, ok, needEach}
 use Rattle.language.specs.Syntax.{Function, Input, Node, File, functionFrame}
 use Rattle.language.specs.PlainTyping.{WellPlain}
 use Rattle.language.specs.PlainTypes.{plainFunction, plainInitial, plainInput, plainNode, plainTypes}
 use Rattle.theory.specs.Lists.{false-is-not-true, look-getD, look-append, look-past, look-map}
 use Rattle.theory.specs.Places.{below-or-not}
 use Rattle.theory.specs.Alls.{all-at}
+use Rattle.theory.specs.Tests.{firstRefused, first-none, first-at, verdict, each-verdict}
 use Rattle.theory.specs.PlainTypesAgree.{well-plain}
 use Rattle.encoding.specs.FrameLines.{lineAt}
 use Rattle.index.specs.declared.Counts.{Counts}
@@ -22,7 +23,7 @@ use Rattle.encoding.specs.WithinParts.{node-within}
 use Rattle.index.specs.Sections.{channelsOf, countsIn}
 use Rattle.index.specs.Indexed.{channelLine, NodeIndexed, Indexed, Counted}
 use Rattle.heads.specs.Places.{lineBehindTypes}
-use Rattle.plain_types.specs.Verdicts.{FunctionFits, InitialFits, NodeFits, frameTests, firstRefused, refusedFrame, verdict, FrameFits, JudgesAll}
+use Rattle.plain_types.specs.Verdicts.{FunctionFits, InitialFits, NodeFits, frameTests, refusedFrame, FrameFits, JudgesAll}
 use Rattle.plain_types.specs.FrameLaws.{there}
 
 -- ---- the test of each frame
@@ -101,7 +102,7 @@ module _ (text index : List ℕ) (counts : Counts) (are : counts ≡ countsIn in
             let q : i ≡ length (P .functions) + j = omega (arith, over, c .functionCount) in
             let k : j ≡ length (P .inputs) + m = omega (arith, over₂, c .inputCount) in
             let n = there (P .nodes) m (omega (arith, less, c .nodeCount)) in
-            v .says h q (omega (arith, less, k, c .nodeCount)) m k (subst (λ a. NodeIndexed (lineAt text (channelLine P a)) (channelsOf index) a (n .of)) (sym k) (h .eachNode m (n .at))) (node-within (h .within) m (n .at))
+            v .says h q (omega (arith, less, k, c .nodeCount)) (subst (λ a. NodeIndexed (lineAt text (channelLine P a)) (channelsOf index) a (n .of)) (sym k) (h .eachNode m (n .at))) (node-within (h .within) m (n .at))
             ∙ sym (node-test P m j i q k (n .at));
       }
 
@@ -113,17 +114,6 @@ module _ (text index : List ℕ) (counts : Counts) (are : counts ≡ countsIn in
       }
 
 -- ---- the first that fails
-first-none : (frame : ℕ) (bs : List Bool) → ((j : ℕ) → j < length bs → getD bs j true ≡ true) → firstRefused frame bs ≡ 0
-unfolding firstRefused choose
-first-none frame [] h = refl
-first-none frame (b ∷ bs) h = rw (h 0 (omega arith)) (first-none (suc frame) bs (λ j less. h (suc j) (omega (arith, less))))
-
-first-at : (frame : ℕ) (bs : List Bool) (i : ℕ) → ((j : ℕ) → j < i → getD bs j true ≡ true) → getD bs i true ≡ false → firstRefused frame bs ≡ frame + i
-unfolding firstRefused choose
-first-at frame [] i h e = false-is-not-true (sym e)
-first-at frame (b ∷ bs) zero h e = rw e (omega arith)
-first-at frame (b ∷ bs) (suc i) h e = rw (h 0 (omega arith)) (first-at (suc frame) bs i (λ j less. h (suc j) (omega (arith, less))) e ∙ omega arith)
-
 fails-less : (bs : List Bool) (i : ℕ) → getD bs i true ≡ false → i < length bs
 fails-less [] i e = false-is-not-true (sym e)
 fails-less (b ∷ bs) zero e = omega arith
@@ -165,29 +155,18 @@ module _ (text index : List ℕ) where
   }
 
 -- ---- the definition's refusal is the verdict on that frame
-needed : {A : Type 0} (frame : ℕ) (bs : List Bool) (x : Result A) → needEach 9 (suc frame) bs x ≡ verdict (firstRefused (suc frame) bs) x
-unfolding needEach need firstRefused choose verdict
-needed frame [] x = refl
-needed frame (true ∷ bs) x = needed (suc frame) bs x
-needed frame (false ∷ bs) x = refl
-
-pub refused-verdict : {A : Type 0} (P : File) (x : Result A) → plainTypes P x ≡ verdict (refusedFrame P) x
+pub refused-verdict : {A : Type 0} (P : File) (x : Result A) → plainTypes P x ≡ verdict typesDisagree (refusedFrame P) x
 unfolding plainTypes
 refused-verdict P x =
     let same : functionFrame P 0 ≡ suc (length (P .types)) = omega arith in
-    subst (λ m. needEach 9 m (frameTests P) x ≡ verdict (firstRefused m (frameTests P)) x) (sym same) (needed (length (P .types)) (frameTests P) x)
+    subst (λ m. needEach typesDisagree m (frameTests P) x ≡ verdict typesDisagree (firstRefused m (frameTests P)) x) (sym same) (each-verdict typesDisagree (length (P .types)) (frameTests P) x)
 
 -- what the public function promises, as its caller uses it
 pub plain-types-verdict : {text index : List ℕ} {r : ℕ} {P : File} {A : Type 0} → JudgesAll text index r → Indexed text index P → (x : Result A) →
-    plainTypes P x ≡ verdict r x
-plain-types-verdict {P} v h x = refused-verdict P x ∙ ap (λ m. verdict m x) (sym (v .says h))
+    plainTypes P x ≡ verdict typesDisagree r x
+plain-types-verdict {P} v h x = refused-verdict P x ∙ ap (λ m. verdict typesDisagree m x) (sym (v .says h))
 
--- 9 where a frame is named; right plain types where none is
-pub verdict-refused : {A : Type 0} (r : ℕ) (x : Result A) → (r ≡ 0 → ⊥) → verdict r x ≡ no typesDisagree r
-unfolding verdict
-verdict-refused zero x named = absurd (named refl)
-verdict-refused (suc r) x named = refl
-
+-- right plain types where no frame is named
 pub verdict-well : {text index : List ℕ} {r : ℕ} {P : File} → JudgesAll text index r → Indexed text index P → r ≡ 0 → WellPlain P
 unfolding verdict
-verdict-well {P} v h none = well-plain P (ok P) (plain-types-verdict v h (ok P) ∙ ap (λ m. verdict m (ok P)) none)
+verdict-well {P} v h none = well-plain P (ok P) (plain-types-verdict v h (ok P) ∙ ap (λ m. verdict typesDisagree m (ok P)) none)

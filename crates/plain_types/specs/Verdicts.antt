@@ -1,17 +1,16 @@
 -- What the functions promise that check a frame, and the first frame whose plain types disagree.
-use Prim.Native.Nat.{ℕ, zero, suc, _+_, _≤_, _<_}
-use mathlib.Core.List.{List, [], _∷_, _++_, map}
+use Prim.Native.Nat.{ℕ, _+_, _≤_, _<_}
+use mathlib.Core.List.{List, [], _++_, map}
 use mathlib.Core.Bool.{Bool, true, false}
 use mathlib.Core.Option.{some}
 use mathlib.Core.Path.{_≡_}
 use lib.ListN.{length, getD, getElem? as look}
 use Rattle.language.specs.Limits.{nestingMost}
-use Rattle.language.specs.Refusals.{typesDisagree}
-use Rattle.language.specs.Result.{Result, no, choose}
 use Rattle.language.specs.Syntax.{Plain, pbool, Ty, Expr, Function, Node, File, functionFrame}
 use Rattle.language.specs.Scope.{Scope, outerScope}
 use Rattle.language.specs.Within.{WithinDeclared, WithinExpr, WithinNode}
 use Rattle.language.specs.PlainTypes.{isPlain, plainOf, plainFunction, plainInitial, plainInput, plainNode}
+use Rattle.theory.specs.Tests.{firstRefused}
 use Rattle.encoding.specs.FrameLines.{lineAt}
 use Rattle.encoding.specs.Known.{Known}
 use Rattle.index.specs.Sections.{channelsOf}
@@ -53,25 +52,15 @@ module _ (text index : List ℕ) where
 
   pub record NodeFits (i c : ℕ) (r : Bool) : Type 0 where
     pub says : {P : File} {n : Node} → Indexed text index P → i ≡ length (P .functions) + c → c < length (P .inputs) + length (P .nodes) →
-        (m : ℕ) → c ≡ length (P .inputs) + m → NodeIndexed (lineAt text (channelLine P c)) (channelsOf index) c n → WithinNode P m n → r ≡ plainNode P n
+        NodeIndexed (lineAt text (channelLine P c)) (channelsOf index) c n → WithinNode P n → r ≡ plainNode P n
 
 -- ---- the definition's tests, in the order of the frames
 abbrev pub frameTests : File → List Bool
 frameTests P = map (plainFunction P) (P .functions) ++ (map (plainInput P) (P .inputs) ++ map (plainNode P) (P .nodes))
 
--- the number of the first that fails, counted from the first's; 0 where none does
-unfoldable pub firstRefused : ℕ → List Bool → ℕ
-firstRefused frame [] = 0
-firstRefused frame (b ∷ bs) = choose b (firstRefused (suc frame) bs) frame
-
 -- the first frame whose plain types disagree, or 0
 abbrev pub refusedFrame : File → ℕ
 refusedFrame P = firstRefused (functionFrame P 0) (frameTests P)
-
--- refusal 9 at a frame; a pass goes on where the number is 0
-unfoldable pub verdict : {A : Type 0} → ℕ → Result A → Result A
-verdict zero x = x
-verdict (suc n) x = no typesDisagree (suc n)
 
 module _ (text index : List ℕ) where
   pub record FrameFits (i : ℕ) (r : Bool) : Type 0 where

@@ -219,7 +219,7 @@ module _ (line index : List ℕ) (n : Counts) {start : Cursor} (here : start .at
       unfolding node
       node-no-initial {k} h = node-stops h λ lines P held. passes-behind (number-moved v e) (ap forget (then-got _ (type-read e held .is))) (pass-stops-pass _ _ (initial-passes held) h)
 
-      pub node-read : {index′ : List ℕ} {d : Cursor} {r : Step} {a b : ℕ} → y ≡ Next d → Fits line n → PlaceWord (f .next .at) a → PlaceWord (d .at) b → Follows line index d (outsideNames n (n .inputs + n .nodes) all) r (exprAt nestingMost) →
+      pub node-read : {index′ : List ℕ} {d : Cursor} {r : Step} {a b : ℕ} → y ≡ Next d → Fits line n → PlaceWord (f .next .at) a → PlaceWord (d .at) b → Follows line index d (outsideNames n all all) r (exprAt nestingMost) →
           (channelsOf index′ ≡ set (set (set (channelsOf index) (channelWords * (n .inputs + n .nodes)) (f .value)) (channelWords * (n .inputs + n .nodes) + 1) a) (channelWords * (n .inputs + n .nodes) + 2) b) × Outside channelsFrom channelTableWords index index′ → ReadsNode line index n all r index′
       unfolding node nodeEntry channelTable
       node-read {d} {r} {a} {b} there fits p q z w = record {
@@ -244,5 +244,5 @@ module _ (line index : List ℕ) (n : Counts) {start : Cursor} (here : start .at
         outside = w .1;
       }
         where
-          update-passes : {lines : ℕ → List ℕ} {P : File} → Held lines index n P → Passes line (d .at) r (forget (exprAt nestingMost (outerScope (P .types) (P .functions) (length (P .inputs) + length (P .nodes)) all) (bytesFrom line (d .at))))
-          update-passes {P = P} held = rw (held .counted .inputCount, held .counted .nodeCount) (z .says (outerScope (P .types) (P .functions) (n .inputs + n .nodes) all) (tells-outside held (n .inputs + n .nodes) all) (ends-within (pass-moved (initial-passes held) there)))
+          update-passes : {lines : ℕ → List ℕ} {P : File} → Held lines index n P → Passes line (d .at) r (forget (exprAt nestingMost (outerScope (P .types) (P .functions) all all) (bytesFrom line (d .at))))
+          update-passes {P = P} held = z .says (outerScope (P .types) (P .functions) all all) (tells-outside held all all) (ends-within (pass-moved (initial-passes held) there))

@@ -96,7 +96,7 @@ fn input_frame(line: &[u8], index: &mut [u32; INDEX_WORDS], start: Cursor, known
     y
 }
 
-// A node among so many channels: its declared type, its initial value and its update.
+// A node among so many channels: its declared type, its initial value and its update, where `13` and `14` may name any of them.
 fn node_frame(
     line: &[u8],
     index: &mut [u32; INDEX_WORDS],
@@ -120,7 +120,7 @@ fn node_frame(
         return y;
     };
     let before = known.inputs + known.nodes;
-    let u = outside(known, before, all);
+    let u = outside(known, all, all);
     let z = expr(line, index, d, u);
     let initial = place(c);
     let update = place(d);

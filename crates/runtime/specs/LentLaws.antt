@@ -21,6 +21,7 @@ use Rattle.theory.specs.LineExact.{line-forth-exact, inputs-count}
 use Rattle.text_lines.specs.Lines.{isSome}
 use Rattle.heads.specs.Places.{channel-line}
 use Rattle.index.specs.Indexed.{Indexed}
+use Rattle.node_order.specs.NextLaws.{readings-gathered}
 use Rattle.state_words.specs.StateLaws.{loaded-held}
 use Rattle.cell_check.specs.CellLaws.{some-of, none-of}
 use Rattle.state_check.specs.Loads.{StateJudged}
@@ -36,7 +37,7 @@ frame-found : {text index : List ℕ} {P : File} (c : ℕ) → Indexed text inde
 frame-found c x less = omega (arith, channel-line c x less)
 
 -- what an iteration answered
-told-by : {text index line : List ℕ} {cells : ℕ} {words : List ℕ} {P : File} (b : Board) {s : State} {vs : List Tree} {words₂ : List ℕ} {x : Updated} {o : Result State} {r : Answer} → Given text index line cells words P s vs → iterateState P b s vs ≡ o →
+told-by : {text index ends readings line : List ℕ} {cells : ℕ} {words : List ℕ} {P : File} (b : Board) {s : State} {vs : List Tree} {words₂ : List ℕ} {x : Updated} {o : Result State} {r : Answer} → Given text index ends readings line cells words P s vs → iterateState P b s vs ≡ o →
     AgreesIteration P cells words words₂ x o → r ≡ answerOf index x → Told cells words r words₂ o
 told-by b g e (is-done w) q = told-done q w
 told-by {line = line} {P = P} b {s} {vs} g e (is-refused {n} {c} w) q =
@@ -45,7 +46,7 @@ told-by {line = line} {P = P} b {s} {vs} g e (is-refused {n} {c} w) q =
     let below = iteration-numbered vs (omega (arith, inputs-count P vs fit)) met .to-last in
     told-refused (q ∙ ap (refusalOf n) (frame-found c (g .indexed) (omega (arith, below)))) w
 
-module _ (text index line : List ℕ) (cells calls : ℕ) (words scratch slots : List ℕ) (l : Lent text index cells words scratch) {given : Bool} {scratch₁ : List ℕ} (v : StateJudged index words cells scratch given scratch₁) where
+module _ (text index ends readings line : List ℕ) (cells calls : ℕ) (words scratch slots : List ℕ) (l : Lent text index ends readings cells words scratch) {given : Bool} {scratch₁ : List ℕ} (v : StateJudged index words cells scratch given scratch₁) where
   -- enough is lent, so the test is whether there is a state
   valid-is : {P : File} → Indexed text index P → given ≡ isSome (loadState P cells words)
   unfolding both
@@ -70,7 +71,7 @@ module _ (text index line : List ℕ) (cells calls : ℕ) (words scratch slots :
         let h = loaded-held (l .indexed .within) (omega (arith, l .board)) loads in
         let c = l .indexed .counted in
         let w = l .indexed .within in
-        record { board = l .board; most = l .most; used = omega (arith, h .used, h .room); few = omega (arith, c .inputCount, c .nodeCount, w .fewInputs, w .fewNodes) })
+        record { board = l .board; most = l .most; used = omega (arith, h .used, h .room); few = record { few = omega (arith, c .inputCount, c .nodeCount, w .fewInputs, w .fewNodes) } })
 
     pub scratch-room : cells ≤ length scratch₁
     scratch-room = omega (arith, l .room, ap length same)
@@ -84,14 +85,14 @@ module _ (text index line : List ℕ) (cells calls : ℕ) (words scratch slots :
         long = refl;
       }
 
-      pub lent-iterated : {x : Updated} {words₂ scratch₂ slots₂ : List ℕ} {r : Answer} → allowed ≡ true → IteratesState text index line cells calls words scratch₁ slots x words₂ scratch₂ slots₂ → r ≡ answerOf index x →
+      pub lent-iterated : {x : Updated} {words₂ scratch₂ slots₂ : List ℕ} {r : Answer} → allowed ≡ true → IteratesState text index ends readings line cells calls words scratch₁ slots x words₂ scratch₂ slots₂ → r ≡ answerOf index x →
           IteratesLent text index line cells calls words scratch slots r words₂ scratch₂ slots₂
       unfolding from
       lent-iterated {x} good w q =
           let zero : scratch₁ ≡ replicate (length scratch₁) 0 = same ∙ l .clean .is ∙ ap (λ (z : List ℕ). replicate (length z) 0) (sym same) in
           record {
             says = λ {P} i well. some-of (loadState P cells words) (sym (valid-is i) ∙ valid) _ (λ s loads. some-of (lineTrees P line) (sym (a .says text P i) ∙ good) _ (λ vs reads.
-                let g : Given text index line cells words P s vs = record { indexed = i; plain = well; loaded = loads; allowed = reads } in rw (loads, reads) (told-by _ g refl (w .says g zero) q)));
+                let g : Given text index ends readings line cells words P s vs = record { indexed = i; told = l .ends-told .says P i; gathered = readings-gathered i (l .readings-told); plain = well; loaded = loads; allowed = reads } in rw (loads, reads) (told-by _ g refl (w .says g zero) q)));
             clean = w .clean zero ∙ same;
             long = w .long;
           }

@@ -13,6 +13,7 @@ use Rattle.language.specs.Line.{lineTrees}
 use Rattle.language.specs.PlainTyping.{WellPlain}
 use Rattle.language.specs.Machine.{Board as MachineBoard, Iterated, lengthsLent, written, iterateState, iterateFile, iterate}
 use Rattle.index.specs.Indexed.{Indexed}
+use Rattle.ends.specs.Told.{TellsUpdates, TellsReadings}
 use Rattle.heads.specs.Places.{channelLineOf}
 use Rattle.iteration.specs.declared.nodes.Updated.{Updated}
 use Rattle.iteration.specs.declared.nodes.Updated.the-variants.{Used, Refused}
@@ -20,6 +21,7 @@ use Rattle.evaluator.specs.ChannelValues.{boardLent}
 use Rattle.answers.specs.declared.Board.{Board}
 use Rattle.answers.specs.declared.Answer.{Answer}
 use Rattle.answers.specs.Boards.{boardOf, said, refusalOf}
+use Rattle.checker.specs.Checks.{OrderedHeld}
 
 -- ---- the promise of the public function
 pub record Iterates (text : List ℕ) (b : Board) (state scratch slots line : List ℕ) (r : Answer) (state′ scratch′ slots′ : List ℕ) : Type 0 where
@@ -41,13 +43,21 @@ pub data Told (cells : ℕ) (words : List ℕ) (r : Answer) (words′ : List ℕ
   told-done : {s : State} → r ≡ refusalOf noRefusal noFrame → words′ ≡ written cells s words → Told cells words r words′ (ok s)
   told-refused : {n frame : ℕ} → r ≡ refusalOf n frame → words′ ≡ words → Told cells words r words′ (no n frame)
 
+-- a file that was read, of right plain types, no node of which reads itself; the ends of its expressions and the readings of its nodes
+pub record Walked (text index ends readings : List ℕ) : Type 0 where
+  pub ordered : OrderedHeld text index
+  pub ends-told : TellsUpdates text index ends
+  pub readings-told : TellsReadings text index readings
+
 -- of a file of right plain types, where enough is lent: 18, 19, then 20 to 23
 abbrev pub onState : File → MachineBoard → List ℕ → List ℕ → Result State
 onState P b words line = from (loadState P (b .cells) words) notLent noFrame (λ s. from (lineTrees P line) badInputLine noFrame (λ vs. iterateState P b s vs))
 
-pub record Lent (text index : List ℕ) (cells : ℕ) (words scratch : List ℕ) : Type 0 where
+pub record Lent (text index ends readings : List ℕ) (cells : ℕ) (words scratch : List ℕ) : Type 0 where
   pub file : File
   pub indexed : Indexed text index file
+  pub ends-told : TellsUpdates text index ends
+  pub readings-told : TellsReadings text index readings
   pub board : length words ≡ stateLength cells
   pub most : cells ≤ cellsMost
   pub room : cells ≤ length scratch

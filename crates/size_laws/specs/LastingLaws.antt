@@ -44,7 +44,7 @@ module _ {t : Lent} {P : File} (i : IndexedFile t P) where
   initial-stands m n e = record { now = 0; last = 0; spelled = i .eachNode m e .channel .initial; within = node-within (i .within) m e .initial; declared = node-declared m e }
 
   update-stands : (m : ℕ) (n : Node) → look (P .nodes) m ≡ some n → Standing t P updateWord (length (P .inputs) + m) (n .update) (n .declared)
-  update-stands m n e = record { now = length (P .inputs) + m; last = length (P .inputs) + length (P .nodes); spelled = i .eachNode m e .update; within = node-within (i .within) m e .update; declared = node-declared m e }
+  update-stands m n e = record { now = length (P .inputs) + length (P .nodes); last = length (P .inputs) + length (P .nodes); spelled = i .eachNode m e .update; within = node-within (i .within) m e .update; declared = node-declared m e }
 
   module _ {n : Counts} (k : CountsAre n P) where
     pub counts-few : Few n

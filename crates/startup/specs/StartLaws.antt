@@ -11,6 +11,7 @@ use Rattle.language.specs.Result.{Result, ok, bind, need, both}
 use Rattle.language.specs.Syntax.{File}
 use Rattle.language.specs.Reader.{readFile}
 use Rattle.language.specs.PlainTypes.{plainTypes}
+use Rattle.language.specs.Order.{orderly}
 use Rattle.language.specs.Layout.{stateLength, stateWords}
 use Rattle.language.specs.InitialValues.{FileBegins}
 use Rattle.language.specs.Machine.{Record, Started, Accepted, Verdict, emptyRecord, answer, checkFile, verdictOf, finalList, listLent, buffersLent, startState, written, startWords, start}
@@ -144,7 +145,7 @@ module _ (text : List ℕ) (b : Board) (records : ℕ) (state scratch slots : Li
       record {
         answer-is = c .says;
         list-is = c .instances records (lent-first b records state scratch slots) ∙ ap (finalList (verdictOf (boardOf b) (checkFile text given)) (checkFile text given)) (sym (length-replicate records emptyRecord));
-        state-is = sym (ap (λ u. let o = bind u (λ P. plainTypes P (need given notLent noFrame (sizesOf P))) in startWords (verdictOf (boardOf b) o) o (b .cells) state) (read-fault v q));
+        state-is = sym (ap (λ u. let o = bind u (λ P. plainTypes P (orderly P (need given notLent noFrame (sizesOf P)))) in startWords (verdictOf (boardOf b) o) o (b .cells) state) (read-fault v q));
         scratch-is = scratch-clear;
         slots-is = slots-clear (cleared .second-is);
       }

@@ -13,7 +13,7 @@ use borrow.Author.Tests.{le-leb, lt-leb, leb-true}
 use Rattle.language.specs.Limits.{channelsMost, headerWords, cellWords}
 use Rattle.language.specs.Result.{both, when, chain, choose}
 use Rattle.language.specs.Syntax.{Ty, tbool, Input, Node, File, declaredTypes}
-use Rattle.language.specs.Within.{All, all-nil, all-cons, WithinDeclared, WithinNodes, wn-nil, wn-cons, Within}
+use Rattle.language.specs.Within.{All, WithinDeclared, Within}
 use Rattle.language.specs.Heap.{Cell}
 use Rattle.language.specs.Slide.{mem, reached}
 use Rattle.language.specs.Layout.{stateLength, allZero, cellsOfWords, stateOfWords, cellsRight, locationFits, rootsRight, allReached, stateRight, loadState}
@@ -38,12 +38,8 @@ use Rattle.cell_check.specs.HeapLaws.{heap-is, heap-below}
 use Rattle.state_check.specs.Loads.{stateOf, heapRight, laidOut, ChannelsJudged, MarksJudged, ReachedJudged, LaidJudged, RightJudged, StateJudged}
 
 -- ---- the declared type of a channel, in the index
-nodes-declared : {P : File} {earlier : ℕ} {ns : List Node} → WithinNodes P earlier ns → All (WithinDeclared (length (P .types))) (map (λ (n : Node). n .declared) ns)
-nodes-declared wn-nil = all-nil
-nodes-declared (wn-cons w ws) = all-cons (w .declared) (nodes-declared ws)
-
 types-declared : {P : File} → Within P → All (WithinDeclared (length (P .types))) (declaredTypes P)
-types-declared w = all-append (all-to-map (λ (i : Input). i .declared) (all-map (λ i v. v .declared) (w .inputs))) (nodes-declared (w .nodes))
+types-declared w = all-append (all-to-map (λ (i : Input). i .declared) (all-map (λ i v. v .declared) (w .inputs))) (all-to-map (λ (n : Node). n .declared) (all-map (λ n v. v .declared) (w .nodes)))
 
 pub channel-count : (P : File) → length (declaredTypes P) ≡ length (P .inputs) + length (P .nodes)
 channel-count P = length-append (map (λ (i : Input). i .declared) (P .inputs)) (map (λ (n : Node). n .declared) (P .nodes)) ∙ omega (arith, length-map (P .inputs) (λ (i : Input). i .declared), length-map (P .nodes) (λ (n : Node). n .declared))

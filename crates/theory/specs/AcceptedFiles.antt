@@ -1,15 +1,17 @@
--- Accepted files: where some board is answered with the numbers x, the file is within the limits, its plain types hold, its sizes are
--- derived, and x is exactly what the derivation needs. And then every board that lends as much is answered with x.
+-- Accepted files: where some board is answered with the numbers x, the file is within the limits, its plain types hold, no node reads
+-- itself, its sizes are derived, and x is exactly what the derivation needs. And then every board that lends as much is answered with x.
 use Prim.Native.Nat.{ℕ, _+_, _≤_, _<_}
 use mathlib.Core.List.{List}
 use mathlib.Core.Bool.{Bool, true}
 use mathlib.Core.Path.{_≡_, refl, sym, ap, _∙_}
 use native.Mathlib.Omega.{arith}
 use Rattle.language.specs.Limits.{numberMost}
+use Rattle.language.specs.Refusals.{noFrame, notLent}
 use Rattle.language.specs.Result.{Result, ok, no, bind, need}
 use Rattle.language.specs.Syntax.{File}
 use Rattle.language.specs.Within.{Within}
 use Rattle.language.specs.Reader.{readFile}
+use Rattle.language.specs.Order.{Acyclic}
 use Rattle.language.specs.Estimate.{Estimate, stop, stopped}
 use Rattle.language.specs.Typing.{WellSized}
 use Rattle.language.specs.Checker.{SizedFile, sizedFile}
@@ -18,9 +20,10 @@ use Rattle.language.specs.Machine.{Board, Record, accepted, Answer, answer, Acc
 use Rattle.language.specs.Run.{Enough, Reported}
 use Rattle.theory.specs.Lists.{both-left}
 use Rattle.theory.specs.Outcomes.{Outcome, accepted as passed, refused, bind-outcome, need-outcome}
-use Rattle.theory.specs.FilePasses.{plain-outcome, outcome-of}
+use Rattle.theory.specs.FilePasses.{plain-outcome, orderly-outcome, outcome-of}
 use Rattle.language.specs.PlainTyping.{WellPlain}
 use Rattle.theory.specs.PlainTypesAgree.{well-plain-passes}
+use Rattle.theory.specs.Orderly.{acyclic-passes}
 use Rattle.theory.specs.PlainFileSizes.{well-plain-refusals}
 use Rattle.theory.specs.ReaderExact.{reader-forth}
 use Rattle.theory.specs.CheckerAgrees.{accepted-is-derived}
@@ -31,6 +34,7 @@ use Rattle.theory.specs.Judged.{BoardAllowed, board-allowed, judge-accep
 pub record Passed (P : File) (lent : Bool) (a : Accepted) : Type 0 where
   pub given : lent ≡ true
   pub plain : WellPlain P
+  pub acyclic : Acyclic P
   pub file : a .file ≡ P
   pub sized : sizedFile P ≡ ok (a .sizes)
 
@@ -41,9 +45,10 @@ Numbered n frame = 1 ≤ n
 pub file-outcome : (t : List ℕ) (P : File) (lent : Bool) → readFile t ≡ ok P → Outcome (Passed P lent) Numbered (checkFile t lent)
 unfolding checkFile bind
 file-outcome t P lent read = rw read (plain-outcome P (λ frame _. omega arith) (λ plain.
-    need-outcome lent 18 0 (λ _. omega arith) (λ given.
+    orderly-outcome (reader-forth t P read .within) (λ i x. omega arith) (λ acyclic.
+    need-outcome lent notLent noFrame (λ _. omega arith) (λ given.
     bind-outcome (outcome-of (sizedFile P) (λ n frame e. omega (arith, well-plain-refusals plain e))) (λ q sized _.
-    passed (record { given = given; plain = plain; file = refl; sized = sized })))))
+    passed (record { given = given; plain = plain; acyclic = acyclic; file = refl; sized = sized }))))))
 
 -- ---- accepted files
 -- the text t is accepted as the file P with the numbers x
@@ -51,6 +56,7 @@ pub record AcceptedFile (t : List ℕ) (P : File) (x : Estimate) : Type 0 where
   pub read : readFile t ≡ ok P
   pub within : Within P
   pub plain : WellPlain P
+  pub acyclic : Acyclic P
   pub sizes : SizedFile
   pub sized : sizedFile P ≡ ok sizes
   pub derived : WellSized P (sizes .updates)
@@ -82,6 +88,7 @@ reported-accepted {t} {P} {x} read r = by-outcome (checkFile t (listLent b (r .l
           read = read;
           within = within;
           plain = p .plain;
+          acyclic = p .acyclic;
           sizes = a .sizes;
           sized = p .sized;
           derived = accepted-is-derived within (p .sized) .sizes;
@@ -116,7 +123,7 @@ module _ {t : List ℕ} {P : File} {x : Estimate} (a : AcceptedFile t P x) where
 
   pub checks-again : (lent : Bool) → lent ≡ true → checkFile t lent ≡ ok acceptedAs
   unfolding checkFile bind need
-  checks-again lent given = rw (a .read, given, well-plain-passes P _ (a .plain), a .sized)
+  checks-again lent given = rw (a .read, given, well-plain-passes P _ (a .plain), acyclic-passes P _ (a .acyclic), a .sized)
 
   pub judged-again : (b : Board) → Enough x b → judged b acceptedAs ≡ accepted x
   unfolding judged

@@ -1,16 +1,18 @@
 -- Demand 2's acceptance, both ways: a text is accepted with numbers exactly where they are derived, what the call asks for is lent, and
--- the board has them; 15, 16 and 17 are answered exactly where they are derived and the board is short.
+-- the board has them; 15, 16 and 17 are answered exactly where they are derived and the board is short; 25 exactly where a node reads
+-- itself, in the frame of the lowest.
 use Prim.Native.Nat.{ℕ, _≤_}
 use mathlib.Core.List.{List}
 use mathlib.Core.Bool.{Bool, true, false}
 use mathlib.Core.Path.{_≡_, refl, sym, ap, _∙_, subst}
 use native.Mathlib.Omega.{arith}
 use Rattle.language.specs.Limits.{instancesMost}
-use Rattle.language.specs.Refusals.{tooManyInstances, heapShort, stackShort}
+use Rattle.language.specs.Refusals.{tooManyInstances, heapShort, stackShort, notLent, selfReading}
 use Rattle.language.specs.Result.{Result, ok, no, bind, need}
 use Rattle.language.specs.Syntax.{File}
 use Rattle.language.specs.Reader.{readFile}
 use Rattle.language.specs.PlainTyping.{WellPlain}
+use Rattle.language.specs.Order.{Acyclic}
 use Rattle.language.specs.Estimate.{Estimate, stop, stopped}
 use Rattle.language.specs.Typing.{WellSized}
 use Rattle.language.specs.Instances.{MoreThan, Needed}
@@ -18,9 +20,10 @@ use Rattle.language.specs.Checker.{SizedFile, sizedFile}
 use Rattle.language.specs.Cells.{numbersNeeded}
 use Rattle.language.specs.Machine.{Board, boardAllowed, Answer, accepted, short, answer, Accepted, checkFile, judge, judged, verdictOf}
 use Rattle.language.specs.Run.{Enough}
-use Rattle.language.specs.Acceptance.{Derived, AcceptedWith, TextOf, ShortOf, heap-short, environment-short, stack-short, RefusedShort}
+use Rattle.language.specs.Acceptance.{SelfReading, Derived, AcceptedWith, TextOf, ShortOf, heap-short, environment-short, stack-short, RefusedShort}
 use Rattle.theory.specs.Outcomes.{when-accepted}
 use Rattle.theory.specs.PlainTypesAgree.{well-plain-passes}
+use Rattle.theory.specs.Orderly.{acyclic-passes, lowest-refused}
 use Rattle.theory.specs.ReaderExact.{reader-forth, reader-back}
 use Rattle.theory.specs.CheckerAgrees.{accepted-iff-few, refused-iff-many}
 use Rattle.theory.specs.Judged.{BoardAllowed, board-allowed, judge-accepted, judge-enough, judge-short, judge-cases}
@@ -50,6 +53,7 @@ passing t lent {a} is = by-reading (readFile t) refl
             file = P;
             is = exact;
             plain = p .plain;
+            acyclic = p .acyclic;
             updates = a .sizes .updates;
             sizes = accepted-iff-few (exact .within) (a .sizes .updates) .0 (record { list = a .sizes .list; is = p .sized });
             numbers = ap (λ Q. numbersNeeded Q (a .sizes .updates)) (p .file);
@@ -70,7 +74,7 @@ passes {t} d given =
     let sized = accepted-iff-few (d .is .within) (d .updates) .1 (d .sizes) in
     record {
       found = record { file = P; sizes = record { updates = d .updates; list = sized .list } };
-      is = rw (read, given, well-plain-passes P _ (d .plain), sized .is);
+      is = rw (read, given, well-plain-passes P _ (d .plain), acyclic-passes P _ (d .acyclic), sized .is);
       numbers = sym (d .numbers);
     }
 
@@ -93,10 +97,15 @@ module _ {b : Board} (allowed : BoardAllowed b) where
   stopped-short (environment-short cells less) = environment-short (omega (arith, allowed .cells)) (omega arith)
   stopped-short (stack-short cells slots less) = stack-short (omega (arith, allowed .cells)) (omega (arith, allowed .slots)) (omega arith)
 
-short-number : {x : Estimate} {b : Board} {n : ℕ} → ShortOf x b n → heapShort ≤ n
-short-number (heap-short less) = omega arith
-short-number (environment-short cells less) = omega arith
-short-number (stack-short cells slots less) = omega arith
+pub short-least : {x : Estimate} {b : Board} {n : ℕ} → ShortOf x b n → heapShort ≤ n
+short-least (heap-short less) = omega arith
+short-least (environment-short cells less) = omega arith
+short-least (stack-short cells slots less) = omega arith
+
+pub short-most : {x : Estimate} {b : Board} {n : ℕ} → ShortOf x b n → n ≤ stackShort
+short-most (heap-short less) = omega arith
+short-most (environment-short cells less) = omega arith
+short-most (stack-short cells slots less) = omega arith
 
 -- ---- the answer of a call that asks for what `lent` tests, an allowed board among it
 module _ (t : List ℕ) (lent : Bool) (b : Board) (asks : lent ≡ true → boardAllowed b ≡ true) where
@@ -132,7 +141,7 @@ module _ (t : List ℕ) (lent : Bool) (b : Board) (asks : lent ≡ true → boar
       by-result : (r : Result Accepted) → checkFile t lent ≡ r → RefusedShort t lent b a
       by-result (no n frame) e = absurd (
           let z : n ≡ a .number = ap (λ (c : Answer). c .number) (rw e at is) in
-          let beyond : 18 ≤ n = check-refusals t lent e .gap (omega (arith, z)) in
+          let beyond : notLent ≤ n = check-refusals t lent e .gap (omega (arith, z)) in
           omega (arith, z))
       by-result (ok v) e =
           let p = passing t lent e in
@@ -159,8 +168,27 @@ module _ (t : List ℕ) (lent : Bool) (b : Board) (asks : lent ≡ true → boar
       let bounds = d .bounds in
       judged-needs (p .found) (p .is) ∙ ap (λ y. answer (judge b (stopped y))) (p .numbers) ∙ ap answer (judge-short b _ lacks) ∙ (λ i. record { number = a .number; frame = sym frame i; bounds = sym bounds i })
 
+  -- 25, in the frame of the lowest node that reads itself
+  pub order-derived : (frame : ℕ) → (said .number ≡ selfReading) × (said .frame ≡ frame) → SelfReading t frame
+  unfolding verdictOf answer
+  order-derived frame is = by-result (checkFile t lent) refl
+    where
+      by-result : (r : Result Accepted) → checkFile t lent ≡ r → SelfReading t frame
+      by-result (no n f) e =
+          let z : n ≡ selfReading = rw e at (is .0) in
+          let w : f ≡ frame = rw e at (is .1) in
+          subst (SelfReading t) w (check-refusals t lent e .order z)
+      by-result (ok a) e =
+          let x : Estimate = stopped (needs a) in
+          let judged-as : answer (judge b x) .number ≡ selfReading = sym (ap (λ (c : Answer). c .number) (judged-needs a e)) ∙ is .0 in
+          absurd (judge-cases b x (λ enough. omega (arith, rw (judge-enough b x enough) at judged-as)) (λ n lacks. omega (arith, short-most lacks, rw (judge-short b x lacks) at judged-as)))
+
+  pub derived-order : (frame : ℕ) → SelfReading t frame → (said .number ≡ selfReading) × (said .frame ≡ frame)
+  unfolding checkFile bind verdictOf answer
+  derived-order frame x = rw (reader-back (x .is), well-plain-passes (x .file) _ (x .plain), lowest-refused (x .is .within) (x .lowest) _) (refl, sym (x .named))
+
   -- 14, of a file whose sizes the rules derive. Where they do not, 10 to 14 are by the checker's definition alone.
-  module _ {P : File} {xs : List Estimate} (is : TextOf P t) (plain : WellPlain P) (w : WellSized P xs) where
+  module _ {P : File} {xs : List Estimate} (is : TextOf P t) (plain : WellPlain P) (acyclic : Acyclic P) (w : WellSized P xs) where
     reads : readFile t ≡ ok P
     reads = reader-back is
 
@@ -170,18 +198,18 @@ module _ (t : List ℕ) (lent : Bool) (b : Board) (asks : lent ≡ true → boar
       where
         by-sizes : (r : Result SizedFile) → sizedFile P ≡ r → lent ≡ true → (lent ≡ true) × MoreThan instancesMost (Needed w)
         by-sizes (no n frame) e given =
-            let z : n ≡ 14 = rw (reads, given, well-plain-passes P _ plain, e) at answered in
+            let z : n ≡ tooManyInstances = rw (reads, given, well-plain-passes P _ plain, acyclic-passes P _ acyclic, e) at answered in
             (given, refused-iff-many (is .within) w .0 (record { frame = frame; is = e ∙ ap (λ m. no m frame) z }))
         by-sizes (ok q) e given =
-            let passed : checkFile t lent ≡ ok (record { file = P; sizes = q }) = rw (reads, given, well-plain-passes P _ plain, e) in
+            let passed : checkFile t lent ≡ ok (record { file = P; sizes = q }) = rw (reads, given, well-plain-passes P _ plain, acyclic-passes P _ acyclic, e) in
             let x : Estimate = stopped (numbersNeeded P (q .updates)) in
-            let judged-as : answer (judge b x) .number ≡ 14 = sym (ap (λ (c : Answer). c .number) (judged-needs _ passed)) ∙ answered in
-            absurd (judge-cases b x (λ enough. omega (arith, rw (judge-enough b x enough) at judged-as)) (λ n lacks. omega (arith, short-number lacks, rw (judge-short b x lacks) at judged-as)))
+            let judged-as : answer (judge b x) .number ≡ tooManyInstances = sym (ap (λ (c : Answer). c .number) (judged-needs _ passed)) ∙ answered in
+            absurd (judge-cases b x (λ enough. omega (arith, rw (judge-enough b x enough) at judged-as)) (λ n lacks. omega (arith, short-least lacks, rw (judge-short b x lacks) at judged-as)))
 
         by-lent : (l : Bool) → lent ≡ l → (lent ≡ true) × MoreThan instancesMost (Needed w)
         by-lent true e = by-sizes (sizedFile P) refl e
-        by-lent false e = absurd (let z : 18 ≡ 14 = rw (reads, e, well-plain-passes P _ plain) at answered in omega (arith, z))
+        by-lent false e = absurd (let z : notLent ≡ tooManyInstances = rw (reads, e, well-plain-passes P _ plain, acyclic-passes P _ acyclic) at answered in omega (arith, z))
 
     pub many-refused : lent ≡ true → MoreThan instancesMost (Needed w) → said .number ≡ tooManyInstances
     unfolding checkFile bind need verdictOf answer
-    many-refused given many = rw (reads, given, well-plain-passes P _ plain, refused-iff-many (is .within) w .1 many .is)
+    many-refused given many = rw (reads, given, well-plain-passes P _ plain, acyclic-passes P _ acyclic, refused-iff-many (is .within) w .1 many .is)

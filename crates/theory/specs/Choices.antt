@@ -1,4 +1,4 @@
--- Laws of oneOf and choose: one of two tests, one of two answers.
+-- Cases by a test; laws of oneOf and choose: one of two tests, one of two answers.
 use Prim.Native.Nat.{ℕ}
 use mathlib.Core.List.{[], _∷_, map}
 use mathlib.Core.Bool.{Bool, true, false}
@@ -6,6 +6,11 @@ use mathlib.Core.Option.{Option}
 use mathlib.Core.Path.{_≡_, refl}
 use Rattle.language.specs.Result.{oneOf, choose}
 use Rattle.theory.specs.Tests.{Whenever}
+
+-- ---- a test holds or fails
+pub by-test : {X : Type 0} (b : Bool) → (b ≡ true → X) → (b ≡ false → X) → X
+by-test true f g = f refl
+by-test false f g = g refl
 
 -- ---- one of two tests
 pub one-left : {a : Bool} (b : Bool) → a ≡ true → oneOf a b ≡ true

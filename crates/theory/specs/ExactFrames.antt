@@ -1,5 +1,5 @@
 -- The readers of what stands in a frame are exact: types, functions, inputs and nodes.
-use Prim.Native.Nat.{ℕ, _+_, _<_, zero-le}
+use Prim.Native.Nat.{ℕ, _<_, zero-le}
 use mathlib.Core.List.{List, [], _∷_, _++_, append-assoc}
 use mathlib.Core.Option.{some}
 use mathlib.Core.Path.{_≡_, refl}
@@ -138,7 +138,7 @@ module _ (known : File) where
 pub record NodeAmong (channels : ℕ) (known : File) (n : Node) : Type 0 where
   pub declared : WithinDeclared (length (known .types)) (n .declared)
   pub initial : WithinExpr nestingMost (outerScope (known .types) (known .functions) 0 0) (n .initial)
-  pub update : WithinExpr nestingMost (outerScope (known .types) (known .functions) (length (known .inputs) + length (known .nodes)) channels) (n .update)
+  pub update : WithinExpr nestingMost (outerScope (known .types) (known .functions) channels channels) (n .update)
 
 pub node-exact : (channels : ℕ) (known : File) → Exact (node channels known) nodeBytes (NodeAmong channels known)
 unfolding node andThen nodeBytes
@@ -150,12 +150,12 @@ node-exact channels known = record { back = back; forth = forth }
           append-three (declaredBytes (n .declared)) (exprBytes (n .initial)) (exprBytes (n .update)) rest,
           declared-exact (length (known .types)) .back (n .declared) _ (w .declared),
           expr-exact nestingMost (outerScope (known .types) (known .functions) 0 0) .back (n .initial) _ (w .initial),
-          expr-exact nestingMost (outerScope (known .types) (known .functions) (length (known .inputs) + length (known .nodes)) channels) .back (n .update) rest (w .update),
+          expr-exact nestingMost (outerScope (known .types) (known .functions) channels channels) .back (n .update) rest (w .update),
         )
 
     forth : Behind nodeBytes (NodeAmong channels known) [] (node channels known)
     forth =
         next (declared-exact (length (known .types)) .forth) λ τ u.
         next (expr-exact nestingMost (outerScope (known .types) (known .functions) 0 0) .forth) λ e v.
-        next (expr-exact nestingMost (outerScope (known .types) (known .functions) (length (known .inputs) + length (known .nodes)) channels) .forth) λ e′ w.
+        next (expr-exact nestingMost (outerScope (known .types) (known .functions) channels channels) .forth) λ e′ w.
         done (record { declared = u; initial = v; update = w }) (simp append-assoc)

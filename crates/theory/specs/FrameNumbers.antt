@@ -5,7 +5,7 @@ use mathlib.Core.Option.{some}
 use mathlib.Core.Path.{_≡_, refl}
 use native.Mathlib.Omega.{arith}
 use lib.ListN.{length, getElem? as look}
-use Rattle.language.specs.Refusals.{noFrame, badLine, heapShort, heapSpent, valueTooLarge, bufferShort}
+use Rattle.language.specs.Refusals.{noFrame, badLine, heapShort, heapSpent, bufferShort}
 use Rattle.language.specs.Syntax.{Function, File, functionFrame, channelFrame}
 use Rattle.language.specs.Answers.{frameCount, FrameNamed}
 use Rattle.theory.specs.Lists.{look-less}
@@ -28,24 +28,26 @@ channel-frame P c less = omega arith
 
 -- ---- the frame of an answer
 module _ {t : List ℕ} {n : ℕ} where
-  pub frame-named : {frame : ℕ} → 1 ≤ frame → frame ≤ frameCount t → badLine ≤ n → (heapShort ≤ n → heapSpent ≤ n) → n ≤ valueTooLarge → FrameNamed t n frame
-  frame-named first last low gap high = record {
+  pub frame-named : {frame : ℕ} → 1 ≤ frame → frame ≤ frameCount t → badLine ≤ n → (heapShort ≤ n → heapSpent ≤ n) → (n ≡ bufferShort → ⊥) → FrameNamed t n frame
+  frame-named first last low gap other = record {
     none = λ few. absurd (omega arith);
     none-at-board = λ many few. absurd (omega (arith, gap many));
-    none-at-buffer = λ is. absurd (omega arith);
+    none-at-buffer = λ is. absurd (other is);
     least = λ _ _. first;
     least-in-run = λ _ _. first;
+    least-in-order = λ _. first;
     most = λ _. last;
     one-after = omega arith;
   }
 
-  pub no-frame-named : (badLine ≤ n → heapShort ≤ n) → (heapSpent ≤ n → bufferShort ≤ n) → FrameNamed t n noFrame
+  pub no-frame-named : (badLine ≤ n → heapShort ≤ n) → (heapSpent ≤ n → n ≡ bufferShort) → FrameNamed t n noFrame
   no-frame-named gap high = record {
     none = λ _. refl;
     none-at-board = λ _ _. refl;
     none-at-buffer = λ _. refl;
     least = λ low few. absurd (omega (arith, gap low));
     least-in-run = λ many few. absurd (omega (arith, high many));
+    least-in-order = λ is. absurd (omega (arith, high (omega arith)));
     most = λ _. omega arith;
     one-after = omega arith;
   }

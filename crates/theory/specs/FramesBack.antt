@@ -10,7 +10,7 @@ use Rattle.language.specs.Limits.{typesMost, functionsMost, inputsMost, nodesMo
 use Rattle.language.specs.Result.{ok, no, bind, need, from, both, choose}
 use Rattle.language.specs.Syntax.{Node, File}
 use Rattle.language.specs.Format.{fileFrames}
-use Rattle.language.specs.Within.{All, all-cons, WithinTypes, wt-cons, WithinFunctions, wf-cons, WithinInput, WithinNodes, wn-cons, Within}
+use Rattle.language.specs.Within.{All, all-cons, WithinTypes, wt-cons, WithinFunctions, wf-cons, WithinInput, WithinNode, Within}
 use Rattle.language.specs.Parser.{decode}
 use Rattle.language.specs.Text.{isEmpty}
 use Rattle.language.specs.Reader.{inOrder, withType, withFunction, withInput, withNode, readKind, readFrame, readFrames, emptyFile}
@@ -68,10 +68,10 @@ module _ (P : File) (channels : ℕ) where
 
   -- where so many channels are said as the file has
   module _ (all : length (P .inputs) + length (P .nodes) ≡ channels) where
-    node-more : OneMore channels nodesMost frameOfNode (λ l. file (P .types) (P .functions) (P .inputs) l) (λ l more. WithinNodes P (length l) more)
+    node-more : OneMore channels nodesMost frameOfNode (λ l. file (P .types) (P .functions) (P .inputs) l) (λ l more. All (WithinNode P) more)
     unfolding readFrame readKind inOrder decode choose from need bind withNode
-    node-more l n more (wn-cons w ws) lt =
-        (λ frame. rw (lt-ltb (length l) nodesMost lt, whole-back (node-exact channels (file (P .types) (P .functions) (P .inputs) l)) frame n among), rw (length-append, add-one) ws)
+    node-more l n more (all-cons w ws) lt =
+        (λ frame. rw (lt-ltb (length l) nodesMost lt, whole-back (node-exact channels (file (P .types) (P .functions) (P .inputs) l)) frame n among), ws)
       where
         among : NodeAmong channels (file (P .types) (P .functions) (P .inputs) l) n
         among = record { declared = w .declared; initial = w .initial; update = rw all at (w .update) }
@@ -91,4 +91,4 @@ module _ (P : File) (channels : ℕ) where
         inputs = kind-leads channels inputsMost frameOfInput _ (λ l more. All (WithinInput P) more) input-more [] (P .inputs) (w .inputs) (omega (arith, w .fewInputs))
 
         nodes : Leads channels (file (P .types) (P .functions) (P .inputs) []) (map frameOfNode (P .nodes)) P
-        nodes = kind-leads channels nodesMost frameOfNode _ (λ l more. WithinNodes P (length l) more) node-more [] (P .nodes) (w .nodes) (omega (arith, w .fewNodes))
+        nodes = kind-leads channels nodesMost frameOfNode _ (λ l more. All (WithinNode P) more) node-more [] (P .nodes) (w .nodes) (omega (arith, w .fewNodes))

@@ -13,7 +13,7 @@ use Rattle.language.specs.Result.{ok, no, both, choose}
 use Rattle.language.specs.Syntax.{TypeDef, Function, Input, Node, File, selfFree}
 use Rattle.language.specs.Format.{fileFrames}
 use Rattle.language.specs.Within.{All, all-nil, all-cons, WithinType, WithinTypes, wt-nil, wt-cons, WithinFunction, WithinFunctions, wf-nil}
-use Rattle.language.specs.Within.{wf-cons, WithinInput, WithinNode, WithinNodes, wn-nil, wn-cons}
+use Rattle.language.specs.Within.{wf-cons, WithinInput, WithinNode}
 use Rattle.language.specs.Text.{isEmpty}
 use Rattle.language.specs.Reader.{Kind, typeKind, functionKind, inputKind, nodeKind, kinds, inOrder, withType, withFunction, withInput, withNode, readKind, readFrame, readFrames}
 use Rattle.theory.specs.Lists.{false-is-not-true}
@@ -38,10 +38,6 @@ functions-snoc : {types : List TypeDef} {earlier Fs : List Function} {F : Functi
 functions-snoc wf-nil w = wf-cons (rw append-nil at w) wf-nil
 functions-snoc {earlier} (wf-cons {F = G} {Fs = Gs} v ws) w = wf-cons v (functions-snoc ws (rw (← append-assoc earlier (G ∷ []) Gs) at w))
 
-nodes-snoc : {P : File} {earlier : ℕ} {ns : List Node} {n : Node} → WithinNodes P earlier ns → WithinNode P (earlier + length ns) n → WithinNodes P earlier (ns ++ (n ∷ []))
-nodes-snoc wn-nil w = wn-cons (rw add-zero at w) wn-nil
-nodes-snoc (wn-cons {earlier} {ns} v ws) w = wn-cons v (nodes-snoc ws (rw (one-later earlier (length ns)) at w))
-
 -- ---- what has been read so far
 -- the limits of the frames read; how many nodes there will be shows in the number of channels only
 pub record SoFar (channels : ℕ) (f : File) : Type 0 where
@@ -52,7 +48,7 @@ pub record SoFar (channels : ℕ) (f : File) : Type 0 where
   pub types : WithinTypes 0 (f .types)
   pub functions : WithinFunctions (f .types) [] (f .functions)
   pub inputs : All (WithinInput f) (f .inputs)
-  pub nodes : (ns : List Node) → length (f .inputs) + length ns ≡ channels → WithinNodes (file (f .types) (f .functions) (f .inputs) ns) 0 (f .nodes)
+  pub nodes : (ns : List Node) → length (f .inputs) + length ns ≡ channels → All (WithinNode (file (f .types) (f .functions) (f .inputs) ns)) (f .nodes)
 
 -- an input sees the types and functions, and no channel
 input-anywhere : {ts : List TypeDef} {Fs : List Function} {is js : List Input} {ns ms : List Node} {i : Input} → WithinInput (file ts Fs is ns) i → WithinInput (file ts Fs js ms) i
@@ -60,7 +56,7 @@ input-anywhere w = record { declared = w .declared; initial = w .initial }
 
 -- a node among so many channels, in a file that has them
 node-among : {channels : ℕ} {ts : List TypeDef} {Fs : List Function} {is : List Input} {ns ms : List Node} {n : Node} → length is + length ms ≡ channels →
-    NodeAmong channels (file ts Fs is ns) n → WithinNode (file ts Fs is ms) (length ns) n
+    NodeAmong channels (file ts Fs is ns) n → WithinNode (file ts Fs is ms) n
 node-among e w = record { declared = w .declared; initial = w .initial; update = rw e (w .update) }
 
 grown : {A : Type 0} (l : List A) (a : A) (most : ℕ) → ltb (length l) most ≡ true → length (l ++ (a ∷ [])) ≤ most
@@ -92,7 +88,7 @@ module _ (channels frame : ℕ) (bs : List ℕ) (small : All Byte bs) where
           types = types-snoc (so .types) (rw zero-add w);
           functions = wf-nil;
           inputs = all-nil;
-          nodes = λ ns e. wn-nil;
+          nodes = λ ns e. all-nil;
         };
         frames = rw (W .1) (type-frames ts d);
       })
@@ -113,7 +109,7 @@ module _ (channels frame : ℕ) (bs : List ℕ) (small : All Byte bs) where
           types = so .types;
           functions = functions-snoc (so .functions) (W .0);
           inputs = all-nil;
-          nodes = λ ns e. wn-nil;
+          nodes = λ ns e. all-nil;
         };
         frames = rw (W .1) (function-frames ts Fs F);
       })
@@ -133,7 +129,7 @@ module _ (channels frame : ℕ) (bs : List ℕ) (small : All Byte bs) where
           types = so .types;
           functions = so .functions;
           inputs = all-snoc (all-map (λ j. input-anywhere) (so .inputs)) (input-anywhere (W .0));
-          nodes = λ ns e. wn-nil;
+          nodes = λ ns e. all-nil;
         };
         frames = rw (W .1) (input-frames ts Fs is i);
       })
@@ -152,7 +148,7 @@ module _ (channels frame : ℕ) (bs : List ℕ) (small : All Byte bs) where
           types = so .types;
           functions = so .functions;
           inputs = all-map (λ j. input-anywhere) (so .inputs);
-          nodes = λ ms e. nodes-snoc (so .nodes ms e) (rw zero-add (node-among e (W .0)));
+          nodes = λ ms e. all-snoc (so .nodes ms e) (node-among e (W .0));
         };
         frames = rw (W .1) (node-frames ts Fs is ns n);
       })

@@ -8,7 +8,7 @@ use native.Mathlib.Omega.{arith}
 use Rattle.language.specs.Limits.{nestingMost}
 use Rattle.language.specs.Syntax.{Ty, Expr, Exprs, Input, Node, File, declaredTypes, initialValues}
 use Rattle.language.specs.Scope.{Scope, outerScope}
-use Rattle.language.specs.Within.{All, all-nil, all-cons, WithinExpr, WithinNodes, wn-nil, wn-cons, Within}
+use Rattle.language.specs.Within.{All, all-nil, all-cons, WithinExpr, Within}
 use Rattle.language.specs.PlainTypes.{isInitial, areInitial}
 use Rattle.language.specs.Estimate.{Estimate}
 use Rattle.language.specs.Typing.{outside, channelsAt, Typing, Initials, c-none, c-init}
@@ -81,12 +81,8 @@ module _ {P : File} (within : Within P) where
 abbrev pub initialScope : File → Scope
 initialScope P = outerScope (P .types) (P .functions) 0 0
 
-nodes-within : {P : File} {earlier : ℕ} {ns : List Node} → WithinNodes P earlier ns → All (WithinExpr nestingMost (initialScope P)) (map (λ (n : Node). n .initial) ns)
-nodes-within wn-nil = all-nil
-nodes-within (wn-cons w ws) = all-cons (w .initial) (nodes-within ws)
-
 pub initials-within : {P : File} → Within P → All (WithinExpr nestingMost (initialScope P)) (initialValues P)
-initials-within within = all-append (all-to-map (λ (i : Input). i .initial) (all-map (λ i w. w .initial) (within .inputs))) (nodes-within (within .nodes))
+initials-within within = all-append (all-to-map (λ (i : Input). i .initial) (all-map (λ i w. w .initial) (within .inputs))) (all-to-map (λ (n : Node). n .initial) (all-map (λ n w. w .initial) (within .nodes)))
 
 pub initials-formed : {P : File} → WellPlain P → All (λ e. isInitial e ≡ true) (initialValues P)
 initials-formed {P} plain = all-append

@@ -1,11 +1,12 @@
 -- Iteration on words that hold a state of an accepted file, by a call that lends enough: an allowed line is answered 0, and the words
 -- then hold the plain machine's next trees; any other is answered 19, and the words stay. 20 to 23 are never met.
 use Prim.Native.Nat.{ℕ}
-use mathlib.Core.List.{List}
+use mathlib.Core.List.{List, _++_}
 use mathlib.Core.Option.{Option, none, some}
 use mathlib.Core.Path.{_≡_, refl, sym, ap, _∙_, subst}
 use native.Mathlib.Omega.{arith}
 use lib.ListN.{length, drop}
+use Rattle.language.specs.Refusals.{noFrame, badInputLine}
 use Rattle.language.specs.Result.{bind, need, from}
 use Rattle.language.specs.Syntax.{File}
 use Rattle.language.specs.Estimate.{Estimate}
@@ -13,9 +14,11 @@ use Rattle.language.specs.Heap.{Tree}
 use Rattle.language.specs.Layout.{stateLength, loadState}
 use Rattle.language.specs.Line.{lineTrees}
 use Rattle.language.specs.Machine.{done, refusal, Answer, answer, buffersLent, written, iterateState, iterateFile, iterated, iterate}
+use Rattle.language.specs.Order.{order}
 use Rattle.language.specs.PlainMachine.{Nodes, Step, allowed, not-allowed}
 use Rattle.language.specs.Run.{channelTrees, Call, CallAllowed, Holds, lineVerdict, called}
 use Rattle.theory.specs.PlainTypesAgree.{well-plain-passes}
+use Rattle.theory.specs.Orderly.{acyclic-passes, own-order}
 use Rattle.theory.specs.TypedStates.{StateTyped}
 use Rattle.theory.specs.StateWords.{state-loaded, load-on-fewer}
 use Rattle.theory.specs.AcceptedFiles.{AcceptedFile, channels-have-room}
@@ -40,13 +43,13 @@ module _ {t : List ℕ} {P : File} {x : Estimate} (a : AcceptedFile t P x) {cell
   state-typed : StateTyped P (h .state)
   state-typed = state-loaded (a .within) (h .valid) .typed
 
-  reaches-line : iterateFile t (c .board) (buffersLent (c .board) ws (c .scratch) (c .slots)) ws (c .line) ≡ from (lineTrees P (c .line)) 19 0 (λ us. iterateState P (c .board) (h .state) us)
+  reaches-line : iterateFile t (c .board) (buffersLent (c .board) ws (c .scratch) (c .slots)) ws (c .line) ≡ from (lineTrees P (c .line)) badInputLine noFrame (λ us. iterateState P (c .board) (h .state) us)
   unfolding iterateFile bind need from
-  reaches-line = rw (a .read, well-plain-passes P _ (a .plain), call .buffers, loads-here)
+  reaches-line = rw (a .read, well-plain-passes P _ (a .plain), acyclic-passes P _ (a .acyclic), call .buffers, loads-here)
 
   -- ---- any other line
   module _ (other : lineTrees P (c .line) ≡ none) where
-    pub other-line-is-refused : called t ws c .answer ≡ answer (refusal 19 0)
+    pub other-line-is-refused : called t ws c .answer ≡ answer (refusal badInputLine noFrame)
     unfolding iterate iterated from
     other-line-is-refused = rw (reaches-line, other)
 
@@ -56,15 +59,15 @@ module _ {t : List ℕ} {P : File} {x : Estimate} (a : AcceptedFile t P x) {cell
 
   -- ---- an allowed line
   module _ {us : List Tree} (is : lineTrees P (c .line) ≡ some us) where
-    pub goes-on : StateGoes P (c .board) (h .state) us
-    goes-on = state-goes a (call .enough) state-typed us (line-fits P (c .line) is)
+    pub goes-on : StateGoes P (order P) (c .board) (h .state) us
+    goes-on = state-goes a state-typed us (line-fits P (c .line) is) (call .enough) (own-order (a .within) (a .acyclic))
 
     pub allowed-line-is-done : called t ws c .answer ≡ answer done
-    unfolding iterate iterated from
+    unfolding iterate iterated iterateState from
     allowed-line-is-done = rw (reaches-line, is, goes-on .is)
 
     allowed-line-writes : called t ws c .state ≡ written (c .board .cells) (goes-on .after) ws
-    unfolding iterate iterated from
+    unfolding iterate iterated iterateState from
     allowed-line-writes = rw (reaches-line, is, goes-on .is)
 
     pub allowed-line-holds : Holds P cells (called t ws c .state) (channelTrees (goes-on .after))
@@ -74,7 +77,7 @@ module _ {t : List ℕ} {P : File} {x : Estimate} (a : AcceptedFile t P x) {cell
     allowed-line-stays-in-board = rw allowed-line-writes (written-beyond (a .within) (goes-on .typed) (channels-have-room a (call .enough)) ws)
 
     pub allowed-line-steps : Step P vs (c .line) (channelTrees (goes-on .after))
-    allowed-line-steps = allowed is (subst (λ before. Nodes P before (P .nodes) us (drop (length (P .inputs)) before) (channelTrees (goes-on .after))) (h .trees) (goes-on .plain))
+    allowed-line-steps = allowed is (subst (λ before. Nodes P before (order P) (us ++ drop (length (P .inputs)) before) (channelTrees (goes-on .after))) (h .trees) (goes-on .plain))
 
   -- ---- every line
   pub iterates : LineGoes t P cells ws vs c

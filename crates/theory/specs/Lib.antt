@@ -37,6 +37,12 @@ pub mod Fates
 pub mod EvaluatorAgrees
 pub mod SplitsCover
 pub mod OneTree
+pub mod Totals
+pub mod ReadThrough
+pub mod OrderComplete
+pub mod SameReadings
+pub mod AnyOrder
+pub mod Orderly
 pub mod HeapValues
 pub mod Growth
 pub mod FieldValues
@@ -97,8 +103,10 @@ pub mod HeldChannels
 pub mod ExactValues
 pub mod LineExact
 pub mod InputsGo
+pub mod NodeNumbers
 pub mod NodesGo
 pub mod StatesGo
+pub mod EveryOrder
 pub mod Iterates
 pub mod ReaderRefusals
 pub mod PlainStates
@@ -122,3 +130,6 @@ pub mod StartSteps
 pub mod Unread
 pub mod Demand
 pub mod Accumulates
+pub mod OrderCases
+pub mod TableOrder
+pub mod RespectPlaces

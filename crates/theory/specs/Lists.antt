@@ -1,15 +1,13 @@
 -- Looking into lists, and tests that hold.
 use Prim.Native.Nat.{ℕ, zero, suc, _+_, _-_, _≤_, _<_}
 use mathlib.Core.List.{List, [], _∷_, _++_, map}
-use mathlib.Core.Bool.{Bool, true, false}
+use mathlib.Core.Bool.{Bool, true, false, not}
 use mathlib.Core.Option.{none, some}
 use mathlib.Core.Path.{_≡_, refl, sym, ap, _∙_}
 use native.Mathlib.Omega.{arith}
 use native.Mathlib.Nat.{add-zero, zero-add, suc-add}
 use lib.ListN.{length, getD, take, drop, set, getElem? as look}
 use lib.Seq.{take-take, drop-drop, sets}
-use lib.Dec.{leb}
-use borrow.Author.Tests.{leb-true, leb-false}
 use Rattle.language.specs.Result.{both}
 
 pub none-is-not-some : {A B : Type 0} {a : A} → none ≡ some a → B
@@ -53,6 +51,37 @@ look-map f [] i e = none-is-not-some e
 look-map f (x ∷ l) zero {a} e = let z : x ≡ a = cc in rw z
 look-map f (x ∷ l) (suc i) e = look-map f l i e
 
+pub look-beyond : {A : Type 0} (l : List A) (i : ℕ) → length l ≤ i → look l i ≡ none
+look-beyond [] i le = refl
+look-beyond (x ∷ l) zero le = absurd (omega arith)
+look-beyond (x ∷ l) (suc i) le = look-beyond l i (omega arith)
+
+-- lists that agree at every place are equal
+pub same-list : {A : Type 0} (l k : List A) → ((i : ℕ) → look l i ≡ look k i) → l ≡ k
+same-list [] [] f = refl
+same-list [] (y ∷ k) f = none-is-not-some (f 0)
+same-list (x ∷ l) [] f = none-is-not-some (sym (f 0))
+same-list (x ∷ l) (y ∷ k) f = let head = f 0 in let tail = same-list l k (λ i. f (suc i)) in cc
+
+-- ---- a list with one element set
+pub look-set-same : {A : Type 0} (l : List A) (i : ℕ) (a : A) → i < length l → look (set l i a) i ≡ some a
+look-set-same [] i a less = absurd (omega arith)
+look-set-same (x ∷ l) zero a less = refl
+look-set-same (x ∷ l) (suc i) a less = look-set-same l i a (omega arith)
+
+pub look-set-other : {A : Type 0} (l : List A) (i j : ℕ) (a : A) → (j ≡ i → ⊥) → look (set l i a) j ≡ look l j
+look-set-other [] i j a other = refl
+look-set-other (x ∷ l) zero zero a other = absurd (other refl)
+look-set-other (x ∷ l) zero (suc j) a other = refl
+look-set-other (x ∷ l) (suc i) zero a other = refl
+look-set-other (x ∷ l) (suc i) (suc j) a other = look-set-other l i j a (λ e. other (ap suc e))
+
+pub map-set : {A B : Type 0} (f : A → B) (l : List A) (i : ℕ) (a : A) → map f (set l i a) ≡ set (map f l) i (f a)
+map-set f [] i a = refl
+map-set f (x ∷ l) zero a = refl
+map-set f (x ∷ l) (suc i) a = rw (map-set f l i a)
+
+-- ---- parts of lists
 -- lists that agree up to a place agree up to an earlier one
 pub take-fewer : {A : Type 0} (m n : ℕ) (l k : List A) → m ≤ n → take n l ≡ take n k → take m l ≡ take m k
 take-fewer m n l k le e = sym (take-take m n l le) ∙ ap (take m) e ∙ take-take m n k le
@@ -93,12 +122,12 @@ unfolding both
 both-never true e = e
 both-never false e = refl
 
-pub le-or-lt : {A : Type 0} (m n : ℕ) → (m ≤ n → A) → (n < m → A) → A
-le-or-lt {A} m n le lt = cases (leb m n) refl
-  where
-    cases : (b : Bool) → leb m n ≡ b → A
-    cases true e = le (leb-true m n e)
-    cases false e = lt (leb-false m n e)
+pub not-of-false : {b : Bool} → b ≡ false → not b ≡ true
+not-of-false e = rw e
+
+pub never-true : (b : Bool) → (b ≡ true → ⊥) → b ≡ false
+never-true true f = absurd (f refl)
+never-true false f = refl
 
 -- ---- several written one after the other, and then several more
 pub sets-append : (xs ys l : List ℕ) (i : ℕ) → sets l i (xs ++ ys) ≡ sets (sets l i xs) (i + length xs) ys

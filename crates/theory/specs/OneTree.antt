@@ -1,13 +1,14 @@
 -- The plain machine derives only one tree for an expression, and only one next state for a line.
 use Prim.Native.Nat.{ℕ}
-use mathlib.Core.List.{List, [], _∷_, _++_}
+use mathlib.Core.List.{List, _++_}
 use mathlib.Core.Bool.{Bool, true, false}
 use mathlib.Core.Path.{_≡_, refl, sym, ap, _∙_, subst}
 use native.Mathlib.Omega.{arith}
-use lib.ListN.{length, drop}
-use Rattle.language.specs.Syntax.{Op, Expr, Exprs, Node, File}
+use lib.ListN.{length, drop, set}
+use Rattle.language.specs.Syntax.{Op, Expr, Exprs, File, nodeChannel}
 use Rattle.language.specs.Heap.{Constant, kbool, truth, decides, Tree, vleaf, vcon, Trees, vnil, vcons}
 use Rattle.language.specs.Values.{appendTrees, treeSize}
+use Rattle.language.specs.Order.{order}
 use Rattle.language.specs.PlainMachine.{TreeChannels, Derives, p-bool, p-int, p-var, p-node, p-atlast, p-let, p-if-then, p-if-else, p-op, p-op-decided, p-call, p-ctor, p-case, p-adj, p-fit-success, p-fit-fail, DerivesAll, ps-nil, ps-cons, Nodes, no-nodes, next-node, Step, allowed, not-allowed}
 use Rattle.theory.specs.Lists.{none-is-not-some, false-is-not-true}
 
@@ -57,15 +58,15 @@ module _ {P : File} where
     one-trees ps-nil ps-nil = refl
     one-trees (ps-cons p ps) (ps-cons q qs) = rw (one-tree p q, one-trees ps qs)
 
-  pub one-result : {last : List Tree} {ns : List Node} {done old vs ws : List Tree} → Nodes P last ns done old vs → Nodes P last ns done old ws → vs ≡ ws
+  pub one-result : {last : List Tree} {is : List ℕ} {now vs ws : List Tree} → Nodes P last is now vs → Nodes P last is now ws → vs ≡ ws
   one-result no-nodes no-nodes = refl
-  one-result {last} {ws} (next-node {ns} {done} {old} d l r) (next-node e m q) =
-      one-result r (subst (λ x. Nodes P last ns (done ++ (x ∷ [])) (drop 1 old) ws) (one-tree e d) q)
+  one-result {last} {ws} (next-node {i} {is} {now} d l r) (next-node e m q) =
+      one-result r (subst (λ x. Nodes P last is (set now (nodeChannel P i) x) ws) (one-tree e d) q)
 
   pub one-step : {before : List Tree} {line : List ℕ} {vs ws : List Tree} → Step P before line vs → Step P before line ws → vs ≡ ws
   one-step {before} {ws} (allowed {vs} e r) (allowed {vs = us} f q) =
       let same : us ≡ vs = cc in
-      one-result r (subst (λ x. Nodes P before (P .nodes) x (drop (length (P .inputs)) before) ws) same q)
+      one-result r (subst (λ x. Nodes P before (order P) (x ++ drop (length (P .inputs)) before) ws) same q)
   one-step (allowed e r) (not-allowed f) = none-is-not-some (sym f ∙ e)
   one-step (not-allowed e) (allowed f q) = none-is-not-some (sym e ∙ f)
   one-step (not-allowed e) (not-allowed f) = refl

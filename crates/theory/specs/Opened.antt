@@ -18,12 +18,13 @@ use Rattle.language.specs.Cells.{maxTo, otherCells, ownCells, nextCells, cellsT
 use Rattle.language.specs.Format.{spellAll, intBytes, fieldBytes, plainBytes, declaredBytes, sizeBytes, resultBytes, exprBytes, exprsBytes, conditionBytes, constructorBytes, typeBytes, functionBytes, inputBytes, nodeBytes, fileFrames, pickDigit, digitOf, pairOf, lineText, fileText}
 use Rattle.language.specs.Heap.{constantType, truth, number, signedLess, applyOp, decides, constantIn, constructorIn, sizeIn, fieldsIn, ownSum, fieldsWithin, treesAt, treeOf, grow, trees}
 use Rattle.language.specs.LineFormat.{valueBytes, valuesBytes}
+use Rattle.language.specs.Order.{readings, allReadings, nodesAmong, nodeReadings, readThrough, noneReadsItself, orderly, allMem, ready, lowest, andThen as orderThen, orderFrom, order}
 use Rattle.language.specs.Slide.{mem, reachedFrom, reached, numbersFrom, renumberCell, keepFrom, slide}
 use Rattle.language.specs.Layout.{cellTag, cellValue, padded, wordsOf, stateWords, allZero, constructorOfWords, cellOfWords, cellsOfWords, stateOfWords, cellFits, locationFits, fieldsRight, cellRight, cellsRight, rootsRight, allReached, stateRight, loadState}
 use Rattle.language.specs.Line.{valueTrees, valueBehind, valueAt, allRead, inputTrees, treesFit, oneLine, lineTrees}
 use Rattle.language.specs.Evaluator.{bindOut, bindOuts, first, rest, needs, alloc, parameterCount, eval, evals, evalBranch, enterBody, run}
 use Rattle.language.specs.PlainMachine.{initialTree, initialFields}
-use Rattle.language.specs.Machine.{boardAllowed, recordOf, answer, checkFile, judge, judged, verdictOf, finalList, listLent, check, newCell, build, buildFields, buildAll, startState, written, startWords, lengthsLent, start, channelValue, putInputs, updateNodes, iterateState, iterateFile, iterated, iterate}
+use Rattle.language.specs.Machine.{boardAllowed, recordOf, answer, checkFile, judge, judged, verdictOf, finalList, listLent, check, newCell, build, buildFields, buildAll, startState, written, startWords, lengthsLent, start, channelValue, putInputs, updateNodes, iterateIn, iterateState, iterateFile, iterated, iterate}
 use Rattle.language.specs.Writer.{strictText, inBuffer, write}
 
 -- reader
@@ -33,10 +34,10 @@ reading = 0
 
 -- plain types, the size checker and the numbers needed
 unfoldable pub sizing : ℕ
-unfolding plainField plainResult plainDeclared samePlain samePlains operandType opType isPlain arePlain isNamed plainOf plainsOf plainBranches isInitial areInitial plainFunction plainInitial plainInput plainNode plainTypes added taken typeSize typeAt compare conditionHolds conditionsHold sum summedMeasure sizesOf parameterTypes fieldTypes sizeOfType ownSizes sameType sameTypes sameSizes firsts splitsOf splits channelsAt frameAt falls baseType named atSplits sized sizeds sizedBranches find foundOr enterAt sizedChannel sizedInitials sizedUpdates sizedFile appendTrees lookTree treeCount treeCells treesCells constantFits isConstructor namedAs treeSize ownTreeSum fits fieldsFit maxTo otherCells ownCells nextCells cellsTable cellsAt cellsFrom cellsNamed cellsOf channelCells inputCells updatesNumbers numbersNeeded
+unfolding plainField plainResult plainDeclared samePlain samePlains operandType opType isPlain arePlain isNamed plainOf plainsOf plainBranches isInitial areInitial plainFunction plainInitial plainInput plainNode plainTypes added taken typeSize typeAt compare conditionHolds conditionsHold sum summedMeasure sizesOf parameterTypes fieldTypes sizeOfType ownSizes sameType sameTypes sameSizes firsts splitsOf splits channelsAt frameAt falls baseType named atSplits sized sizeds sizedBranches find foundOr enterAt sizedChannel sizedInitials sizedUpdates sizedFile appendTrees lookTree treeCount treeCells treesCells constantFits isConstructor namedAs treeSize ownTreeSum fits fieldsFit maxTo otherCells ownCells nextCells cellsTable cellsAt cellsFrom cellsNamed cellsOf channelCells inputCells updatesNumbers numbersNeeded mem readings allReadings nodesAmong nodeReadings readThrough noneReadsItself orderly allMem ready lowest orderThen orderFrom order
 sizing = 0
 
 -- the state, the line, the evaluator and the calls
 unfoldable pub running : ℕ
-unfolding spellAll intBytes fieldBytes plainBytes declaredBytes sizeBytes resultBytes exprBytes exprsBytes conditionBytes constructorBytes typeBytes functionBytes inputBytes nodeBytes fileFrames pickDigit digitOf pairOf lineText fileText constantType truth number signedLess applyOp decides constantIn constructorIn sizeIn fieldsIn ownSum fieldsWithin treesAt treeOf grow trees valueBytes valuesBytes mem reachedFrom reached numbersFrom renumberCell keepFrom slide cellTag cellValue padded wordsOf stateWords allZero constructorOfWords cellOfWords cellsOfWords stateOfWords cellFits locationFits fieldsRight cellRight cellsRight rootsRight allReached stateRight loadState valueTrees valueBehind valueAt allRead inputTrees treesFit oneLine lineTrees bindOut bindOuts first rest needs alloc parameterCount eval evals evalBranch enterBody run initialTree initialFields boardAllowed recordOf answer checkFile judge judged verdictOf finalList listLent check newCell build buildFields buildAll startState written startWords lengthsLent start channelValue putInputs updateNodes iterateState iterateFile iterated iterate strictText inBuffer write
+unfolding spellAll intBytes fieldBytes plainBytes declaredBytes sizeBytes resultBytes exprBytes exprsBytes conditionBytes constructorBytes typeBytes functionBytes inputBytes nodeBytes fileFrames pickDigit digitOf pairOf lineText fileText constantType truth number signedLess applyOp decides constantIn constructorIn sizeIn fieldsIn ownSum fieldsWithin treesAt treeOf grow trees valueBytes valuesBytes mem reachedFrom reached numbersFrom renumberCell keepFrom slide cellTag cellValue padded wordsOf stateWords allZero constructorOfWords cellOfWords cellsOfWords stateOfWords cellFits locationFits fieldsRight cellRight cellsRight rootsRight allReached stateRight loadState valueTrees valueBehind valueAt allRead inputTrees treesFit oneLine lineTrees bindOut bindOuts first rest needs alloc parameterCount eval evals evalBranch enterBody run initialTree initialFields boardAllowed recordOf answer checkFile judge judged verdictOf finalList listLent check newCell build buildFields buildAll startState written startWords lengthsLent start channelValue putInputs updateNodes iterateIn iterateState iterateFile iterated iterate strictText inBuffer write
 running = 0

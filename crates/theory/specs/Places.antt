@@ -1,26 +1,25 @@
 -- Places of a list: what stands at a place below its length, of a list with more at its end, of a mapped list.
 use Prim.Native.Nat.{ℕ, zero, suc, _+_, _-_, _≤_, _<_}
 use mathlib.Core.List.{List, [], _∷_, _++_, map}
-use mathlib.Core.Bool.{Bool, true, false}
 use mathlib.Core.Option.{some}
 use mathlib.Core.Path.{_≡_, refl, sym}
 use native.Mathlib.Omega.{arith}
 use native.Mathlib.Nat.{zero-add}
 use lib.ListN.{length, getD, getElem? as look}
-use lib.Dec.{ltb}
-use borrow.Author.Tests.{ltb-true, ltb-false}
+use lib.Dec.{ltb, eqb}
+use borrow.Author.Tests.{ltb-true, ltb-false, eqb-true, eqb-false}
 use Rattle.theory.specs.Lists.{none-is-not-some}
+use Rattle.theory.specs.Choices.{by-test}
 
 pub below-or-not : {X : Type 0} (i n : ℕ) → (i < n → X) → (n ≤ i → X) → X
-below-or-not {X} i n below above = cases (ltb i n) refl
-  where
-    cases : (b : Bool) → ltb i n ≡ b → X
-    cases true e = below (ltb-true i n e)
-    cases false e = above (ltb-false i n e)
+below-or-not i n below above = by-test (ltb i n) (λ e. below (ltb-true i n e)) (λ e. above (ltb-false i n e))
 
 -- a number below suc n is below n, or n
 pub below-or-last : {X : Type 0} (i n : ℕ) → i < suc n → (i < n → X) → (i ≡ n → X) → X
 below-or-last i n less below last = below-or-not i n below (λ above. last (omega arith))
+
+pub equal-or-not : {X : Type 0} (m n : ℕ) → (m ≡ n → X) → ((m ≡ n → ⊥) → X) → X
+equal-or-not m n same other = by-test (eqb m n) (λ e. same (eqb-true m n e)) (λ e. other (eqb-false m n e))
 
 -- a number that is not 0 follows one
 pub one-less : (n : ℕ) → (n ≡ 0 → ⊥) → n ≡ suc (n - 1)

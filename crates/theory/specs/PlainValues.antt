@@ -4,7 +4,7 @@ use mathlib.Core.List.{List, [], _∷_, _++_}
 use mathlib.Core.Bool.{Bool, true, false, true≢false}
 use mathlib.Core.Option.{some}
 use mathlib.Core.Path.{_≡_, refl, ap, _∙_, subst}
-use lib.ListN.{length, getD, getElem? as look, length-map}
+use lib.ListN.{length, getD, set, getElem? as look, length-map}
 use lib.Dec.{leb}
 use borrow.Author.Tests.{leb-true, leb-false}
 use Rattle.language.specs.Result.{both}
@@ -46,6 +46,11 @@ module _ {P : File} {h g : List Cell} (w : Grown h g) where
 pub values-append : {P : File} {h : List Cell} {ls ms : List ℕ} {σs τs : List Plain} → PlainValues P h ls σs → PlainValues P h ms τs → PlainValues P h (ls ++ ms) (σs ++ τs)
 values-append vs-nil q = q
 values-append (vs-cons v p) q = vs-cons v (values-append p q)
+
+pub values-set : {P : File} {h : List Cell} {ls : List ℕ} {τs : List Plain} → PlainValues P h ls τs → (c : ℕ) {l : ℕ} {τ : Plain} → look τs c ≡ some τ → PlainValue P h l τ → PlainValues P h (set ls c l) τs
+values-set vs-nil c e v = none-is-not-some e
+values-set {P} {h} (vs-cons {τ = σ} w vs) zero {l} {τ} e v = let same : τ ≡ σ = cc in vs-cons (subst (PlainValue P h l) same v) vs
+values-set (vs-cons w vs) (suc c) e v = vs-cons w (values-set vs c e v)
 
 pub values-length : {P : File} {h : List Cell} {ls : List ℕ} {τs : List Plain} → PlainValues P h ls τs → length ls ≡ length τs
 values-length vs-nil = refl

@@ -12,7 +12,7 @@ use Rattle.language.specs.Refusals.{noFrame, textTooLong}
 use Rattle.language.specs.Result.{ok, bind, need}
 use Rattle.language.specs.Syntax.{File}
 use Rattle.language.specs.Format.{spellAll, lineText, fileFrames, fileText}
-use Rattle.language.specs.Within.{all-nil, wt-nil, wf-nil, wn-nil, Within}
+use Rattle.language.specs.Within.{all-nil, wt-nil, wf-nil, Within}
 use Rattle.language.specs.Text.{textFrames}
 use Rattle.language.specs.Reader.{channelCount, emptyFile, readFile}
 use Rattle.language.specs.Acceptance.{TextOf}
@@ -26,7 +26,7 @@ use Rattle.theory.specs.SmallFrames.{file-lines}
 -- ---- what is read
 nothing-yet : (channels : ℕ) → SoFar channels emptyFile
 nothing-yet channels =
-    record { fewTypes = omega arith; fewFunctions = omega arith; fewInputs = omega arith; fewNodes = omega arith; types = wt-nil; functions = wf-nil; inputs = all-nil; nodes = λ ns e. wn-nil }
+    record { fewTypes = omega arith; fewFunctions = omega arith; fewInputs = omega arith; fewNodes = omega arith; types = wt-nil; functions = wf-nil; inputs = all-nil; nodes = λ ns e. all-nil }
 
 -- all frames of a text have been read, and neither it nor their own text is too long
 all-read : {t : List ℕ} {fs : List (List ℕ)} {P : File} → length t ≤ textMost → textFrames t ≡ ok fs → length (spellAll lineText fs) ≤ length t → AllRead (channelCount fs) fs P → TextOf P t

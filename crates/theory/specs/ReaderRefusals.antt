@@ -7,7 +7,7 @@ use mathlib.Core.Option.{Option, none, some}
 use mathlib.Core.Path.{_≡_, refl}
 use native.Mathlib.Omega.{arith}
 use lib.ListN.{length, length-append}
-use Rattle.language.specs.Refusals.{badLine, heapShort, heapSpent, valueTooLarge}
+use Rattle.language.specs.Refusals.{badLine, heapShort, heapSpent, bufferShort}
 use Rattle.language.specs.Result.{Result, ok, no, need, choose}
 use Rattle.language.specs.Syntax.{Constructor, Expr, Size, File}
 use Rattle.language.specs.Scope.{Scope}
@@ -275,6 +275,7 @@ reader-frames t e =
       none-at-buffer = λ is. absurd (omega (arith, r .most));
       least = λ low few. r .from-first low;
       least-in-run = λ many few. absurd (omega (arith, r .most));
+      least-in-order = λ is. absurd (omega (arith, r .most));
       most = r .to-last;
       one-after = r .one-after;
     }
@@ -283,5 +284,5 @@ pub frames-read : (t : List ℕ) {P : File} → readFile t ≡ ok P → frameTot
 frames-read t e = when-accepted (read-numbered t) e
 
 -- a frame of a file that was read is one of its text
-pub in-file : {t : List ℕ} {P : File} {n frame : ℕ} → readFile t ≡ ok P → FrameOf P frame → badLine ≤ n → (heapShort ≤ n → heapSpent ≤ n) → n ≤ valueTooLarge → FrameNamed t n frame
-in-file {t} read f low gap high = frame-named (f .least) (omega (arith, f .most, frames-read t read)) low gap high
+pub in-file : {t : List ℕ} {P : File} {n frame : ℕ} → readFile t ≡ ok P → FrameOf P frame → badLine ≤ n → (heapShort ≤ n → heapSpent ≤ n) → (n ≡ bufferShort → ⊥) → FrameNamed t n frame
+in-file {t} read f low gap other = frame-named (f .least) (omega (arith, f .most, frames-read t read)) low gap other

@@ -2,13 +2,13 @@
 -- those that it lays, the trees are the initial trees, and these are what the plain machine's rules derive too. With what is said of the
 -- line and of an iteration it is demand 2 of the evaluator.
 use Prim.Native.Nat.{ℕ, _≤_}
-use mathlib.Core.List.{List, [], map}
+use mathlib.Core.List.{List, []}
 use mathlib.Core.Path.{_≡_}
 use native.Mathlib.Omega.{arith}
 use lib.ListN.{length}
 use Rattle.language.specs.Limits.{sizeMost}
 use Rattle.language.specs.Syntax.{Ty, Input, Node, File, declaredTypes, initialValues}
-use Rattle.language.specs.Within.{All, all-nil, all-cons, WithinDeclared, w-tbool, w-tint, w-tnamed, WithinNodes, wn-nil, wn-cons, Within}
+use Rattle.language.specs.Within.{All, WithinDeclared, w-tbool, w-tint, w-tnamed, Within}
 use Rattle.language.specs.Sizes.{sizeOfType}
 use Rattle.language.specs.Estimate.{Estimate}
 use Rattle.language.specs.Machine.{Board, Record, startState, start}
@@ -23,7 +23,7 @@ use Rattle.theory.specs.InitialTrees.{initials-formed, initial-trees-fit
 use Rattle.theory.specs.Starts.{start-trees, start-writes, starts}
 use Rattle.theory.specs.FileAnswers.{zero-is-accepted}
 use Rattle.theory.specs.InitialRuns.{initials-begin}
-use Rattle.theory.specs.IterationSteps.{zero-is-done, zero-iff-rules-lead, refused-iff-rules-meet, lending-iff, wrong-iff}
+use Rattle.theory.specs.IterationSteps.{zero-is-done, zero-iff-rules-lead, refused-iff-rules-meet, order-iff, lending-iff, wrong-iff}
 
 -- ---- declared sizes are within 64
 declared-small : {types : ℕ} {τ : Ty} → WithinDeclared types τ → sizeOfType τ ≤ sizeMost
@@ -32,12 +32,8 @@ declared-small w-tbool = omega arith
 declared-small w-tint = omega arith
 declared-small (w-tnamed less bound) = bound .1
 
-nodes-small : {P : File} {earlier : ℕ} {ns : List Node} → WithinNodes P earlier ns → All (λ τ. sizeOfType τ ≤ sizeMost) (map (λ (n : Node). n .declared) ns)
-nodes-small wn-nil = all-nil
-nodes-small (wn-cons w ws) = all-cons (declared-small (w .declared)) (nodes-small ws)
-
 all-declared-small : {P : File} → Within P → All (λ τ. sizeOfType τ ≤ sizeMost) (declaredTypes P)
-all-declared-small w = all-append (all-to-map (λ (i : Input). i .declared) (all-map (λ i v. declared-small (v .declared)) (w .inputs))) (nodes-small (w .nodes))
+all-declared-small w = all-append (all-to-map (λ (i : Input). i .declared) (all-map (λ i v. declared-small (v .declared)) (w .inputs))) (all-to-map (λ (n : Node). n .declared) (all-map (λ n v. declared-small (v .declared)) (w .nodes)))
 
 -- ---- the theorem
 -- for an accepted file, on a board with room for its initial values
@@ -63,4 +59,4 @@ zero-is-begun t b list state scratch slots e =
     }
 
 pub evaluator-demand : EvaluatorDemand
-evaluator-demand = record { line = line-exact; starts = zero-is-begun; lending = lending-iff; wrong = wrong-iff; done = zero-is-done; leads = zero-iff-rules-lead; meets = refused-iff-rules-meet }
+evaluator-demand = record { line = line-exact; starts = zero-is-begun; order = order-iff; lending = lending-iff; wrong = wrong-iff; done = zero-is-done; leads = zero-iff-rules-lead; meets = refused-iff-rules-meet }

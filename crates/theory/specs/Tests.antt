@@ -1,13 +1,16 @@
--- What a test that passed, or a partial answer that exists, says of its parts: laws of chain, when and choose, of needEach.
-use Prim.Native.Nat.{ℕ, suc}
+-- What a test that passed, or a partial answer that exists, says of its parts: laws of chain, when and choose, of needEach. The first
+-- test that fails by its frame, and the refusal there.
+use Prim.Native.Nat.{ℕ, zero, suc, _+_, _<_}
 use mathlib.Core.List.{List, [], _∷_}
 use mathlib.Core.Bool.{Bool, true, false}
 use mathlib.Core.Option.{Option, none, some}
-use mathlib.Core.Path.{_≡_, refl}
+use mathlib.Core.Path.{_≡_, refl, sym, ap, _∙_}
 use native.Mathlib.Omega.{arith}
+use native.Mathlib.Nat.{add-zero}
+use lib.ListN.{length, getD}
 use Rattle.language.specs.Result.{Result, ok, no, need, when, choose, chain, needEach}
 use Rattle.language.specs.Within.{All, all-nil, all-cons}
-use Rattle.theory.specs.Lists.{none-is-not-some}
+use Rattle.theory.specs.Lists.{none-is-not-some, false-is-not-true}
 
 pub no-ok : {A : Type 0} {n frame : ℕ} {a : A} → no n frame ≡ ok a → ⊥
 no-ok e = let z : _≡_ {A = ℕ} 0 1 = cc in omega arith
@@ -72,3 +75,57 @@ pub each-passes : {A : Type 0} (n frame : ℕ) {bs : List Bool} (r : Result A) �
 unfolding needEach need
 each-passes n frame r all-nil = refl
 each-passes n frame r (all-cons e p) = rw e (each-passes n (suc frame) r p)
+
+-- all of them hold, or one is the first that fails
+module _ {A : Type 0} (n : ℕ) (r : Result A) where
+  pub data FirstFails (frame : ℕ) (bs : List Bool) : Type 0 where
+    passes : AllTrue bs → needEach n frame bs r ≡ r → FirstFails frame bs
+    fails : (i : ℕ) → i < length bs → getD bs i true ≡ false → ((k : ℕ) → k < i → getD bs k true ≡ true) → needEach n frame bs r ≡ no n (frame + i) → FirstFails frame bs
+
+  pub first-fails : (frame : ℕ) (bs : List Bool) → FirstFails frame bs
+  unfolding needEach need
+  first-fails frame [] = passes all-nil refl
+  first-fails frame (false ∷ bs) = fails 0 (omega arith) refl (λ k less. absurd (omega arith)) (rw add-zero)
+  first-fails frame (true ∷ bs) = behind (first-fails (suc frame) bs)
+    where
+      behind : FirstFails (suc frame) bs → FirstFails frame (true ∷ bs)
+      behind (passes all e) = passes (all-cons refl all) e
+      behind (fails i less at before e) = fails (suc i) (omega arith) at (λ k. earlier k) (let place : suc frame + i ≡ frame + suc i = omega arith in e ∙ ap (no n) place)
+        where
+          earlier : (k : ℕ) → k < suc i → getD (true ∷ bs) k true ≡ true
+          earlier zero less = refl
+          earlier (suc k) less = before k (omega arith)
+
+-- ---- the first that fails, by its frame
+-- the number of the first that fails, counted from the first's; 0 where none does
+unfoldable pub firstRefused : ℕ → List Bool → ℕ
+firstRefused frame [] = 0
+firstRefused frame (b ∷ bs) = choose b (firstRefused (suc frame) bs) frame
+
+pub first-none : (frame : ℕ) (bs : List Bool) → ((j : ℕ) → j < length bs → getD bs j true ≡ true) → firstRefused frame bs ≡ 0
+unfolding firstRefused choose
+first-none frame [] h = refl
+first-none frame (b ∷ bs) h = rw (h 0 (omega arith)) (first-none (suc frame) bs (λ j less. h (suc j) (omega (arith, less))))
+
+pub first-at : (frame : ℕ) (bs : List Bool) (i : ℕ) → ((j : ℕ) → j < i → getD bs j true ≡ true) → getD bs i true ≡ false → firstRefused frame bs ≡ frame + i
+unfolding firstRefused choose
+first-at frame [] i h e = false-is-not-true (sym e)
+first-at frame (b ∷ bs) zero h e = rw e (omega arith)
+first-at frame (b ∷ bs) (suc i) h e = rw (h 0 (omega arith)) (first-at (suc frame) bs i (λ j less. h (suc j) (omega (arith, less))) e ∙ omega arith)
+
+-- refusal n at a frame; it goes on where the frame is 0
+unfoldable pub verdict : {A : Type 0} → ℕ → ℕ → Result A → Result A
+verdict n zero x = x
+verdict n (suc frame) x = no n (suc frame)
+
+pub verdict-refused : {A : Type 0} (n frame : ℕ) (x : Result A) → (frame ≡ 0 → ⊥) → verdict n frame x ≡ no n frame
+unfolding verdict
+verdict-refused n zero x named = absurd (named refl)
+verdict-refused n (suc frame) x named = refl
+
+-- tests one after the other are the verdict on the first frame that fails
+pub each-verdict : {A : Type 0} (n frame : ℕ) (bs : List Bool) (x : Result A) → needEach n (suc frame) bs x ≡ verdict n (firstRefused (suc frame) bs) x
+unfolding needEach need firstRefused choose verdict
+each-verdict n frame [] x = refl
+each-verdict n frame (true ∷ bs) x = each-verdict n (suc frame) bs x
+each-verdict n frame (false ∷ bs) x = refl

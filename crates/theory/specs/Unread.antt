@@ -7,11 +7,13 @@ use mathlib.Core.Option.{Option, none, some}
 use mathlib.Core.Path.{_≡_, refl, sym, ap, _∙_, subst}
 use native.Mathlib.Omega.{arith}
 use lib.ListN.{length, take, drop, take-append-drop}
+use Rattle.language.specs.Refusals.{noFrame, notLent, badInputLine}
 use Rattle.language.specs.Result.{Result, ok, no, bind, need, from}
 use Rattle.language.specs.Syntax.{File}
 use Rattle.language.specs.Within.{Within}
 use Rattle.language.specs.Reader.{readFile}
 use Rattle.language.specs.PlainTypes.{plainTypes}
+use Rattle.language.specs.Order.{orderly}
 use Rattle.language.specs.Slide.{State}
 use Rattle.language.specs.Layout.{stateLength, stateWords, loadState}
 use Rattle.language.specs.Line.{lineTrees}
@@ -53,21 +55,23 @@ start-reads-no-state t b list v w scratch slots long = rw (lent-same b v w scrat
 
 -- ---- iterate
 module _ (t : List ℕ) (b : Board) (v w scratch slots line : List ℕ) (long : length v ≡ length w) (same : take (stateLength (b .cells)) v ≡ take (stateLength (b .cells)) w) where
+  -- an iteration from where what is lent is tested
+  abbrev lentRun : File → Bool → List ℕ → Result State
+  lentRun P lent ws = need lent notLent noFrame (from (loadState P (b .cells) ws) notLent noFrame (λ s. from (lineTrees P line) badInputLine noFrame (λ vs. iterateState P b s vs)))
+
   file-same : (lent : Bool) → buffersLent b v scratch slots ≡ lent → iterateFile t b lent v line ≡ iterateFile t b lent w line
   unfolding iterateFile bind need from
   file-same lent is = by-read (readFile t) refl
     where
       by-lent : (P : File) → Within P → (lent : Bool) → buffersLent b v scratch slots ≡ lent →
-          need {A = State} lent 18 0 (from (loadState P (b .cells) v) 18 0 (λ s. from (lineTrees P line) 19 0 (λ vs. iterateState P b s vs))) ≡
-          need {A = State} lent 18 0 (from (loadState P (b .cells) w) 18 0 (λ s. from (lineTrees P line) 19 0 (λ vs. iterateState P b s vs)))
+          lentRun P lent v ≡ lentRun P lent w
       by-lent P within false e = refl
       by-lent P within true e = let enough = state-lent b v scratch slots e in rw (load-same within (b .cells) v w same enough (omega arith))
 
       by-read : (r : Result File) → readFile t ≡ r →
-          bind {B = State} r (λ P. plainTypes P (need lent 18 0 (from (loadState P (b .cells) v) 18 0 (λ s. from (lineTrees P line) 19 0 (λ vs. iterateState P b s vs))))) ≡
-          bind {B = State} r (λ P. plainTypes P (need lent 18 0 (from (loadState P (b .cells) w) 18 0 (λ s. from (lineTrees P line) 19 0 (λ vs. iterateState P b s vs)))))
+          bind r (λ P. plainTypes P (orderly P (lentRun P lent v))) ≡ bind r (λ P. plainTypes P (orderly P (lentRun P lent w)))
       by-read (no n frame) e = refl
-      by-read (ok P) e = ap (plainTypes P) (by-lent P (reader-forth t P e .within) lent is)
+      by-read (ok P) e = ap (λ x. plainTypes P (orderly P x)) (by-lent P (reader-forth t P e .within) lent is)
 
   by-result : (r : Result State) → iterateFile t b (buffersLent b v scratch slots) v line ≡ r →
       (iterated r (b .cells) v scratch slots .answer ≡ iterated r (b .cells) w scratch slots .answer) ×

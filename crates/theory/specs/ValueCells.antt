@@ -11,7 +11,8 @@ use Rattle.language.specs.PlainTypes.{opType}
 use Rattle.language.specs.Sizes.{sum}
 use Rattle.language.specs.Typing.{baseType}
 use Rattle.language.specs.Heap.{Constant, kbool, kint, Cell, leaf, con, constantType, applyOp}
-use Rattle.theory.specs.Lists.{look-new, le-or-lt}
+use Rattle.theory.specs.Lists.{look-new}
+use Rattle.theory.specs.Places.{below-or-not}
 use Rattle.theory.specs.Heaps.{grown-one}
 use Rattle.theory.specs.HeapValues.{Has, h-bool, h-int, h-named, Val, v-con, Vals, vals-grown, val-positive}
 
@@ -45,7 +46,7 @@ bool-cases (h-bool {b = true} e) holds fails = holds e
 bool-cases (h-bool {b = false} e) holds fails = fails e
 
 pub fit-cases : {P : File} {h : List Cell} {l t j : ℕ} {A : Type 0} (k : ℕ) → Has P h l (tnamed t j) → ((n : ℕ) → Val P h l t n → n ≤ k → A) → ((n : ℕ) → Val P h l t n → k < n → A) → A
-fit-cases k (h-named {j = n} v le) fits fails = le-or-lt n k (fits n v) (fails n v)
+fit-cases k (h-named {j = n} v le) fits fails = below-or-not k n (fails n v) (fits n v)
 
 pub record ValCell (h : List Cell) (l t n : ℕ) : Type 0 where
   pub constructor : ℕ

@@ -52,6 +52,7 @@ pub enum Refusal {
     StackSpent,
     ValueTooLarge,
     WriteBuffer,
+    ReadsItself,
 }
 
 impl Refusal {

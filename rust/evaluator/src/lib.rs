@@ -1,4 +1,4 @@
-//! The reference implementation of document 01 and of of document 02:
+//! The reference implementation of document 01 and of of document 02:
 //! reader, writer, checker, start, iteration and plain machine, written from the
 //! documents and the paper's figures 4 (evaluation) and 7 (estimation).
 //!
@@ -15,6 +15,7 @@ pub mod reader;
 pub mod text;
 
 pub mod plain_types;
+pub mod readings;
 
 pub mod cells;
 pub mod checker;

@@ -10,6 +10,7 @@ use crate::line;
 use crate::plain::initial_tree;
 use crate::plain_types;
 use crate::reader;
+use crate::readings;
 use crate::slide::slide;
 use crate::state::State;
 use crate::syntax::File;
@@ -116,10 +117,11 @@ impl Loan<'_> {
     }
 }
 
-/// Refusals 1 to 9.
+/// Refusals 1 to 9, then 25.
 fn read(text: &[u8]) -> Result<File, Fault> {
     let file = reader::read(text)?;
     plain_types::check(&file)?;
+    readings::check(&file)?;
     Ok(file)
 }
 
@@ -177,7 +179,7 @@ fn iterate_file(
     let inputs = line::read(file, line).ok_or(Refusal::InputLine.in_frame(0))?;
     let mut evaluation = Evaluation::new(file, words);
     take_inputs(&mut evaluation, &inputs)?;
-    for node in 0..file.nodes.len() {
+    for node in readings::order(file) {
         update(&mut evaluation, board, node)?;
     }
     let mut state = evaluation.into_state();

@@ -4,6 +4,7 @@
 use crate::limits::LARGEST_SIZE;
 use crate::line;
 use crate::operators::{self, Scalar};
+use crate::readings;
 use crate::syntax::{Call, Case, Construction, Expression, File, Fit, If, Let, Operation};
 use crate::value::{construction_size, fields_within, Tree};
 use std::rc::Rc;
@@ -68,10 +69,13 @@ impl<'a> PlainMachine<'a> {
         }
     }
 
-    /// `13` reads the trees as they then stand, `14` those from before.
+    /// `13` reads the trees as they then stand, `14` those from before. Nodes
+    /// come in the iteration's order.
     fn derive(&self, inputs: Vec<Rc<Tree>>) -> Option<Vec<Rc<Tree>>> {
         let mut current = inputs;
-        for node in &self.file.nodes {
+        current.extend_from_slice(&self.channels[current.len()..]);
+        for at in readings::order(self.file) {
+            let node = &self.file.nodes[at];
             let derivation = Derivation {
                 file: self.file,
                 current: &current,
@@ -79,7 +83,7 @@ impl<'a> PlainMachine<'a> {
             };
             let tree = derivation.of(&mut Vec::new(), &node.update)?;
             let fits = tree.size() <= node.declared.size();
-            current.push(fits.then_some(tree)?);
+            current[self.file.node_channel(at)] = fits.then_some(tree)?;
         }
         Some(current)
     }

@@ -38,7 +38,7 @@ fn channel_agrees(file: &File, channel: usize) -> bool {
     if !is_initial_form(initial) || Typing::closed(file).of(initial) != declared {
         return false;
     }
-    match channel.checked_sub(file.inputs.len()) {
+    match file.channel_node(channel) {
         Some(node) => Typing::closed(file).of(&file.nodes[node].update) == declared,
         None => true,
     }

@@ -203,6 +203,27 @@ impl Operator {
     }
 }
 
+impl Expression {
+    /// The expressions that stand in this one, from left to right.
+    pub fn parts(&self) -> Vec<&Expression> {
+        match self {
+            Expression::Bool(_) | Expression::Int(_) | Expression::Variable(_) => vec![],
+            Expression::Channel(_) | Expression::Previous(_) => vec![],
+            Expression::Let(parts) => vec![&parts.bound, &parts.body],
+            Expression::If(parts) => vec![&parts.condition, &parts.then_arm, &parts.else_arm],
+            Expression::Operation(parts) => vec![&parts.left, &parts.right],
+            Expression::Call(parts) => parts.arguments.iter().collect(),
+            Expression::Construction(parts) => parts.fields.iter().collect(),
+            Expression::Case(parts) => {
+                let scrutinee = std::iter::once(&parts.scrutinee);
+                scrutinee.chain(&parts.branches).collect()
+            }
+            Expression::Adjust(parts) => vec![&parts.subject],
+            Expression::Fit(parts) => vec![&parts.subject, &parts.fits, &parts.otherwise],
+        }
+    }
+}
+
 impl Constructor {
     /// The number of own-type fields, |I(χ)| in the paper.
     pub fn own_fields(&self) -> usize {
@@ -288,6 +309,11 @@ impl File {
     /// The channel number of a node.
     pub fn node_channel(&self, node: usize) -> usize {
         self.inputs.len() + node
+    }
+
+    /// The node that a channel is; none where it is an input.
+    pub fn channel_node(&self, channel: usize) -> Option<usize> {
+        channel.checked_sub(self.inputs.len())
     }
 
     pub fn type_frame(&self, type_index: usize) -> usize {

@@ -4,6 +4,7 @@ use crate::build::{
     adjust, call, case, constant, construction, declared, definition, int, let_in, operation, sum,
     variable,
 };
+use crate::readings::longest_chain;
 use crate::writer;
 use evaluator::limits::{
     FIELDS, FUNCTIONS, INSTANCES, LARGEST_SIZE, NESTING, PARAMETERS, SIZE_VARIABLES,
@@ -181,6 +182,8 @@ pub fn all() -> Vec<Vec<u8>> {
         doubling(FUNCTIONS),
         doubling(FUNCTIONS / 2),
         growing_list(),
+        longest_chain(false),
+        longest_chain(true),
     ];
     let mut texts: Vec<Vec<u8>> = files.iter().map(writer::text).collect();
     texts.extend([long_text(0), long_text(1), no_self_free_constructor()]);

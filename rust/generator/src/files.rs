@@ -35,10 +35,42 @@ fn any_file(random: &mut Random, loose: bool) -> File {
         earlier: &signatures,
         loose,
     };
-    file.nodes = (inputs..channels.len())
-        .map(|channel| random_node(random, &setting, &channels, channel))
+    let order = random_order(random, nodes);
+    file.nodes = (0..nodes)
+        .map(|node| {
+            let place = Place {
+                channels: &channels,
+                channel: inputs + node,
+                current: &readable(inputs, &order, node),
+            };
+            random_node(random, &setting, &place)
+        })
         .collect();
     file
+}
+
+/// An order in which nodes may be updated, in half of the files the table's.
+fn random_order(random: &mut Random, nodes: usize) -> Vec<usize> {
+    match random.one_in(2) {
+        true => (0..nodes).collect(),
+        false => random.order(nodes),
+    }
+}
+
+/// The channels that a node may name by `13`: the inputs, and the nodes before
+/// it in an order.
+fn readable(inputs: usize, order: &[usize], node: usize) -> Vec<usize> {
+    let before = order.iter().take_while(|other| **other != node);
+    (0..inputs)
+        .chain(before.map(|other| inputs + other))
+        .collect()
+}
+
+/// A node's channel among all, and those that it may name by `13`.
+struct Place<'a> {
+    channels: &'a [SizedType],
+    channel: usize,
+    current: &'a [usize],
 }
 
 fn add_inputs(random: &mut Random, file: &mut File, declarations: &[SizedType]) {
@@ -50,16 +82,12 @@ fn add_inputs(random: &mut Random, file: &mut File, declarations: &[SizedType]) 
     }
 }
 
-fn random_node(
-    random: &mut Random,
-    setting: &Setting,
-    channels: &[SizedType],
-    channel: usize,
-) -> Node {
+fn random_node(random: &mut Random, setting: &Setting, place: &Place) -> Node {
+    let declared = place.channels[place.channel];
     Node {
-        declared: channels[channel],
-        initial: random_initial(random, setting.types, channels[channel]),
-        update: random_update(random, setting, channels, channel),
+        declared,
+        initial: random_initial(random, setting.types, declared),
+        update: random_update(random, setting, place),
     }
 }
 
@@ -136,24 +164,19 @@ fn random_initial(
     initial_expression(types, &tree, declared)
 }
 
-fn random_update(
-    random: &mut Random,
-    setting: &Setting,
-    channels: &[SizedType],
-    channel: usize,
-) -> Expression {
+fn random_update(random: &mut Random, setting: &Setting, place: &Place) -> Expression {
     let mut composer = Composer {
         types: setting.types,
         signatures: setting.earlier,
         own: None,
-        channels,
-        current: channel,
+        channels: place.channels,
+        current: place.current,
         loose: setting.loose,
         budget: random.between(3, 30),
         self_calls: 0,
         deepest: random.between(3, 10),
         random,
     };
-    let wanted = Formed::of_declared(channels[channel]);
+    let wanted = Formed::of_declared(place.channels[place.channel]);
     composer.expression(&Scope::default(), &wanted, 1)
 }

@@ -186,7 +186,7 @@ fn random_body(
         signatures: &signatures,
         own: Some(setting.earlier.len()),
         channels: &[],
-        current: 0,
+        current: &[],
         loose: setting.loose,
         budget: random.between(4, 24),
         self_calls: self_calls(setting.types, &split),

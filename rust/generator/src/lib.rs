@@ -24,5 +24,6 @@ pub mod depths;
 pub mod edges;
 pub mod growth;
 pub mod mixture;
+pub mod readings;
 pub mod sides;
 pub mod typed;

@@ -1,11 +1,12 @@
 //! A mixture of cases with strict texts, whole and damaged, in which every
-//! refusal of document 01 occurs.
+//! refusal of document 01 occurs, and 25 of document 02.
 
 use crate::case::Case;
 use crate::damage::{damage_characters, damage_frames, damage_state, damaged_line, lower_size};
 use crate::edges;
 use crate::files::random_file;
 use crate::random::Random;
+use crate::readings;
 use crate::sides;
 use crate::states::lay_out;
 use crate::values::{random_channels, random_line};
@@ -14,7 +15,7 @@ use evaluator::answer::{Board, Bounds};
 use evaluator::instances::Instance;
 use evaluator::limits::{INSTANCES, LARGEST_SIZE};
 use evaluator::machine::check;
-use evaluator::syntax::File;
+use evaluator::syntax::{Expression, File};
 
 /// A board on which most generated files run.
 const USUAL: Board = Board {
@@ -26,6 +27,9 @@ const USUAL: Board = Board {
 /// Files whose heap is above this are left out, to keep cases short.
 const LARGEST_HEAP: u32 = 160;
 
+/// One accepted file in so many is there for the order of its nodes.
+const ORDERED_EVERY: usize = 10;
+
 /// An endless mixture of cases.
 pub struct Mixture {
     random: Random,
@@ -36,7 +40,7 @@ pub struct Mixture {
 type Kind = fn(&mut Mixture) -> Case;
 
 /// How often each kind of case occurs.
-const KINDS: [(usize, Kind); 13] = [
+const KINDS: [(usize, Kind); 15] = [
     (2, Mixture::edge),
     (1, Mixture::board_over_maximum),
     (4, Mixture::board_one_less),
@@ -49,6 +53,8 @@ const KINDS: [(usize, Kind); 13] = [
     (3, Mixture::lowered_iteration),
     (1, Mixture::growing_iteration),
     (3, Mixture::side_iteration),
+    (2, Mixture::ring_run),
+    (2, Mixture::ring_iteration),
     (7, Mixture::whole_run),
 ];
 
@@ -76,7 +82,10 @@ impl Mixture {
     /// A file that the largest board accepts, and what it needs.
     pub fn accepted_file(&mut self) -> (File, Bounds) {
         loop {
-            let file = random_file(&mut self.random, false);
+            let file = match self.random.one_in(ORDERED_EVERY) {
+                true => readings::ordered_file(&mut self.random),
+                false => random_file(&mut self.random, false),
+            };
             let text = writer::text(&file);
             let answer = check(&text, Board::LARGEST, &mut self.instances);
             if answer.number == 0 && answer.bounds.heap <= LARGEST_HEAP {
@@ -130,6 +139,10 @@ impl Mixture {
 
     fn board_over_maximum(&mut self) -> Case {
         let (file, _) = self.accepted_file();
+        self.run_over_maximum(&file)
+    }
+
+    fn run_over_maximum(&mut self, file: &File) -> Case {
         let mut board = Board::LARGEST;
         match self.random.below(3) {
             0 => board.cells += 1,
@@ -138,7 +151,7 @@ impl Mixture {
         }
         // No state of the largest board is written out.
         let lines = vec![];
-        let text = writer::text(&file);
+        let text = writer::text(file);
         Case::Run { board, text, lines }
     }
 
@@ -236,6 +249,33 @@ impl Mixture {
         let file = sides::random_file(&mut self.random);
         let [spare, slots, calls] = [40, 12, 12].map(|below| self.random.below(below) as u32);
         self.iteration(&file, spare, slots, calls)
+    }
+
+    /// Nodes that read themselves: 25, also on a board over its maximum, but 9
+    /// where a node's initial value is of another type.
+    fn ring_run(&mut self) -> Case {
+        let mut file = readings::ring_file(&mut self.random);
+        match self.random.below(6) {
+            0 => return self.run_over_maximum(&file),
+            1 => {
+                let node = self.random.below(file.nodes.len());
+                file.nodes[node].initial = Expression::Bool(true);
+            }
+            _ => {}
+        }
+        self.run(USUAL, &file, writer::text(&file))
+    }
+
+    /// The same with a state of the file, or with a word of it changed.
+    fn ring_iteration(&mut self) -> Case {
+        let file = readings::ring_file(&mut self.random);
+        let mut case = self.iteration(&file, USUAL.cells, USUAL.slots, USUAL.calls);
+        if let Case::Iteration { state, .. } = &mut case {
+            if self.random.one_in(2) {
+                damage_state(&mut self.random, state);
+            }
+        }
+        case
     }
 
     /// Sizes that do not agree, with room for the values to grow.

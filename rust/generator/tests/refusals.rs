@@ -1,4 +1,4 @@
-//! Refusals of the reader and of plain types: small files, one fault each.
+//! Refusals of the reader, of plain types and of readings: small files, one fault each.
 
 mod support;
 
@@ -130,39 +130,42 @@ fn bytes_of_functions_and_expressions() {
     ]);
 }
 
+/// A function without parameters that gives an Int, before a node.
+fn function(body: &str) -> String {
+    format!("0200010000{body}\n{NODE}")
+}
+
+/// A node with this update, then one that reads none.
+fn node_before(update: &str) -> String {
+    format!("{}{NODE}", node(update))
+}
+
 #[test]
-fn names() {
-    let function = |body: &str| format!("0200010000{body}\n{NODE}");
+fn channels() {
+    let counting = |code: &str| format!("04011100000000{code}010000\n0300\n");
     try_rows(&[
         ("a channel in a function", function("1300"), 6, 1),
         ("a channel's byte missing", "020001000013\n".into(), 4, 1),
         ("a previous value in a function", function("1400"), 6, 1),
         ("a channel as initial value", "04011300\n".into(), 6, 1),
-        ("a variable as initial value", "04011200\n".into(), 6, 1),
-        ("a node's own value", node("1300"), 6, 1),
+        ("a node's own value", node("1300"), 25, 1),
         ("its previous value", node("1400"), 0, 0),
-        (
-            "a later node's previous value",
-            format!("{}{NODE}", node("1401")),
-            0,
-            0,
-        ),
-        ("no such channel", format!("{}{NODE}", node("1402")), 6, 1),
-        (
-            "a later node's value",
-            format!("{}{NODE}", node("1301")),
-            6,
-            1,
-        ),
+        ("a later node's value", node_before("1301"), 0, 0),
+        ("a later node's previous value", node_before("1401"), 0, 0),
+        ("no such channel", node_before("1302"), 6, 1),
+        ("no such previous value", node_before("1402"), 6, 1),
+        ("13 counts lines of a later place too", counting("13"), 4, 1),
+        ("14 counts them too", counting("14"), 4, 1),
+    ]);
+}
+
+#[test]
+fn variables_and_functions() {
+    try_rows(&[
+        ("a variable as initial value", "04011200\n".into(), 6, 1),
         ("a later function", function("1801"), 6, 1),
         ("the function itself", function("1800"), 0, 0),
         ("no such function", node("1800"), 6, 1),
-        (
-            "14 counts lines of a later place too",
-            "0401110000000014010000\n0300\n".into(),
-            4,
-            1,
-        ),
     ]);
 }
 

@@ -26,7 +26,7 @@ pub struct Bounds {
 /// Why a rule file or a line is not taken.
 #[derive(Clone, Copy, Debug, PartialEq, Eq)]
 pub struct Refusal {
-    /// 1 to 24.
+    /// 1 to 25.
     pub number: u32,
     /// The frame of the rule file, from 1, counted without its extra lines; 0 where none is named.
     pub frame: u32,
@@ -57,7 +57,7 @@ impl Answer {
 }
 
 /// When each number is answered, from 1.
-const SENTENCES: [&str; 24] = [
+const SENTENCES: [&str; 25] = [
     "the text is longer than 16,384 characters",
     "a line is odd, not hexadecimal, spaced other than between pairs, or without its line feed",
     "a frame's kind is unknown, out of order or one too many; or there is no node",
@@ -82,6 +82,7 @@ const SENTENCES: [&str; 24] = [
     "stack is spent",
     "a value is too large",
     "the buffer is shorter than the strict text",
+    "a node reads itself by 13, directly or through others",
 ];
 
 /// The refusals that say what the file needs.
@@ -152,6 +153,6 @@ mod tests {
             shown(24, 0),
             "refusal 24: the buffer is shorter than the strict text"
         );
-        assert_eq!(shown(25, 0), "refusal 25: an unknown number");
+        assert_eq!(shown(26, 0), "refusal 26: an unknown number");
     }
 }

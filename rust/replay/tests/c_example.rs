@@ -70,7 +70,7 @@ fn instance_line(known: &Instance) -> String {
 }
 
 fn texts() -> Vec<Vec<u8>> {
-    let examples = ["accumulate", "allowed", "listing3", "top10sum"].map(example);
+    let examples = ["accumulate", "allowed", "dose", "listing3", "top10sum"].map(example);
     let deepest = Level::ALL.map(|level| writer::text(&deepest_bodies(level)));
     let empty = vec![vec![]];
     [examples.to_vec(), deepest.to_vec(), edges::all(), empty].concat()
@@ -135,7 +135,7 @@ fn the_example_and_the_tables_have_the_sentences_of_rust() {
         read("include/paugmeln.h"),
         read("README.md"),
     );
-    for number in 1..=Refusal::WriteBuffer.number() {
+    for number in 1..=Refusal::ReadsItself.number() {
         let bounds = Bounds {
             heap: 0,
             environment: 0,

@@ -2,7 +2,7 @@
 
 mod support;
 
-use evaluator::answer::Board;
+use evaluator::answer::{Board, Refusal};
 use evaluator::stack::with_deep_stack;
 use generator::case::Case;
 use generator::mixture::Mixture;
@@ -48,7 +48,8 @@ fn generated_and_damaged_files_agree() {
     .expect("every file agrees");
     println!("{counts:?}");
     assert!(counts.values().sum::<usize>() >= 20_000);
-    assert!((0..=18).all(|number| counts.contains_key(&number)));
+    let mut expected = (0..=Refusal::Loan.number()).chain([Refusal::ReadsItself.number()]);
+    assert!(expected.all(|number| counts.contains_key(&number)));
 }
 
 /// The parts of an answer that the checker gives; none for an iteration or a writing.
@@ -85,13 +86,14 @@ fn the_cases_of_this_repository_agree() {
     agree(&own_folder(), "instances");
     agree(&own_folder(), "shared");
     agree(&own_folder(), "stage1");
+    agree(&own_folder(), "stage3");
 }
 
 #[test]
 #[ignore = "needs the shared cases, which run-tests looks for: cargo test -- --ignored"]
 fn all_shared_cases_agree() {
     let folder = shared_folder();
-    for name in ["edges", "run", "stage1"] {
+    for name in ["edges", "run", "stage1", "stage3"] {
         agree(&folder, name);
     }
 }

@@ -25,12 +25,13 @@ fn counted(mut next_case: impl FnMut() -> Case) -> Counts {
     counts
 }
 
-/// Every number up to that of the last refusal is given.
-fn assert_all_met(next_case: impl FnMut() -> Case + Send + 'static, last: Refusal) {
+/// Every number is given but for those left out.
+fn assert_all_met(next_case: impl FnMut() -> Case + Send + 'static, left_out: &[Refusal]) {
     let counts = with_deep_stack(move || counted(next_case));
     let counts = counts.expect("every case is answered");
     println!("{counts:?}");
-    let numbers = 0..=last.number();
+    let asked = |number: &u32| left_out.iter().all(|refusal| refusal.number() != *number);
+    let numbers = (0..=Refusal::ReadsItself.number()).filter(asked);
     let missing: Vec<u32> = numbers
         .filter(|number| !counts.contains_key(number))
         .collect();
@@ -38,15 +39,15 @@ fn assert_all_met(next_case: impl FnMut() -> Case + Send + 'static, last: Refusa
 }
 
 #[test]
-fn every_number_from_0_to_23_is_met() {
+fn every_number_but_the_writers_is_met() {
     let mut mixture = Mixture::new(2023);
-    assert_all_met(move || mixture.next_case(), Refusal::ValueTooLarge);
+    assert_all_met(move || mixture.next_case(), &[Refusal::WriteBuffer]);
 }
 
 #[test]
-fn every_number_from_0_to_24_is_met_with_typed_texts() {
+fn every_number_is_met_with_typed_texts() {
     let mut mixture = TypedMixture::new(2024);
-    assert_all_met(move || mixture.next_case(), Refusal::WriteBuffer);
+    assert_all_met(move || mixture.next_case(), &[]);
 }
 
 #[test]

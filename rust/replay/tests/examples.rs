@@ -7,6 +7,8 @@ use evaluator::answer::{Answer, Board, Bounds};
 use evaluator::instances::Instance;
 use evaluator::limits::INSTANCES;
 use evaluator::machine::check;
+use evaluator::reader;
+use evaluator::readings::order;
 use generator::examples::{listing3, top10sum};
 use generator::writer;
 use support::{example, strict_example};
@@ -34,6 +36,14 @@ fn the_two_frame_file() {
 #[test]
 fn allowed_colourants() {
     assert_eq!(checked(&example("allowed")), accepted(38, 22, 6));
+}
+
+#[test]
+fn a_dose_above_its_correction() {
+    let text = example("dose");
+    assert_eq!(checked(&text), accepted(22, 12, 3));
+    let file = reader::read(&text).expect("a file that is read");
+    assert_eq!(order(&file), [2, 1, 0]);
 }
 
 #[test]

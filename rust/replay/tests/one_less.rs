@@ -124,7 +124,7 @@ fn allowed_lines(name: &str, file: &File) -> Vec<Vec<u8>> {
 fn of_the_examples() {
     let counts = with_deep_stack(|| {
         let mut counts = Counts::new();
-        for name in ["accumulate", "allowed", "listing3", "top10sum"] {
+        for name in ["accumulate", "allowed", "dose", "listing3", "top10sum"] {
             let text = example(name);
             let file = reader::read(&text).expect("a readable file");
             let lines = allowed_lines(name, &file);

@@ -56,13 +56,14 @@ fn the_cases_of_this_repository_agree() {
     agree(&own_folder(), "sample.txt");
     agree(&own_folder(), "shared.txt");
     agree(&own_folder(), "stage1.txt");
+    agree(&own_folder(), "stage3.txt");
 }
 
 #[test]
 #[ignore = "needs the shared cases, which run-tests looks for: cargo test -- --ignored"]
 fn all_shared_cases_agree() {
     let folder = shared_folder();
-    for name in ["edges.txt", "run.txt", "stage1.txt"] {
+    for name in ["edges.txt", "run.txt", "stage1.txt", "stage3.txt"] {
         agree(&folder, name);
     }
 }

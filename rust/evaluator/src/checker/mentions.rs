@@ -3,7 +3,7 @@
 //! Variables are numbered by place in scope, so inside a branch the number of
 //! one of its fields stands for that field alone.
 
-use crate::syntax::{Case, Expression, Size, WrittenType};
+use crate::syntax::{Expression, Size, WrittenType};
 use std::collections::BTreeSet;
 
 #[derive(Debug, Default)]
@@ -29,41 +29,20 @@ impl Mentions {
 
     fn expression(&mut self, expression: &Expression) {
         match expression {
-            Expression::Bool(_) | Expression::Int(_) => (),
-            Expression::Channel(_) | Expression::Previous(_) => (),
             Expression::Variable(at) => drop(self.variables.insert(*at)),
-            Expression::Let(parts) => self.all(&[&parts.bound, &parts.body]),
-            Expression::If(parts) => {
-                self.all(&[&parts.condition, &parts.then_arm, &parts.else_arm]);
-            }
-            Expression::Operation(parts) => self.all(&[&parts.left, &parts.right]),
-            Expression::Call(parts) => self.list(&parts.arguments),
-            Expression::Construction(parts) => self.list(&parts.fields),
-            Expression::Case(parts) => self.case(parts),
-            Expression::Adjust(parts) => {
-                self.size(&parts.size);
-                self.expression(&parts.subject);
-            }
-            Expression::Fit(parts) => {
-                self.all(&[&parts.subject, &parts.fits, &parts.otherwise]);
-            }
+            Expression::Case(parts) => self.return_type(&parts.return_type),
+            Expression::Adjust(parts) => self.size(&parts.size),
+            _ => (),
+        }
+        for part in expression.parts() {
+            self.expression(part);
         }
     }
 
-    fn all(&mut self, parts: &[&Expression]) {
-        parts.iter().for_each(|part| self.expression(part));
-    }
-
-    fn list(&mut self, parts: &[Expression]) {
-        parts.iter().for_each(|part| self.expression(part));
-    }
-
-    fn case(&mut self, parts: &Case) {
-        self.expression(&parts.scrutinee);
-        if let WrittenType::Named { size, .. } = &parts.return_type {
+    fn return_type(&mut self, written: &WrittenType) {
+        if let WrittenType::Named { size, .. } = written {
             self.size(size);
         }
-        self.list(&parts.branches);
     }
 
     fn size(&mut self, size: &Size) {

@@ -17,9 +17,8 @@ pub struct Names<'a> {
     pub types: &'a [TypeDefinition],
     /// The parameter counts of the functions it may call.
     pub arities: &'a [usize],
-    /// How many channels `13` may name, and how many `14`.
-    pub current: usize,
-    pub previous: usize,
+    /// How many channels `13` and `14` may name.
+    pub channels: usize,
 }
 
 /// How much is bound at a place, and the level of the part that stands there.
@@ -98,8 +97,8 @@ impl Names<'_> {
             expression::BOOL => Ok(Expression::Bool(cursor.bool()?)),
             expression::INT => Ok(Expression::Int(cursor.int()?)),
             expression::VARIABLE => Ok(Expression::Variable(cursor.index(scope.variables)?)),
-            expression::CHANNEL => Ok(Expression::Channel(cursor.index(self.current)?)),
-            expression::PREVIOUS => Ok(Expression::Previous(cursor.index(self.previous)?)),
+            expression::CHANNEL => Ok(Expression::Channel(cursor.index(self.channels)?)),
+            expression::PREVIOUS => Ok(Expression::Previous(cursor.index(self.channels)?)),
             expression::LET => self.let_in(cursor, scope.inner()),
             expression::IF => self.if_then(cursor, scope.inner()),
             expression::OPERATION => self.operation(cursor, scope.inner()),

@@ -17,7 +17,7 @@ pub struct FrameReader {
     /// The parameter count of each function read so far, the one being read
     /// included.
     arities: Vec<usize>,
-    /// How many channels `14` may name.
+    /// How many channels `13` and `14` may name in an update.
     channels: usize,
 }
 
@@ -87,7 +87,7 @@ impl FrameReader {
     fn function(&mut self, cursor: &mut Cursor) -> Result<(), Refusal> {
         let parameters = self.parameters(cursor)?;
         self.arities.push(parameters.len());
-        let names = self.names(0, 0);
+        let names = self.names(0);
         let scope = Scope::of_parameters(&parameters);
         let result = names.written_type(cursor, scope)?;
         let conditions = conditions(cursor, &names, scope)?;
@@ -124,7 +124,7 @@ impl FrameReader {
 
     fn input(&mut self, cursor: &mut Cursor) -> Result<(), Refusal> {
         let declared = self.declared_type(cursor)?;
-        let initial = self.names(0, 0).expression(cursor, Scope::EMPTY)?;
+        let initial = self.names(0).expression(cursor, Scope::EMPTY)?;
         cursor.end()?;
         self.file.inputs.push(Input { declared, initial });
         Ok(())
@@ -132,11 +132,9 @@ impl FrameReader {
 
     fn node(&mut self, cursor: &mut Cursor) -> Result<(), Refusal> {
         let declared = self.declared_type(cursor)?;
-        let initial = self.names(0, 0).expression(cursor, Scope::EMPTY)?;
-        let earlier = self.file.channel_count();
-        let update = self
-            .names(earlier, self.channels)
-            .expression(cursor, Scope::EMPTY)?;
+        let initial = self.names(0).expression(cursor, Scope::EMPTY)?;
+        let names = self.names(self.channels);
+        let update = names.expression(cursor, Scope::EMPTY)?;
         cursor.end()?;
         self.file.nodes.push(Node {
             declared,
@@ -158,14 +156,12 @@ impl FrameReader {
         }
     }
 
-    /// What an expression may name where `13` reaches `current` channels and
-    /// `14` reaches `previous`.
-    fn names(&self, current: usize, previous: usize) -> Names<'_> {
+    /// What an expression may name where `13` and `14` reach so many channels.
+    fn names(&self, channels: usize) -> Names<'_> {
         Names {
             types: &self.file.types,
             arities: &self.arities,
-            current,
-            previous,
+            channels,
         }
     }
 }

@@ -29,7 +29,7 @@ pub fn read(text: &[u8]) -> Result<File, Fault> {
     }
 }
 
-/// `14` counts every line that begins with 03 or 04, wherever it stands.
+/// `13` and `14` count every line that begins with 03 or 04, wherever it stands.
 fn is_channel(frame: &[u8]) -> bool {
     matches!(frame[0], kind::INPUT | kind::NODE)
 }

@@ -29,10 +29,10 @@ pub struct Composer<'a> {
     pub signatures: &'a [Signature],
     /// The function being composed.
     pub own: Option<usize>,
-    /// The declared types of the channels that may be named, and how many of
-    /// them `13` may name.
+    /// The declared types of the channels that may be named, and which of them
+    /// `13` may name.
     pub channels: &'a [SizedType],
-    pub current: usize,
+    pub current: &'a [usize],
     /// Whether sizes that do not agree are let through now and then.
     pub loose: bool,
     /// Expressions and self-calls still to be spent.
@@ -125,11 +125,11 @@ impl Composer<'_> {
     fn sources(&self, scope: &Scope, plain: Option<PlainType>) -> Vec<Source> {
         let variables = scope.variables.iter().cloned().enumerate();
         let variables = variables.map(|(at, formed)| (Expression::Variable(at), formed));
-        let declared = || self.channels.iter().copied().map(Formed::of_declared);
-        let current = declared().enumerate().take(self.current);
-        let current = current.map(|(at, formed)| (Expression::Channel(at), formed));
-        let previous = declared().enumerate();
-        let previous = previous.map(|(at, formed)| (Expression::Previous(at), formed));
+        let declared = |at: usize| Formed::of_declared(self.channels[at]);
+        let current = self.current.iter();
+        let current = current.map(|at| (Expression::Channel(*at), declared(*at)));
+        let previous = 0..self.channels.len();
+        let previous = previous.map(|at| (Expression::Previous(at), declared(at)));
         let sources = variables.chain(current).chain(previous);
         let fitting = |(_, formed): &Source| match plain {
             Some(plain) => formed.plain() == plain,
