@@ -4,6 +4,7 @@ use mathlib.Core.List.{List, [], _∷_, _++_}
 use mathlib.Core.Bool.{Bool, true, false}
 use mathlib.Core.Path.{_≡_, refl, sym, ap, ap₂, _∙_, subst}
 use native.Mathlib.Omega.{arith}
+use native.Mathlib.Numerals.{suc-eq-add-one}
 use native.Mathlib.Nat.{mod-lt, zero-lt-suc, div-add-mod', mul-mod-left, pow-suc, div-eq-of-lt, div-self, div-one}
 use lib.Arith.{lt-one}
 use lib.Bits.{bitOr, or-lt, or-zero-r, or-shr, or-mod}
@@ -26,10 +27,7 @@ bit-less : (set c : ℕ) → bit set c < 2
 bit-less set c = mod-lt (set / 2 ^ c) (zero-lt-suc 1)
 
 half-less : (w n : ℕ) → n < 2 ^ suc w → n / 2 < 2 ^ w
-half-less w n less = shr-lt w 1 (subst (λ (m : ℕ). n < 2 ^ m) (plus-one w) less)
-  where
-    plus-one : (m : ℕ) → suc m ≡ m + 1
-    plus-one m = omega arith
+half-less w n less = shr-lt w 1 (subst (λ (m : ℕ). n < 2 ^ m) (suc-eq-add-one w) less)
 
 half-bit : (n c : ℕ) → bit (n / 2) c ≡ bit n (1 + c)
 half-bit n c = ap (λ (x : ℕ). x % 2) (shr-shr n 1 c)
@@ -161,10 +159,7 @@ in-high c set d e le = ap (λ (x : ℕ). eqb (x % 2) 1) (subst (λ (m : ℕ). se
 -- ---- the first channels
 first-bits : (j c : ℕ) → bit (2 ^ (suc j + c) - 1) c ≡ 1
 first-bits j c = ap (λ (x : ℕ). x % 2) (ap (λ (x : ℕ). x / 2 ^ c) (ones-split (suc j) c) ∙ high (2 ^ suc j - 1) c (ones-lt c)) ∙
-    ap (λ (x : ℕ). x % 2) (ap (λ (m : ℕ). 2 ^ m - 1) (plus-one j) ∙ ones-split j 1) ∙ low (2 ^ j - 1) 1 (ones-lt 1)
-  where
-    plus-one : (m : ℕ) → suc m ≡ m + 1
-    plus-one m = omega arith
+    ap (λ (x : ℕ). x % 2) (ap (λ (m : ℕ). 2 ^ m - 1) (suc-eq-add-one j) ∙ ones-split j 1) ∙ low (2 ^ j - 1) 1 (ones-lt 1)
 
 pub in-first : (n c : ℕ) → c < n → inSet (2 ^ n - 1) c ≡ true
 unfolding inSet

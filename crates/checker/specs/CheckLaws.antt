@@ -8,7 +8,6 @@ use lib.ListN.{length, set, replicate}
 use Rattle.language.specs.Refusals.{noFrame, typesDisagree, notLent, selfReading}
 use Rattle.language.specs.Result.{Result, ok, no, bind, need}
 use Rattle.language.specs.Syntax.{File}
-use Rattle.language.specs.PlainTypes.{plainTypes}
 use Rattle.language.specs.Estimate.{stopped}
 use Rattle.language.specs.Checker.{SizedFile, sizedFile}
 use Rattle.language.specs.Cells.{updatesNumbers, numbersNeeded}
@@ -39,7 +38,7 @@ use Rattle.answers.specs.declared.Board.{Board}
 use Rattle.answers.specs.declared.Answer.{Answer}
 use Rattle.answers.specs.Boards.{numbersOf, refusalOf, Judges}
 use Rattle.checker.specs.Checks.{ChecksGiven, sizingRefusal, ReadHeld, OrderedHeld, Needs}
-use Rattle.checker.specs.Outcomes.{sizesOf, refused, not-enough, enough-lent}
+use Rattle.checker.specs.Outcomes.{sizesOf, check-of, refused, not-enough, enough-lent}
 
 -- the numbers and the instances of a file whose sizes agree
 record Agreed (text : List ℕ) (given : Bool) (P : File) (words₁ : List ℕ) (k : CountedFile) : Type 0 where
@@ -66,8 +65,8 @@ module _ {text index : List ℕ} (z : ReadHeld text index) where
       behind = need given notLent noFrame (sizesOf (z .file))
 
       after-reading : checkFile text given ≡ verdict typesDisagree frame (orderly (z .file) behind)
-      unfolding checkFile bind
-      after-reading = ap (λ u. bind u (λ Q. plainTypes Q (orderly Q (need given notLent noFrame (sizesOf Q))))) (z .indexed .read) ∙ plain-types-verdict v (z .indexed) (orderly (z .file) behind)
+      unfolding bind
+      after-reading = check-of text given (z .indexed .read) ∙ plain-types-verdict v (z .indexed) (orderly (z .file) behind)
 
       pub types-refused : {r : Answer} {words′ : List ℕ} → (frame ≡ 0 → ⊥) → r ≡ refusalOf typesDisagree frame → words′ ≡ replicate (length words) 0 → ChecksGiven text b given r words′
       types-refused some e c = refused text b given (length words) (after-reading ∙ verdict-refused typesDisagree frame _ some) e c
@@ -84,8 +83,8 @@ module _ {text index : List ℕ} (y : OrderedHeld text index) where
 
   module _ (b : Board) (given : Bool) (words : List ℕ) where
     after-order : checkFile text given ≡ need given notLent noFrame (sizesOf (z .file))
-    unfolding checkFile bind
-    after-order = ap (λ u. bind u (λ Q. plainTypes Q (orderly Q (need given notLent noFrame (sizesOf Q))))) (z .indexed .read) ∙ well-plain-passes (z .file) _ (y .plain) ∙ acyclic-passes (z .file) _ (y .acyclic)
+    unfolding bind
+    after-order = check-of text given (z .indexed .read) ∙ well-plain-passes (z .file) _ (y .plain) ∙ acyclic-passes (z .file) _ (y .acyclic)
 
     pub lent-refused : {r : Answer} {words′ : List ℕ} → given ≡ false → r ≡ refusalOf notLent noFrame → words′ ≡ replicate (length words) 0 → ChecksGiven text b given r words′
     unfolding need

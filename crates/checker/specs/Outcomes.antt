@@ -4,8 +4,12 @@ use mathlib.Core.List.{List}
 use mathlib.Core.Bool.{Bool, true}
 use mathlib.Core.Path.{_≡_, refl, sym, ap, subst, _∙_}
 use lib.ListN.{length, set, replicate, length-replicate, length-map}
-use Rattle.language.specs.Result.{Result, ok, no, bind}
+use Rattle.language.specs.Refusals.{noFrame, notLent}
+use Rattle.language.specs.Result.{Result, ok, no, bind, need}
 use Rattle.language.specs.Syntax.{File}
+use Rattle.language.specs.Reader.{readFile}
+use Rattle.language.specs.PlainTypes.{plainTypes}
+use Rattle.language.specs.Order.{orderly}
 use Rattle.language.specs.Estimate.{stopped}
 use Rattle.language.specs.Checker.{sizedFile}
 use Rattle.language.specs.Cells.{numbersNeeded}
@@ -25,6 +29,11 @@ use Rattle.answers.specs.LendLaws.{list-room}
 -- what the size checker says of a file
 abbrev pub sizesOf : File → Result Accepted
 sizesOf P = bind (sizedFile P) (λ q. ok (record { file = P; sizes = q }))
+
+-- a check is all passes over what was read
+pub check-of : (text : List ℕ) (given : Bool) {y : Result File} → readFile text ≡ y → checkFile text given ≡ bind y (λ P. plainTypes P (orderly P (need given notLent noFrame (sizesOf P))))
+unfolding checkFile
+check-of text given e = rw e
 
 module _ (text : List ℕ) (b : Board) (given : Bool) where
   -- the list that the words fill is that of a verdict

@@ -5,13 +5,10 @@ use mathlib.Core.Bool.{Bool}
 use mathlib.Core.Path.{_≡_, refl, ap, _∙_}
 use native.Mathlib.Omega.{arith}
 use lib.ListN.{replicate}
-use Rattle.language.specs.Refusals.{noFrame, notLent}
-use Rattle.language.specs.Result.{Result, ok, bind, need}
+use Rattle.language.specs.Result.{Result, ok, bind}
 use Rattle.language.specs.Syntax.{File}
 use Rattle.language.specs.Reader.{readFile}
-use Rattle.language.specs.PlainTypes.{plainTypes}
-use Rattle.language.specs.Order.{orderly}
-use Rattle.language.specs.Machine.{listLent, checkFile}
+use Rattle.language.specs.Machine.{listLent}
 use Rattle.index.specs.Whole.{indexOf, whole-sections}
 use Rattle.reader.specs.declared.Reading.{Reading}
 use Rattle.reader.specs.declared.Reading.the-variants.{Done, Fault}
@@ -21,13 +18,13 @@ use Rattle.answers.specs.declared.Board.{Board}
 use Rattle.answers.specs.declared.Answer.{Answer}
 use Rattle.answers.specs.Boards.{boardOf, lentRecords, readAnswer}
 use Rattle.checker.specs.Checks.{ChecksGiven, ChecksWords, ReadHeld}
-use Rattle.checker.specs.Outcomes.{sizesOf, refused, checked}
+use Rattle.checker.specs.Outcomes.{check-of, refused, checked}
 
 -- ---- refused
 pub reading-refused : {text index words′ : List ℕ} {b : Board} {x : Reading} {r : Answer} {m frame : ℕ} (k : ℕ) → TextRead text x index (readFile text) → x ≡ Fault m frame → r ≡ readAnswer x → words′ ≡ replicate k 0 →
     (given : Bool) → ChecksGiven text b given r words′
-unfolding readAnswer checkFile bind
-reading-refused {text} {b = b} k v q e z given = refused text b given k (ap (λ u. bind u (λ P. plainTypes P (orderly P (need given notLent noFrame (sizesOf P))))) (read-fault v q)) (e ∙ ap readAnswer q) z
+unfolding readAnswer bind
+reading-refused {text} {b = b} k v q e z given = refused text b given k (check-of text given (read-fault v q)) (e ∙ ap readAnswer q) z
 
 pub check-unread : {text index words′ : List ℕ} {b : Board} {records : ℕ} {x : Reading} {r : Answer} {m frame : ℕ} (k : ℕ) → TextRead text x index (readFile text) → x ≡ Fault m frame → r ≡ readAnswer x → words′ ≡ replicate k 0 → ChecksWords text b records r words′
 check-unread {b = b} {records = records} k v q e z = checked (record { is = refl }) (reading-refused k v q e z (listLent (boardOf b) (lentRecords records)))

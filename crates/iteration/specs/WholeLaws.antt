@@ -7,7 +7,7 @@ use native.Mathlib.Omega.{arith}
 use native.Mathlib.Nat.{le-refl}
 use native.Mathlib.Numerals.{add-one}
 use lib.ListN.{length, getD, take, drop, set, length-drop, length-append, List·getD-append}
-use lib.Seq.{sets, sets-eq, length-sets, length-take-le, getD-append-add, drop-at, getD-set-same, getD-set-other, ext-getD, drop-length, take-length, take-all, drop-drop}
+use lib.Seq.{sets, sets-eq, length-sets, length-take-le, getD-append-add, drop-at, ext-getD, drop-length, take-length, take-all, drop-drop}
 use lib.Dec.{eqb}
 use Rattle.language.specs.Limits.{channelsMost, headerWords, cellWords}
 use Rattle.language.specs.Result.{Result, ok, no, bind}
@@ -20,7 +20,6 @@ use Rattle.language.specs.Layout.{padded, stateLength, stateWords, allZero}
 use Rattle.language.specs.Machine.{written, putInputs, updateNodes, iterateIn, iterateState}
 use Rattle.theory.specs.FrameNumbers.{channelTotal}
 use Rattle.theory.specs.Lists.{both-right, take-fewer, drop-more, sets-append}
-use Rattle.theory.specs.Places.{below-or-not}
 use Rattle.theory.specs.Padding.{padded-rest}
 use Rattle.theory.specs.HeapValues.{env-length}
 use Rattle.theory.specs.Reaches.{Linked}
@@ -30,6 +29,8 @@ use Rattle.theory.specs.LineExact.{line-forth-exact}
 use Rattle.theory.specs.StateWords.{state-loaded}
 use Rattle.index.specs.declared.Counts.{Counts}
 use Rattle.index.specs.Sections.{countsIn}
+use Rattle.node_order.specs.Lowest.{Below}
+use Rattle.node_order.specs.RowLaws.{Filled}
 use Rattle.state_words.specs.Words.{usedIn, channelAt, rowOf, cleared}
 use Rattle.state_words.specs.Holds.{Holds}
 use Rattle.state_words.specs.RowLaws.{row-at, row-length}
@@ -46,21 +47,8 @@ use Rattle.iteration.specs.Promises.{RowIs, AgreesNodes, are-updated, no
 use Rattle.iteration.specs.Whole.{Begun, ChannelsTaken, ChannelsPut, Given, FeedsAndUpdates, is-done, is-refused, IteratesState}
 
 -- ---- taken
-pub record TakenTo (words row : List ℕ) (c : ℕ) : Type 0 where
-  each : (k : ℕ) → k < c → getD row k 0 ≡ channelAt words k
-
-pub taken-none : (words row : List ℕ) → TakenTo words row 0
-taken-none words row = record { each = λ k less. absurd (omega arith) }
-
-pub taken-more : {words row row₁ : List ℕ} {c l : ℕ} → TakenTo words row c → c < channelsMost → length row ≡ channelsMost → l ≡ channelAt words c → row₁ ≡ set row c l → TakenTo words row₁ (c + 1)
-taken-more {words} {row} {row₁} {c} {l} g few wide q w = record {
-  each = λ k less. ap (λ (z : List ℕ). getD z k 0) w ∙ below-or-not k c
-      (λ low. getD-set-other row c k l 0 (λ e. omega arith) ∙ g .each k low)
-      (λ high. let here : k ≡ c = omega arith in rw here (getD-set-same row c l 0 (omega (arith, wide)) ∙ q));
-}
-
-pub taken-all : {words row : List ℕ} {c : ℕ} → TakenTo words row c → channelsMost ≤ c → ChannelsTaken words row
-taken-all g all = record { each = λ k less. g .each k (omega arith) }
+pub taken-all : {words row : List ℕ} {c : ℕ} → Below (Filled (channelAt words) row) c → channelsMost ≤ c → ChannelsTaken words row
+taken-all g all = record { each = λ k less. g .each k (omega arith) .is }
 
 -- ---- put
 pub put-none : (row words : List ℕ) → ChannelsPut row 0 words words

@@ -62,7 +62,7 @@ module _ {index row : List ℕ} {n : Counts} (e : n ≡ countsIn index) {i : ℕ
         (subst (λ m. Table m row (nodeReadings P)) (sym inputs-are) (gathered-table g))
 
     no-cycle : n .nodes ≤ i → Acyclic P
-    no-cycle le = rows-acyclic (x .within) (λ k less. lowest .lower k (omega (arith, less, le, nodes-are, readings-length P)))
+    no-cycle le = rows-acyclic (x .within) (λ k less. lowest .lower .each k (omega (arith, less, le, nodes-are, readings-length P)))
 
   pub order-none : {r : ℕ} → n .nodes ≤ i → r ≡ noFrame → JudgesOrder index row r
   order-none le q = rw q (record { says = λ x g. no-frame (no-cycle x g le) })
@@ -73,7 +73,7 @@ module _ {index row : List ℕ} {n : Counts} (e : n ≡ countsIn index) {i : ℕ
         let place : i < length (P .nodes) = omega (arith, less, nodes-are x g) in
         let channel : n .inputs + i ≡ nodeChannel P i = omega (arith, inputs-are x g) in
         let there = channel-line (nodeChannel P i) x (omega (arith, place)) in
-        frame-of {frame = r} (row-lowest (x .within) i place (lowest x g .passes less) (lowest x g .lower)) (omega (arith, q, l ∙ ap (channelLineOf index) channel ∙ there));
+        frame-of {frame = r} (row-lowest (x .within) i place (lowest x g .passes less) (lowest x g .lower .each)) (omega (arith, q, l ∙ ap (channelLineOf index) channel ∙ there));
   }
 
 -- ---- what the frame decides

@@ -1,7 +1,7 @@
 -- The next node of the definition's order is the one that is found by sets.
 use Prim.Native.Nat.{ℕ, zero, suc, _+_, _-_, _^_, _≤_, _<_}
 use mathlib.Core.List.{List, [], _∷_, _++_}
-use mathlib.Core.Bool.{Bool, true, false, not}
+use mathlib.Core.Bool.{true, not}
 use mathlib.Core.Path.{_≡_, refl, sym, ap, _∙_, subst}
 use native.Mathlib.Omega.{arith}
 use lib.ListN.{length, getD}
@@ -17,7 +17,7 @@ use Rattle.language.specs.Slide.{mem}
 use Rattle.language.specs.Order.{readings, nodesAmong, nodeReadings, allMem, ready, andThen, orderFrom}
 use Rattle.theory.specs.Lists.{both-left, both-right, both-true, false-is-not-true}
 use Rattle.theory.specs.Alls.{all-getD, all-map}
-use Rattle.theory.specs.Choices.{by-test, one-left, one-right}
+use Rattle.theory.specs.Choices.{by-test, one-left, one-right, one-none}
 use Rattle.theory.specs.Members.{mem-append, all-mem}
 use Rattle.theory.specs.Places.{equal-or-not}
 use Rattle.theory.specs.AnyOrder.{readings-length, read-by}
@@ -99,7 +99,7 @@ unfolding mem oneOf
 done-more {inputs} {nodes} {done} {set} i few less d = record {
   small = or-lt wordBits set (2 ^ (inputs + i)) (d .small) (pow-lt within);
   at-input = λ c low. in-union set (2 ^ (inputs + i)) c ∙ one-left (inSet (2 ^ (inputs + i)) c) (d .at-input c low);
-  at-node = λ j low. in-union set (2 ^ (inputs + i)) (inputs + j) ∙ (λ k. oneOf (d .at-node j low k) ((in-single (inputs + i) (inputs + j) ∙ same j) k)) ∙ sym (mem-append j done (i ∷ []) ∙ ap (oneOf (mem j done)) (last (eqb j i)));
+  at-node = λ j low. in-union set (2 ^ (inputs + i)) (inputs + j) ∙ (λ k. oneOf (d .at-node j low k) ((in-single (inputs + i) (inputs + j) ∙ same j) k)) ∙ sym (mem-append j done (i ∷ []) ∙ ap (oneOf (mem j done)) (one-none (eqb j i)));
 }
   where
     within : inputs + i < wordBits
@@ -107,10 +107,6 @@ done-more {inputs} {nodes} {done} {set} i few less d = record {
 
     same : (j : ℕ) → eqb (inputs + j) (inputs + i) ≡ eqb j i
     same j = equal-or-not j i (λ e. eq-eqb (inputs + j) (inputs + i) (ap (λ x. inputs + x) e) ∙ sym (eq-eqb j i e)) (λ other. ne-eqb (inputs + j) (inputs + i) (λ e. other (omega (arith, e))) ∙ sym (ne-eqb j i other))
-
-    last : (b : Bool) → oneOf b false ≡ b
-    last true = refl
-    last false = refl
 
 -- ---- what the walk over the updates gathered
 pub readings-gathered : {text index row : List ℕ} {P : File} → Indexed text index P → TellsReadings text index row → Gathered P row

@@ -12,15 +12,16 @@ use borrow.Author.Tests.{eq-eqb, ne-eqb}
 use Rattle.language.specs.Limits.{nodesMost}
 use Rattle.language.specs.Result.{both, oneOf, choose}
 use Rattle.language.specs.Slide.{mem}
-use Rattle.language.specs.Order.{readBy, Through, directly, by-others, readThrough}
-use Rattle.theory.specs.Lists.{false-is-not-true, never-true}
+use Rattle.language.specs.Order.{readBy, readThrough}
+use Rattle.theory.specs.Lists.{false-is-not-true}
+use Rattle.theory.specs.Choices.{one-none}
 use Rattle.theory.specs.Places.{below-or-not, equal-or-not}
-use Rattle.theory.specs.ReadThrough.{below, below-step, below-through, length-through}
+use Rattle.theory.specs.ReadThrough.{below-step, length-through, none-itself}
 use Rattle.channel_sets.specs.Sets.{inSet}
 use Rattle.channel_sets.specs.SetLaws.{in-union, in-empty, in-high}
-use Rattle.node_order.specs.Lowest.{LowestBelow}
-use Rattle.node_order.specs.LowestLaws.{lowest-same}
-use Rattle.node_order.specs.Rows.{readyIn, selfIn, joinedBy, Table, Copied, ReadsLower, ReadOn, ReadThrough, SelfReader}
+use Rattle.node_order.specs.Lowest.{Below, LowestBelow}
+use Rattle.node_order.specs.LowestLaws.{below-more, below-fewer, lowest-none, lowest-same}
+use Rattle.node_order.specs.Rows.{readyIn, selfIn, joinedBy, Table, Copied, Lower, ReadsLower, ReadOn, ReadThrough, SelfReader}
 
 -- ---- a node that is ready
 module _ (done c reads : ℕ) where
@@ -81,16 +82,12 @@ on-put {inputs} {k} {v = v} g o t e f = rw f (on-more g v (e ∙ (λ i. joinedBy
 
 -- ---- and through all nodes
 in-joined : (c through own d : ℕ) → inSet (joinedBy c through own) d ≡ oneOf (inSet own d) (both (inSet own c) (inSet through d))
-unfolding joinedBy choose both oneOf
+unfolding joinedBy choose both
 in-joined c through own d = by (inSet own c)
   where
-    last : (b : Bool) → b ≡ oneOf b false
-    last true = refl
-    last false = refl
-
     by : (b : Bool) → inSet (choose b (bitOr own through) own) d ≡ oneOf (inSet own d) (both b (inSet through d))
     by true = in-union own through d
-    by false = last (inSet own d)
+    by false = sym (one-none (inSet own d))
 
 module _ {inputs : ℕ} (R : List (List ℕ)) (k : ℕ) {row row′ : List ℕ} where
   pub table-step : k < length R → Table inputs row (readThrough k R) → ReadOn inputs (length R) k row row′ → Table inputs row′ (readThrough (suc k) R)
@@ -126,32 +123,18 @@ module _ {inputs nodes : ℕ} {row : List ℕ} where
     through-all most all = record { says = λ R long t. let same : k ≡ length R = omega (arith, most, all, long) in subst (λ m. Table inputs row₁ (readThrough m R)) same (g .says R long t) }
 
 -- ---- each node reads only channels below its own
-pub record LowerSoFar (row : List ℕ) (inputs i : ℕ) : Type 0 where
-  pub each : (j : ℕ) → j < i → getD row j 0 / 2 ^ (inputs + j) ≡ 0
+module _ (row : List ℕ) (inputs i : ℕ) {own : ℕ} (e : own ≡ getD row i 0) where
+  shifted : own / 2 ^ (inputs + i) ≡ getD row i 0 / 2 ^ (inputs + i)
+  shifted = ap (λ (x : ℕ). x / 2 ^ (inputs + i)) e
 
-module _ {row : List ℕ} {inputs : ℕ} where
-  pub lower-none : LowerSoFar row inputs 0
-  lower-none = record { each = λ j less. absurd (omega (arith, less)) }
+  pub lower-here : own / 2 ^ (inputs + i) ≡ 0 → Lower row inputs i
+  lower-here q = record { is = sym shifted ∙ q }
 
-  pub lower-more : {i : ℕ} → LowerSoFar row inputs i → getD row i 0 / 2 ^ (inputs + i) ≡ 0 → LowerSoFar row inputs (i + 1)
-  lower-more {i} g e = record { each = λ j less. equal-or-not j i (λ same. subst (λ (x : ℕ). getD row x 0 / 2 ^ (inputs + x) ≡ 0) (sym same) e) (λ other. g .each j (omega (arith, less, other))) }
+  pub lower-not : {nodes : ℕ} → i < nodes → (own / 2 ^ (inputs + i) ≡ 0 → ⊥) → ReadsLower row inputs nodes false
+  lower-not less other = record { says = (λ q. false-is-not-true q, λ g. absurd (other (shifted ∙ g .each i less .is))) }
 
-  pub lower-all : {i nodes : ℕ} → LowerSoFar row inputs i → nodes ≤ i → ReadsLower row inputs nodes true
-  lower-all g le = record { says = λ _ j less. g .each j (omega (arith, less, le)) }
-
-  pub lower-not : {nodes : ℕ} → ReadsLower row inputs nodes false
-  lower-not = record { says = λ e. false-is-not-true e }
-
-pub lower-here : (row : List ℕ) (inputs i : ℕ) {w : ℕ} → LowerSoFar row inputs i → w ≡ getD row i 0 → w / 2 ^ (inputs + i) ≡ 0 → LowerSoFar row inputs (i + 1)
-lower-here row inputs i g e f = lower-more g (ap (λ (x : ℕ). x / 2 ^ (inputs + i)) (sym e) ∙ f)
-
-module _ (R : List (List ℕ)) (lower : (i j : ℕ) → mem j (readBy R i) ≡ true → j < i) where
-  through-lower : {i j : ℕ} → Through R i j → j < i
-  through-lower (directly {i} {j} e) = lower i j e
-  through-lower (by-others {i} {j} {k} e p) = omega (arith, lower i k e, through-lower p)
-
-  none-itself : (i : ℕ) → below R (length R) i i ≡ false
-  none-itself i = never-true _ (λ e. omega (arith, through-lower (below-through R (length R) i i e)))
+pub lower-all : {row : List ℕ} {inputs i nodes : ℕ} → Below (Lower row inputs) i → nodes ≤ i → ReadsLower row inputs nodes true
+lower-all g le = record { says = (λ _. below-fewer g le, λ _. refl) }
 
 -- ---- the lowest node that reads itself
 module _ {row : List ℕ} {inputs nodes : ℕ} where
@@ -160,9 +143,9 @@ module _ {row : List ℕ} {inputs nodes : ℕ} where
   lower-self l = record {
     says = λ R long few named t.
         let lower : (i j : ℕ) → mem j (readBy R i) ≡ true → j < i = λ i j e. below-or-not i (length R)
-        (λ inside. below-or-not j i (λ less. less) (λ le. false-is-not-true (sym (in-high (inputs + i) (getD row i 0) (inputs + j) (l .says refl i (omega (arith, inside, long))) (omega (arith, le))) ∙ t .each i j inside (named i j e) ∙ e)))
+        (λ inside. below-or-not j i (λ less. less) (λ le. false-is-not-true (sym (in-high (inputs + i) (getD row i 0) (inputs + j) (l .says .0 refl .each i (omega (arith, inside, long)) .is) (omega (arith, le))) ∙ t .each i j inside (named i j e) ∙ e)))
         (λ beyond. false-is-not-true (ap (mem j) (sym (List·getD-eq-default R _ {n = i} beyond)) ∙ e)) in
-        record { most = omega arith; passes = λ less. absurd (omega (arith, less)); lower = λ i less. none-itself R lower i };
+        lowest-none {i = nodes} (record { each = λ i less. none-itself R lower i }) (omega arith);
   }
 
   pub through-self : {row₁ row₂ : List ℕ} {r : ℕ} → Copied row row₁ → ReadThrough inputs nodes row₁ row₂ → LowestBelow (selfIn row₂ inputs) nodes r → SelfReader row inputs nodes r
@@ -174,19 +157,15 @@ module _ {row : List ℕ} {inputs nodes : ℕ} where
         lowest-same (λ i less. whole .each i i (omega (arith, less, long, size)) (omega (arith, less, long, size))) l;
   }
 
+-- ---- a row filled from its start on: at i it has what f gives
+pub record Filled (f : ℕ → ℕ) (row : List ℕ) (i : ℕ) : Type 0 where
+  pub is : getD row i 0 ≡ f i
+
+pub filled-more : {f : ℕ → ℕ} {row row₁ : List ℕ} {i n v : ℕ} → Below (Filled f row) i → i < n → length row ≡ n → v ≡ f i → row₁ ≡ set row i v → Below (Filled f row₁) (i + 1)
+filled-more {row = row} {i = i} {v = v} g less long e q = rw q (below-more
+    (record { each = λ k low. record { is = getD-set-other row i k v 0 (λ same. omega (arith, low, same)) ∙ g .each k low .is } })
+    (record { is = getD-set-same row i v 0 (omega (arith, less, long)) ∙ e }))
+
 -- ---- a copy
-pub record CopiedSoFar (row row₁ : List ℕ) (i : ℕ) : Type 0 where
-  pub each : (j : ℕ) → j < i → getD row₁ j 0 ≡ getD row j 0
-
-module _ {row : List ℕ} where
-  pub copied-none : {row₁ : List ℕ} → CopiedSoFar row row₁ 0
-  copied-none = record { each = λ j less. absurd (omega (arith, less)) }
-
-  pub copied-more : {row₁ : List ℕ} {i : ℕ} → i < length row₁ → CopiedSoFar row row₁ i → CopiedSoFar row (set row₁ i (getD row i 0)) (i + 1)
-  copied-more {row₁} {i} inside g = record { each = λ j less. equal-or-not j i (λ same. rw same (getD-set-same row₁ i _ 0 inside)) (λ other. getD-set-other row₁ i j _ 0 other ∙ g .each j (omega (arith, less, other))) }
-
-  pub copied-all : {row₁ : List ℕ} {i : ℕ} → CopiedSoFar row row₁ i → nodesMost ≤ i → Copied row row₁
-  copied-all g le = record { each = λ j less. g .each j (omega (arith, less, le)) }
-
-pub copied-put : {row row₁ row₂ : List ℕ} {i v : ℕ} → i < nodesMost → length row₁ ≡ nodesMost → CopiedSoFar row row₁ i → v ≡ getD row i 0 → row₂ ≡ set row₁ i v → CopiedSoFar row row₂ (i + 1)
-copied-put {row} {row₁} {i = i} less long g e f = rw (f, e) (copied-more (omega (arith, less, long)) g)
+pub copied-all : {row row₁ : List ℕ} {i : ℕ} → Below (Filled (λ k. getD row k 0) row₁) i → nodesMost ≤ i → Copied row row₁
+copied-all g le = record { each = λ k less. g .each k (omega (arith, less, le)) .is }

@@ -3,6 +3,7 @@ use Prim.Native.Nat.{ℕ, _+_, _/_, _^_, _≤_, _<_}
 use mathlib.Core.List.{List}
 use mathlib.Core.Bool.{Bool, true, not}
 use mathlib.Core.Path.{_≡_}
+use mathlib.Core.Logic.{_↔_}
 use lib.ListN.{length, getD}
 use lib.Dec.{eqb}
 use lib.Bits.{bitOr}
@@ -12,7 +13,7 @@ use Rattle.language.specs.Slide.{mem}
 use Rattle.language.specs.Order.{readBy, readThrough}
 use Rattle.theory.specs.ReadThrough.{below, Named}
 use Rattle.channel_sets.specs.Sets.{inSet}
-use Rattle.node_order.specs.Lowest.{LowestBelow}
+use Rattle.node_order.specs.Lowest.{Below, LowestBelow}
 
 -- a node with these readings, channel c: it is not done, and all that it reads is
 unfoldable pub readyIn : ℕ → ℕ → ℕ → Bool
@@ -29,9 +30,13 @@ pub record Table (inputs : ℕ) (row : List ℕ) (R : List (List ℕ)) : Type 0 
 pub record Copied (row row′ : List ℕ) : Type 0 where
   pub each : (i : ℕ) → i < nodesMost → getD row′ i 0 ≡ getD row i 0
 
--- each node reads only channels below its own
+-- node i reads only channels below its own
+pub record Lower (row : List ℕ) (inputs i : ℕ) : Type 0 where
+  pub is : getD row i 0 / 2 ^ (inputs + i) ≡ 0
+
+-- whether each node does
 pub record ReadsLower (row : List ℕ) (inputs nodes : ℕ) (r : Bool) : Type 0 where
-  pub says : r ≡ true → (i : ℕ) → i < nodes → getD row i 0 / 2 ^ (inputs + i) ≡ 0
+  pub says : (r ≡ true) ↔ Below (Lower row inputs) nodes
 
 -- a node's readings, and those of the node of channel c where it reads that
 unfoldable pub joinedBy : ℕ → ℕ → ℕ → ℕ

@@ -7,6 +7,7 @@ use native.Mathlib.Omega.{arith}
 use lib.ListN.{length}
 use lib.Dec.{ltb}
 use borrow.Author.Tests.{ltb-true, ltb-false}
+use Rattle.language.specs.Refusals.{badLength}
 use Rattle.language.specs.Result.{ok, no, choose}
 use Rattle.language.specs.Parser.{Read, got}
 use Rattle.language.specs.Reader.{whole}
@@ -25,7 +26,7 @@ pub ended-stops : (line : List ℕ) (n : Counts) {r : Step} {k : ℕ} → r ≡ 
 ended-stops line n e = rw e
 
 module _ (line : List ℕ) (n : Counts) {r : Step} {c : Cursor} {more : Bool} (e : r ≡ Next c) (is : more ≡ ltb 0 (bytesLeft line (c .at))) where
-  pub ended-goes-on : more ≡ true → Refused 4 ≡ endedAs line r n
+  pub ended-goes-on : more ≡ true → Refused badLength ≡ endedAs line r n
   unfolding choose
   ended-goes-on q = rw (e, sym is ∙ q)
 
@@ -37,7 +38,7 @@ pub data Ended {A : Type 0} (frame : ℕ) (y : Read A) (n : Counts) (x : Frame) 
   stops : {k : ℕ} → x ≡ Refused k → whole frame y ≡ no k frame → Ended frame y n x
   ends : {a : A} {rest : List ℕ} → x ≡ Taken n → y ≡ got a rest → whole frame y ≡ ok a → Ended frame y n x
 
-goes-on : {A : Type 0} (frame : ℕ) (a : A) (l : List ℕ) → 0 < length l → whole frame (got a l) ≡ no 4 frame
+goes-on : {A : Type 0} (frame : ℕ) (a : A) (l : List ℕ) → 0 < length l → whole frame (got a l) ≡ no badLength frame
 unfolding whole
 goes-on frame a [] h = absurd (omega arith)
 goes-on frame a (b ∷ l) h = refl
@@ -57,6 +58,6 @@ ended-is {A} {line} {n} {x} frame y (Next c) p e = by (ltb 0 (bytesLeft line (c 
   where
     by : (b : Bool) → ltb 0 (bytesLeft line (c .at)) ≡ b → Ended frame y n x
     by true t = let g = pass-got p refl in
-        stops (e ∙ ap (λ b. choose b (Refused 4) (Taken n)) t) (ap (whole frame) (g .is) ∙ goes-on frame (g .value) (bytesFrom line (c .at)) (ltb-true 0 (bytesLeft line (c .at)) t))
+        stops (e ∙ ap (λ b. choose b (Refused badLength) (Taken n)) t) (ap (whole frame) (g .is) ∙ goes-on frame (g .value) (bytesFrom line (c .at)) (ltb-true 0 (bytesLeft line (c .at)) t))
     by false t = let g = pass-got p refl in
-        ends (e ∙ ap (λ b. choose b (Refused 4) (Taken n)) t) (g .is) (ap (whole frame) (g .is) ∙ stays frame (g .value) (bytesFrom line (c .at)) (nothing-left (bytesFrom line (c .at)) (ltb-false 0 (bytesLeft line (c .at)) t)))
+        ends (e ∙ ap (λ b. choose b (Refused badLength) (Taken n)) t) (g .is) (ap (whole frame) (g .is) ∙ stays frame (g .value) (bytesFrom line (c .at)) (nothing-left (bytesFrom line (c .at)) (ltb-false 0 (bytesLeft line (c .at)) t)))

@@ -8,6 +8,7 @@ use native.Mathlib.Omega.{arith}
 use lib.ListN.{length}
 use borrow.Author.Tests.{ltb-true, not-true, not-false}
 use Rattle.language.specs.Limits.{typesMost, functionsMost, inputsMost, nodesMost}
+use Rattle.language.specs.Refusals.{badFrame, badLength, noBaseConstructor}
 use Rattle.language.specs.Result.{Result, ok, no, bind, need, from, choose}
 use Rattle.language.specs.Syntax.{TypeDef, File, selfFree}
 use Rattle.language.specs.Parser.{Read, got, bad, byte, decode}
@@ -72,7 +73,7 @@ module _ (line index index′ : List ℕ) (n : Counts) {start : Cursor} (begun :
   type-stops no-frame = record { says = λ lines P held later frame few. by held frame (type-ended held frame); outside = v .1 }
     where
       by : {lines : ℕ → List ℕ} {P : File} → Held lines index n P → (frame : ℕ) → Ended frame (typeDef P (bytesFrom line (kindEnd line))) (oneMore 1 n) x → FrameRead lines x index′ (readKind 0 frame P (bytesFrom line (kindEnd line)) typeKind)
-      by {P = P} held frame (stops s p) = as-read (ap (λ w. bind w (λ d. need (selfFree d) 8 frame (ok (withType P d)))) p) (refused s)
+      by {P = P} held frame (stops s p) = as-read (ap (λ w. bind w (λ d. need (selfFree d) noBaseConstructor frame (ok (withType P d)))) p) (refused s)
       by held frame (ends s h p) = taken-refused s no-frame
 
   module _ {there : Counts} (yes : x ≡ Taken there) {b : Bool} (free : SelfFree (typesOf index′) (n .types) b) where
@@ -84,17 +85,17 @@ module _ (line index index′ : List ℕ) (n : Counts) {start : Cursor} (begun :
         by held later few frame (stops s p) = taken-refused yes s
         by {P = P} held later few frame (ends {a = d} s h p) =
             let is-free : selfFree d ≡ true = sym (self-free-told (P .types) d free (type-table held few h) (held .counted .typeCount) few (type-few held few h)) ∙ t in
-            as-read (ap (λ w. bind w (λ d. need (selfFree d) 8 frame (ok (withType P d)))) p ∙ ap (λ b. need b 8 frame (ok (withType P d))) is-free) (taken s (held-type held d later (type-table held few h) (v .1) few (type-few held few h)))
+            as-read (ap (λ w. bind w (λ d. need (selfFree d) noBaseConstructor frame (ok (withType P d)))) p ∙ ap (λ b. need b noBaseConstructor frame (ok (withType P d))) is-free) (taken s (held-type held d later (type-table held few h) (v .1) few (type-few held few h)))
 
-    pub type-not-free : b ≡ false → TypeTaken line index n (Refused 8) index′
+    pub type-not-free : b ≡ false → TypeTaken line index n (Refused noBaseConstructor) index′
     unfolding readKind bind need
     type-not-free t = record { says = λ lines P held later frame few. by held later few frame (type-ended held frame); outside = v .1 }
       where
-        by : {lines : ℕ → List ℕ} {P : File} → Held lines index n P → NoLater P → n .types < typesMost → (frame : ℕ) → Ended frame (typeDef P (bytesFrom line (kindEnd line))) (oneMore 1 n) x → FrameRead lines (Refused 8) index′ (readKind 0 frame P (bytesFrom line (kindEnd line)) typeKind)
+        by : {lines : ℕ → List ℕ} {P : File} → Held lines index n P → NoLater P → n .types < typesMost → (frame : ℕ) → Ended frame (typeDef P (bytesFrom line (kindEnd line))) (oneMore 1 n) x → FrameRead lines (Refused noBaseConstructor) index′ (readKind 0 frame P (bytesFrom line (kindEnd line)) typeKind)
         by held later few frame (stops s p) = taken-refused yes s
         by {P = P} held later few frame (ends {a = d} s h p) =
             let not-free : selfFree d ≡ false = sym (self-free-told (P .types) d free (type-table held few h) (held .counted .typeCount) few (type-few held few h)) ∙ t in
-            as-read (ap (λ w. bind w (λ d. need (selfFree d) 8 frame (ok (withType P d)))) p ∙ ap (λ b. need b 8 frame (ok (withType P d))) not-free) (refused refl)
+            as-read (ap (λ w. bind w (λ d. need (selfFree d) noBaseConstructor frame (ok (withType P d)))) p ∙ ap (λ b. need b noBaseConstructor frame (ok (withType P d))) not-free) (refused refl)
 
 -- ---- the kind's byte, and what the definition makes of it
 first-byte : (l : List ℕ) {k : ℕ} {rest : List ℕ} → byte l ≡ got k rest → l ≡ k ∷ rest
@@ -108,21 +109,21 @@ no-byte [] e = refl
 no-byte (b ∷ l) e = absurd (let z : _≡_ {A = ℕ} 0 1 = cc in omega arith)
 
 module _ (all frame : ℕ) (P : File) where
-  frame-is : (l : List ℕ) {k : ℕ} {bs : List ℕ} → l ≡ k ∷ bs → readFrame all frame P l ≡ from (decode 0x01 kinds k) 3 frame (λ kind. need (inOrder kind P) 3 frame (readKind all frame P bs kind))
+  frame-is : (l : List ℕ) {k : ℕ} {bs : List ℕ} → l ≡ k ∷ bs → readFrame all frame P l ≡ from (decode 0x01 kinds k) badFrame frame (λ kind. need (inOrder kind P) badFrame frame (readKind all frame P bs kind))
   unfolding readFrame
   frame-is l e = ap (readFrame all frame P) e
 
-  out-of-order : (o : Option Kind) (bs : List ℕ) → ordered o P ≡ false → from o 3 frame (λ kind. need (inOrder kind P) 3 frame (readKind all frame P bs kind)) ≡ no 3 frame
+  out-of-order : (o : Option Kind) (bs : List ℕ) → ordered o P ≡ false → from o badFrame frame (λ kind. need (inOrder kind P) badFrame frame (readKind all frame P bs kind)) ≡ no badFrame frame
   unfolding from need ordered
   out-of-order none bs e = refl
   out-of-order (some kind) bs e = rw e
 
-  in-order : {o : Option Kind} {kind : Kind} (bs : List ℕ) → o ≡ some kind → inOrder kind P ≡ true → from o 3 frame (λ kind. need (inOrder kind P) 3 frame (readKind all frame P bs kind)) ≡ readKind all frame P bs kind
+  in-order : {o : Option Kind} {kind : Kind} (bs : List ℕ) → o ≡ some kind → inOrder kind P ≡ true → from o badFrame frame (λ kind. need (inOrder kind P) badFrame frame (readKind all frame P bs kind)) ≡ readKind all frame P bs kind
   unfolding from need
   in-order bs e t = rw (e, t)
 
 module _ (line index : List ℕ) (n : Counts) (all : ℕ) {x : Number} (v : ReadsNumber line 0 x (byte (bytesFrom line 0))) where
-  pub frame-no-kind : {k : ℕ} → x ≡ NoNumber k → ReadsFrame line index n all (Refused 4) index
+  pub frame-no-kind : {k : ℕ} → x ≡ NoNumber k → ReadsFrame line index n all (Refused badLength) index
   unfolding readFrame
   frame-no-kind e = record { says = λ lines P held here frame. as-read (ap (readFrame all frame P) (sym (bytes-start line) ∙ no-byte (bytesFrom line 0) (number-bad v e))) (refused refl); frames = refl }
 
@@ -134,7 +135,7 @@ module _ (line index : List ℕ) (n : Counts) (all : ℕ) {x : Number} (v : Read
     kind-first : bytesOf line ≡ f .value ∷ bytesFrom line (kindEnd line)
     kind-first = sym (bytes-start line) ∙ first-byte (bytesFrom line 0) (number-got v e) ∙ ap (λ (a : ℕ). f .value ∷ bytesFrom line a) behind-first
 
-    pub frame-unordered : not b ≡ true → ReadsFrame line index n all (Refused 3) index
+    pub frame-unordered : not b ≡ true → ReadsFrame line index n all (Refused badFrame) index
     frame-unordered t = record {
       says = λ lines P held here frame.
           as-read (frame-is all frame P (bytesOf line) kind-first ∙ out-of-order all frame P (decode 0x01 kinds (f .value)) (bytesFrom line (kindEnd line)) (sym (o .says P (held .counted)) ∙ not-true b t)) (refused refl);

@@ -5,6 +5,7 @@ use mathlib.Core.Bool.{Bool, false}
 use mathlib.Core.Option.{Option, none, some}
 use mathlib.Core.Path.{_≡_}
 use lib.Dec.{eqb, ltb}
+use Rattle.language.specs.Refusals.{badLength}
 use Rattle.language.specs.Result.{choose}
 use Rattle.language.specs.Syntax.{File}
 use Rattle.language.specs.Format.{bit}
@@ -33,7 +34,7 @@ pub record Ordered (kind : ℕ) (n : Counts) (r : Bool) : Type 0 where
 -- the frame's answer at the end of what was read: 4 where bytes go on
 abbrev pub endedAs : List ℕ → Step → Counts → Frame
 endedAs line (Stop k) n = Refused k
-endedAs line (Next c) n = choose (ltb 0 (bytesLeft line (c .at))) (Refused 4) (Taken n)
+endedAs line (Next c) n = choose (ltb 0 (bytesLeft line (c .at))) (Refused badLength) (Taken n)
 
 -- one frame of a kind more
 abbrev pub oneMore : ℕ → Counts → Counts

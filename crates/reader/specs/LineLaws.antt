@@ -8,6 +8,7 @@ use native.Mathlib.Omega.{arith}
 use lib.ListN.{length, length-append}
 use borrow.Author.Tests.{le-ltb}
 use Rattle.language.specs.Limits.{typesMost, functionsMost, inputsMost, nodesMost}
+use Rattle.language.specs.Refusals.{badFrame, noBaseConstructor}
 use Rattle.language.specs.Result.{Result, ok, no, bind, need, from, choose}
 use Rattle.language.specs.Syntax.{File, Node}
 use Rattle.language.specs.Parser.{Read, got, bad, decode}
@@ -43,7 +44,7 @@ OneMore frame f r = Outcome (λ g. lineCount g ≡ lineCount f + 1) (λ n k. k �
 
 kind-read : (channels frame : ℕ) (f : File) (bs : List ℕ) (k : Kind) → OneMore frame f (readKind channels frame f bs k)
 unfolding readKind withType withFunction withInput withNode
-kind-read channels frame f bs typeKind = bind-outcome (whole-refuses-at frame (typeDef f bs)) λ d e q. need-outcome _ 8 frame (λ e. refl) (λ e. accepted (omega (arith, length-append (f .types) (d ∷ []))))
+kind-read channels frame f bs typeKind = bind-outcome (whole-refuses-at frame (typeDef f bs)) λ d e q. need-outcome _ noBaseConstructor frame (λ e. refl) (λ e. accepted (omega (arith, length-append (f .types) (d ∷ []))))
 kind-read channels frame f bs functionKind = bind-outcome (whole-refuses-at frame (function f bs)) λ d e q. accepted (omega (arith, length-append (f .functions) (d ∷ [])))
 kind-read channels frame f bs inputKind = bind-outcome (whole-refuses-at frame (input f bs)) λ d e q. accepted (omega (arith, length-append (f .inputs) (d ∷ [])))
 kind-read channels frame f bs nodeKind = bind-outcome (whole-refuses-at frame (node channels f bs)) λ d e q. accepted (omega (arith, length-append (f .nodes) (d ∷ [])))
@@ -77,12 +78,12 @@ none-in-order f full functionKind = both-never _ (le-ltb (length (f .functions))
 none-in-order f full inputKind = both-never _ (le-ltb (length (f .inputs)) inputsMost (omega (arith, full .inputs)))
 none-in-order f full nodeKind = le-ltb (length (f .nodes)) nodesMost (omega (arith, full .nodes))
 
-pub one-too-many : (channels frame : ℕ) (f : File) (bs : List ℕ) → Full f → 1 ≤ length bs → readFrame channels frame f bs ≡ no 3 frame
+pub one-too-many : (channels frame : ℕ) (f : File) (bs : List ℕ) → Full f → 1 ≤ length bs → readFrame channels frame f bs ≡ no badFrame frame
 unfolding readFrame from need
 one-too-many channels frame f [] full some-byte = absurd (omega arith)
 one-too-many channels frame f (b ∷ bs) full some-byte = go (decode 0x01 kinds b)
   where
-    go : (o : Option Kind) → from o 3 frame (λ kind. need (inOrder kind f) 3 frame (readKind channels frame f bs kind)) ≡ no 3 frame
+    go : (o : Option Kind) → from o badFrame frame (λ kind. need (inOrder kind f) badFrame frame (readKind channels frame f bs kind)) ≡ no badFrame frame
     go none = refl
     go (some kind) = rw (none-in-order f full kind)
 
@@ -96,11 +97,11 @@ unfolding readFrames bind
 frame-taken channels frame f e r = rw (e, r)
 
 -- ---- after the last frame: whether there is a node
-pub no-node : (channels frame : ℕ) (f : File) → length (f .nodes) ≡ 0 → readFrames channels frame f [] ≡ no 3 frame
+pub no-node : (channels frame : ℕ) (f : File) → length (f .nodes) ≡ 0 → readFrames channels frame f [] ≡ no badFrame frame
 unfolding readFrames isEmpty choose
 no-node channels frame f h = go (f .nodes) h
   where
-    go : (ns : List Node) → length ns ≡ 0 → choose (isEmpty ns) (no 3 frame) (ok f) ≡ no 3 frame
+    go : (ns : List Node) → length ns ≡ 0 → choose (isEmpty ns) (no badFrame frame) (ok f) ≡ no badFrame frame
     go [] h = refl
     go (n ∷ ns) h = absurd (omega arith)
 
@@ -108,6 +109,6 @@ pub some-node : (channels frame : ℕ) (f : File) → (length (f .nodes) ≡ 0 �
 unfolding readFrames isEmpty choose
 some-node channels frame f h = go (f .nodes) h
   where
-    go : (ns : List Node) → (length ns ≡ 0 → ⊥) → choose (isEmpty ns) (no 3 frame) (ok f) ≡ ok f
+    go : (ns : List Node) → (length ns ≡ 0 → ⊥) → choose (isEmpty ns) (no badFrame frame) (ok f) ≡ ok f
     go [] h = absurd (h refl)
     go (n ∷ ns) h = refl

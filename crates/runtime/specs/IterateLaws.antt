@@ -9,13 +9,14 @@ use lib.ListN.{length, take, drop, replicate, length-append, length-drop, take-a
 use lib.Seq.{length-take-le, drop-length, take-take}
 use Rattle.language.specs.Refusals.{noRefusal, noFrame, typesDisagree, notLent, badInputLine, selfReading}
 use Rattle.language.specs.Result.{Result, no, bind, need, from}
+use Rattle.language.specs.Syntax.{File}
 use Rattle.language.specs.Reader.{readFile}
 use Rattle.language.specs.PlainTypes.{plainTypes}
 use Rattle.language.specs.Order.{orderly}
 use Rattle.language.specs.Slide.{State}
 use Rattle.language.specs.Layout.{stateLength, stateWords, loadState}
 use Rattle.language.specs.Line.{lineTrees}
-use Rattle.language.specs.Machine.{Iterated, answer, written, zeros, lengthsLent, buffersLent, iterateState, iterateFile, iterated, iterate}
+use Rattle.language.specs.Machine.{Board as MachineBoard, Iterated, answer, written, zeros, lengthsLent, buffersLent, iterateState, iterateFile, iterated, iterate}
 use Rattle.theory.specs.Tests.{verdict, verdict-refused}
 use Rattle.theory.specs.PlainTypesAgree.{well-plain-passes}
 use Rattle.theory.specs.Orderly.{acyclic-passes}
@@ -63,6 +64,11 @@ module _ (cells : ℕ) (state : List ℕ) (long : stateLength cells ≤ length s
       told-done q (ap (λ (z : List ℕ). z ++ rest) (w ∙ ap (λ (z : List ℕ). stateWords cells s ++ z) none ∙ append-nil (stateWords cells s)))
   put-back (told-refused q w) = told-refused q (ap (λ (z : List ℕ). z ++ drop (stateLength cells) state) w ∙ take-append-drop (stateLength cells) state)
 
+-- ---- an iteration is all passes over what was read
+iterate-of : (text : List ℕ) (b : MachineBoard) (lent : Bool) (state line : List ℕ) {y : Result File} → readFile text ≡ y → iterateFile text b lent state line ≡ bind y (λ P. plainTypes P (orderly P (need lent notLent noFrame (onState P b state line))))
+unfolding iterateFile
+iterate-of text b lent state line e = rw e
+
 -- ---- a file that was read: 9 and 25
 module _ {text index : List ℕ} (z : ReadHeld text index) where
   pub walked : {frame node : ℕ} {ends row : List ℕ} → JudgesAll text index frame → TellsUpdates text index ends → TellsReadings text index row → JudgesOrder index row node → frame ≡ 0 → node ≡ 0 → Walked text index ends row
@@ -83,8 +89,8 @@ module _ {text index : List ℕ} (z : ReadHeld text index) where
 
     module _ {frame : ℕ} (v : JudgesAll text index frame) where
       after-reading : outcome ≡ verdict typesDisagree frame (orderly (z .file) (need lentNow notLent noFrame behind))
-      unfolding iterateFile bind
-      after-reading = ap (λ u. bind u (λ Q. plainTypes Q (orderly Q (need lentNow notLent noFrame (onState Q (boardOf b) state line))))) (z .indexed .read) ∙ plain-types-verdict v (z .indexed) (orderly (z .file) (need lentNow notLent noFrame behind))
+      unfolding bind
+      after-reading = iterate-of text (boardOf b) lentNow state line (z .indexed .read) ∙ plain-types-verdict v (z .indexed) (orderly (z .file) (need lentNow notLent noFrame behind))
 
       pub types-refused : {r : Answer} → (frame ≡ 0 → ⊥) → r ≡ refusalOf typesDisagree frame → IteratesRead text line b state scratch slots r state scratch slots
       types-refused wrong q = refused-with (after-reading ∙ verdict-refused typesDisagree frame _ wrong) q
@@ -101,8 +107,8 @@ module _ {text index ends readings : List ℕ} (y : Walked text index ends readi
 
   module _ {given : Bool} (g : LendsAll b (length state) (length scratch) (length slots) given) where
     after-order : outcome z line b state scratch slots ≡ need given notLent noFrame (behind z line b state scratch slots)
-    unfolding iterateFile bind
-    after-order = ap (λ u. bind u (λ Q. plainTypes Q (orderly Q (need (lentNow z line b state scratch slots) notLent noFrame (onState Q (boardOf b) state line))))) (z .indexed .read) ∙
+    unfolding bind
+    after-order = iterate-of text (boardOf b) (lentNow z line b state scratch slots) state line (z .indexed .read) ∙
         well-plain-passes (z .file) _ (y .ordered .plain) ∙ acyclic-passes (z .file) _ (y .ordered .acyclic) ∙ ap (λ d. need d notLent noFrame (behind z line b state scratch slots)) (sym (g .is))
 
     pub lent-refused : {r : Answer} → given ≡ false → r ≡ refusalOf notLent noFrame → IteratesRead text line b state scratch slots r state scratch slots
@@ -170,8 +176,8 @@ is-clear {scratch} c = record { is = c .first-is ∙ ap (λ n. replicate n 0) (s
 
 module _ (text : List ℕ) (b : Board) (state scratch slots line : List ℕ) {scratch₁ slots₁ : List ℕ} (cleared : ClearsBoth scratch slots scratch₁ slots₁) where
   pub iterate-unread : {index : List ℕ} {x : Reading} {r : Answer} {m frame : ℕ} → TextRead text x index (readFile text) → x ≡ Fault m frame → r ≡ readAnswer x → Iterates text b state scratch slots line r state scratch₁ slots₁
-  unfolding iterate iterateFile bind readAnswer
-  iterate-unread v q e = record { is = told-whole scratch slots (subst (Told (b .cells) state _ state) (sym (ap (λ u. bind u (λ P. plainTypes P (orderly P (need (buffersLent (boardOf b) state scratch slots) notLent noFrame (onState P (boardOf b) state line))))) (read-fault v q))) (told-refused (e ∙ ap readAnswer q) refl)) (cleared .first-is) (cleared .second-is) }
+  unfolding iterate bind readAnswer
+  iterate-unread v q e = record { is = told-whole scratch slots (subst (Told (b .cells) state _ state) (sym (iterate-of text (boardOf b) (buffersLent (boardOf b) state scratch slots) state line (read-fault v q))) (told-refused (e ∙ ap readAnswer q) refl)) (cleared .first-is) (cleared .second-is) }
 
   pub iterate-done : {state′ scratch₂ slots₂ slots′ : List ℕ} {r : Answer} → IteratesRead text line b state scratch₁ slots₁ r state′ scratch₂ slots₂ → slots′ ≡ replicate (length slots₂) 0 →
       Iterates text b state scratch slots line r state′ scratch₂ slots′

@@ -6,12 +6,9 @@ use mathlib.Core.Path.{_≡_, refl, sym, ap, subst, _∙_}
 use native.Mathlib.Omega.{arith}
 use lib.ListN.{length, take, drop, replicate, length-append, length-drop, length-replicate, length-map}
 use lib.Seq.{length-take-le}
-use Rattle.language.specs.Refusals.{noFrame, notLent}
-use Rattle.language.specs.Result.{Result, ok, bind, need, both}
+use Rattle.language.specs.Result.{Result, ok, bind, both}
 use Rattle.language.specs.Syntax.{File}
 use Rattle.language.specs.Reader.{readFile}
-use Rattle.language.specs.PlainTypes.{plainTypes}
-use Rattle.language.specs.Order.{orderly}
 use Rattle.language.specs.Layout.{stateLength, stateWords}
 use Rattle.language.specs.InitialValues.{FileBegins}
 use Rattle.language.specs.Machine.{Record, Started, Accepted, Verdict, emptyRecord, answer, checkFile, verdictOf, finalList, listLent, buffersLent, startState, written, startWords, start}
@@ -36,7 +33,7 @@ use Rattle.answers.specs.Boards.{boardOf, said, lentRecords, readAnswer, Grante
 use Rattle.checker.specs.Checks.{ReadHeld, ChecksGiven}
 use Rattle.answers.specs.LendLaws.{as-long, same-lent, list-room}
 use Rattle.checker.specs.ReadLaws.{reading-refused}
-use Rattle.checker.specs.Outcomes.{sizesOf}
+use Rattle.checker.specs.Outcomes.{check-of}
 use Rattle.startup.specs.Starts.{started, StartsRead, StartsWords, Starts}
 use Rattle.answers.specs.LendLaws.{Enough, enough-is}
 
@@ -138,14 +135,14 @@ module _ (text : List ℕ) (b : Board) (records : ℕ) (state scratch slots : Li
 
   pub start-unread : {index words′ : List ℕ} {x : Reading} {r : Answer} {m frame : ℕ} (k : ℕ) → TextRead text x index (readFile text) → x ≡ Fault m frame → r ≡ readAnswer x → words′ ≡ replicate k 0 →
       StartsWords text b records state scratch slots r words′ state scratch₁ slots₁
-  unfolding start startWords verdictOf checkFile bind
+  unfolding start startWords verdictOf bind
   start-unread {x = x} k v q e z =
       let given = both (listLent (boardOf b) (lentRecords records)) (buffersLent (boardOf b) state scratch slots) in
       let c = reading-refused {b = b} k v q e z given in
       record {
         answer-is = c .says;
         list-is = c .instances records (lent-first b records state scratch slots) ∙ ap (finalList (verdictOf (boardOf b) (checkFile text given)) (checkFile text given)) (sym (length-replicate records emptyRecord));
-        state-is = sym (ap (λ u. let o = bind u (λ P. plainTypes P (orderly P (need given notLent noFrame (sizesOf P)))) in startWords (verdictOf (boardOf b) o) o (b .cells) state) (read-fault v q));
+        state-is = sym (ap (λ o. startWords (verdictOf (boardOf b) o) o (b .cells) state) (check-of text given (read-fault v q)));
         scratch-is = scratch-clear;
         slots-is = slots-clear (cleared .second-is);
       }

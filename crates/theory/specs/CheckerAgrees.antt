@@ -8,6 +8,7 @@ use mathlib.Core.Path.{_≡_, refl, ap, _∙_}
 use native.Mathlib.Omega.{arith}
 use lib.ListN.{length, length-append, length-map}
 use Rattle.language.specs.Limits.{instancesMost}
+use Rattle.language.specs.Refusals.{tooManyInstances}
 use Rattle.language.specs.Result.{Result, ok, no}
 use Rattle.language.specs.Syntax.{File, declaredTypes, initialValues}
 use Rattle.language.specs.Estimate.{Estimate}
@@ -97,13 +98,13 @@ few-accepted {P} {xs} within f = go (sizedFile P) refl (derived-is-accepted with
 pub accepted-iff-few : {P : File} → Within P → (xs : List Estimate) → Accepts P xs ↔ FewInstances P xs
 accepted-iff-few within xs = (accepted-few within, few-accepted within)
 
-many-refused : {P : File} {xs : List Estimate} → Within P → (w : WellSized P xs) → MoreThan instancesMost (Needed w) → Refuses P 14
+many-refused : {P : File} {xs : List Estimate} → Within P → (w : WellSized P xs) → MoreThan instancesMost (Needed w) → Refuses P tooManyInstances
 many-refused {P} within w many = go (sizedFile P) refl (derived-is-accepted within w)
   where
-    go : (r : Result SizedFile) → sizedFile P ≡ r → Outcome (Exactly w) (TooMany (Needed w) instancesMost) r → Refuses P 14
+    go : (r : Result SizedFile) → sizedFile P ≡ r → Outcome (Exactly w) (TooMany (Needed w) instancesMost) r → Refuses P tooManyInstances
     go (ok q) is (accepted x) = absurd (not-more-and-at-most many (accepted-needs-few within w is))
     go (no n frame) is (refused x) = record { frame = frame; is = is ∙ ap (λ m. no m frame) (x .is) }
 
 -- a file whose sizes are derived is refused with 14 exactly if the derivation needs more than 1,024 different instances
-pub refused-iff-many : {P : File} {xs : List Estimate} → Within P → (w : WellSized P xs) → Refuses P 14 ↔ MoreThan instancesMost (Needed w)
+pub refused-iff-many : {P : File} {xs : List Estimate} → Within P → (w : WellSized P xs) → Refuses P tooManyInstances ↔ MoreThan instancesMost (Needed w)
 refused-iff-many within w = ((λ r. refused-is-too-many within w (r .is) .more), many-refused within w)

@@ -3,6 +3,7 @@ use Prim.Native.Nat.{ℕ}
 use mathlib.Core.List.{List, [], _∷_, _++_}
 use mathlib.Core.Option.{Option, none, some}
 use mathlib.Core.Path.{_≡_, refl}
+use Rattle.language.specs.Refusals.{typesDisagree, sizesDisagree}
 use Rattle.language.specs.Result.{Result, ok, bind, need}
 use Rattle.language.specs.Syntax.{Constructor, Ty, tbool, tint, tnamed, Expr, Function, File}
 use Rattle.language.specs.Sizes.{summedMeasure, parameterTypes, fieldTypes, sameType}
@@ -14,7 +15,7 @@ use Rattle.theory.specs.Instances.{entered}
 
 -- a value of a named type
 module _ {B : Type 0} {R : B → Type 0} {N : ℕ → ℕ → Type 0} where
-  pub named-outcome : (τ : Ty) (frame : ℕ) {k : ℕ → ℕ → Result B} → N 9 frame → ((t j : ℕ) → τ ≡ tnamed t j → Outcome R N (k t j)) → Outcome R N (named τ frame k)
+  pub named-outcome : (τ : Ty) (frame : ℕ) {k : ℕ → ℕ → Result B} → N typesDisagree frame → ((t j : ℕ) → τ ≡ tnamed t j → Outcome R N (k t j)) → Outcome R N (named τ frame k)
   unfolding named
   named-outcome tbool frame x f = refused x
   named-outcome tint frame x f = refused x
@@ -33,7 +34,7 @@ foundOr-outcome none L f g = g refl
 
 -- a branch at one split, as the checker has it
 abbrev pub atSplit : File → Enter → Place → List Ty → List ℕ → ℕ → Constructor → Expr → Ty → List ℕ → List Instance → Result Counted
-atSplit P enter p Γ Δ t fs b τ ks M = bind (sized P enter b p (Γ ++ fieldTypes t fs ks) (Δ ++ ks) M) (λ q. need (sameType (q .type) τ) 11 (frameAt P p) (ok (record { numbers = q .numbers; list = q .list })))
+atSplit P enter p Γ Δ t fs b τ ks M = bind (sized P enter b p (Γ ++ fieldTypes t fs ks) (Δ ++ ks) M) (λ q. need (sameType (q .type) τ) sizesDisagree (frameAt P p) (ok (record { numbers = q .numbers; list = q .list })))
 
 -- the body of function g at sizes ks, from the list with its record on
 abbrev pub bodyRun : File → Enter → ℕ → Function → List ℕ → List Instance → Result Sized

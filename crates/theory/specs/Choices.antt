@@ -22,6 +22,11 @@ unfolding oneOf
 one-right true e = refl
 one-right false e = e
 
+pub one-none : (a : Bool) → oneOf a false ≡ a
+unfolding oneOf
+one-none true = refl
+one-none false = refl
+
 pub one-cases : {X : Type 0} (a b : Bool) → oneOf a b ≡ true → (a ≡ true → X) → (b ≡ true → X) → X
 unfolding oneOf
 one-cases true b e f g = f refl

@@ -8,6 +8,7 @@ use mathlib.Core.Path.{_≡_, refl, sym, ap, _∙_}
 use lib.ListN.{length, getElem? as look}
 use borrow.Author.Tests.{lt-ltb, le-leb, lt-leb, eq-eqb}
 use Rattle.language.specs.Limits.{sizeMost}
+use Rattle.language.specs.Refusals.{tooManyInstances}
 use Rattle.language.specs.Result.{Result}
 use Rattle.language.specs.Syntax.{Constructor, Ty, Size, ResultType, Op, tbool, tint, tnamed, owns, Expr, ebool, eint, evar, enow, elast, elet, eif, eop, ecall, econ, ecase, eadj, efit, Exprs, enil, econs, Function, File, constructorsOf}
 use Rattle.language.specs.PlainTypes.{operandType, opType}
@@ -44,7 +45,7 @@ sole-lasts = record { lasts = λ L M keys r s. record { numbers = s .numbers; st
 
 -- the only refusal: 14, with more different instances wanted than may be entered
 pub record TooMany (K : Key → Type 0) (most n frame : ℕ) : Type 0 where
-  pub is : n ≡ 14
+  pub is : n ≡ tooManyInstances
   pub more : MoreThan most K
 
 -- ---- what a part of the checker is shown to do from any list that is ready. K: the instances wanted, among which those of

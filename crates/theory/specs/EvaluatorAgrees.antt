@@ -11,6 +11,7 @@ use lib.ListN.{length, getElem? as look}
 use lib.Dec.{ltb, leb}
 use borrow.Author.Tests.{ltb-true, ltb-false, leb-true, leb-false}
 use Rattle.language.specs.Limits.{sizeMost}
+use Rattle.language.specs.Refusals.{environmentSpent, stackSpent, valueTooLarge}
 use Rattle.language.specs.Result.{both}
 use Rattle.language.specs.Syntax.{Constructor, Plain, pbool, pint, pnamed, Size, ResultType, Op, Expr, ebool, eint, evar, enow, elast, elet, eif, eop, ecall, econ, ecase, eadj, efit, Exprs, enil, econs, lookExpr, Function, File, constructorsOf}
 use Rattle.language.specs.PlainTypes.{plainFields, plainResult, operandType, opType}
@@ -53,11 +54,11 @@ record RanBody (P : File) (cap u s : ℕ) (F : Function) (ls : List ℕ) (h : Li
 
 -- and where they are refused
 data MeetsBranch (P : File) (cap : ℕ) (N : Channels) (u s : ℕ) (E ls : List ℕ) (h : List Cell) (bs : Exprs) (c : ℕ) : ℕ → Type 0 where
-  branch-slots : {b : Expr} → lookExpr bs c ≡ some b → s < length ls → MeetsBranch P cap N u s E ls h bs c 21
+  branch-slots : {b : Expr} → lookExpr bs c ≡ some b → s < length ls → MeetsBranch P cap N u s E ls h bs c environmentSpent
   branch-meets : {b : Expr} {n : ℕ} → lookExpr bs c ≡ some b → s ≡ length ls + (s - length ls) → Meets P cap N u (s - length ls) (E ++ ls) h b n → MeetsBranch P cap N u s E ls h bs c n
 
 data MeetsBody (P : File) (cap u s : ℕ) (F : Function) (ls : List ℕ) (h : List Cell) : ℕ → Type 0 where
-  body-stack : u < 1 → MeetsBody P cap u s F ls h 22
+  body-stack : u < 1 → MeetsBody P cap u s F ls h stackSpent
   body-meets : {v n : ℕ} → u ≡ 1 + v → Meets P cap noChannels v s ls h (F .body) n → MeetsBody P cap u s F ls h n
 
 -- the value of the part that runs last is the value of the whole
@@ -92,10 +93,10 @@ module _ {P : File} {cap : ℕ} {N : Channels} {u : ℕ} where
   called e z x long (body-meets w m) = m-call-body e z x long w m
 
   too-large : {t c s : ℕ} {E ls : List ℕ} {h i : List Cell} {es : Exprs} {fs : Constructor} → RunsAll P cap N u s E h es ls i → look (constructorsOf P t) c ≡ some fs →
-      PlainValues P i ls (plainFields t fs) → both (ltb (ownSum i fs ls) sizeMost) (fieldsWithin i fs ls) ≡ false → Meets P cap N u s E h (econ t c es) 23
+      PlainValues P i ls (plainFields t fs) → both (ltb (ownSum i fs ls) sizeMost) (fieldsWithin i fs ls) ≡ false → Meets P cap N u s E h (econ t c es) valueTooLarge
   too-large {t} {c} {s} {E} {ls} {h} {i} {es} {fs} x e vs b = by-fields (fieldsWithin i fs ls) refl
     where
-      by-fields : (w : Bool) → fieldsWithin i fs ls ≡ w → Meets P cap N u s E h (econ t c es) 23
+      by-fields : (w : Bool) → fieldsWithin i fs ls ≡ w → Meets P cap N u s E h (econ t c es) valueTooLarge
       by-fields false w = m-ctor-above x e (field-above t fs vs w)
       by-fields true w = let z = sizes-at t fs vs w in m-ctor-size x e (z .are) (rw (z .total) at (ltb-false (ownSum i fs ls) sizeMost (both-first b w)))
 
@@ -169,7 +170,7 @@ module _ {P : File} {cap : ℕ} {N : Channels} {C : List Plain} {u : ℕ} {Γ : 
   unfolding eval
   ctor-agrees t c {fs} e ps = record {
     fate = λ E s h S. binds-fate (λ n. m-ctor-field) (ps .fates E s h S) (λ ls i x. rw (look-getD (constructorsOf P t) c [] e)
-        (needs-fate (both (ltb (ownSum i fs ls) sizeMost) (fieldsWithin i fs ls)) 23 (λ b. too-large (x .runs) e (x .has) b) (λ b.
+        (needs-fate (both (ltb (ownSum i fs ls) sizeMost) (fieldsWithin i fs ls)) valueTooLarge (λ b. too-large (x .runs) e (x .has) b) (λ b.
         let z = sizes-at t fs (x .has) (both-right _ _ b) in let less = rw (z .total) at (ltb-true (ownSum i fs ls) sizeMost (both-left _ _ b)) in
         rw (z .total) (alloc-fate cap i _ (m-ctor-cell (x .runs) e (z .are) less) (λ w. record {
           runs = e-ctor (x .runs) e (z .are) less w;

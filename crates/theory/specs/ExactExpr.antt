@@ -4,6 +4,7 @@ use mathlib.Core.List.{List, [], _∷_, _++_, append-assoc}
 use mathlib.Core.Bool.{true, false}
 use mathlib.Core.Path.{_≡_, refl}
 use lib.ListN.{length, getD}
+use Rattle.language.specs.Refusals.{outsideLimits}
 use Rattle.language.specs.Result.{choose}
 use Rattle.language.specs.Syntax.{Constructor, owns, Expr, ebool, eint, evar, enow, elast, elet, eif, eop, ecall, econ, ecase, eadj, efit, Exprs, enil, econs}
 use Rattle.language.specs.Format.{sizeBytes, resultBytes, exprBytes, exprsBytes}
@@ -139,5 +140,5 @@ module _ (n : ℕ) (inner : (S : Scope) → Exact (exprAt n S) exprBytes (Within
 
 pub expr-exact : (n : ℕ) (S : Scope) → Exact (exprAt n S) exprBytes (WithinExpr n S)
 unfolding exprAt
-expr-exact zero S = record { back = λ e rest w. elim w [ ]; forth = refused (codeIn false 0x10 forms) 7 }
+expr-exact zero S = record { back = λ e rest w. elim w [ ]; forth = refused (codeIn false 0x10 forms) outsideLimits }
 expr-exact (suc n) S = record { back = form-back n (expr-exact n) S; forth = form-forth n (expr-exact n) S }

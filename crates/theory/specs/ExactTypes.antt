@@ -4,6 +4,7 @@ use mathlib.Core.List.{List, [], _++_, append-assoc}
 use mathlib.Core.Bool.{true, false}
 use mathlib.Core.Path.{_≡_, refl}
 use Rattle.language.specs.Limits.{sizeMost, nestingMost}
+use Rattle.language.specs.Refusals.{outsideLimits}
 use Rattle.language.specs.Result.{choose}
 use Rattle.language.specs.Syntax.{Field, fbool, fint, own, other, Plain, pbool, pint, pnamed, Ty, tbool, tint, tnamed, Size, lit, svar, plus, minus, ResultType, rbool, rint, rnamed}
 use Rattle.language.specs.Format.{fieldBytes, plainBytes, declaredBytes, sizeBytes, resultBytes}
@@ -77,7 +78,7 @@ module _ (vars : ℕ) where
 
   size-forth : (n : ℕ) → Behind sizeBytes (WithinSize vars n) [] (sizeAt n vars)
   unfolding sizeAt sizeBehind sizeBytes
-  size-forth zero = refused (codeIn false 0x01 sizeForms) 7
+  size-forth zero = refused (codeIn false 0x01 sizeForms) outsideLimits
   size-forth (suc n) =
       coded-in true (entry (λ room. next (byte-exact .forth) λ k u. done (w-lit u) refl) (
       entry (λ room. next (index-exact vars .forth) λ i u. done (w-svar u) refl) (

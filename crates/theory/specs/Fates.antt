@@ -8,6 +8,7 @@ use native.Mathlib.Omega.{arith}
 use lib.ListN.{length}
 use lib.Dec.{ltb, leb}
 use borrow.Author.Tests.{ltb-true, ltb-false, leb-true, leb-false}
+use Rattle.language.specs.Refusals.{heapSpent, environmentSpent}
 use Rattle.language.specs.Result.{choose}
 use Rattle.language.specs.Heap.{Cell}
 use Rattle.language.specs.Evaluator.{Out, value, refused, Outs, values, refusedAll, bindOut, bindOuts, first, rest, needs, alloc}
@@ -64,8 +65,8 @@ module _ {Q : ℕ → List Cell → Type 0} {M : ℕ → Type 0} where
   needs-fate false n r f = f-refused (r refl)
 
   -- m slots, or 21
-  pub slots-fate : (m s : ℕ) {o : Out} → (s < m → M 21) → (s ≡ m + (s - m) → Fate Q M o) → Fate Q M (needs (leb m s) 21 o)
-  slots-fate m s r f = needs-fate (leb m s) 21 (λ t. r (leb-false m s t)) (λ t. f (omega (arith, leb-true m s t)))
+  pub slots-fate : (m s : ℕ) {o : Out} → (s < m → M environmentSpent) → (s ≡ m + (s - m) → Fate Q M o) → Fate Q M (needs (leb m s) environmentSpent o)
+  slots-fate m s r f = needs-fate (leb m s) environmentSpent (λ t. r (leb-false m s t)) (λ t. f (omega (arith, leb-true m s t)))
 
   pub choose-fate : (b : Bool) {x y : Out} → (b ≡ true → Fate Q M x) → (b ≡ false → Fate Q M y) → Fate Q M (choose b x y)
   unfolding choose
@@ -73,6 +74,6 @@ module _ {Q : ℕ → List Cell → Type 0} {M : ℕ → Type 0} where
   choose-fate false f g = g refl
 
   -- a cell, or 20
-  pub alloc-fate : (cap : ℕ) (h : List Cell) (c : Cell) → (cap ≤ length h → M 20) → (New cap h c (length h) (h ++ (c ∷ [])) → Q (length h) (h ++ (c ∷ []))) → Fate Q M (alloc cap h c)
+  pub alloc-fate : (cap : ℕ) (h : List Cell) (c : Cell) → (cap ≤ length h → M heapSpent) → (New cap h c (length h) (h ++ (c ∷ [])) → Q (length h) (h ++ (c ∷ []))) → Fate Q M (alloc cap h c)
   unfolding alloc
-  alloc-fate cap h c r f = needs-fate (ltb (length h) cap) 20 (λ t. r (ltb-false (length h) cap t)) (λ t. f-value (f (record { free = ltb-true _ _ t; at = refl; is = refl })))
+  alloc-fate cap h c r f = needs-fate (ltb (length h) cap) heapSpent (λ t. r (ltb-false (length h) cap t)) (λ t. f-value (f (record { free = ltb-true _ _ t; at = refl; is = refl })))

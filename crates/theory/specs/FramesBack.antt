@@ -7,6 +7,7 @@ use native.Mathlib.Numerals.{add-one}
 use lib.ListN.{length, length-append}
 use borrow.Author.Tests.{lt-ltb}
 use Rattle.language.specs.Limits.{typesMost, functionsMost, inputsMost, nodesMost}
+use Rattle.language.specs.Refusals.{badFrame}
 use Rattle.language.specs.Result.{ok, no, bind, need, from, both, choose}
 use Rattle.language.specs.Syntax.{Node, File}
 use Rattle.language.specs.Format.{fileFrames}
@@ -31,7 +32,7 @@ leads-read : {channels : ℕ} {f g : File} {ls : List (List ℕ)} → Leads chan
 unfolding readFrames choose bind isEmpty
 leads-read {f} stay some frame = go (f .nodes) some
   where
-    go : (ns : List Node) → 1 ≤ length ns → choose (isEmpty ns) (no 3 frame) (ok f) ≡ ok f
+    go : (ns : List Node) → 1 ≤ length ns → choose (isEmpty ns) (no badFrame frame) (ok f) ≡ ok f
     go [] some = absurd (omega arith)
     go (n ∷ ns) some = refl
 leads-read (step r x) some frame = rw (r frame) (leads-read x some (suc frame))

@@ -9,6 +9,7 @@ use lib.ListN.{length, length-append}
 use lib.Dec.{ltb}
 use borrow.Author.Tests.{ltb-true}
 use Rattle.language.specs.Limits.{typesMost, functionsMost, inputsMost, nodesMost}
+use Rattle.language.specs.Refusals.{badFrame, noBaseConstructor}
 use Rattle.language.specs.Result.{ok, no, both, choose}
 use Rattle.language.specs.Syntax.{TypeDef, Function, Input, Node, File, selfFree}
 use Rattle.language.specs.Format.{fileFrames}
@@ -77,7 +78,7 @@ module _ (channels frame : ℕ) (bs : List ℕ) (small : All Byte bs) where
   unfolding inOrder both isEmpty readKind withType
   type-next ts [] [] [] so order =
       sat-bind (whole-forth (type-exact (file ts [] [] [])) frame bs small) λ d W.
-      sat-need (selfFree d) 8 frame λ free.
+      sat-need (selfFree d) noBaseConstructor frame λ free.
       let w : WithinType (length ts) d = record { some = W .0 .some; few = W .0 .few; constructors = W .0 .each; free = free } in
       sat-ok (record {
         soFar = record {
@@ -156,7 +157,7 @@ module _ (channels frame : ℕ) (bs : List ℕ) (small : All Byte bs) where
 -- ---- frame after frame
 frame-forth : (channels frame : ℕ) (f : File) (l : List ℕ) → Filled l → SoFar channels f → Sat (Next channels f l) (readFrame channels frame f l)
 unfolding readFrame
-frame-forth channels frame f (k ∷ bs) (filled w small) so = sat-from 3 frame (entries-decode entries k) λ kind next. sat-need (inOrder kind f) 3 frame next
+frame-forth channels frame f (k ∷ bs) (filled w small) so = sat-from badFrame frame (entries-decode entries k) λ kind next. sat-need (inOrder kind f) badFrame frame next
   where
     entries : Entries (λ b kind. inOrder kind f ≡ true → Sat (Next channels f (b ∷ bs)) (readKind channels frame f bs kind)) 0x01 kinds
     entries =
@@ -175,7 +176,7 @@ pub frames-forth : (channels frame : ℕ) (f : File) (ls : List (List ℕ)) → 
 unfolding readFrames choose isEmpty
 frames-forth channels frame f [] lines so = go (f .nodes) (λ some. record { soFar = so; frames = sym (append-nil (fileFrames f)); someNode = some })
   where
-    go : (ns : List Node) → (1 ≤ length ns → AllRead channels (fileFrames f ++ []) f) → Sat (AllRead channels (fileFrames f ++ [])) (choose (isEmpty ns) (no 3 frame) (ok f))
+    go : (ns : List Node) → (1 ≤ length ns → AllRead channels (fileFrames f ++ []) f) → Sat (AllRead channels (fileFrames f ++ [])) (choose (isEmpty ns) (no badFrame frame) (ok f))
     go [] read = sat-no
     go (n ∷ ns) read = sat-ok (read (omega arith))
 frames-forth channels frame f (l ∷ ls) (all-cons w lines) so =

@@ -5,6 +5,7 @@ use mathlib.Core.Path.{_≡_, refl}
 use native.Mathlib.Omega.{arith}
 use lib.ListN.{length}
 use borrow.Author.Tests.{le-leb, leb-true}
+use Rattle.language.specs.Refusals.{heapSpent}
 use Rattle.language.specs.Result.{ok, need}
 use Rattle.language.specs.Syntax.{File, channelFrame}
 use Rattle.language.specs.Sizes.{sum}
@@ -28,8 +29,8 @@ module _ (P : File) (cells : ℕ) where
       record { built = same; room = λ le. rw (← same) le }
   inputs-put c (v ∷ vs) h roots e =
       let r = build P v h in
-      let fits = leb-true (length (r .heap)) cells (need-test _ 20 (channelFrame P c) _ e) in
-      let more = inputs-put (suc c) vs (r .heap) (roots ++ (r .location ∷ [])) (need-rest _ 20 (channelFrame P c) _ e) in
+      let fits = leb-true (length (r .heap)) cells (need-test _ heapSpent (channelFrame P c) _ e) in
+      let more = inputs-put (suc c) vs (r .heap) (roots ++ (r .location ∷ [])) (need-rest _ heapSpent (channelFrame P c) _ e) in
       record { built = more .built; room = λ le. more .room fits }
 
   -- all fit where their cells do

@@ -6,7 +6,7 @@ use mathlib.Core.Option.{Option, none, some}
 use mathlib.Core.Path.{_≡_, refl, sym, ap, _∙_, subst}
 use native.Mathlib.Omega.{arith}
 use lib.ListN.{length, drop}
-use Rattle.language.specs.Refusals.{noFrame, badInputLine}
+use Rattle.language.specs.Refusals.{noRefusal, noFrame, badInputLine}
 use Rattle.language.specs.Result.{bind, need, from}
 use Rattle.language.specs.Syntax.{File}
 use Rattle.language.specs.Estimate.{Estimate}
@@ -100,7 +100,7 @@ module _ {t : List ℕ} {P : File} {x : Estimate} (a : AcceptedFile t P x) {cell
       }
 
   -- "Every answer to a line is 0 or 19, so no iteration runs short of heap, environment or stack, or meets a value too large."
-  pub answers-0-or-19 : {X : Type 0} → (called t ws c .answer .number ≡ 0 → X) → (called t ws c .answer .number ≡ 19 → X) → X
+  pub answers-0-or-19 : {X : Type 0} → (called t ws c .answer .number ≡ noRefusal → X) → (called t ws c .answer .number ≡ badInputLine → X) → X
   unfolding answer
   answers-0-or-19 {X} zero nineteen = by-line (lineTrees P (c .line)) refl
     where

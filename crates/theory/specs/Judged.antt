@@ -1,6 +1,6 @@
 -- The verdict on a board: it is accepted exactly where it lends the three numbers, else the first of 15 to 17 that it is short of is
 -- answered; and the numbers are what is reported.
-use Prim.Native.Nat.{ℕ, suc, _≤_}
+use Prim.Native.Nat.{ℕ, _≤_}
 use mathlib.Core.Bool.{Bool, true, false}
 use mathlib.Core.Path.{_≡_, refl, ap}
 use native.Mathlib.Omega.{arith}
@@ -27,18 +27,18 @@ board-allowed b e = let more = both-right (leb (b .cells) cellsMost) _ e in
     record { cells = leb-true (b .cells) cellsMost (both-left _ _ e); slots = leb-true (b .slots) slotsMost (both-left _ _ more); calls = leb-true (b .calls) callsMost (both-right _ _ more) }
 
 -- ---- 15, 16, 17: where the first answer is chosen
-chosen-accepted : (test : Bool) (v : Verdict) (n : ℕ) (y x : Estimate) → answer (choose test v (short (suc n) y)) ≡ answer (accepted x) → (test ≡ true) × (answer v ≡ answer (accepted x))
+chosen-accepted : (test : Bool) (v : Verdict) (n : ℕ) (y x : Estimate) → 1 ≤ n → answer (choose test v (short n y)) ≡ answer (accepted x) → (test ≡ true) × (answer v ≡ answer (accepted x))
 unfolding choose answer
-chosen-accepted true v n y x e = (refl, e)
-chosen-accepted false v n y x e = absurd (let z : suc n ≡ 0 = ap (λ (a : Answer). a .number) e in omega arith)
+chosen-accepted true v n y x more e = (refl, e)
+chosen-accepted false v n y x more e = absurd (let z : n ≡ 0 = ap (λ (a : Answer). a .number) e in omega arith)
 
 -- accepted, so the board lends the numbers, and they are reported
 pub judge-accepted : (b : Board) (y x : Estimate) → answer (judge b y) ≡ answer (accepted x) → (y ≡ x) × Enough y b
 unfolding judge answer
 judge-accepted b y x e =
-    let cells = chosen-accepted (leb (y .heap) (b .cells)) _ 14 y x e in
-    let slots = chosen-accepted (leb (y .env) (b .slots)) _ 15 y x (cells .1) in
-    let calls = chosen-accepted (leb (y .stack) (b .calls)) _ 16 y x (slots .1) in (
+    let cells = chosen-accepted (leb (y .heap) (b .cells)) _ heapShort y x (omega arith) e in
+    let slots = chosen-accepted (leb (y .env) (b .slots)) _ environmentShort y x (omega arith) (cells .1) in
+    let calls = chosen-accepted (leb (y .stack) (b .calls)) _ stackShort y x (omega arith) (slots .1) in (
       ap (λ (a : Answer). a .bounds) (calls .1),
       record { cells = leb-true (y .heap) (b .cells) (cells .0); slots = leb-true (y .env) (b .slots) (slots .0); calls = leb-true (y .stack) (b .calls) (calls .0) },
     )
@@ -49,14 +49,14 @@ unfolding judge choose
 judge-enough b x e = rw (le-leb (x .heap) (b .cells) (e .cells), le-leb (x .env) (b .slots) (e .slots), le-leb (x .stack) (b .calls) (e .calls))
 
 -- ---- 0 is given to an acceptance alone
-chosen-zero : (test : Bool) (v : Verdict) (n : ℕ) (y : Estimate) → answer (choose test v (short (suc n) y)) .number ≡ 0 → (answer v .number ≡ 0 → answer v ≡ answer (accepted y)) → answer (choose test v (short (suc n) y)) ≡ answer (accepted y)
+chosen-zero : (test : Bool) (v : Verdict) (n : ℕ) (y : Estimate) → 1 ≤ n → answer (choose test v (short n y)) .number ≡ 0 → (answer v .number ≡ 0 → answer v ≡ answer (accepted y)) → answer (choose test v (short n y)) ≡ answer (accepted y)
 unfolding choose answer
-chosen-zero true v n y e f = f e
-chosen-zero false v n y e f = absurd (omega arith)
+chosen-zero true v n y more e f = f e
+chosen-zero false v n y more e f = absurd (omega arith)
 
 pub judge-zero : (b : Board) (y : Estimate) → answer (judge b y) .number ≡ 0 → answer (judge b y) ≡ answer (accepted y)
 unfolding judge
-judge-zero b y e = chosen-zero _ _ 14 y e (λ f. chosen-zero _ _ 15 y f (λ g. chosen-zero _ _ 16 y g (λ _. refl)))
+judge-zero b y e = chosen-zero _ _ heapShort y (omega arith) e (λ f. chosen-zero _ _ environmentShort y (omega arith) f (λ g. chosen-zero _ _ stackShort y (omega arith) g (λ _. refl)))
 
 -- ---- 15, 16, 17: the first that the board is short of, and all three numbers
 pub judge-short : (b : Board) (x : Estimate) {n : ℕ} → ShortOf x b n → judge b x ≡ short n x

@@ -9,6 +9,7 @@ use lib.ListN.{length}
 use lib.Dec.{leb}
 use borrow.Author.Tests.{lt-ltb, le-ltb, le-leb, lt-leb}
 use Rattle.language.specs.Limits.{sizeMost}
+use Rattle.language.specs.Refusals.{heapSpent, stackSpent, valueTooLarge}
 use Rattle.language.specs.Result.{choose}
 use Rattle.language.specs.Syntax.{fbool, fint, own, other, Constructor, Expr, Exprs, File, constructorsOf}
 use Rattle.language.specs.Sizes.{sum}
@@ -20,11 +21,11 @@ use Rattle.theory.specs.Lists.{look-getD, both-true, both-never, both-fa
 use Rattle.theory.specs.Heaps.{cell-at}
 use Rattle.theory.specs.RulesGive.{arity-is, slots-free, slots-left, run-enters, branch-at, sizes-sum, sizes-within, runs-eval, runs-evals, runs-not-refused}
 
-no-cell : {cap : ℕ} (h : List Cell) (c : Cell) → cap ≤ length h → alloc cap h c ≡ refused 20
+no-cell : {cap : ℕ} (h : List Cell) (c : Cell) → cap ≤ length h → alloc cap h c ≡ refused heapSpent
 unfolding alloc needs
 no-cell {cap} h c le = rw (le-ltb (length h) cap le)
 
-no-call : (P : File) (cap : ℕ) {u : ℕ} (f : ℕ) (ls : List ℕ) (s : ℕ) (h : List Cell) → u < 1 → run P cap u f ls s h ≡ refused 22
+no-call : (P : File) (cap : ℕ) {u : ℕ} (f : ℕ) (ls : List ℕ) (s : ℕ) (h : List Cell) → u < 1 → run P cap u f ls s h ≡ refused stackSpent
 unfolding run
 no-call P cap {u} f ls s h few = let z : u ≡ zero = omega arith in rw z
 
@@ -81,8 +82,8 @@ module _ (P : File) (cap : ℕ) where
 
 -- "run: 20, 21, 22 heap, environment, stack spent; 23 value too large"
 pub record RunRefusal (n : ℕ) : Type 0 where
-  pub least : 20 ≤ n
-  pub most : n ≤ 23
+  pub least : heapSpent ≤ n
+  pub most : n ≤ valueTooLarge
 
 module _ {P : File} {cap : ℕ} where
   mutual

@@ -8,6 +8,7 @@ use mathlib.Core.Option.{Option, none, some}
 use mathlib.Core.Path.{_≡_, refl, ap, _∙_}
 use lib.ListN.{getElem? as look}
 use borrow.Author.Tests.{eqb-true, eq-eqb}
+use Rattle.language.specs.Refusals.{typesDisagree}
 use Rattle.language.specs.Result.{Result, ok, when, chain}
 use Rattle.language.specs.Syntax.{Constructor, Plain, pbool, pint, pnamed, Ty, Size, Expr, ebool, eint, evar, enow, elast, elet, eif, eop, ecall, econ, ecase, eadj, efit, Exprs, enil, econs}
 use Rattle.language.specs.Syntax.{Node, File, constructorsOf}
@@ -197,12 +198,12 @@ typed-tests P W = all-append
 
 pub well-plain : {A : Type 0} {a : A} (P : File) (r : Result A) → plainTypes P r ≡ ok a → WellPlain P
 unfolding plainTypes
-well-plain P r z = tests-typed P (each-test 9 _ _ r z)
+well-plain P r z = tests-typed P (each-test typesDisagree _ _ r z)
 
 pub well-plain-passes : {A : Type 0} (P : File) (r : Result A) → WellPlain P → plainTypes P r ≡ r
 unfolding plainTypes
-well-plain-passes P r W = each-passes 9 _ r (typed-tests P W)
+well-plain-passes P r W = each-passes typesDisagree _ r (typed-tests P W)
 
 pub passes-iff-well-plain : {A : Type 0} (P : File) (r : Result A) (a : A) → (plainTypes P r ≡ ok a) ↔ (WellPlain P × (r ≡ ok a))
 unfolding plainTypes
-passes-iff-well-plain P r a = ((λ z. (well-plain P r z, each-rest 9 _ _ r z)), (λ w. well-plain-passes P r (w .0) ∙ w .1))
+passes-iff-well-plain P r a = ((λ z. (well-plain P r z, each-rest typesDisagree _ _ r z)), (λ w. well-plain-passes P r (w .0) ∙ w .1))

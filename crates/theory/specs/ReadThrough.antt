@@ -9,19 +9,15 @@ use lib.ListN.{length, getD, List·getD-map, length-map}
 use Rattle.language.specs.Result.{both, oneOf, choose}
 use Rattle.language.specs.Slide.{mem}
 use Rattle.language.specs.Order.{readBy, Through, directly, by-others, readThrough}
-use Rattle.theory.specs.Lists.{both-left, both-right, both-true}
-use Rattle.theory.specs.Choices.{one-left, one-right, one-cases}
+use Rattle.theory.specs.Lists.{both-left, both-right, both-true, never-true}
+use Rattle.theory.specs.Choices.{one-left, one-right, one-none, one-cases}
 use Rattle.theory.specs.Members.{mem-append}
 use Rattle.theory.specs.Places.{equal-or-not}
 
 mem-chosen : (j : ℕ) (b : Bool) (js ks : List ℕ) → mem j (choose b (js ++ ks) js) ≡ oneOf (mem j js) (both b (mem j ks))
-unfolding choose both oneOf
+unfolding choose both
 mem-chosen j true js ks = mem-append j js ks
-mem-chosen j false js ks = last (mem j js)
-  where
-    last : (b : Bool) → b ≡ oneOf b false
-    last true = refl
-    last false = refl
+mem-chosen j false js ks = sym (one-none (mem j js))
 
 module _ (R : List (List ℕ)) where
   -- node i reads node j, directly or through nodes below k
@@ -78,6 +74,15 @@ module _ (R : List (List ℕ)) where
   unfolding readThrough
   below-through zero i j e = directly e
   below-through (suc k) i j e = below-cases k i j e (below-through k i j) (λ f g. through-trans (below-through k i k f) (below-through k k j g))
+
+  -- where every reading is of a lower node, no node reads itself
+  module _ (lower : (i j : ℕ) → mem j (readBy R i) ≡ true → j < i) where
+    through-lower : {i j : ℕ} → Through R i j → j < i
+    through-lower (directly {i} {j} e) = lower i j e
+    through-lower (by-others {i} {j} {k} e p) = omega (arith, lower i k e, through-lower p)
+
+    pub none-itself : (i : ℕ) → below (length R) i i ≡ false
+    none-itself i = never-true _ (λ e. omega (arith, through-lower (below-through (length R) i i e)))
 
   -- every reading names a node
   abbrev pub Named : Type 0

@@ -7,7 +7,7 @@ use mathlib.Core.Option.{Option, none, some}
 use mathlib.Core.Path.{_≡_, refl}
 use native.Mathlib.Omega.{arith}
 use lib.ListN.{length, length-append}
-use Rattle.language.specs.Refusals.{badLine, heapShort, heapSpent, bufferShort}
+use Rattle.language.specs.Refusals.{noFrame, textTooLong, badLine, badFrame, badLength, outsideLimits, noBaseConstructor, heapShort, heapSpent, bufferShort}
 use Rattle.language.specs.Result.{Result, ok, no, need, choose}
 use Rattle.language.specs.Syntax.{Constructor, Expr, Size, File}
 use Rattle.language.specs.Scope.{Scope}
@@ -23,8 +23,8 @@ use Rattle.theory.specs.Outcomes.{Outcome, accepted, refused, when-accep
 
 -- ---- the bytes of a frame
 pub record ByteRefusal (n : ℕ) : Type 0 where
-  pub least : 4 ≤ n
-  pub most : n ≤ 7
+  pub least : badLength ≤ n
+  pub most : n ≤ outsideLimits
 
 data Fair {A : Type 0} : Read A → Type 0 where
   reads : {a : A} {rest : List ℕ} → Fair (got a rest)
@@ -54,7 +54,7 @@ option-fair none n bs = fails n
 
 byte-fair : FairReader byte
 unfolding byte
-byte-fair [] = fails {n = 4} (omega arith)
+byte-fair [] = fails {n = badLength} (omega arith)
 byte-fair (b ∷ bs) = reads
 
 index-fair : (n : ℕ) → FairReader (index n)
@@ -127,7 +127,7 @@ sizeBehind-fair vars minusSize f bs = then-fair (f bs) (λ a cs. then-fair (f cs
 
 sizeAt-fair : (n vars : ℕ) → FairReader (sizeAt n vars)
 unfolding sizeAt
-sizeAt-fair zero vars bs = then-fair (codeIn-fair _ _ _ bs) (λ form cs. fails {n = 7} (omega arith))
+sizeAt-fair zero vars bs = then-fair (codeIn-fair _ _ _ bs) (λ form cs. fails {n = outsideLimits} (omega arith))
 sizeAt-fair (suc n) vars bs = then-fair (codeIn-fair _ _ _ bs) (λ form. sizeBehind-fair vars form (sizeAt-fair n vars))
 
 resultBehind-fair : (types vars : ℕ) (form : TypeForm) → FairReader (resultBehind types vars form)
@@ -174,7 +174,7 @@ module _ (inner : Scope → Parser Expr) (fair : (S : Scope) → FairReader (inn
 
 exprAt-fair : (n : ℕ) (S : Scope) → FairReader (exprAt n S)
 unfolding exprAt
-exprAt-fair zero S bs = then-fair (codeIn-fair _ _ _ bs) (λ form cs. fails {n = 7} (omega arith))
+exprAt-fair zero S bs = then-fair (codeIn-fair _ _ _ bs) (λ form cs. fails {n = outsideLimits} (omega arith))
 exprAt-fair (suc n) S bs = then-fair (codeIn-fair _ _ _ bs) (λ form. exprBehind-fair (exprAt n) (exprAt-fair n) S form)
 
 -- ---- frames
@@ -202,20 +202,20 @@ node-fair channels known bs = then-fair (declared-fair _ bs) (λ τ cs. then-fai
 -- ---- the text, of which last is the number of frames
 pub record ReaderRefusal (last n frame : ℕ) : Type 0 where
   pub least : 1 ≤ n
-  pub most : n ≤ 8
-  pub none : n ≤ 1 → frame ≡ 0
-  pub from-first : 2 ≤ n → 1 ≤ frame
-  pub to-last : (n ≡ 3 → ⊥) → frame ≤ last
+  pub most : n ≤ noBaseConstructor
+  pub none : n ≤ textTooLong → frame ≡ noFrame
+  pub from-first : badLine ≤ n → 1 ≤ frame
+  pub to-last : (n ≡ badFrame → ⊥) → frame ≤ last
   pub one-after : frame ≤ last + 1
 
 -- in a frame of the text
-in-frame : {last n frame : ℕ} → 1 ≤ frame → frame ≤ last → 2 ≤ n → n ≤ 8 → ReaderRefusal last n frame
+in-frame : {last n frame : ℕ} → 1 ≤ frame → frame ≤ last → badLine ≤ n → n ≤ noBaseConstructor → ReaderRefusal last n frame
 in-frame first behind low high = record { least = omega arith; most = high; none = λ few. absurd (omega arith); from-first = λ _. first; to-last = λ _. behind; one-after = omega arith }
 
 whole-numbered : {A : Type 0} {last : ℕ} (frame : ℕ) → 1 ≤ frame → frame ≤ last → {r : Read A} → Fair r → Outcome Anything (ReaderRefusal last) (whole frame r)
 unfolding whole
 whole-numbered frame first behind (reads {rest = []}) = accepted tt
-whole-numbered frame first behind (reads {rest = b ∷ bs}) = refused {n = 4} {frame = frame} (in-frame first behind (omega arith) (omega arith))
+whole-numbered frame first behind (reads {rest = b ∷ bs}) = refused {n = badLength} {frame = frame} (in-frame first behind (omega arith) (omega arith))
 whole-numbered frame first behind (fails {n} r) = refused {n = n} {frame = frame} (in-frame first behind (omega arith) (omega arith))
 
 -- a frame gives one frame more
@@ -226,24 +226,24 @@ module _ {last : ℕ} (channels frame : ℕ) (first : 1 ≤ frame) (behind : fra
   kind-numbered : (bs : List ℕ) (kind : Kind) → OneMore (readKind channels frame f bs kind)
   unfolding readKind withType withFunction withInput withNode
   kind-numbered bs typeKind = bind-outcome (whole-numbered frame first behind (typeDef-fair f bs)) (λ d _ _.
-      need-outcome _ 8 _ (λ _. in-frame first behind (omega arith) (omega arith)) (λ _. accepted (omega (arith, length-append (f .types) (d ∷ [])))))
+      need-outcome _ noBaseConstructor _ (λ _. in-frame first behind (omega arith) (omega arith)) (λ _. accepted (omega (arith, length-append (f .types) (d ∷ [])))))
   kind-numbered bs functionKind = bind-outcome (whole-numbered frame first behind (function-fair f bs)) (λ F _ _. accepted (omega (arith, length-append (f .functions) (F ∷ []))))
   kind-numbered bs inputKind = bind-outcome (whole-numbered frame first behind (input-fair f bs)) (λ i _ _. accepted (omega (arith, length-append (f .inputs) (i ∷ []))))
   kind-numbered bs nodeKind = bind-outcome (whole-numbered frame first behind (node-fair channels f bs)) (λ n _ _. accepted (omega (arith, length-append (f .nodes) (n ∷ []))))
 
   frame-numbered : (bs : List ℕ) → OneMore (readFrame channels frame f bs)
   unfolding readFrame
-  frame-numbered [] = refused {n = 4} {frame = frame} (in-frame first behind (omega arith) (omega arith))
-  frame-numbered (k ∷ bs) = from-outcome _ 3 frame (λ _. in-frame first behind (omega arith) (omega arith)) (λ kind _.
-      need-outcome _ 3 frame (λ _. in-frame first behind (omega arith) (omega arith)) (λ _. kind-numbered bs kind))
+  frame-numbered [] = refused {n = badLength} {frame = frame} (in-frame first behind (omega arith) (omega arith))
+  frame-numbered (k ∷ bs) = from-outcome _ badFrame frame (λ _. in-frame first behind (omega arith) (omega arith)) (λ kind _.
+      need-outcome _ badFrame frame (λ _. in-frame first behind (omega arith) (omega arith)) (λ _. kind-numbered bs kind))
 
-after-last : {last frame : ℕ} → 1 ≤ frame → frame ≤ last + 1 → ReaderRefusal last 3 frame
+after-last : {last frame : ℕ} → 1 ≤ frame → frame ≤ last + 1 → ReaderRefusal last badFrame frame
 after-last first behind = record { least = omega arith; most = omega arith; none = λ few. absurd (omega arith); from-first = λ _. first; to-last = λ other. absurd (other refl); one-after = behind }
 
 frames-numbered : {last : ℕ} (channels frame : ℕ) (f : File) (ls : List (List ℕ)) → 1 ≤ frame → frame + length ls ≤ last + 1 →
     Outcome (λ g. frameTotal g ≡ frameTotal f + length ls) (ReaderRefusal last) (readFrames channels frame f ls)
 unfolding readFrames
-frames-numbered channels frame f [] first behind = choose-outcome _ (λ _. refused {n = 3} {frame = frame} (after-last first (omega arith))) (λ _. accepted (omega arith))
+frames-numbered channels frame f [] first behind = choose-outcome _ (λ _. refused {n = badFrame} {frame = frame} (after-last first (omega arith))) (λ _. accepted (omega arith))
 frames-numbered channels frame f (l ∷ ls) first behind = bind-outcome (frame-numbered channels frame first (omega arith) f l) (λ g _ more.
     outcome-map (λ P sum. omega arith) (frames-numbered channels (suc frame) g ls (omega arith) (omega arith)))
 
@@ -252,14 +252,14 @@ lines-numbered : {last : ℕ} (frame : ℕ) (ls : List (List ℕ)) (rest : List 
     Outcome (λ fs. length fs ≡ length ls + choose (isEmpty rest) 0 1) (ReaderRefusal last) (framesIn frame ls rest)
 unfolding framesIn isEmpty choose need
 lines-numbered frame [] [] first behind = accepted refl
-lines-numbered frame [] (c ∷ rest) first behind = refused {n = 2} {frame = frame} (in-frame first (omega arith) (omega arith) (omega arith))
-lines-numbered frame (l ∷ ls) rest first behind = from-outcome _ 2 frame (λ _. in-frame first (omega arith) (omega arith) (omega arith)) (λ bs _.
+lines-numbered frame [] (c ∷ rest) first behind = refused {n = badLine} {frame = frame} (in-frame first (omega arith) (omega arith) (omega arith))
+lines-numbered frame (l ∷ ls) rest first behind = from-outcome _ badLine frame (λ _. in-frame first (omega arith) (omega arith) (omega arith)) (λ bs _.
     bind-outcome (lines-numbered (suc frame) ls rest (omega arith) (omega arith)) (λ fs _ long. accepted (omega arith)))
 
 -- and a file that is read has a frame for each of the text
 read-numbered : (t : List ℕ) → Outcome (λ P. frameTotal P ≡ frameCount t) (ReaderRefusal (frameCount t)) (readFile t)
 unfolding readFile textFrames frameCount
-read-numbered t = need-outcome _ 1 0 (λ _. record { least = omega arith; most = omega arith; none = λ _. refl; from-first = λ more. absurd (omega arith); to-last = λ _. omega arith; one-after = omega arith }) (λ _.
+read-numbered t = need-outcome _ textTooLong noFrame (λ _. record { least = omega arith; most = omega arith; none = λ _. refl; from-first = λ more. absurd (omega arith); to-last = λ _. omega arith; one-after = omega arith }) (λ _.
     bind-outcome (lines-numbered 1 (frameLines (linesOf t .ended)) (linesOf t .rest) (omega arith) (omega arith)) (λ fs _ long.
     outcome-map (λ P sum. omega arith) (frames-numbered (channelCount fs) 1 emptyFile fs (omega arith) (omega arith))))
 

@@ -8,6 +8,7 @@ use mathlib.Core.Path.{_≡_, refl, sym, ap, _∙_}
 use native.Mathlib.Omega.{arith}
 use lib.ListN.{getElem? as look}
 use borrow.Author.Tests.{eq-eqb}
+use Rattle.language.specs.Refusals.{badIndex, sizeOutside, tooManyInstances}
 use Rattle.language.specs.Result.{Result, from}
 use Rattle.language.specs.Syntax.{Constructor, Plain, pbool, pint, pnamed, Ty, tnamed, Size, ResultType, Op, owns, Expr, ebool, eint, evar, enow, elast, elet, eif, eop, ecall, econ, ecase, eadj, efit, Exprs, enil, econs, Function, File, constructorsOf}
 use Rattle.language.specs.PlainTypes.{plainResult, plainDeclared, operandType, opType}
@@ -25,8 +26,8 @@ use Rattle.theory.specs.PlainSizes.{bool-plain, named-plain, operand-pla
 
 -- "sizes: 10 to 14"
 pub record SizeRefusal (P : File) (n frame : ℕ) : Type 0 where
-  pub least : 10 ≤ n
-  pub most : n ≤ 14
+  pub least : sizeOutside ≤ n
+  pub most : n ≤ tooManyInstances
   pub from-first : 1 ≤ frame
   pub to-last : frame ≤ frameTotal P
 
@@ -49,8 +50,8 @@ module _ (P : File) (enter : Enter) where
 
 -- a variable or channel whose plain type is known
 look-plainly : {B : Type 0} {R : B → Type 0} {N : ℕ → ℕ → Type 0} {τ : Plain} {G : List Plain} (Γ : List Ty) (v : ℕ) (frame : ℕ) (k : Ty → Result B) → plainsOfTypes Γ ≡ G → look G v ≡ some τ →
-    ((σ : Ty) → plainDeclared σ ≡ τ → Outcome R N (k σ)) → Outcome R N (from (look Γ v) 6 frame k)
-look-plainly {τ} Γ v frame k same e f = from-outcome (look Γ v) 6 frame (λ n. none-is-not-some (sym (look-none-plain Γ v n) ∙ ap (λ l. look l v) same ∙ e))
+    ((σ : Ty) → plainDeclared σ ≡ τ → Outcome R N (k σ)) → Outcome R N (from (look Γ v) badIndex frame k)
+look-plainly {τ} Γ v frame k same e f = from-outcome (look Γ v) badIndex frame (λ n. none-is-not-some (sym (look-none-plain Γ v n) ∙ ap (λ l. look l v) same ∙ e))
     (λ σ s. f σ (let z : some (plainDeclared σ) ≡ some τ = sym (look-map plainDeclared Γ v s) ∙ ap (λ l. look l v) same ∙ e in cc))
 
 splits-plainly : {N : ℕ → ℕ → Type 0} (f : List ℕ → List Instance → Result Counted) → ((ks : List ℕ) (L : List Instance) → Outcome Anything N (f ks L)) → (kss : List (List ℕ)) (L : List Instance) →
@@ -59,7 +60,7 @@ unfolding atSplits
 splits-plainly f h [] L = accepted tt
 splits-plainly f h (ks ∷ kss) L = bind-outcome (h ks L) (λ q _ _. bind-outcome (splits-plainly f h kss (q .list)) (λ r _ _. accepted tt))
 
-pub sizes-only : {P : File} {n frame : ℕ} → FrameOf P frame → 10 ≤ n → n ≤ 14 → SizeRefusal P n frame
+pub sizes-only : {P : File} {n frame : ℕ} → FrameOf P frame → sizeOutside ≤ n → n ≤ tooManyInstances → SizeRefusal P n frame
 sizes-only f a b = record { least = a; most = b; from-first = f .least; to-last = f .most }
 
 -- ---- the rules

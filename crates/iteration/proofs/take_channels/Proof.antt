@@ -2,7 +2,11 @@
 use native.Mathlib.Omega.{arith}
 use Prim.Native.Nat.{_-_}
 use Rattle.language.specs.Limits.{channelsMost}
-use Rattle.iteration.specs.WholeLaws.{TakenTo, taken-none, taken-more, taken-all}
+use Rattle.state_words.specs.Words.{channelAt}
+use Rattle.node_order.specs.Lowest.{Below}
+use Rattle.node_order.specs.LowestLaws.{below-none}
+use Rattle.node_order.specs.RowLaws.{Filled, filled-more}
+use Rattle.iteration.specs.WholeLaws.{taken-all}
 use Rattle.iteration.proofs.take_channels.Statement.{statement}
 use Rattle.iteration.proofs.take_channels.Tie as tie
 use Rattle.iteration.proofs.take_channels.Reads as reads
@@ -11,14 +15,14 @@ use Rattle.index.proofs.put.Reads as put-reads
 use Rattle.state_words.proofs.channel_cell.Reads as channel-cell-reads
 
 abbrev Inv-loop : tie.InvT-loop
-Inv-loop state channels₀ c₀ channels c = TakenTo state channels c
+Inv-loop state channels₀ c₀ channels c = Below (Filled (channelAt state) channels) c
 
 abbrev μ-loop : tie.MeasureT-loop
 μ-loop state channels₀ c₀ channels c = channelsMost - c
 
 -- src/lib.rt:40:5
 loop-holds : tie.Need-loop-holds Inv-loop μ-loop
-loop-holds c = taken-none _ _
+loop-holds c = below-none
 
 -- src/lib.rt:40:16
 cast-loop : tie.Need-cast-loop Inv-loop μ-loop
@@ -46,7 +50,7 @@ loop-less c = omega (arith, (c .before .before .before .loop-test .taken))
 
 -- src/lib.rt:40:5
 loop-again : tie.Need-loop-again Inv-loop μ-loop
-loop-again c = taken-more (c .before .before .before .before .loop .inv) (c .before .before .before .loop-test .taken) (c .before .before .put-arg .given .0 .1) (c .before .channel-cell .ensures) (c .put .ensures)
+loop-again c = filled-more (c .before .before .before .before .loop .inv) (c .before .before .before .loop-test .taken) (c .before .before .put-arg .given .0 .1) (c .before .channel-cell .ensures) (c .put .ensures)
 
 -- src/lib.rt:36:1
 returns : tie.Need-returns Inv-loop μ-loop

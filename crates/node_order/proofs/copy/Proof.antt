@@ -1,8 +1,11 @@
 -- The readings copied.
 use Prim.Native.Nat.{_-_}
 use native.Mathlib.Omega.{arith}
+use lib.ListN.{getD}
 use Rattle.language.specs.Limits.{nodesMost}
-use Rattle.node_order.specs.RowLaws.{CopiedSoFar, copied-none, copied-put, copied-all}
+use Rattle.node_order.specs.Lowest.{Below}
+use Rattle.node_order.specs.LowestLaws.{below-none}
+use Rattle.node_order.specs.RowLaws.{Filled, filled-more, copied-all}
 use Rattle.node_order.proofs.copy.Statement.{statement}
 use Rattle.node_order.proofs.copy.Tie as tie
 use Rattle.node_order.proofs.copy.Reads as reads
@@ -11,14 +14,14 @@ use Rattle.index.proofs.put.Reads as put-reads
 use Rattle.index.proofs.word_at.Reads as word-at-reads
 
 abbrev Inv-loop : tie.InvT-loop
-Inv-loop readings to₀ i₀ to i = CopiedSoFar readings to i
+Inv-loop readings to₀ i₀ to i = Below (Filled (λ k. getD readings k 0) to) i
 
 abbrev μ-loop : tie.MeasureT-loop
 μ-loop readings to₀ i₀ to i = nodesMost - i
 
 -- src/lib.rt:103:5
 loop-holds : tie.Need-loop-holds Inv-loop μ-loop
-loop-holds c = copied-none
+loop-holds c = below-none
 
 -- src/lib.rt:104:20
 word-at-requires : tie.Need-word-at-requires Inv-loop μ-loop
@@ -38,7 +41,7 @@ loop-less c = omega (arith, c .before .before .before .before .loop-test .taken)
 
 -- src/lib.rt:103:5
 loop-again : tie.Need-loop-again Inv-loop μ-loop
-loop-again c = copied-put (c .before .before .before .before .loop-test .taken) (c .before .before .before .put-arg .given .0 .1) (c .before .before .before .before .before .loop .inv) (c .before .word-at .ensures) (c .put .ensures)
+loop-again c = filled-more (c .before .before .before .before .before .loop .inv) (c .before .before .before .before .loop-test .taken) (c .before .before .before .put-arg .given .0 .1) (c .before .word-at .ensures) (c .put .ensures)
 
 -- src/lib.rt:99:1
 returns : tie.Need-returns Inv-loop μ-loop

@@ -1,10 +1,12 @@
 -- The search for the next node.
 use Prim.Native.Nat.{_+_, _-_}
-use mathlib.Core.Path.{sym, _∙_}
+use mathlib.Core.Bool.{false}
+use mathlib.Core.Path.{_≡_, sym, _∙_}
 use native.Mathlib.Omega.{arith}
 use lib.ListN.{getD}
 use Rattle.node_order.specs.Rows.{readyIn}
-use Rattle.node_order.specs.LowestLaws.{NoneBelow, none-yet, none-here, lowest-here, lowest-none}
+use Rattle.node_order.specs.Lowest.{Below}
+use Rattle.node_order.specs.LowestLaws.{below-none, below-more, lowest-here, lowest-none}
 use Rattle.node_order.proofs.next_node.Statement.{statement}
 use Rattle.node_order.proofs.next_node.Tie as tie
 use Rattle.node_order.proofs.next_node.Reads as reads
@@ -12,14 +14,14 @@ use Rattle.node_order.proofs.next_node.Lts as lts
 use Rattle.node_order.proofs.is_ready.Reads as is-ready-reads
 
 abbrev Inv-loop : tie.InvT-loop
-Inv-loop readings done inputs nodes i₀ i = NoneBelow (λ k. readyIn done (inputs + k) (getD readings k 0)) i
+Inv-loop readings done inputs nodes i₀ i = Below (λ k. readyIn done (inputs + k) (getD readings k 0) ≡ false) i
 
 abbrev μ-loop : tie.MeasureT-loop
 μ-loop readings done inputs nodes i₀ i = nodes - i
 
 -- src/lib.rt:36:5
 loop-holds : tie.Need-loop-holds Inv-loop μ-loop
-loop-holds c = none-yet
+loop-holds c = below-none
 
 -- src/lib.rt:37:37
 add-is-ready : tie.Need-add-is-ready Inv-loop μ-loop
@@ -43,7 +45,7 @@ loop-less c = omega (arith, c .before .before .loop-test .taken)
 
 -- src/lib.rt:36:5
 loop-again : tie.Need-loop-again Inv-loop μ-loop
-loop-again c = none-here (c .before .before .before .loop .inv) (sym (c .before .is-ready .ensures) ∙ c .if1 .left)
+loop-again c = below-more (c .before .before .before .loop .inv) (sym (c .before .is-ready .ensures) ∙ c .if1 .left)
 
 -- src/lib.rt:31:1
 returns-2 : tie.Need-returns-2 Inv-loop μ-loop

@@ -1,10 +1,12 @@
 -- The search for a node that reads its own channel.
 use Prim.Native.Nat.{ℕ, _+_, _-_}
-use mathlib.Core.Path.{sym, ap, _∙_}
+use mathlib.Core.Bool.{false}
+use mathlib.Core.Path.{_≡_, sym, ap, _∙_}
 use native.Mathlib.Omega.{arith}
 use Rattle.node_order.specs.Rows.{selfIn}
 use Rattle.channel_sets.specs.Sets.{inSet}
-use Rattle.node_order.specs.LowestLaws.{NoneBelow, none-yet, none-here, lowest-here, lowest-none}
+use Rattle.node_order.specs.Lowest.{Below}
+use Rattle.node_order.specs.LowestLaws.{below-none, below-more, lowest-here, lowest-none}
 use Rattle.node_order.proofs.reads_itself.Statement.{statement}
 use Rattle.node_order.proofs.reads_itself.Tie as tie
 use Rattle.node_order.proofs.reads_itself.Reads as reads
@@ -13,14 +15,14 @@ use Rattle.channel_sets.proofs.has.Reads as has-reads
 use Rattle.index.proofs.word_at.Reads as word-at-reads
 
 abbrev Inv-loop : tie.InvT-loop
-Inv-loop readings inputs nodes node₀ node = NoneBelow (selfIn readings inputs) node
+Inv-loop readings inputs nodes node₀ node = Below (λ k. selfIn readings inputs k ≡ false) node
 
 abbrev μ-loop : tie.MeasureT-loop
 μ-loop readings inputs nodes node₀ node = nodes - node
 
 -- src/lib.rt:89:5
 loop-holds : tie.Need-loop-holds Inv-loop μ-loop
-loop-holds c = none-yet
+loop-holds c = below-none
 
 -- src/lib.rt:90:34
 cast-word-at : tie.Need-cast-word-at Inv-loop μ-loop
@@ -52,7 +54,7 @@ loop-less c = omega (arith, c .before .before .before .before .loop-test .taken)
 
 -- src/lib.rt:89:5
 loop-again : tie.Need-loop-again Inv-loop μ-loop
-loop-again c = none-here (c .before .before .before .before .before .loop .inv) (ap (λ (x : ℕ). inSet x (c .before .before .before .before .before .before .args .inputs + c .before .before .before .before .before .loop .node)) (sym (c .before .before .word-at .ensures)) ∙ sym (c .before .has .ensures) ∙ c .if1 .left)
+loop-again c = below-more (c .before .before .before .before .before .loop .inv) (ap (λ (x : ℕ). inSet x (c .before .before .before .before .before .before .args .inputs + c .before .before .before .before .before .loop .node)) (sym (c .before .before .word-at .ensures)) ∙ sym (c .before .has .ensures) ∙ c .if1 .left)
 
 -- src/lib.rt:84:1
 returns-2 : tie.Need-returns-2 Inv-loop μ-loop

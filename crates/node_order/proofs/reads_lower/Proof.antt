@@ -1,7 +1,10 @@
 -- Whether every node reads only channels below its own.
 use Prim.Native.Nat.{_-_}
 use native.Mathlib.Omega.{arith}
-use Rattle.node_order.specs.RowLaws.{LowerSoFar, lower-none, lower-here, lower-all, lower-not}
+use Rattle.node_order.specs.Lowest.{Below}
+use Rattle.node_order.specs.LowestLaws.{below-none, below-more}
+use Rattle.node_order.specs.Rows.{Lower}
+use Rattle.node_order.specs.RowLaws.{lower-here, lower-all, lower-not}
 use Rattle.node_order.proofs.reads_lower.Statement.{statement}
 use Rattle.node_order.proofs.reads_lower.Tie as tie
 use Rattle.node_order.proofs.reads_lower.Reads as reads
@@ -9,14 +12,14 @@ use Rattle.node_order.proofs.reads_lower.Lts as lts
 use Rattle.index.proofs.word_at.Reads as word-at-reads
 
 abbrev Inv-loop : tie.InvT-loop
-Inv-loop readings inputs nodes i₀ i = LowerSoFar readings inputs i
+Inv-loop readings inputs nodes i₀ i = Below (Lower readings inputs) i
 
 abbrev μ-loop : tie.MeasureT-loop
 μ-loop readings inputs nodes i₀ i = nodes - i
 
 -- src/lib.rt:46:5
 loop-holds : tie.Need-loop-holds Inv-loop μ-loop
-loop-holds c = lower-none
+loop-holds c = below-none
 
 -- src/lib.rt:47:30
 cast-word-at : tie.Need-cast-word-at Inv-loop μ-loop
@@ -36,7 +39,7 @@ shr-if1 c = omega (arith, c .before .before .loop-test .taken, c .before .before
 
 -- src/lib.rt:48:13
 returns : tie.Need-returns Inv-loop μ-loop
-returns c = lower-not
+returns c = lower-not _ _ _ (c .before .word-at .ensures) (c .before .before .before .loop-test .taken) (λ none. omega (arith, c .if1 .taken, none))
 
 -- src/lib.rt:50:9
 add-i : tie.Need-add-i Inv-loop μ-loop
@@ -48,7 +51,7 @@ loop-less c = omega (arith, c .before .before .before .loop-test .taken)
 
 -- src/lib.rt:46:5
 loop-again : tie.Need-loop-again Inv-loop μ-loop
-loop-again c = lower-here _ _ _ (c .before .before .before .before .loop .inv) (c .before .word-at .ensures) (c .if1 .left)
+loop-again c = below-more (c .before .before .before .before .loop .inv) (lower-here _ _ _ (c .before .word-at .ensures) (c .if1 .left))
 
 -- src/lib.rt:41:1
 returns-2 : tie.Need-returns-2 Inv-loop μ-loop
