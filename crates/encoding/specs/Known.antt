@@ -37,9 +37,9 @@ known-first {P} {S} Fs rest split types arities = record { types = types; functi
         let there = look-mapped (λ (F : Function). length (F .parameters)) Fs f (look-at (map (λ (F : Function). length (F .parameters)) Fs) f 0 (rw arities at less)) in
         record { function = there .of; is = rw split (look-append Fs rest f (there .at)); arity = ap (λ l. getD l f 0) arities ∙ there .is }
 
-pub outer-known : (P : File) (now last : ℕ) → Known P (outerScope (P .types) (P .functions) now last)
+pub outer-known : (P : File) (channels : ℕ) → Known P (outerScope (P .types) (P .functions) channels)
 unfolding outerScope
-outer-known P now last = known-first (P .functions) [] (sym (append-nil (P .functions))) refl refl
+outer-known P channels = known-first (P .functions) [] (sym (append-nil (P .functions))) refl refl
 
 -- ---- the body of a function, with the functions before it
 pub record BodyKnown (P : File) (F : Function) : Type 0 where
@@ -47,8 +47,7 @@ pub record BodyKnown (P : File) (F : Function) : Type 0 where
   pub known : Known P scope
   pub variables : scope .variables ≡ length (F .parameters)
   pub sizes : scope .sizes ≡ namedCount (F .parameters)
-  pub now : scope .now ≡ 0
-  pub last : scope .last ≡ 0
+  pub channels : scope .channels ≡ 0
   pub within : WithinExpr nestingMost scope (F .body)
 
 split-at : {A : Type 0} (l : List A) (i : ℕ) {a : A} → look l i ≡ some a → l ≡ (take i l ++ (a ∷ [])) ++ drop (suc i) l
@@ -64,7 +63,6 @@ module _ {P : File} (w : Within P) where
     known = known-first (take f (P .functions) ++ (F ∷ [])) (drop (suc f) (P .functions)) (split-at (P .functions) f e) refl (sym (map-append (λ (G : Function). length (G .parameters)) (take f (P .functions)) (F ∷ [])));
     variables = refl;
     sizes = refl;
-    now = refl;
-    last = refl;
+    channels = refl;
     within = function-within w f e .body;
   }

@@ -170,7 +170,7 @@ module _ {text index : List ℕ} {P : File} (h : Indexed text index P) where
             frame = channel-frame (length (P .inputs) + m) (omega (arith, look-less (P .nodes) m (N .at)));
             short = h .short;
             scope = _;
-            shapes = known-shapes h (outer-known P (length (P .inputs) + length (P .nodes)) (length (P .inputs) + length (P .nodes)));
+            shapes = known-shapes h (outer-known P (length (P .inputs) + length (P .nodes)));
             within = node-within (h .within) m (N .at) .update;
             spelled = h .eachNode m (N .at) .update;
           })
@@ -182,7 +182,7 @@ module _ {text index : List ℕ} {P : File} (h : Indexed text index P) where
       each : (c : ℕ) {e : Expr} → look (initialValues P) c ≡ some e → Stands text index (channelLine P c) (initialAt (channelsOf index) c) e
       each c is =
           let x = initial-known h c is in
-          record { frame = channel-frame c (x .less); short = h .short; scope = _; shapes = known-shapes h (outer-known P 0 0); within = x .within; spelled = x .spelled }
+          record { frame = channel-frame c (x .less); short = h .short; scope = _; shapes = known-shapes h (outer-known P 0); within = x .within; spelled = x .spelled }
 
 -- ---- the whole file
 module _ {text index : List ℕ} {n : Counts} (are : n ≡ countsIn index) where

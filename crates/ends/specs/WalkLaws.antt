@@ -24,7 +24,7 @@ use Rattle.heads.specs.declared.Form.the-variants.{Bool as BoolForm, Int, Varia
 use Rattle.heads.specs.declared.Head.{Head}
 use Rattle.heads.proofs.Form.{enum}
 use Rattle.heads.specs.Heads.{Heads, shown}
-use Rattle.heads.specs.HeadForms.{no-missing, bool-head, int-head, var-head, now-head, last-head, let-head, if-head, op-head, call-head, con-head, case-head, adj-head, fit-head}
+use Rattle.heads.specs.HeadForms.{no-missing, bool-head, int-head, var-head, channel-head, now-named, last-named, let-head, if-head, op-head, call-head, con-head, case-head, adj-head, fit-head}
 use Rattle.heads.specs.Skips.{Shapes, Skippable, no-more, one-more, Skips, partsOf}
 use Rattle.heads.specs.PartLaws.{adj-parts, case-subject, case-result, none-ends, more-ends}
 use Rattle.heads.specs.SkipLaws.{no-level}
@@ -90,8 +90,8 @@ module _ {line : List ℕ} {at levels : ℕ} {S : Scope} {e : Expr} {r : Head} (
   nothing-before (BoolForm b) q c a = is-nothing (bool-head d s w q .is) tt
   nothing-before (Int n) q c a = is-nothing (int-head d s w q .is) tt
   nothing-before (Variable v) q c a = is-nothing (var-head d s w q .is) tt
-  nothing-before (Now k) q c a = is-nothing (now-head d s w q .is) tt
-  nothing-before (Last k) q c a = is-nothing (last-head d s w q .is) tt
+  nothing-before (Now k) q c a = is-nothing (channel-head d s w (now-named q) .is) tt
+  nothing-before (Last k) q c a = is-nothing (channel-head d s w (last-named q) .is) tt
   nothing-before Let q c a = is-nothing (let-head d s w q .is) tt
   nothing-before If q c a = is-nothing (if-head d s w q .is) tt
   nothing-before (Operator o) q c a = is-nothing (op-head d s w q .is) tt
@@ -115,7 +115,7 @@ module _ {line : List ℕ} {at levels : ℕ} {S : Scope} {e : Expr} {r : Head} (
   nothing-named (Int i) q n c = as-named (int-head d s w q .is) gathers-none
   nothing-named (Variable v) q n c = as-named (var-head d s w q .is) gathers-none
   nothing-named (Now k) q n c = absurd (n k refl)
-  nothing-named (Last k) q n c = as-named (last-head d s w q .is) gathers-none
+  nothing-named (Last k) q n c = as-named (channel-head d s w (last-named q) .is) gathers-none
   nothing-named Let q n c = as-named (let-head d s w q .is) gathers-none
   nothing-named If q n c = as-named (if-head d s w q .is) gathers-none
   nothing-named (Operator o) q n c = as-named (op-head d s w q .is) gathers-none
@@ -127,7 +127,7 @@ module _ {line : List ℕ} {at levels : ℕ} {S : Scope} {e : Expr} {r : Head} (
   nothing-named Missing q n c = absurd (no-missing d s q)
 
   one-named : {k word : ℕ} → r .form ≡ Now k → Gathers (k ∷ []) word → Gathers (namedBefore e) word
-  one-named q g = as-named (now-head d s w q .is) g
+  one-named q g = as-named (channel-head d s w (now-named q) .is) g
 
 -- ---- an expression
 less-deep : {levels : ℕ} {S : Scope} {e : Expr} → (levels ≡ 0 → ⊥) → WithinExpr levels S e → WithinExpr (suc (levels - 1)) S e

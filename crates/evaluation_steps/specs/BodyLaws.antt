@@ -91,9 +91,9 @@ module _ (text index ends now words slots : List ℕ) (p : Context) (f : ℕ) (r
           told = st .told;
           less = omega (arith, its-line, look-less (P .functions) f (ask .there));
           known = b .known;
-          nowCells = λ c less. absurd (omega (arith, less, b .now));
-          lastCells = λ c less. absurd (omega (arith, less, b .last));
-          few = omega (arith, b .last);
+          nowCells = λ c less. absurd (omega (arith, less, b .channels));
+          lastCells = λ c less. absurd (omega (arith, less, b .channels));
+          few = omega (arith, b .channels);
           lies = st .lies;
         }
 

@@ -16,7 +16,7 @@ use Rattle.heads.specs.declared.Head.{Head}
 use Rattle.heads.specs.declared.VariableAt.{VariableAt}
 use Rattle.heads.specs.declared.VariableAt.the-variants.{Is as IsVariable}
 use Rattle.heads.specs.Heads.{Heads, Shows, hasParts}
-use Rattle.heads.specs.HeadForms.{no-missing, bool-head, int-head, var-head, now-head, last-head}
+use Rattle.heads.specs.HeadForms.{no-missing, bool-head, int-head, var-head, channel-head, now-named, last-named}
 use Rattle.heads.specs.Variables.{VariableRead, is-variable}
 use Rattle.index.specs.Sections.{framesOf}
 use Rattle.index.specs.Indexed.{framePart}
@@ -88,13 +88,13 @@ module _ (text index ends now words slots : List ℕ) (p : Context) (room : Room
       pub expr-now : {c : ℕ} → head .form ≡ Now c → l ≡ getD now c 0 → EvalsExpr text index ends now words slots p r words slots
       unfolding eval
       expr-now {c} q w = read (λ P cells S N h o st ask.
-          let i = now-head (heads-in st) (ask .stands .spelled) (ask .stands .within) q in
+          let i = channel-head (heads-in st) (ask .stands .spelled) (ask .stands .within) (now-named q) in
           ask .is ∙ ap (λ (a : Expr). eval P (run P cells (p .calls)) cells N a (take (p .top) slots) (length slots - p .top) h) (i .is) ∙ ap (λ m. value m h) (sym (w ∙ st .nowCells c (i .less))))
 
       pub expr-last : {c : ℕ} → head .form ≡ Last c → l ≡ channelAt words c → EvalsExpr text index ends now words slots p r words slots
       unfolding eval
       expr-last {c} q w = read (λ P cells S N h o st ask.
-          let i = last-head (heads-in st) (ask .stands .spelled) (ask .stands .within) q in
+          let i = channel-head (heads-in st) (ask .stands .spelled) (ask .stands .within) (last-named q) in
           ask .is ∙ ap (λ (a : Expr). eval P (run P cells (p .calls)) cells N a (take (p .top) slots) (length slots - p .top) h) (i .is) ∙ ap (λ m. value m h) (sym (w ∙ st .lastCells c (i .less))))
 
     pub expr-missing : {n : ℕ} {r : Value} → head .form ≡ Missing → r ≡ Refused n → EvalsExpr text index ends now words slots p r words slots

@@ -51,9 +51,9 @@ pub record Stage (text index ends now words : List ℕ) (p : Context) (P : File)
   pub told : BodiesTold text index ends P
   pub less : p .line < lineCount P
   pub known : Known P S
-  pub nowCells : (c : ℕ) → c < S .now → getD now c 0 ≡ getD (N .now) c 0
-  pub lastCells : (c : ℕ) → c < S .last → channelAt words c ≡ getD (N .last) c 0
-  pub few : S .last ≤ channelsMost
+  pub nowCells : (c : ℕ) → c < S .channels → getD now c 0 ≡ getD (N .now) c 0
+  pub lastCells : (c : ℕ) → c < S .channels → channelAt words c ≡ getD (N .last) c 0
+  pub few : S .channels ≤ channelsMost
   pub lies : Lies P cells words (p .used) h
 
 -- an expression of a scope stands at a place of a line, its parts ended by the table; expressions in a row

@@ -35,20 +35,20 @@ boardLent cells slots calls = record { cells = cells; slots = length slots; call
 
 -- ---- the promise
 -- an expression that starts at a place of channel c's line and may name so many channels, in a file and a heap
-pub record OfChannel (text index ends row words : List ℕ) (used : ℕ) (P : File) (cells c at now last : ℕ) (N : Channels) (h : List Cell) (e : Expr) : Type 0 where
+pub record OfChannel (text index ends row words : List ℕ) (used : ℕ) (P : File) (cells c at channels : ℕ) (N : Channels) (h : List Cell) (e : Expr) : Type 0 where
   pub indexed : Indexed text index P
   pub bodies : BodiesTold text index ends P
   pub less : c < length (P .inputs) + length (P .nodes)
-  pub nowCells : (k : ℕ) → k < now → getD row k 0 ≡ getD (N .now) k 0
-  pub lastCells : (k : ℕ) → k < last → channelAt words k ≡ getD (N .last) k 0
-  pub few : last ≤ channelsMost
+  pub nowCells : (k : ℕ) → k < channels → getD row k 0 ≡ getD (N .now) k 0
+  pub lastCells : (k : ℕ) → k < channels → channelAt words k ≡ getD (N .last) k 0
+  pub few : channels ≤ channelsMost
   pub lies : Lies P cells words used h
-  pub within : WithinExpr nestingMost (outerScope (P .types) (P .functions) now last) e
+  pub within : WithinExpr nestingMost (outerScope (P .types) (P .functions) channels) e
   pub spelled : Spells exprBytes (lineAt text (channelLine P c)) at e
   pub ended : LineEnded text index (channelLine P c) at e ends
 
 pub record EvalsChannel (text index ends row : List ℕ) (c at used calls : ℕ) (words slots : List ℕ) (r : Value) (words′ slots′ : List ℕ) : Type 0 where
-  pub says : {P : File} {cells now last : ℕ} {N : Channels} {h : List Cell} {e : Expr} → OfChannel text index ends row words used P cells c at now last N h e → Agrees P words′ r (eval P (run P cells calls) cells N e [] (length slots) h)
+  pub says : {P : File} {cells channels : ℕ} {N : Channels} {h : List Cell} {e : Expr} → OfChannel text index ends row words used P cells c at channels N h e → Agrees P words′ r (eval P (run P cells calls) cells N e [] (length slots) h)
   pub kept : Kept words words′ used r
   pub long : length slots′ ≡ length slots
 
@@ -61,31 +61,31 @@ channel-room index c at used calls b e = rw e (record { board = b; top = omega a
 
 -- ---- what it gives
 module _ (text index ends row : List ℕ) (c : ℕ) (at : Cursor) (used calls : ℕ) (words slots : List ℕ) where
-  module _ {P : File} {cells now last : ℕ} {N : Channels} {h : List Cell} {e : Expr} (o : OfChannel text index ends row words used P cells c (at .at) now last N h e) where
+  module _ {P : File} {cells channels : ℕ} {N : Channels} {h : List Cell} {e : Expr} (o : OfChannel text index ends row words used P cells c (at .at) channels N h e) where
     its-line : channelLineOf index c ≡ channelLine P c
     its-line = channel-line c (o .indexed) (o .less)
 
-    stage : Stage text index ends row words (channelContext index c at used calls) P cells (outerScope (P .types) (P .functions) now last) N h
+    stage : Stage text index ends row words (channelContext index c at used calls) P cells (outerScope (P .types) (P .functions) channels) N h
     unfolding outerScope
     stage = record {
       indexed = o .indexed;
       told = o .bodies;
       less = omega (arith, its-line, o .less);
-      known = outer-known P now last;
+      known = outer-known P channels;
       nowCells = o .nowCells;
       lastCells = o .lastCells;
       few = o .few;
       lies = o .lies;
     }
 
-    stands : Stands text index ends (channelLineOf index c) (outerScope (P .types) (P .functions) now last) (at .at) e
-    stands = subst (λ i. Stands text index ends i (outerScope (P .types) (P .functions) now last) (at .at) e) (sym its-line) (record { levels = nestingMost; within = o .within; spelled = o .spelled; ended = o .ended })
+    stands : Stands text index ends (channelLineOf index c) (outerScope (P .types) (P .functions) channels) (at .at) e
+    stands = subst (λ i. Stands text index ends i (outerScope (P .types) (P .functions) channels) (at .at) e) (sym its-line) (record { levels = nestingMost; within = o .within; spelled = o .spelled; ended = o .ended })
 
   pub channel-evaluated : {p : Context} {x : Value} {words′ slots′ : List ℕ} → p ≡ channelContext index c at used calls → EvalsExpr text index ends row words slots p x words′ slots′ → EvalsChannel text index ends row c (at .at) used calls words slots x words′ slots′
   channel-evaluated {x = x} {words′ = words′} {slots′ = slots′} e v =
       let here : EvalsExpr text index ends row words slots (channelContext index c at used calls) x words′ slots′ = rw e at v in
       record {
-        says = λ {P} {cells} {now} {last} {N} {h} {e = a} o. here .says (stage o) (record { expr = a; stands = stands o; is = ap (λ s. eval P (run P cells calls) cells N a [] s h) (all-free (length slots)) });
+        says = λ {P} {cells} {channels} {N} {h} {e = a} o. here .says (stage o) (record { expr = a; stands = stands o; is = ap (λ s. eval P (run P cells calls) cells N a [] s h) (all-free (length slots)) });
         kept = here .kept;
         long = here .below .long;
       }

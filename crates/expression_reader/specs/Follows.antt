@@ -27,8 +27,7 @@ use Rattle.index.specs.Enters.{TellsType}
 pub record Tells (index : List ℕ) (s : Names) (S : Scope) : Type 0 where
   pub variables : S .variables ≡ s .variables
   pub sizes : S .sizes ≡ s .sizes
-  pub now : S .now ≡ s .now
-  pub last : S .last ≡ s .last
+  pub channels : S .channels ≡ s .channels
   pub typeCount : length (S .types) ≡ s .types
   pub functionCount : length (S .arities) ≡ s .functions
   pub each : (t : ℕ) → t < s .types → TellsType (typesOf index) t (getD (S .types) t [])
@@ -66,7 +65,7 @@ abbrev pub levelsIn : Names → ℕ → ℕ
 levelsIn s levels = choose (both (leb (s .variables) variablesMost) (leb (s .sizes) sizeVariablesMost)) levels 0
 
 abbrev pub widerNames : ℕ → ℕ → Names → Names
-widerNames v z s = record { variables = s .variables + v; sizes = s .sizes + z; now = s .now; last = s .last; types = s .types; functions = s .functions }
+widerNames v z s = record { variables = s .variables + v; sizes = s .sizes + z; channels = s .channels; types = s .types; functions = s .functions }
 
 -- the form at a place of the table
 abbrev pub formAt : ℕ → Form

@@ -4,6 +4,7 @@ use mathlib.Core.List.{List, [], _∷_}
 use mathlib.Core.Bool.{Bool, true, false}
 use mathlib.Core.Option.{some}
 use mathlib.Core.Path.{_≡_, refl, sym, ap, _∙_}
+use mathlib.Core.Logic.{_⊎_, ⊎-elim}
 use native.Mathlib.Omega.{arith}
 use lib.ListN.{length, getD, getElem? as look}
 use lib.Dec.{ltb}
@@ -116,13 +117,16 @@ module _ (line index : List ℕ) (c : Cursor) (s : Names) where
     unfolding exprBehind
     leaf-variable v d = record { says = λ S t here. rw (t .variables) (read-ends-pass evar (v .0) d); on = λ here. rw d (v .0 .on) }
 
-    pub leaf-now : {x : Number} {r : Step} → ReadsNumber line (c .at) x (indexRead (s .now) (bytesFrom line (c .at))) × Below byteRange x → r ≡ stepOf x → Follows line index c s r (λ S. exprBehind (exprAt levels) S nowForm)
+    leaf-now : {x : Number} {r : Step} → ReadsNumber line (c .at) x (indexRead (s .channels) (bytesFrom line (c .at))) × Below byteRange x → r ≡ stepOf x → Follows line index c s r (λ S. exprBehind (exprAt levels) S nowForm)
     unfolding exprBehind
-    leaf-now v d = record { says = λ S t here. rw (t .now) (read-ends-pass enow (v .0) d); on = λ here. rw d (v .0 .on) }
+    leaf-now v d = record { says = λ S t here. rw (t .channels) (read-ends-pass enow (v .0) d); on = λ here. rw d (v .0 .on) }
 
-    pub leaf-last : {x : Number} {r : Step} → ReadsNumber line (c .at) x (indexRead (s .last) (bytesFrom line (c .at))) × Below byteRange x → r ≡ stepOf x → Follows line index c s r (λ S. exprBehind (exprAt levels) S lastForm)
+    leaf-last : {x : Number} {r : Step} → ReadsNumber line (c .at) x (indexRead (s .channels) (bytesFrom line (c .at))) × Below byteRange x → r ≡ stepOf x → Follows line index c s r (λ S. exprBehind (exprAt levels) S lastForm)
     unfolding exprBehind
-    leaf-last v d = record { says = λ S t here. rw (t .last) (read-ends-pass elast (v .0) d); on = λ here. rw d (v .0 .on) }
+    leaf-last v d = record { says = λ S t here. rw (t .channels) (read-ends-pass elast (v .0) d); on = λ here. rw d (v .0 .on) }
+
+    pub opens-channel : {x : Number} {y : Step} {r : Number} (form : ℕ) → (form ≡ 3) ⊎ (form ≡ 4) → ReadsNumber line (c .at) x (indexRead (s .channels) (bytesFrom line (c .at))) × Below byteRange x → y ≡ stepOf x → r ≡ openedBy y 0 → Opens line index c s r (λ S. parts (exprAt levels) S (formAt form))
+    opens-channel form is v d o = ⊎-elim (λ e. opens-whole form (ap formAt e) now-whole (leaf-now v d) o) (λ e. opens-whole form (ap formAt e) last-whole (leaf-last v d) o) is
 
     -- ---- `16`, `17`, `1B`
     pub opens-if : {r : Number} (form : ℕ) → form ≡ 6 → r ≡ openedBy (Next c) 3 → Opens line index c s r (λ S. parts (exprAt levels) S (formAt form))

@@ -3,6 +3,7 @@ use Prim.Native.Nat.{ℕ, zero, suc, _+_, _*_, _-_, _≤_, _<_}
 use mathlib.Core.List.{List, [], _∷_}
 use mathlib.Core.Bool.{Bool, true, false}
 use mathlib.Core.Path.{_≡_, refl, sym, ap, subst}
+use mathlib.Core.Logic.{_⊎_, inl, inr}
 use native.Mathlib.Omega.{arith}
 use native.Mathlib.Nat.{lt-of-le-of-lt}
 use lib.ListN.{length}
@@ -21,7 +22,7 @@ use Rattle.text.specs.Bytes.{bytesFrom, IsPlace, bytesLeft, stepOf, ReadsNumber
 use Rattle.text.specs.Codes.{codePlace, placeIn}
 use Rattle.text.specs.CodeLaws.{no-room, code-in-then, code-in-stops, code-in-below}
 use Rattle.text.specs.StepLaws.{moved-on, moved-left, ends-within, number-got, number-moved, number-none, reads-behind}
-use Rattle.theory.specs.Places.{look-at}
+use Rattle.theory.specs.Places.{look-at, equal-or-not}
 use Rattle.expression_reader.specs.declared.Names.{Names}
 use Rattle.expression_reader.specs.Weights.{levelWeight, behindRank, headRank}
 use Rattle.expression_reader.specs.Parts.{parts, headAt}
@@ -101,15 +102,24 @@ module _ (line index : List ℕ) (c : Cursor) (s : Names) (levels : ℕ) {x : Nu
       level = λ h. code-level line c levels v e;
     }
 
--- ---- the last of the forms
+-- ---- the forms that are none of the others: `13`, `14` and the last
+abbrev Others : ℕ → Type 0
+Others form = (((((((((Unit {0} × (form ≡ 0 → ⊥)) × (form ≡ 1 → ⊥)) × (form ≡ 2 → ⊥)) × (form ≡ 5 → ⊥)) × (form ≡ 6 → ⊥)) × (form ≡ 7 → ⊥)) × (form ≡ 8 → ⊥)) × (form ≡ 9 → ⊥)) × (form ≡ 10 → ⊥)) × (form ≡ 11 → ⊥)
+
 above : {n : ℕ} (form : ℕ) → n ≤ form → (form ≡ n → ⊥) → suc n ≤ form
 above form le other = omega arith
+
+three-or-four : (n : ℕ) → 3 ≤ n → n < 5 → (n ≡ 3) ⊎ (n ≡ 4)
+three-or-four n p q = equal-or-not n 3 inl (λ other. inr (omega arith))
 
 one-left : (n : ℕ) → 12 ≤ n → n < 13 → n ≡ 12
 one-left n p q = omega arith
 
-pub last-form : (form : ℕ) → form < 13 → ((((((((((((Unit {0} × (form ≡ 0 → ⊥)) × (form ≡ 1 → ⊥)) × (form ≡ 2 → ⊥)) × (form ≡ 3 → ⊥)) × (form ≡ 4 → ⊥)) × (form ≡ 5 → ⊥)) × (form ≡ 6 → ⊥)) × (form ≡ 7 → ⊥)) × (form ≡ 8 → ⊥)) × (form ≡ 9 → ⊥)) × (form ≡ 10 → ⊥)) × (form ≡ 11 → ⊥)) → form ≡ 12
-last-form form less others = one-left form (above form (above form (above form (above form (above form (above form (above form (above form (above form (above form (above form (above form (omega arith) (others .0 .0 .0 .0 .0 .0 .0 .0 .0 .0 .0 .1)) (others .0 .0 .0 .0 .0 .0 .0 .0 .0 .0 .1)) (others .0 .0 .0 .0 .0 .0 .0 .0 .0 .1)) (others .0 .0 .0 .0 .0 .0 .0 .0 .1)) (others .0 .0 .0 .0 .0 .0 .0 .1)) (others .0 .0 .0 .0 .0 .0 .1)) (others .0 .0 .0 .0 .0 .1)) (others .0 .0 .0 .0 .1)) (others .0 .0 .0 .1)) (others .0 .0 .1)) (others .0 .1)) (others .1)) less
+pub channel-form : (form : ℕ) → form < 5 → Others form → (form ≡ 3) ⊎ (form ≡ 4)
+channel-form form less others = three-or-four form (above form (above form (above form (omega arith) (others .0 .0 .0 .0 .0 .0 .0 .0 .0 .1)) (others .0 .0 .0 .0 .0 .0 .0 .0 .1)) (others .0 .0 .0 .0 .0 .0 .0 .1)) less
+
+pub last-form : (form : ℕ) → form < 13 → 5 ≤ form → Others form → form ≡ 12
+last-form form less le others = one-left form (above form (above form (above form (above form (above form (above form (above form le (others .0 .0 .0 .0 .0 .0 .1)) (others .0 .0 .0 .0 .0 .1)) (others .0 .0 .0 .0 .1)) (others .0 .0 .0 .1)) (others .0 .0 .1)) (others .0 .1)) (others .1)) less
 
 -- fewer levels, whatever the place in the cycle
 pub fewer-levels : {t levels : ℕ} → levels * levelWeight + headRank ≡ t → 0 < levels → (levels - 1) * levelWeight + behindRank < t

@@ -15,7 +15,7 @@ use Rattle.expression_reader.specs.Follows.{Tells, Roomy, levelsIn, wide
 
 pub tells-wider : {index : List ℕ} {s : Names} {S : Scope} (v z : ℕ) → Tells index s S → Tells index (widerNames v z s) (wider v z S)
 unfolding wider
-tells-wider v z t = record { variables = ap (λ n. n + v) (t .variables); sizes = ap (λ n. n + z) (t .sizes); now = t .now; last = t .last; typeCount = t .typeCount; functionCount = t .functionCount; each = t .each; arities = t .arities; few = t .few }
+tells-wider v z t = record { variables = ap (λ n. n + v) (t .variables); sizes = ap (λ n. n + z) (t .sizes); channels = t .channels; typeCount = t .typeCount; functionCount = t .functionCount; each = t .each; arities = t .arities; few = t .few }
 
 tells-room : {index : List ℕ} {s : Names} {S : Scope} → Tells index s S → roomIn S ≡ both (leb (s .variables) variablesMost) (leb (s .sizes) sizeVariablesMost)
 unfolding roomIn

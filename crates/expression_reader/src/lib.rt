@@ -43,13 +43,12 @@ use text::Number;
 use text::Step;
 use text::step_of;
 
-// What may be named where an expression stands: how many variables, size variables, channels for `13` and `14`, types and
-// functions.
+// What may be named where an expression stands: how many variables, size variables, channels (by `13` as by `14`), types
+// and functions.
 pub struct Names {
     pub variables: u32,
     pub sizes: u32,
-    pub now: u32,
-    pub last: u32,
+    pub channels: u32,
     pub types: u32,
     pub functions: u32,
 }
@@ -76,8 +75,7 @@ fn wider(s: Names, variables: u32, sizes: u32) -> Names
     Names {
         variables: s.variables + variables,
         sizes: s.sizes + sizes,
-        now: s.now,
-        last: s.last,
+        channels: s.channels,
         types: s.types,
         functions: s.functions,
     }
@@ -227,8 +225,7 @@ fn behind(
         BOOL => opened(step_of(c.code(line, BOOL_FIRST, BOOLS)), 0),
         INT => opened(c.past_int(line), 0),
         VARIABLE => opened(step_of(c.index(line, s.variables)), 0),
-        NOW => opened(step_of(c.index(line, s.now)), 0),
-        LAST => opened(step_of(c.index(line, s.last)), 0),
+        NOW | LAST => opened(step_of(c.index(line, s.channels)), 0),
         LET => opened(binding(line, index, c, s, levels), 0),
         IF => opened(Step::Next(c), 3),
         OPERATOR => opened(step_of(c.code(line, OPERATOR_FIRST, OPERATORS)), 2),

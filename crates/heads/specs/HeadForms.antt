@@ -2,19 +2,25 @@
 use Prim.Native.Nat.{ℕ}
 use mathlib.Core.List.{List}
 use mathlib.Core.Path.{_≡_, sym, _∙_, subst, subst₂}
-use Rattle.language.specs.Syntax.{Expr}
+use Rattle.language.specs.Syntax.{Expr, enow, elast}
 use Rattle.language.specs.Format.{exprBytes}
 use Rattle.language.specs.Scope.{Scope}
 use Rattle.language.specs.Within.{WithinExpr}
 use Rattle.encoding.specs.Spells.{Spells}
 use Rattle.encoding.specs.IntSpells.{int-value}
 use Rattle.encoding.specs.ExprInversions.{bool-spelled, int-spelled, var-spelled, now-spelled, last-spelled, let-spelled, if-spelled, op-spelled, call-spelled, con-spelled, case-spelled, adj-spelled, fit-spelled}
+use Rattle.heads.specs.declared.Form.{Form}
 use Rattle.heads.specs.declared.Form.the-variants.{Bool as BoolForm, Int, Variable, Now, Last, Let, If, Operator, Call, Construct, Case, Adjust, Fit, Missing}
 use Rattle.heads.specs.declared.Head.{Head}
 use Rattle.heads.specs.Heads.{Heads, shown}
 use Rattle.heads.specs.UnreadLaws.{unread-none}
 use Rattle.heads.specs.HeadParts.{bool-made, int-made, var-made, now-made, last-made, let-made, if-made, op-made, call-made, con-made, case-made, adj-made, fit-made}
-pub use Rattle.heads.specs.HeadParts.{BoolHead, IntHead, VarHead, NowHead, LastHead, LetHead, IfHead, OpHead, CallHead, ConHead, CaseHead, AdjHead, FitHead}
+pub use Rattle.heads.specs.HeadParts.{BoolHead, IntHead, VarHead, ChannelHead, LetHead, IfHead, OpHead, CallHead, ConHead, CaseHead, AdjHead, FitHead}
+
+-- the form names channel c, now or before the line: x c is the expression
+pub data NamesChannel (form : Form) (c : ℕ) : (ℕ → Expr) → Type 0 where
+  now-named : form ≡ Now c → NamesChannel form c enow
+  last-named : form ≡ Last c → NamesChannel form c elast
 
 -- ---- from the form that was read
 module _ {line : List ℕ} {at : ℕ} {r : Head} {e : Expr} (h : Heads line at r) (s : Spells exprBytes line at e) where
@@ -40,17 +46,15 @@ module _ {line : List ℕ} {at : ℕ} {r : Head} {e : Expr} (h : Heads line at r
         let i = var-spelled s (c .0 .code) in
         subst₂ (λ m v. VarHead line at m n S e v) (sym (c .0 .ends)) (sym (c .1 .is)) (var-made i (subst (WithinExpr n S) (i .is) w))
 
-    pub now-head : {k : ℕ} → r .form ≡ Now k → NowHead line at (r .next .at) n S e k
-    now-head q =
+    pub channel-head : {k : ℕ} {x : ℕ → Expr} → NamesChannel (r .form) k x → ChannelHead x line at (r .next .at) n S e k
+    channel-head (now-named q) =
         let c = shown h q in
         let i = now-spelled s (c .0 .code) in
-        subst₂ (λ m k. NowHead line at m n S e k) (sym (c .0 .ends)) (sym (c .1 .is)) (now-made i (subst (WithinExpr n S) (i .is) w))
-
-    pub last-head : {k : ℕ} → r .form ≡ Last k → LastHead line at (r .next .at) n S e k
-    last-head q =
+        subst₂ (λ m k. ChannelHead enow line at m n S e k) (sym (c .0 .ends)) (sym (c .1 .is)) (now-made i (subst (WithinExpr n S) (i .is) w))
+    channel-head (last-named q) =
         let c = shown h q in
         let i = last-spelled s (c .0 .code) in
-        subst₂ (λ m k. LastHead line at m n S e k) (sym (c .0 .ends)) (sym (c .1 .is)) (last-made i (subst (WithinExpr n S) (i .is) w))
+        subst₂ (λ m k. ChannelHead elast line at m n S e k) (sym (c .0 .ends)) (sym (c .1 .is)) (last-made i (subst (WithinExpr n S) (i .is) w))
 
     pub let-head : r .form ≡ Let → LetHead line at (r .next .at) n S e
     let-head q =

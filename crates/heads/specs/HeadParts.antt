@@ -40,21 +40,14 @@ pub record VarHead (line : List ℕ) (at next n : ℕ) (S : Scope) (e : Expr) (v
   pub room : roomIn S ≡ true
   pub less : v < S .variables
 
-pub record NowHead (line : List ℕ) (at next n : ℕ) (S : Scope) (e : Expr) (c : ℕ) : Type 0 where
-  pub is : e ≡ enow c
+-- `13` and `14`: x c is the expression that names channel c
+pub record ChannelHead (x : ℕ → Expr) (line : List ℕ) (at next n : ℕ) (S : Scope) (e : Expr) (c : ℕ) : Type 0 where
+  pub is : e ≡ x c
   pub ends : next ≡ past line at (length (exprBytes e))
   pub left : ℕ
   pub deep : n ≡ suc left
   pub room : roomIn S ≡ true
-  pub less : c < S .now
-
-pub record LastHead (line : List ℕ) (at next n : ℕ) (S : Scope) (e : Expr) (c : ℕ) : Type 0 where
-  pub is : e ≡ elast c
-  pub ends : next ≡ past line at (length (exprBytes e))
-  pub left : ℕ
-  pub deep : n ≡ suc left
-  pub room : roomIn S ≡ true
-  pub less : c < S .last
+  pub less : c < S .channels
 
 pub record LetHead (line : List ℕ) (at next n : ℕ) (S : Scope) (e : Expr) : Type 0 where
   pub first : Expr
@@ -183,10 +176,10 @@ int-made i (w-int {n = m} room less) = record { is = i .is; ends = ends-at _ _ (
 pub var-made : {line : List ℕ} {at n v : ℕ} {S : Scope} {e : Expr} → IsLeaf exprBytes 2 e (evar v) → WithinExpr n S (evar v) → VarHead line at (past line at 2) n S e v
 var-made i (w-var {n = m} room less) = record { is = i .is; ends = ends-at _ _ (i .is) (i .long); left = m; deep = refl; room = room; less = less }
 
-pub now-made : {line : List ℕ} {at n c : ℕ} {S : Scope} {e : Expr} → IsLeaf exprBytes 2 e (enow c) → WithinExpr n S (enow c) → NowHead line at (past line at 2) n S e c
+pub now-made : {line : List ℕ} {at n c : ℕ} {S : Scope} {e : Expr} → IsLeaf exprBytes 2 e (enow c) → WithinExpr n S (enow c) → ChannelHead enow line at (past line at 2) n S e c
 now-made i (w-now {n = m} room less) = record { is = i .is; ends = ends-at _ _ (i .is) (i .long); left = m; deep = refl; room = room; less = less }
 
-pub last-made : {line : List ℕ} {at n c : ℕ} {S : Scope} {e : Expr} → IsLeaf exprBytes 2 e (elast c) → WithinExpr n S (elast c) → LastHead line at (past line at 2) n S e c
+pub last-made : {line : List ℕ} {at n c : ℕ} {S : Scope} {e : Expr} → IsLeaf exprBytes 2 e (elast c) → WithinExpr n S (elast c) → ChannelHead elast line at (past line at 2) n S e c
 last-made i (w-last {n = m} room less) = record { is = i .is; ends = ends-at _ _ (i .is) (i .long); left = m; deep = refl; room = room; less = less }
 
 pub let-made : {line : List ℕ} {at n : ℕ} {S : Scope} {e : Expr} (i : OfTwo elet 1 line at e) → WithinExpr n S (elet (i .first) (i .second)) → LetHead line at (past line at 1) n S e

@@ -16,7 +16,7 @@ use Rattle.heads.specs.declared.Form.{Form}
 use Rattle.heads.specs.declared.Form.the-variants.{Bool as BoolForm, Int, Variable, Now, Last, Let, If, Operator, Call, Construct, Case, Adjust, Fit, Missing}
 use Rattle.heads.specs.declared.Head.{Head}
 use Rattle.heads.specs.Heads.{Heads, shown}
-use Rattle.heads.specs.HeadForms.{no-missing, bool-head, int-head, var-head, now-head, last-head, let-head, if-head, op-head, call-head, con-head, case-head, adj-head, fit-head}
+use Rattle.heads.specs.HeadForms.{no-missing, bool-head, int-head, var-head, channel-head, now-named, last-named, let-head, if-head, op-head, call-head, con-head, case-head, adj-head, fit-head}
 use Rattle.heads.specs.Skips.{Shapes, Skippable, no-more, Skips, Over, partsOf}
 use Rattle.heads.specs.PartLaws.{let-parts, if-parts, op-parts, fit-parts, call-parts, con-parts, adj-parts, case-type, case-subject, case-result, case-branches, list-none, list-more, list-one, none-ends, more-ends, one-ends}
 
@@ -124,8 +124,8 @@ module _ {line types functions : List ℕ} {at levels : ℕ} {S : Scope} {e : Ex
   parted (BoolForm b) q c a = let i = bool-head d s w q in none-parted (i .is) refl refl (i .ends) s
   parted (Int n) q c a = let i = int-head d s w q in none-parted (i .is) refl refl (i .ends) s
   parted (Variable v) q c a = let i = var-head d s w q in none-parted (i .is) refl refl (i .ends) s
-  parted (Now k) q c a = let i = now-head d s w q in none-parted (i .is) refl refl (i .ends) s
-  parted (Last k) q c a = let i = last-head d s w q in none-parted (i .is) refl refl (i .ends) s
+  parted (Now k) q c a = let i = channel-head d s w (now-named q) in none-parted (i .is) refl refl (i .ends) s
+  parted (Last k) q c a = let i = channel-head d s w (last-named q) in none-parted (i .is) refl refl (i .ends) s
   parted Let q c a = let i = let-head d s w q in two-parted (i .is) (shown d q .ends) refl (i .spelled) (i .spelled₂) (i .long) (let-parts h (inside (i .is)))
   parted If q c a = let i = if-head d s w q in three-parted (i .is) (shown d q .ends) refl (i .spelled) (i .spelled₂) (i .spelled₃) (i .long) (if-parts h (inside (i .is)))
   parted (Operator o) q c a = let i = op-head d s w q in two-parted (i .is) (shown d q .0 .ends) refl (i .spelled) (i .spelled₂) (i .long) (op-parts h (inside (i .is)))

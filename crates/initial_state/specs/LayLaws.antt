@@ -134,10 +134,10 @@ module _ (text index ends : List ℕ) (n calls : ℕ) (words slots : List ℕ) w
         next : Next P (boardLent cells slots calls) initial (drop (suc c) (initialValues P)) (k .heap) (k .roots) s
         next = next-of (subst (λ (z : List Expr). Begins P (boardLent cells slots calls) z (k .heap) (k .roots) s) (drop-cons (initialValues P) c (ebool true) in-time) (k .rest))
 
-        known : OfChannel text index ends row words₁ used P cells c (at .at) 0 0 noChannels (k .heap) initial
+        known : OfChannel text index ends row words₁ used P cells c (at .at) 0 noChannels (k .heap) initial
         known =
             let i = initial-known (st .indexed) c there in
-            subst (λ a. OfChannel text index ends row words₁ used P cells c a 0 0 noChannels (k .heap) initial) (sym start) (record {
+            subst (λ a. OfChannel text index ends row words₁ used P cells c a 0 noChannels (k .heap) initial) (sym start) (record {
               indexed = st .indexed;
               bodies = st .told .bodies;
               less = i .less;

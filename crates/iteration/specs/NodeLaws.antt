@@ -48,7 +48,7 @@ word-is-named word le e = rw (le-ltb word tagStep le) e
 module _ (text index ends row : List ℕ) (c used calls : ℕ) (words slots : List ℕ) {at : Cursor} (e : at .at ≡ updateAt (channelsOf index) c) {x : Value} {words′ slots′ : List ℕ} (v : EvalsChannel text index ends row c (at .at) used calls words slots x words′ slots′) where
   module _ {P : File} {cells : ℕ} {last now : List ℕ} {h : List Cell} (m : ℕ) (n : Node) (st : NodeStage text index ends row words used P cells last now h) (its : c ≡ length (P .inputs) + m) (there : look (P .nodes) m ≡ some n) where
     abbrev UpdateAt : ℕ → ℕ → Type 0
-    UpdateAt i j = OfChannel text index ends row words used P cells i j (channelTotal P) (channelTotal P) (record { now = now; last = last }) h (n .update)
+    UpdateAt i j = OfChannel text index ends row words used P cells i j (channelTotal P) (record { now = now; last = last }) h (n .update)
 
     update-known : UpdateAt c (at .at)
     update-known =

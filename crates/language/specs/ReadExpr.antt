@@ -169,10 +169,10 @@ exprBehind inner S varForm = do
   v ← index (S .variables)
   return (evar v)
 exprBehind inner S nowForm = do
-  c ← index (S .now)
+  c ← index (S .channels)
   return (enow c)
 exprBehind inner S lastForm = do
-  c ← index (S .last)
+  c ← index (S .channels)
   return (elast c)
 exprBehind inner S letForm = do
   a ← inner S

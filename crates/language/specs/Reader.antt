@@ -43,14 +43,14 @@ function known = do
 unfoldable pub input : File → Parser Input
 input known = do
   τ ← declared (length (known .types))
-  e ← expr (outerScope (known .types) (known .functions) 0 0)
+  e ← expr (outerScope (known .types) (known .functions) 0)
   return (record { declared = τ; initial = e })
 
 unfoldable pub node : ℕ → File → Parser Node
 node channels known = do
   τ ← declared (length (known .types))
-  e ← expr (outerScope (known .types) (known .functions) 0 0)
-  u ← expr (outerScope (known .types) (known .functions) channels channels)
+  e ← expr (outerScope (known .types) (known .functions) 0)
+  u ← expr (outerScope (known .types) (known .functions) channels)
   return (record { declared = τ; initial = e; update = u })
 
 -- "bytes end early or go on": 4

@@ -13,14 +13,13 @@ use Rattle.language.specs.Result.{both}
 pub record Scope : Type 0 where
   pub variables : ℕ
   pub sizes : ℕ
-  pub now : ℕ
-  pub last : ℕ
+  pub channels : ℕ
   pub types : List TypeDef
   pub arities : List ℕ
 
 -- "Variables are numbered by binding": the scope with v variables and s size variables more
 unfoldable pub wider : ℕ → ℕ → Scope → Scope
-wider v s S = record { variables = S .variables + v; sizes = S .sizes + s; now = S .now; last = S .last; types = S .types; arities = S .arities }
+wider v s S = record { variables = S .variables + v; sizes = S .sizes + s; channels = S .channels; types = S .types; arities = S .arities }
 
 -- "At most 32 variables and 8 size variables stand in scope"
 unfoldable pub roomIn : Scope → Bool
@@ -38,8 +37,8 @@ aritiesOf Fs = map (λ (F : Function). length (F .parameters)) Fs
 
 -- "A function calls only earlier ones and itself. Its body names no channel."
 unfoldable pub bodyScope : List TypeDef → List Function → List Plain → Scope
-bodyScope types earlier ps = record { variables = length ps; sizes = namedCount ps; now = 0; last = 0; types = types; arities = aritiesOf earlier ++ (length ps ∷ []) }
+bodyScope types earlier ps = record { variables = length ps; sizes = namedCount ps; channels = 0; types = types; arities = aritiesOf earlier ++ (length ps ∷ []) }
 
 -- a scope outside all functions: "`13` may name any channel" (R-3), as "`14` names any channel"
-unfoldable pub outerScope : List TypeDef → List Function → ℕ → ℕ → Scope
-outerScope types functions now last = record { variables = 0; sizes = 0; now = now; last = last; types = types; arities = aritiesOf functions }
+unfoldable pub outerScope : List TypeDef → List Function → ℕ → Scope
+outerScope types functions channels = record { variables = 0; sizes = 0; channels = channels; types = types; arities = aritiesOf functions }

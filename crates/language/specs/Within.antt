@@ -54,8 +54,8 @@ mutual
     w-bool : {n : ℕ} {S : Scope} {b : Bool} → roomIn S ≡ true → WithinExpr (suc n) S (ebool b)
     w-int : {n : ℕ} {S : Scope} {i : ℕ} → roomIn S ≡ true → i < intRange → WithinExpr (suc n) S (eint i)
     w-var : {n : ℕ} {S : Scope} {v : ℕ} → roomIn S ≡ true → v < S .variables → WithinExpr (suc n) S (evar v)
-    w-now : {n : ℕ} {S : Scope} {c : ℕ} → roomIn S ≡ true → c < S .now → WithinExpr (suc n) S (enow c)
-    w-last : {n : ℕ} {S : Scope} {c : ℕ} → roomIn S ≡ true → c < S .last → WithinExpr (suc n) S (elast c)
+    w-now : {n : ℕ} {S : Scope} {c : ℕ} → roomIn S ≡ true → c < S .channels → WithinExpr (suc n) S (enow c)
+    w-last : {n : ℕ} {S : Scope} {c : ℕ} → roomIn S ≡ true → c < S .channels → WithinExpr (suc n) S (elast c)
     w-let : {n : ℕ} {S : Scope} {a b : Expr} → roomIn S ≡ true → WithinExpr n S a → WithinExpr n (wider 1 0 S) b → WithinExpr (suc n) S (elet a b)
     w-if : {n : ℕ} {S : Scope} {a b d : Expr} → roomIn S ≡ true → WithinExpr n S a → WithinExpr n S b → WithinExpr n S d → WithinExpr (suc n) S (eif a b d)
     w-op : {n : ℕ} {S : Scope} {o : Op} {a b : Expr} → roomIn S ≡ true → WithinExpr n S a → WithinExpr n S b → WithinExpr (suc n) S (eop o a b)
@@ -113,13 +113,13 @@ pub data WithinFunctions (types : List TypeDef) : List Function → List Functio
 
 pub record WithinInput (P : File) (i : Input) : Type 0 where
   pub declared : WithinDeclared (length (P .types)) (i .declared)
-  pub initial : WithinExpr nestingMost (outerScope (P .types) (P .functions) 0 0) (i .initial)
+  pub initial : WithinExpr nestingMost (outerScope (P .types) (P .functions) 0) (i .initial)
 
 -- "`13` may name any channel" (R-3), and so may `14`
 pub record WithinNode (P : File) (n : Node) : Type 0 where
   pub declared : WithinDeclared (length (P .types)) (n .declared)
-  pub initial : WithinExpr nestingMost (outerScope (P .types) (P .functions) 0 0) (n .initial)
-  pub update : WithinExpr nestingMost (outerScope (P .types) (P .functions) (length (P .inputs) + length (P .nodes)) (length (P .inputs) + length (P .nodes))) (n .update)
+  pub initial : WithinExpr nestingMost (outerScope (P .types) (P .functions) 0) (n .initial)
+  pub update : WithinExpr nestingMost (outerScope (P .types) (P .functions) (length (P .inputs) + length (P .nodes))) (n .update)
 
 pub record Within (P : File) : Type 0 where
   pub text : length (fileText P) ≤ textMost

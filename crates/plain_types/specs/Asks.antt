@@ -43,8 +43,7 @@ pub record Stage (text index scope : List ℕ) (line variables : ℕ) (P : File)
   pub less : line < lineCount P
   pub known : Known P S
   pub channel : (c : ℕ) → c < length C → meaning (typeAt (declaredAt (channelsOf index) c)) ≡ getD C c pbool
-  pub now : S .now ≤ length C
-  pub last : S .last ≤ length C
+  pub channels : S .channels ≤ length C
   pub words : take variables scope ≡ map plainWord Γ
   pub small : All (WithinPlain tagStep) Γ
   pub long : length Γ ≡ variables

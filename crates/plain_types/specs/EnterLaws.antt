@@ -112,8 +112,7 @@ module _ {text index scope : List ℕ} {line variables : ℕ} {P : File} {C : Li
     less = st .less;
     known = st .known;
     channel = st .channel;
-    now = st .now;
-    last = st .last;
+    channels = st .channels;
     words = k .low ∙ st .words;
     small = st .small;
     long = st .long;
@@ -129,8 +128,7 @@ module _ {text index scope : List ℕ} {line variables : ℕ} {P : File} {C : Li
     less = st .less;
     known = wider-known n sizes (st .known);
     channel = st .channel;
-    now = st .now;
-    last = st .last;
+    channels = st .channels;
     words = words ∙ ap (λ (l : List ℕ). l ++ map plainWord τs) (st .words) ∙ sym (map-append plainWord Γ τs);
     small = all-append (st .small) small;
     long = omega (arith, length-append Γ τs, same, st .long);

@@ -17,10 +17,10 @@ use Rattle.text.specs.Bytes.{plainWord}
 use Rattle.text.specs.Places.{past}
 use Rattle.encoding.specs.Spells.{Spells}
 use Rattle.encoding.specs.FrameLines.{lineAt}
-use Rattle.heads.specs.declared.Form.the-variants.{Bool as BoolForm, Int, Variable, Now, Last, Let, If, Operator, Call, Construct, Case, Adjust, Fit, Missing}
+use Rattle.heads.specs.declared.Form.the-variants.{Bool as BoolForm, Int, Variable, Let, If, Operator, Call, Construct, Case, Adjust, Fit, Missing}
 use Rattle.heads.specs.declared.Head.{Head}
 use Rattle.heads.specs.Heads.{Heads}
-use Rattle.heads.specs.HeadForms.{no-missing, bool-head, int-head, var-head, now-head, last-head, let-head, if-head, op-head, call-head, con-head, case-head, adj-head, fit-head}
+use Rattle.heads.specs.HeadForms.{no-missing, bool-head, int-head, var-head, NamesChannel, channel-head, let-head, if-head, op-head, call-head, con-head, case-head, adj-head, fit-head}
 use Rattle.index.specs.Sections.{framesOf, channelsOf}
 use Rattle.index.specs.Indexed.{declaredAt, framePart}
 use Rattle.plain_types.specs.declared.words.PlainType.{PlainType}
@@ -34,7 +34,7 @@ use Rattle.heads.specs.Places.{insideOf}
 use Rattle.plain_types.specs.Asks.{Stage, Part, part-ends, TypesExpr, TypesLet, TypesIf, TypesOp, TypesCall, TypesCon, TypesCase, TypesAdj, TypesFit}
 use Rattle.plain_types.specs.WordLaws.{plain-at}
 use Rattle.plain_types.specs.EnterLaws.{no-level, less-deep, room-sizes, kept-same}
-use Rattle.plain_types.specs.PlainLaws.{plain-bool, plain-int, plain-var, plain-now, plain-last}
+use Rattle.plain_types.specs.PlainLaws.{plain-bool, plain-int, plain-var, plain-channel}
 
 -- a word of a scope is that of the variable's type
 scope-word : (scope : List ℕ) (variables : ℕ) (Γ : List Plain) (v : ℕ) → take variables scope ≡ map plainWord Γ → v < variables → v < length Γ → getD scope v 0 ≡ plainWord (getD Γ v pbool)
@@ -85,24 +85,14 @@ module _ (text index scope : List ℕ) (p : Place) where
       kept = kept-same;
     }
 
-    module _ {c : ℕ} {r : Typing} (e : r ≡ Is (record { of = typeAt (declaredAt (channelsOf index) c); next = h .next })) where
-      pub expr-now : h .form ≡ Now c → TypesExpr text index scope p r scope
-      expr-now q = record {
-        says = λ {P} {C} {S} {Γ} st ask.
-            let i = now-head (heads-in st) (ask .part .spelled) (ask .part .within) q in
-            let less : c < length C = omega (arith, i .less, st .now) in
-            answered e (st .channel c less) (i .ends ∙ ask .part .ends) (ask .is ∙ ap (λ a. plainOf P C a Γ) (i .is) ∙ plain-now P C Γ c ∙ look-at C c pbool less);
-        kept = kept-same;
-      }
-
-      pub expr-last : h .form ≡ Last c → TypesExpr text index scope p r scope
-      expr-last q = record {
-        says = λ {P} {C} {S} {Γ} st ask.
-            let i = last-head (heads-in st) (ask .part .spelled) (ask .part .within) q in
-            let less : c < length C = omega (arith, i .less, st .last) in
-            answered e (st .channel c less) (i .ends ∙ ask .part .ends) (ask .is ∙ ap (λ a. plainOf P C a Γ) (i .is) ∙ plain-last P C Γ c ∙ look-at C c pbool less);
-        kept = kept-same;
-      }
+    pub expr-channel : {c : ℕ} {x : ℕ → Expr} {r : Typing} → NamesChannel (h .form) c x → r ≡ Is (record { of = typeAt (declaredAt (channelsOf index) c); next = h .next }) → TypesExpr text index scope p r scope
+    expr-channel {c} q e = record {
+      says = λ {P} {C} {S} {Γ} st ask.
+          let i = channel-head (heads-in st) (ask .part .spelled) (ask .part .within) q in
+          let less : c < length C = omega (arith, i .less, st .channels) in
+          answered e (st .channel c less) (i .ends ∙ ask .part .ends) (ask .is ∙ ap (λ a. plainOf P C a Γ) (i .is) ∙ plain-channel P C Γ q ∙ look-at C c pbool less);
+      kept = kept-same;
+    }
 
     -- ---- forms with parts
     module _ {r : Typing} {scope₁ : List ℕ} where

@@ -109,8 +109,7 @@ module _ (text index : List ℕ) (f : ℕ) {n : ℕ} (k : (n ≡ getD (functions
           less = omega (arith, line-is, look-less (P .functions) f e);
           known = b .known;
           channel = λ i less. absurd (omega (arith, less));
-          now = omega (arith, b .now);
-          last = omega (arith, b .last);
+          channels = omega (arith, b .channels);
           words = parameter-words;
           small = all-map (λ τ w. plain-fewer (omega (arith, h .within .fewTypes)) w) (function-within (h .within) f e .parameters);
           long = sym parameter-count;
@@ -136,8 +135,7 @@ value-fits text index p {scope} d w v room q = record {
         less = o .less;
         known = o .known;
         channel = o .channel;
-        now = o .now;
-        last = o .last;
+        channels = o .channels;
         words = ap (λ m. take m scope) z;
         small = all-nil;
         long = sym z;
@@ -148,14 +146,14 @@ value-fits text index p {scope} d w v room q = record {
 }
 
 -- ---- the scopes of initial values and updates
-outer-place : {text index : List ℕ} {line : ℕ} {P : File} (C : List Plain) (now last : ℕ) → Indexed text index P → line < lineCount P →
-    ((c : ℕ) → c < length C → meaning (typeAt (declaredAt (channelsOf index) c)) ≡ getD C c pbool) → now ≤ length C → last ≤ length C → Outer text index line P C (outerScope (P .types) (P .functions) now last)
+outer-place : {text index : List ℕ} {line : ℕ} {P : File} (C : List Plain) (channels : ℕ) → Indexed text index P → line < lineCount P →
+    ((c : ℕ) → c < length C → meaning (typeAt (declaredAt (channelsOf index) c)) ≡ getD C c pbool) → channels ≤ length C → Outer text index line P C (outerScope (P .types) (P .functions) channels)
 unfolding outerScope
-outer-place {P} C now last h less told n l = record { indexed = h; less = less; known = outer-known P now last; channel = told; now = n; last = l; none = refl }
+outer-place {P} C channels h less told few = record { indexed = h; less = less; known = outer-known P channels; channel = told; channels = few; none = refl }
 
-outer-types : (P : File) (now last : ℕ) → outerScope (P .types) (P .functions) now last .types ≡ P .types
+outer-types : (P : File) (channels : ℕ) → outerScope (P .types) (P .functions) channels .types ≡ P .types
 unfolding outerScope
-outer-types P now last = refl
+outer-types P channels = refl
 
 pub record There {A : Type 0} (l : List A) (i : ℕ) : Type 0 where
   pub of : A
@@ -217,10 +215,10 @@ module _ (text index : List ℕ) (i c : ℕ) where
 
   module _ {at : Cursor} {line : ℕ} (place : at .at ≡ initialAt (channelsOf index) c) (number : line ≡ lineBehindTypes index i) {part : List ℕ} (taken : part ≡ framePart text (framesOf index) line) {x : Typing} (u : TestsInitial part (typesOf index) at nestingMost x) where
     tested : {P : File} {e : Expr} → Indexed text index P → i ≡ length (P .functions) + c → c < length (P .inputs) + length (P .nodes) →
-        Spells exprBytes (lineAt text (channelLine P c)) (initialAt (channelsOf index) c) e → WithinExpr nestingMost (outerScope (P .types) (P .functions) 0 0) e → Agrees x (past part (at .at) (length (exprBytes e))) (when (isInitial e) pbool)
+        Spells exprBytes (lineAt text (channelLine P c)) (initialAt (channelsOf index) c) e → WithinExpr nestingMost (outerScope (P .types) (P .functions) 0) e → Agrees x (past part (at .at) (length (exprBytes e))) (when (isInitial e) pbool)
     tested {P} {e} h q less s w =
         let is : part ≡ lineAt text (channelLine P c) = taken ∙ h .eachFrame line (channel-less number h q less) .line ∙ ap (lineAt text) (channel-line number h q less) in
-        u .says (subst (λ ds. (t : ℕ) → t < length ds → TellsType (typesOf index) t (getD ds t [])) (sym (outer-types P 0 0)) (λ t there. h .eachType t there .tells)) w
+        u .says (subst (λ ds. (t : ℕ) → t < length ds → TellsType (typesOf index) t (getD ds t [])) (sym (outer-types P 0)) (λ t there. h .eachType t there .tells)) w
         (subst₂ (λ l a. Spells exprBytes l a e) (sym is) (sym place) s)
 
     pub initial-unfit : x ≡ Wrong → InitialFits text index i c false
@@ -234,7 +232,7 @@ module _ (text index : List ℕ) (i c : ℕ) where
     initial-fits d v = record {
       says = λ {P} {τ} {e} h q less ci wd w.
           let part₁ = part-named text (channel-line number h q less) place (record { within = w; spelled = ci .initial; ends = refl }) in
-          v .says (plainDeclared τ) refl (outer-place [] 0 0 h (channel-less number h q less) (λ j there₁. absurd (omega (arith, there₁))) (omega arith) (omega arith)) part₁ (ap (λ a. meaning (typeAt a)) (ci .declared) ∙ declared-at (omega (arith, h .within .fewTypes)) wd)
+          v .says (plainDeclared τ) refl (outer-place [] 0 h (channel-less number h q less) (λ j there₁. absurd (omega (arith, there₁))) (omega arith)) part₁ (ap (λ a. meaning (typeAt a)) (ci .declared) ∙ declared-at (omega (arith, h .within .fewTypes)) wd)
           ∙ sym (both-first (holds (isInitial e) pbool (tested h q less (ci .initial) w) d .is));
     }
 
@@ -255,7 +253,7 @@ module _ (text index : List ℕ) (i c : ℕ) where
           let part = part-named text (channel-line number h q less) place (record { within = w .update; spelled = ni .update; ends = refl }) in
           let C = channelTypes h in
           v .says (plainDeclared (n .declared)) refl
-          (outer-place C (length (P .inputs) + length (P .nodes)) (length (P .inputs) + length (P .nodes)) h (channel-less number h q less) (channel-told h) (omega (arith, channels-count h)) (omega (arith, channels-count h)))
+          (outer-place C (length (P .inputs) + length (P .nodes)) h (channel-less number h q less) (channel-told h) (omega (arith, channels-count h)))
           part (ap (λ d. meaning (typeAt d)) (ni .channel .declared) ∙ declared-at (omega (arith, h .within .fewTypes)) (w .declared))
           ∙ sym (both-first (sym (a .says h q less (ni .channel) (w .declared) (w .initial)) ∙ z));
     }

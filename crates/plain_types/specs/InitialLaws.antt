@@ -27,7 +27,7 @@ use Rattle.heads.specs.declared.Form.{Form}
 use Rattle.heads.specs.declared.Form.the-variants.{Bool as BoolForm, Int, Variable, Now, Last, Let, If, Operator, Call, Construct, Case, Adjust, Fit, Missing}
 use Rattle.heads.specs.declared.Head.{Head}
 use Rattle.heads.specs.Heads.{Heads}
-use Rattle.heads.specs.HeadForms.{no-missing, bool-head, int-head, var-head, now-head, last-head, let-head, if-head, op-head, call-head, con-head, case-head, adj-head, fit-head}
+use Rattle.heads.specs.HeadForms.{no-missing, bool-head, int-head, var-head, channel-head, now-named, last-named, let-head, if-head, op-head, call-head, con-head, case-head, adj-head, fit-head}
 use Rattle.theory.specs.Lists.{false-is-not-true}
 use Rattle.plain_types.specs.declared.words.PlainType.the-variants.{Bool as BoolIs}
 use Rattle.plain_types.specs.declared.words.Typed.{Typed}
@@ -80,8 +80,8 @@ module _ {line : List ℕ} {at n : ℕ} {h : Head} {S : Scope} {e : Expr} (heads
   not-initial (BoolForm b) z q = false-is-not-true z
   not-initial (Int i) z q = false-is-not-true z
   not-initial (Variable v) z q = ap isInitial (var-head heads s w q .is)
-  not-initial (Now c) z q = ap isInitial (now-head heads s w q .is)
-  not-initial (Last c) z q = ap isInitial (last-head heads s w q .is)
+  not-initial (Now c) z q = ap isInitial (channel-head heads s w (now-named q) .is)
+  not-initial (Last c) z q = ap isInitial (channel-head heads s w (last-named q) .is)
   not-initial Let z q = ap isInitial (let-head heads s w q .is)
   not-initial If z q = ap isInitial (if-head heads s w q .is)
   not-initial (Operator o) z q = ap isInitial (op-head heads s w q .is)

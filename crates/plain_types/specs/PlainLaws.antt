@@ -6,9 +6,11 @@ use mathlib.Core.Option.{Option, none, some}
 use mathlib.Core.Path.{_≡_, refl, sym}
 use lib.ListN.{getElem? as look}
 use Rattle.language.specs.Result.{both, when, chain}
-use Rattle.language.specs.Syntax.{Constructor, Plain, pbool, pint, pnamed, Size, ResultType, Op, Expr, ebool, eint, evar, enow, elast, elet, eif, eop, ecall, econ, ecase, eadj, efit, Exprs, enil, econs, Function, File, constructorsOf}
+use Rattle.language.specs.Syntax.{Constructor, Plain, pbool, pint, pnamed, Size, ResultType, Op, Expr, ebool, eint, evar, elet, eif, eop, ecall, econ, ecase, eadj, efit, Exprs, enil, econs, Function, File, constructorsOf}
 use Rattle.language.specs.PlainTypes.{plainFields, plainResult, samePlain, samePlains, operandType, opType, isPlain, arePlain, isNamed, plainOf, plainsOf, plainBranches}
 use Rattle.theory.specs.Lists.{both-never}
+use Rattle.heads.specs.declared.Form.{Form}
+use Rattle.heads.specs.HeadForms.{NamesChannel, now-named, last-named}
 
 -- ---- an expression of the type wanted
 module _ {o : Option Plain} {σ : Plain} (τ : Plain) (e : o ≡ some σ) where
@@ -63,13 +65,10 @@ module _ (P : File) (C : List Plain) (Γ : List Plain) where
   unfolding plainOf
   plain-var v = refl
 
-  pub plain-now : (c : ℕ) → plainOf P C (enow c) Γ ≡ look C c
+  pub plain-channel : {form : Form} {c : ℕ} {x : ℕ → Expr} → NamesChannel form c x → plainOf P C (x c) Γ ≡ look C c
   unfolding plainOf
-  plain-now c = refl
-
-  pub plain-last : (c : ℕ) → plainOf P C (elast c) Γ ≡ look C c
-  unfolding plainOf
-  plain-last c = refl
+  plain-channel (now-named q) = refl
+  plain-channel (last-named q) = refl
 
   pub plain-let : (a b : Expr) → plainOf P C (elet a b) Γ ≡ chain (plainOf P C a Γ) (λ σ. plainOf P C b (Γ ++ (σ ∷ [])))
   unfolding plainOf

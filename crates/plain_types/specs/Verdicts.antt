@@ -33,8 +33,7 @@ pub record Outer (text index : List ℕ) (line : ℕ) (P : File) (C : List Plain
   pub less : line < lineCount P
   pub known : Known P S
   pub channel : (c : ℕ) → c < length C → meaning (typeAt (declaredAt (channelsOf index) c)) ≡ getD C c pbool
-  pub now : S .now ≤ length C
-  pub last : S .last ≤ length C
+  pub channels : S .channels ≤ length C
   pub none : S .variables ≡ 0
 
 module _ (text index : List ℕ) where
@@ -48,7 +47,7 @@ module _ (text index : List ℕ) where
   -- channel c has the frame i behind the types
   pub record InitialFits (i c : ℕ) (r : Bool) : Type 0 where
     pub says : {P : File} {τ : Ty} {e : Expr} → Indexed text index P → i ≡ length (P .functions) + c → c < length (P .inputs) + length (P .nodes) →
-        ChannelIndexed (lineAt text (channelLine P c)) (channelsOf index) c τ e → WithinDeclared (length (P .types)) τ → WithinExpr nestingMost (outerScope (P .types) (P .functions) 0 0) e → r ≡ plainInitial P τ e
+        ChannelIndexed (lineAt text (channelLine P c)) (channelsOf index) c τ e → WithinDeclared (length (P .types)) τ → WithinExpr nestingMost (outerScope (P .types) (P .functions) 0) e → r ≡ plainInitial P τ e
 
   pub record NodeFits (i c : ℕ) (r : Bool) : Type 0 where
     pub says : {P : File} {n : Node} → Indexed text index P → i ≡ length (P .functions) + c → c < length (P .inputs) + length (P .nodes) →

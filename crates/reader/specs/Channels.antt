@@ -44,8 +44,8 @@ use Rattle.reader.specs.Frames.{kindEnd}
 use Rattle.reader.specs.Places.{place-behind}
 use Rattle.reader.specs.HeldLaws.{no-lined}
 
-abbrev pub outsideNames : Counts → ℕ → ℕ → Names
-outsideNames n now last = record { variables = 0; sizes = 0; now = now; last = last; types = n .types; functions = n .functions }
+abbrev pub outsideNames : Counts → ℕ → Names
+outsideNames n channels = record { variables = 0; sizes = 0; channels = channels; types = n .types; functions = n .functions }
 
 -- ---- the index tells the scope outside all functions
 abbrev pub noFunction : Function
@@ -73,13 +73,12 @@ module _ {lines : ℕ → List ℕ} {index : List ℕ} {n : Counts} {P : File} (
       (omega (arith, ap (λ (F : Function). length (F .parameters)) same, all-getD (held .parameters) f noFunction less)) .count
       ∙ ap (λ (F : Function). length (F .parameters)) same ∙ sym (arity-at (P .functions) f)
 
-  tells-outside : (now last : ℕ) → Tells index (outsideNames n now last) (outerScope (P .types) (P .functions) now last)
+  tells-outside : (channels : ℕ) → Tells index (outsideNames n channels) (outerScope (P .types) (P .functions) channels)
   unfolding outerScope functionTable
-  tells-outside now last = record {
+  tells-outside channels = record {
     variables = refl;
     sizes = refl;
-    now = refl;
-    last = refl;
+    channels = refl;
     typeCount = held .counted .typeCount;
     functionCount = length-map (P .functions) _ ∙ held .counted .functionCount;
     each = tells-types;
@@ -178,11 +177,11 @@ module _ (line index : List ℕ) (n : Counts) {start : Cursor} (here : start .at
     type-place : {lines : ℕ → List ℕ} {P : File} (held : Held lines index n P) → f .next .at ≡ initialPlace line (type-read held .value)
     type-place {P = P} held = place-behind (declared-exact (length (P .types))) (number-moved v e) (type-read held .is)
 
-    pub input-read : {index′ : List ℕ} {r : Step} {a : ℕ} → Fits line n → PlaceWord (f .next .at) a → Follows line index (f .next) (outsideNames n 0 0) r (exprAt nestingMost) → (channelsOf index′ ≡ set (set (set (channelsOf index) (channelWords * n .inputs) (f .value)) (channelWords * n .inputs + 1) a) (channelWords * n .inputs + 2) 0) × Outside channelsFrom channelTableWords index index′ →
+    pub input-read : {index′ : List ℕ} {r : Step} {a : ℕ} → Fits line n → PlaceWord (f .next .at) a → Follows line index (f .next) (outsideNames n 0) r (exprAt nestingMost) → (channelsOf index′ ≡ set (set (set (channelsOf index) (channelWords * n .inputs) (f .value)) (channelWords * n .inputs + 1) a) (channelWords * n .inputs + 2) 0) × Outside channelsFrom channelTableWords index index′ →
         ReadsInput line index n r index′
     unfolding input inputEntry channelTable
     input-read {r} {a} fits p u w = record {
-      says = λ lines P held none few. let g = type-read held in passes-behind (number-moved v e) (ap forget (then-got _ (g .is)) ∙ forget-then _ _) (u .says (outerScope (P .types) (P .functions) 0 0) (tells-outside held 0 0) within);
+      says = λ lines P held none few. let g = type-read held in passes-behind (number-moved v e) (ap forget (then-got _ (g .is)) ∙ forget-then _ _) (u .says (outerScope (P .types) (P .functions) 0) (tells-outside held 0) within);
       enters = λ lines P held none few i rest h.
           let g = type-read held in
           let m = last-got (λ (t : Expr). record { declared = g .value; initial = t }) _ (sym (then-got _ (g .is)) ∙ h) in
@@ -211,15 +210,15 @@ module _ (line index : List ℕ) (n : Counts) {start : Cursor} (here : start .at
         let none : declared (length (P .types)) (bytesFrom line (kindEnd line)) ≡ bad k = ap (λ t. declared t (bytesFrom line (kindEnd line))) (held .counted .typeCount) ∙ map-bad declaredWord _ (number-bad v e) in
         pass-none e d (ap forget (then-bad _ none))
 
-    module _ {f : Found} (e : x ≡ Is f) {y : Step} (u : Follows line index (f .next) (outsideNames n 0 0) y (exprAt nestingMost)) where
-      initial-passes : {lines : ℕ → List ℕ} {P : File} → Held lines index n P → Passes line (f .next .at) y (forget (exprAt nestingMost (outerScope (P .types) (P .functions) 0 0) (bytesFrom line (f .next .at))))
-      initial-passes {P = P} held = u .says (outerScope (P .types) (P .functions) 0 0) (tells-outside held 0 0) (ends-within (number-moved v e))
+    module _ {f : Found} (e : x ≡ Is f) {y : Step} (u : Follows line index (f .next) (outsideNames n 0) y (exprAt nestingMost)) where
+      initial-passes : {lines : ℕ → List ℕ} {P : File} → Held lines index n P → Passes line (f .next .at) y (forget (exprAt nestingMost (outerScope (P .types) (P .functions) 0) (bytesFrom line (f .next .at))))
+      initial-passes {P = P} held = u .says (outerScope (P .types) (P .functions) 0) (tells-outside held 0) (ends-within (number-moved v e))
 
       pub node-no-initial : {k : ℕ} → y ≡ Stop k → ReadsNode line index n all y index
       unfolding node
       node-no-initial {k} h = node-stops h λ lines P held. passes-behind (number-moved v e) (ap forget (then-got _ (type-read e held .is))) (pass-stops-pass _ _ (initial-passes held) h)
 
-      pub node-read : {index′ : List ℕ} {d : Cursor} {r : Step} {a b : ℕ} → y ≡ Next d → Fits line n → PlaceWord (f .next .at) a → PlaceWord (d .at) b → Follows line index d (outsideNames n all all) r (exprAt nestingMost) →
+      pub node-read : {index′ : List ℕ} {d : Cursor} {r : Step} {a b : ℕ} → y ≡ Next d → Fits line n → PlaceWord (f .next .at) a → PlaceWord (d .at) b → Follows line index d (outsideNames n all) r (exprAt nestingMost) →
           (channelsOf index′ ≡ set (set (set (channelsOf index) (channelWords * (n .inputs + n .nodes)) (f .value)) (channelWords * (n .inputs + n .nodes) + 1) a) (channelWords * (n .inputs + n .nodes) + 2) b) × Outside channelsFrom channelTableWords index index′ → ReadsNode line index n all r index′
       unfolding node nodeEntry channelTable
       node-read {d} {r} {a} {b} there fits p q z w = record {
@@ -237,12 +236,12 @@ module _ (line index : List ℕ) (n : Counts) {start : Cursor} (here : start .at
             let inputs-long = lined-length lines (length (P .types) + length (P .functions)) (P .inputs) in
             let nodes-long = lined-length lines (length (P .types) + length (P .functions) + length (P .inputs)) (P .nodes) in
             let added = channel-added (f .value) a b so-far (w .0) (held .channelsAre) (channels-so-far is ns ∙ omega (arith, inputs-long, nodes-long, held .counted .inputCount, held .counted .nodeCount)) (omega (arith, held .counted .inputCount, held .fewInputs)) in
-            let behind = place-behind (expr-exact nestingMost (outerScope (P .types) (P .functions) 0 0)) (pass-moved (initial-passes held) there) (i .is) in
+            let behind = place-behind (expr-exact nestingMost (outerScope (P .types) (P .functions) 0)) (pass-moved (initial-passes held) there) (i .is) in
             let second : d .at ≡ past line (initialPlace line (g .value)) (length (exprBytes (i .value))) = behind ∙ ap (λ (k : ℕ). past line k (length (exprBytes (i .value)))) (type-place e held) in
             let entry : f .value ∷ a ∷ b ∷ [] ≡ nodeEntry (record { line = line; part = m }) = three-words (sym (g .word)) (place-is fits p (ends-within (number-moved v e)) ∙ type-place e held) (place-is fits q (ends-within (pass-moved (initial-passes held) there)) ∙ second) ∙ ap (λ (k : Node). nodeEntry (record { line = line; part = k })) (sym (made .made)) in
             added ∙ ap (λ l. padded (channelsMost * channelWords) (so-far ++ l)) entry ∙ sym (node-more is ns (record { line = line; part = m }));
         outside = w .1;
       }
         where
-          update-passes : {lines : ℕ → List ℕ} {P : File} → Held lines index n P → Passes line (d .at) r (forget (exprAt nestingMost (outerScope (P .types) (P .functions) all all) (bytesFrom line (d .at))))
-          update-passes {P = P} held = z .says (outerScope (P .types) (P .functions) all all) (tells-outside held all all) (ends-within (pass-moved (initial-passes held) there))
+          update-passes : {lines : ℕ → List ℕ} {P : File} → Held lines index n P → Passes line (d .at) r (forget (exprAt nestingMost (outerScope (P .types) (P .functions) all) (bytesFrom line (d .at))))
+          update-passes {P = P} held = z .says (outerScope (P .types) (P .functions) all) (tells-outside held all) (ends-within (pass-moved (initial-passes held) there))

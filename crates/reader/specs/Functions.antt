@@ -39,7 +39,7 @@ use Rattle.reader.specs.Places.{place-behind}
 use Rattle.reader.specs.Channels.{few-arities, told-arity, tells-types, then-got, last-got, place-is}
 
 abbrev pub insideNames : Counts → ℕ → ℕ → Names
-insideNames n variables sizes = record { variables = variables; sizes = sizes; now = 0; last = 0; types = n .types; functions = n .functions + 1 }
+insideNames n variables sizes = record { variables = variables; sizes = sizes; channels = 0; types = n .types; functions = n .functions + 1 }
 
 -- ---- what is left to read behind each part of a function
 abbrev behindMeasure : File → List Plain → ResultType → List Condition → List ℕ → Parser Function
@@ -86,8 +86,7 @@ module _ {lines : ℕ → List ℕ} {index index₁ : List ℕ} {n : Counts} {P 
   tells-inside few tb told v z = record {
     variables = v;
     sizes = z;
-    now = refl;
-    last = refl;
+    channels = refl;
     typeCount = held .counted .typeCount;
     functionCount = length-append (aritiesOf (P .functions)) (length ps ∷ []) ∙ omega (arith, length-map (P .functions) (λ (F : Function). length (F .parameters)), held .counted .functionCount);
     each = λ t h. subst (λ types. TellsType types t (getD (P .types) t [])) (sym (kept-before o typesFrom typeTableWords (omega arith))) (tells-types held t h);

@@ -49,14 +49,13 @@ fn place(c: Cursor) -> u32
 }
 
 // What an expression outside all functions may name.
-fn outside(known: Counts, now: u32, last: u32) -> Names
-    ensures { λ r. ⌜ r ≡ outsideNames known now last ⌝ }
+fn outside(known: Counts, channels: u32) -> Names
+    ensures { λ r. ⌜ r ≡ outsideNames known channels ⌝ }
 {
     Names {
         variables: 0,
         sizes: 0,
-        now: now,
-        last: last,
+        channels: channels,
         types: known.types,
         functions: known.functions,
     }
@@ -70,8 +69,7 @@ fn inside(known: Counts, variables: u32, sizes: u32) -> Names
     Names {
         variables: variables,
         sizes: sizes,
-        now: 0,
-        last: 0,
+        channels: 0,
         types: known.types,
         functions: known.functions + 1,
     }
@@ -89,7 +87,7 @@ fn input_frame(line: &[u8], index: &mut [u32; INDEX_WORDS], start: Cursor, known
     };
     let word = f.value;
     let c = f.next;
-    let s = outside(known, 0, 0);
+    let s = outside(known, 0);
     let y = expr(line, index, c, s);
     let initial = place(c);
     put_channel(index, known.inputs, word, initial, 0);
@@ -114,13 +112,13 @@ fn node_frame(
     };
     let word = f.value;
     let c = f.next;
-    let s = outside(known, 0, 0);
+    let s = outside(known, 0);
     let y = expr(line, index, c, s);
     let Step::Next(d) = y else {
         return y;
     };
     let before = known.inputs + known.nodes;
-    let u = outside(known, all, all);
+    let u = outside(known, all);
     let z = expr(line, index, d, u);
     let initial = place(c);
     let update = place(d);

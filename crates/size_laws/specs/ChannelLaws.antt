@@ -93,12 +93,12 @@ module _ {t : Lent} {list : Table} {scope sizes : List ℕ} {n : Counts} {c word
       length-map (P .nodes) (λ (m : Node). m .declared),
     )
 
-    channel-here : Here t (buffers list scope sizes) (outerSite n c at used) P (outerScope (P .types) (P .functions) (s .now) (s .last)) (outside (channelFrame P c) C) [] [] L instancesMost
+    channel-here : Here t (buffers list scope sizes) (outerSite n c at used) P (outerScope (P .types) (P .functions) (s .channels)) (outside (channelFrame P c) C) [] [] L instancesMost
     unfolding channelsAt frameAt outerScope
     channel-here = record {
       indexed = i;
       site = record {
-        known = outer-known P (s .now) (s .last);
+        known = outer-known P (s .channels);
         channels = named;
         frame = omega (arith, line-is);
         line = omega (arith, line-is, below);

@@ -4,12 +4,12 @@ use mathlib.Core.List.{List}
 use mathlib.Core.Bool.{Bool, true, false}
 use mathlib.Core.Path.{_≡_, refl, sym, ap, _∙_, subst}
 use native.Mathlib.Omega.{arith}
-use Rattle.language.specs.Syntax.{Expr, File, Ty}
+use Rattle.language.specs.Syntax.{Expr, enow, File, Ty}
 use Rattle.language.specs.Scope.{Scope}
 use Rattle.language.specs.Within.{WithinExpr, w-bool, w-int, w-var, w-now, w-last, w-let, w-if, w-op, w-call, w-con, w-case, w-adj, w-fit}
 use Rattle.language.specs.Typing.{Place as Stand}
 use Rattle.language.specs.Estimate.{nothing, oneCell}
-use Rattle.language.specs.Checker.{Instance, sized}
+use Rattle.language.specs.Checker.{Instance, Enter, sized}
 use Rattle.theory.specs.Lists.{false-is-not-true}
 use Rattle.text.specs.declared.Cursor.{Cursor}
 use Rattle.encoding.specs.FrameLines.{lineAt}
@@ -21,7 +21,7 @@ use Rattle.heads.specs.declared.Form.{Form}
 use Rattle.heads.specs.declared.Form.the-variants.{Bool as BoolForm, Int, Variable, Now, Last, Let, If, Operator, Call, Construct, Case, Adjust, Fit, Missing}
 use Rattle.heads.specs.declared.Head.{Head}
 use Rattle.heads.specs.Heads.{Heads, shown, hasParts}
-use Rattle.heads.specs.HeadForms.{LetHead, IfHead, OpHead, CallHead, ConHead, CaseHead, AdjHead, FitHead, no-missing, bool-head, int-head, var-head, now-head, last-head, let-head, if-head, op-head, call-head, con-head, case-head, adj-head, fit-head}
+use Rattle.heads.specs.HeadForms.{LetHead, IfHead, OpHead, CallHead, ConHead, CaseHead, AdjHead, FitHead, no-missing, bool-head, int-head, var-head, NamesChannel, now-named, last-named, channel-head, let-head, if-head, op-head, call-head, con-head, case-head, adj-head, fit-head}
 use Rattle.sizes.specs.declared.SizedType.{SizedType}
 use Rattle.sizes.specs.declared.SizedType.the-variants.{Bool as BoolIs, Int as IntIs}
 use Rattle.index.specs.Sections.{framesOf}
@@ -92,6 +92,12 @@ form-part {p} {next} {l} {S} {e} Of part of = record {
   ends = part .ends;
 }
 
+-- ---- `14` is sized as `13`
+sized-alike : (P : File) (enter : Enter) (q : Stand) (Γ : List Ty) (Δ : List ℕ) (L : List Instance) {form : Form} {c : ℕ} {y : ℕ → Expr} → NamesChannel form c y → sized P enter (y c) q Γ Δ L ≡ sized P enter (enow c) q Γ Δ L
+unfolding sized
+sized-alike P enter q Γ Δ L (now-named is) = refl
+sized-alike P enter q Γ Δ L (last-named is) = refl
+
 -- ---- the head that was read of the line of the place; r the place behind it
 module _ {t : Lent} {b : Buffers} {p : Site} {line : List ℕ} {h : Head} (cut : line ≡ framePart (t .text) (framesOf (t .index)) (p .place .line)) (read : Heads line (p .place .at .at) h) {r : Site} (down : r ≡ downTo p (h .next)) where
   read-here : {P : File} {S : Scope} {q : Stand} {Γ : List Ty} {Δ : List ℕ} {L : List Instance} {left : ℕ} → Here t b p P S q Γ Δ L left → Heads (lineAt (t .text) (p .place .line)) (p .place .at .at) h
@@ -126,21 +132,11 @@ module _ {t : Lent} {b : Buffers} {p : Site} {line : List ℕ} {h : Head} (cut :
     kept = kept-all;
   }
 
-  pub expr-now : {x : Sizing} {ty : SizedType} {numbers : Estimate} {c : ℕ} → h .form ≡ Now c → ChannelTyped (t .index) c ty → x ≡ leafOf ty numbers r → Makes nothing numbers → Sizes ExprPart t b p x b
+  pub expr-channel : {x : Sizing} {ty : SizedType} {numbers : Estimate} {c : ℕ} {y : ℕ → Expr} → NamesChannel (h .form) c y → ChannelTyped (t .index) c ty → x ≡ leafOf ty numbers r → Makes nothing numbers → Sizes ExprPart t b p x b
   unfolding sized
-  expr-now {c} form type is none = record {
-    says = λ P S q Γ Δ L left k end e part. let i = now-head (read-here k) (part .spelled) (part .within) form in
-        rw (i .is) (from-before _ _ _ before-6 (λ τ at. let named = k .site .channels c τ at in
-        agrees (leaf-is p (h .next) down is) (record { type = channel-typed {t = t} (k .indexed) c named type; small = channel-bounded {t = t} (k .indexed) c named; numbers = none .says; ends = i .ends ∙ sym (part .ends); holds = k .holds })));
-    grows = leaf-grows p (h .next) down is;
-    kept = kept-all;
-  }
-
-  pub expr-last : {x : Sizing} {ty : SizedType} {numbers : Estimate} {c : ℕ} → h .form ≡ Last c → ChannelTyped (t .index) c ty → x ≡ leafOf ty numbers r → Makes nothing numbers → Sizes ExprPart t b p x b
-  unfolding sized
-  expr-last {c} form type is none = record {
-    says = λ P S q Γ Δ L left k end e part. let i = last-head (read-here k) (part .spelled) (part .within) form in
-        rw (i .is) (from-before _ _ _ before-6 (λ τ at. let named = k .site .channels c τ at in
+  expr-channel {c} form type is none = record {
+    says = λ P S q Γ Δ L left k end e part. let i = channel-head (read-here k) (part .spelled) (part .within) form in
+        rw (i .is, sized-alike P _ q Γ Δ L form) (from-before _ _ _ before-6 (λ τ at. let named = k .site .channels c τ at in
         agrees (leaf-is p (h .next) down is) (record { type = channel-typed {t = t} (k .indexed) c named type; small = channel-bounded {t = t} (k .indexed) c named; numbers = none .says; ends = i .ends ∙ sym (part .ends); holds = k .holds })));
     grows = leaf-grows p (h .next) down is;
     kept = kept-all;

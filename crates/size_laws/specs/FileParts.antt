@@ -49,10 +49,9 @@ outerSite n c at used =
 
 -- ---- one expression of channel c, at the place that a word of the channel's entry tells; its declared type is τ
 pub record Standing (t : Lent) (P : File) (word c : ℕ) (e : Expr) (τ : Ty) : Type 0 where
-  pub now : ℕ
-  pub last : ℕ
+  pub channels : ℕ
   pub spelled : Spells exprBytes (lineAt (t .text) (channelLine P c)) (getD (channelsOf (t .index)) (channelWords * c + word) 0) e
-  pub within : WithinExpr nestingMost (outerScope (P .types) (P .functions) now last) e
+  pub within : WithinExpr nestingMost (outerScope (P .types) (P .functions) channels) e
   pub declared : look (declaredTypes P) c ≡ some τ
 
 -- the words that tell of an initial value and of an update

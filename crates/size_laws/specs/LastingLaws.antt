@@ -38,13 +38,13 @@ module _ {t : Lent} {P : File} (i : IndexedFile t P) where
       ap (look (declaredTypes P)) place ∙ look-past types (map (λ (n : Node). n .declared) (P .nodes)) m ∙ look-map (λ (n : Node). n .declared) (P .nodes) m e
 
   input-stands : (c : ℕ) (j : Input) → look (P .inputs) c ≡ some j → Standing t P initialWord c (j .initial) (j .declared)
-  input-stands c j e = record { now = 0; last = 0; spelled = i .eachInput c e .initial; within = input-within (i .within) c e .initial; declared = look-append (map (λ (k : Input). k .declared) (P .inputs)) _ c (look-map (λ (k : Input). k .declared) (P .inputs) c e) }
+  input-stands c j e = record { channels = 0; spelled = i .eachInput c e .initial; within = input-within (i .within) c e .initial; declared = look-append (map (λ (k : Input). k .declared) (P .inputs)) _ c (look-map (λ (k : Input). k .declared) (P .inputs) c e) }
 
   initial-stands : (m : ℕ) (n : Node) → look (P .nodes) m ≡ some n → Standing t P initialWord (length (P .inputs) + m) (n .initial) (n .declared)
-  initial-stands m n e = record { now = 0; last = 0; spelled = i .eachNode m e .channel .initial; within = node-within (i .within) m e .initial; declared = node-declared m e }
+  initial-stands m n e = record { channels = 0; spelled = i .eachNode m e .channel .initial; within = node-within (i .within) m e .initial; declared = node-declared m e }
 
   update-stands : (m : ℕ) (n : Node) → look (P .nodes) m ≡ some n → Standing t P updateWord (length (P .inputs) + m) (n .update) (n .declared)
-  update-stands m n e = record { now = length (P .inputs) + length (P .nodes); last = length (P .inputs) + length (P .nodes); spelled = i .eachNode m e .update; within = node-within (i .within) m e .update; declared = node-declared m e }
+  update-stands m n e = record { channels = length (P .inputs) + length (P .nodes); spelled = i .eachNode m e .update; within = node-within (i .within) m e .update; declared = node-declared m e }
 
   module _ {n : Counts} (k : CountsAre n P) where
     pub counts-few : Few n

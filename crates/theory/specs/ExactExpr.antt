@@ -48,8 +48,8 @@ module _ (n : ℕ) (inner : (S : Scope) → Exact (exprAt n S) exprBytes (Within
     form-back (ebool b) rest (w-bool room) = rw (room, bool-exact .back b rest tt)
     form-back (eint i) rest (w-int room w) = rw (room, int-exact .back i rest w)
     form-back (evar v) rest (w-var room w) = rw (room, index-exact (S .variables) .back v rest w)
-    form-back (enow c) rest (w-now room w) = rw (room, index-exact (S .now) .back c rest w)
-    form-back (elast c) rest (w-last room w) = rw (room, index-exact (S .last) .back c rest w)
+    form-back (enow c) rest (w-now room w) = rw (room, index-exact (S .channels) .back c rest w)
+    form-back (elast c) rest (w-last room w) = rw (room, index-exact (S .channels) .back c rest w)
     form-back (elet a b) rest (w-let room u v) = rw (room, append-assoc (exprBytes a) (exprBytes b) rest, inner S .back a _ u, inner (wider 1 0 S) .back b rest v)
     form-back (eif a b d) rest (w-if room u v w) = rw (room, append-three (exprBytes a) (exprBytes b) (exprBytes d) rest, inner S .back a _ u, inner S .back b _ v, inner S .back d rest w)
     form-back (eop o a b) rest (w-op room u v) = rw (room, append-assoc (exprBytes a) (exprBytes b) rest, op-exact .back o _ tt, inner S .back a _ u, inner S .back b rest v)
@@ -86,11 +86,11 @@ module _ (n : ℕ) (inner : (S : Scope) → Exact (exprAt n S) exprBytes (Within
 
     now-forth : Reading 0x13 nowForm
     unfolding exprBehind exprBytes
-    now-forth room = next (index-exact (S .now) .forth) λ c u. done (w-now room u) refl
+    now-forth room = next (index-exact (S .channels) .forth) λ c u. done (w-now room u) refl
 
     last-forth : Reading 0x14 lastForm
     unfolding exprBehind exprBytes
-    last-forth room = next (index-exact (S .last) .forth) λ c u. done (w-last room u) refl
+    last-forth room = next (index-exact (S .channels) .forth) λ c u. done (w-last room u) refl
 
     let-forth : Reading 0x15 letForm
     unfolding exprBehind exprBytes

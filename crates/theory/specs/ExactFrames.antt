@@ -125,20 +125,20 @@ module _ (known : File) where
           rw (
             append-assoc (declaredBytes (i .declared)) (exprBytes (i .initial)) rest,
             declared-exact (length (known .types)) .back (i .declared) _ (w .declared),
-            expr-exact nestingMost (outerScope (known .types) (known .functions) 0 0) .back (i .initial) rest (w .initial),
+            expr-exact nestingMost (outerScope (known .types) (known .functions) 0) .back (i .initial) rest (w .initial),
           )
 
       forth : Behind inputBytes (WithinInput known) [] (input known)
       forth =
           next (declared-exact (length (known .types)) .forth) λ τ u.
-          next (expr-exact nestingMost (outerScope (known .types) (known .functions) 0 0) .forth) λ e v.
+          next (expr-exact nestingMost (outerScope (known .types) (known .functions) 0) .forth) λ e v.
           done (record { declared = u; initial = v }) refl
 
 -- a node where the file has so many channels
 pub record NodeAmong (channels : ℕ) (known : File) (n : Node) : Type 0 where
   pub declared : WithinDeclared (length (known .types)) (n .declared)
-  pub initial : WithinExpr nestingMost (outerScope (known .types) (known .functions) 0 0) (n .initial)
-  pub update : WithinExpr nestingMost (outerScope (known .types) (known .functions) channels channels) (n .update)
+  pub initial : WithinExpr nestingMost (outerScope (known .types) (known .functions) 0) (n .initial)
+  pub update : WithinExpr nestingMost (outerScope (known .types) (known .functions) channels) (n .update)
 
 pub node-exact : (channels : ℕ) (known : File) → Exact (node channels known) nodeBytes (NodeAmong channels known)
 unfolding node andThen nodeBytes
@@ -149,13 +149,13 @@ node-exact channels known = record { back = back; forth = forth }
         rw (
           append-three (declaredBytes (n .declared)) (exprBytes (n .initial)) (exprBytes (n .update)) rest,
           declared-exact (length (known .types)) .back (n .declared) _ (w .declared),
-          expr-exact nestingMost (outerScope (known .types) (known .functions) 0 0) .back (n .initial) _ (w .initial),
-          expr-exact nestingMost (outerScope (known .types) (known .functions) channels channels) .back (n .update) rest (w .update),
+          expr-exact nestingMost (outerScope (known .types) (known .functions) 0) .back (n .initial) _ (w .initial),
+          expr-exact nestingMost (outerScope (known .types) (known .functions) channels) .back (n .update) rest (w .update),
         )
 
     forth : Behind nodeBytes (NodeAmong channels known) [] (node channels known)
     forth =
         next (declared-exact (length (known .types)) .forth) λ τ u.
-        next (expr-exact nestingMost (outerScope (known .types) (known .functions) 0 0) .forth) λ e v.
-        next (expr-exact nestingMost (outerScope (known .types) (known .functions) channels channels) .forth) λ e′ w.
+        next (expr-exact nestingMost (outerScope (known .types) (known .functions) 0) .forth) λ e v.
+        next (expr-exact nestingMost (outerScope (known .types) (known .functions) channels) .forth) λ e′ w.
         done (record { declared = u; initial = v; update = w }) (simp append-assoc)

@@ -79,7 +79,7 @@ module _ {P : File} (within : Within P) where
 
 -- ---- the initial values of a file
 abbrev pub initialScope : File → Scope
-initialScope P = outerScope (P .types) (P .functions) 0 0
+initialScope P = outerScope (P .types) (P .functions) 0
 
 pub initials-within : {P : File} → Within P → All (WithinExpr nestingMost (initialScope P)) (initialValues P)
 initials-within within = all-append (all-to-map (λ (i : Input). i .initial) (all-map (λ i w. w .initial) (within .inputs))) (all-to-map (λ (n : Node). n .initial) (all-map (λ n w. w .initial) (within .nodes)))

@@ -29,7 +29,7 @@ use Rattle.theory.specs.AnyOrder.{readings-length, read-by}
 mutual
   unfolding readings wider
 
-  pub readings-within : {n : ℕ} {S : Scope} {e : Expr} → WithinExpr n S e → All (λ c. c < S .now) (readings e)
+  pub readings-within : {n : ℕ} {S : Scope} {e : Expr} → WithinExpr n S e → All (λ c. c < S .channels) (readings e)
   readings-within (w-bool room) = all-nil
   readings-within (w-int room less) = all-nil
   readings-within (w-var room less) = all-nil
@@ -44,11 +44,11 @@ mutual
   readings-within (w-adj room size e) = readings-within e
   readings-within (w-fit room bound a b d) = all-append (readings-within a) (all-append (readings-within b) (readings-within d))
 
-  all-readings-within : {n m : ℕ} {S : Scope} {es : Exprs} → WithinExprs n S m es → All (λ c. c < S .now) (allReadings es)
+  all-readings-within : {n m : ℕ} {S : Scope} {es : Exprs} → WithinExprs n S m es → All (λ c. c < S .channels) (allReadings es)
   all-readings-within ws-nil = all-nil
   all-readings-within (ws-cons e es) = all-append (readings-within e) (all-readings-within es)
 
-  branch-readings-within : {n : ℕ} {S : Scope} {cs : List Constructor} {bs : Exprs} → WithinBranches n S cs bs → All (λ c. c < S .now) (allReadings bs)
+  branch-readings-within : {n : ℕ} {S : Scope} {cs : List Constructor} {bs : Exprs} → WithinBranches n S cs bs → All (λ c. c < S .channels) (allReadings bs)
   branch-readings-within wb-nil = all-nil
   branch-readings-within (wb-cons b bs) = all-append (readings-within b) (branch-readings-within bs)
 

@@ -7,8 +7,8 @@ use borrow.Author.Needs.{needs}
 use Rattle.language.specs.Limits.{byteRange}
 use Rattle.expression_reader.specs.Follows.{formAt}
 use Rattle.expression_reader.specs.ScopeLaws.{levels-in, levels-most, levels-roomy}
-use Rattle.expression_reader.specs.HeadLaws.{code-level, code-form, head-none, head-done, last-form, fewer-levels}
-use Rattle.expression_reader.specs.FormLaws.{index-less, opens-whole, bool-whole, int-whole, variable-whole, now-whole, last-whole, let-whole, case-whole, fit-whole, leaf-bool, leaf-int, leaf-variable, leaf-now, leaf-last, opens-if, opens-operator, opens-size, opens-call, opens-construct, binding-stops, binding-done}
+use Rattle.expression_reader.specs.HeadLaws.{code-level, code-form, head-none, head-done, channel-form, last-form, fewer-levels}
+use Rattle.expression_reader.specs.FormLaws.{index-less, opens-whole, bool-whole, int-whole, variable-whole, let-whole, case-whole, fit-whole, leaf-bool, leaf-int, leaf-variable, opens-channel, opens-if, opens-operator, opens-size, opens-call, opens-construct, binding-stops, binding-done}
 use Rattle.expression_reader.specs.CaseLaws.{branches-none, branches-stop, branches-done, case-stops, case-subject, case-type, case-done, fit-stops, fit-subject, fit-arm, fit-done}
 use Rattle.expression_reader.specs.NestedLaws.{NestedTo, nested-start, nested-end, nested-resumed, nested-refused, nested-passed, nested-inside, fewer-left}
 use Rattle.text.specs.Places.{bytesLeft}
@@ -329,7 +329,7 @@ behind-opened-requires-3 : (t : ℕ) → behind-lts.Need-opened-requires-3 (
 ) (behind-at t) behind.Post
 behind-opened-requires-3 t c κs = tt
 
-behind-index-requires-2 : (t : ℕ) → behind-lts.Need-index-requires-2 (
+behind-binding-requires : (t : ℕ) → behind-lts.Need-binding-requires (
   code-reads.Asked,
   code-reads.Learnt,
   step-of-reads.Asked,
@@ -353,33 +353,7 @@ behind-index-requires-2 : (t : ℕ) → behind-lts.Need-index-requires-2 (
   fit-below t,
   fit.Post,
 ) (behind-at t) behind.Post
-behind-index-requires-2 t c κs = tt
-
-behind-step-of-requires-3 : (t : ℕ) → behind-lts.Need-step-of-requires-3 (
-  code-reads.Asked,
-  code-reads.Learnt,
-  step-of-reads.Asked,
-  step-of-reads.Learnt,
-  opened-reads.Asked,
-  opened-reads.Learnt,
-  past-int-reads.Asked,
-  past-int-reads.Learnt,
-  index-reads.Asked,
-  index-reads.Learnt,
-  binding-below t,
-  binding.Post,
-  call-reads.Asked,
-  call-reads.Learnt,
-  construct-reads.Asked,
-  construct-reads.Learnt,
-  case-of-below t,
-  case-of.Post,
-  size-reads.Asked,
-  size-reads.Learnt,
-  fit-below t,
-  fit.Post,
-) (behind-at t) behind.Post
-behind-step-of-requires-3 t c κs = tt
+behind-binding-requires t c κs = (omega (arith, (c .before .before .pre .0)), ((c .before .before .pre .1 .0), (c .before .before .pre .1 .1 .0)))
 
 behind-opened-requires-4 : (t : ℕ) → behind-lts.Need-opened-requires-4 (
   code-reads.Asked,
@@ -407,58 +381,6 @@ behind-opened-requires-4 : (t : ℕ) → behind-lts.Need-opened-requires-4 (
 ) (behind-at t) behind.Post
 behind-opened-requires-4 t c κs = tt
 
-behind-index-requires-3 : (t : ℕ) → behind-lts.Need-index-requires-3 (
-  code-reads.Asked,
-  code-reads.Learnt,
-  step-of-reads.Asked,
-  step-of-reads.Learnt,
-  opened-reads.Asked,
-  opened-reads.Learnt,
-  past-int-reads.Asked,
-  past-int-reads.Learnt,
-  index-reads.Asked,
-  index-reads.Learnt,
-  binding-below t,
-  binding.Post,
-  call-reads.Asked,
-  call-reads.Learnt,
-  construct-reads.Asked,
-  construct-reads.Learnt,
-  case-of-below t,
-  case-of.Post,
-  size-reads.Asked,
-  size-reads.Learnt,
-  fit-below t,
-  fit.Post,
-) (behind-at t) behind.Post
-behind-index-requires-3 t c κs = tt
-
-behind-step-of-requires-4 : (t : ℕ) → behind-lts.Need-step-of-requires-4 (
-  code-reads.Asked,
-  code-reads.Learnt,
-  step-of-reads.Asked,
-  step-of-reads.Learnt,
-  opened-reads.Asked,
-  opened-reads.Learnt,
-  past-int-reads.Asked,
-  past-int-reads.Learnt,
-  index-reads.Asked,
-  index-reads.Learnt,
-  binding-below t,
-  binding.Post,
-  call-reads.Asked,
-  call-reads.Learnt,
-  construct-reads.Asked,
-  construct-reads.Learnt,
-  case-of-below t,
-  case-of.Post,
-  size-reads.Asked,
-  size-reads.Learnt,
-  fit-below t,
-  fit.Post,
-) (behind-at t) behind.Post
-behind-step-of-requires-4 t c κs = tt
-
 behind-opened-requires-5 : (t : ℕ) → behind-lts.Need-opened-requires-5 (
   code-reads.Asked,
   code-reads.Learnt,
@@ -484,84 +406,6 @@ behind-opened-requires-5 : (t : ℕ) → behind-lts.Need-opened-requires-5 (
   fit.Post,
 ) (behind-at t) behind.Post
 behind-opened-requires-5 t c κs = tt
-
-behind-binding-requires : (t : ℕ) → behind-lts.Need-binding-requires (
-  code-reads.Asked,
-  code-reads.Learnt,
-  step-of-reads.Asked,
-  step-of-reads.Learnt,
-  opened-reads.Asked,
-  opened-reads.Learnt,
-  past-int-reads.Asked,
-  past-int-reads.Learnt,
-  index-reads.Asked,
-  index-reads.Learnt,
-  binding-below t,
-  binding.Post,
-  call-reads.Asked,
-  call-reads.Learnt,
-  construct-reads.Asked,
-  construct-reads.Learnt,
-  case-of-below t,
-  case-of.Post,
-  size-reads.Asked,
-  size-reads.Learnt,
-  fit-below t,
-  fit.Post,
-) (behind-at t) behind.Post
-behind-binding-requires t c κs = (omega (arith, (c .before .before .pre .0)), ((c .before .before .pre .1 .0), (c .before .before .pre .1 .1 .0)))
-
-behind-opened-requires-6 : (t : ℕ) → behind-lts.Need-opened-requires-6 (
-  code-reads.Asked,
-  code-reads.Learnt,
-  step-of-reads.Asked,
-  step-of-reads.Learnt,
-  opened-reads.Asked,
-  opened-reads.Learnt,
-  past-int-reads.Asked,
-  past-int-reads.Learnt,
-  index-reads.Asked,
-  index-reads.Learnt,
-  binding-below t,
-  binding.Post,
-  call-reads.Asked,
-  call-reads.Learnt,
-  construct-reads.Asked,
-  construct-reads.Learnt,
-  case-of-below t,
-  case-of.Post,
-  size-reads.Asked,
-  size-reads.Learnt,
-  fit-below t,
-  fit.Post,
-) (behind-at t) behind.Post
-behind-opened-requires-6 t c κs = tt
-
-behind-opened-requires-7 : (t : ℕ) → behind-lts.Need-opened-requires-7 (
-  code-reads.Asked,
-  code-reads.Learnt,
-  step-of-reads.Asked,
-  step-of-reads.Learnt,
-  opened-reads.Asked,
-  opened-reads.Learnt,
-  past-int-reads.Asked,
-  past-int-reads.Learnt,
-  index-reads.Asked,
-  index-reads.Learnt,
-  binding-below t,
-  binding.Post,
-  call-reads.Asked,
-  call-reads.Learnt,
-  construct-reads.Asked,
-  construct-reads.Learnt,
-  case-of-below t,
-  case-of.Post,
-  size-reads.Asked,
-  size-reads.Learnt,
-  fit-below t,
-  fit.Post,
-) (behind-at t) behind.Post
-behind-opened-requires-7 t c κs = tt
 
 behind-code-requires-2 : (t : ℕ) → behind-lts.Need-code-requires-2 (
   code-reads.Asked,
@@ -589,7 +433,7 @@ behind-code-requires-2 : (t : ℕ) → behind-lts.Need-code-requires-2 (
 ) (behind-at t) behind.Post
 behind-code-requires-2 t c κs = tt
 
-behind-step-of-requires-5 : (t : ℕ) → behind-lts.Need-step-of-requires-5 (
+behind-step-of-requires-3 : (t : ℕ) → behind-lts.Need-step-of-requires-3 (
   code-reads.Asked,
   code-reads.Learnt,
   step-of-reads.Asked,
@@ -613,9 +457,9 @@ behind-step-of-requires-5 : (t : ℕ) → behind-lts.Need-step-of-requires-5 (
   fit-below t,
   fit.Post,
 ) (behind-at t) behind.Post
-behind-step-of-requires-5 t c κs = tt
+behind-step-of-requires-3 t c κs = tt
 
-behind-opened-requires-8 : (t : ℕ) → behind-lts.Need-opened-requires-8 (
+behind-opened-requires-6 : (t : ℕ) → behind-lts.Need-opened-requires-6 (
   code-reads.Asked,
   code-reads.Learnt,
   step-of-reads.Asked,
@@ -639,7 +483,7 @@ behind-opened-requires-8 : (t : ℕ) → behind-lts.Need-opened-requires-8 (
   fit-below t,
   fit.Post,
 ) (behind-at t) behind.Post
-behind-opened-requires-8 t c κs = tt
+behind-opened-requires-6 t c κs = tt
 
 behind-call-requires : (t : ℕ) → behind-lts.Need-call-requires (
   code-reads.Asked,
@@ -719,7 +563,7 @@ behind-case-of-requires : (t : ℕ) → behind-lts.Need-case-of-requires (
 ) (behind-at t) behind.Post
 behind-case-of-requires t c κs = (omega (arith, (c .before .before .pre .0)), ((c .before .before .pre .1 .0), (c .before .before .pre .1 .1 .0)))
 
-behind-opened-requires-9 : (t : ℕ) → behind-lts.Need-opened-requires-9 (
+behind-opened-requires-7 : (t : ℕ) → behind-lts.Need-opened-requires-7 (
   code-reads.Asked,
   code-reads.Learnt,
   step-of-reads.Asked,
@@ -743,7 +587,7 @@ behind-opened-requires-9 : (t : ℕ) → behind-lts.Need-opened-requires-9 (
   fit-below t,
   fit.Post,
 ) (behind-at t) behind.Post
-behind-opened-requires-9 t c κs = tt
+behind-opened-requires-7 t c κs = tt
 
 behind-size-requires : (t : ℕ) → behind-lts.Need-size-requires (
   code-reads.Asked,
@@ -771,7 +615,7 @@ behind-size-requires : (t : ℕ) → behind-lts.Need-size-requires (
 ) (behind-at t) behind.Post
 behind-size-requires t c κs = tt
 
-behind-opened-requires-10 : (t : ℕ) → behind-lts.Need-opened-requires-10 (
+behind-opened-requires-8 : (t : ℕ) → behind-lts.Need-opened-requires-8 (
   code-reads.Asked,
   code-reads.Learnt,
   step-of-reads.Asked,
@@ -795,7 +639,85 @@ behind-opened-requires-10 : (t : ℕ) → behind-lts.Need-opened-requires-10 (
   fit-below t,
   fit.Post,
 ) (behind-at t) behind.Post
-behind-opened-requires-10 t c κs = tt
+behind-opened-requires-8 t c κs = tt
+
+behind-index-requires-2 : (t : ℕ) → behind-lts.Need-index-requires-2 (
+  code-reads.Asked,
+  code-reads.Learnt,
+  step-of-reads.Asked,
+  step-of-reads.Learnt,
+  opened-reads.Asked,
+  opened-reads.Learnt,
+  past-int-reads.Asked,
+  past-int-reads.Learnt,
+  index-reads.Asked,
+  index-reads.Learnt,
+  binding-below t,
+  binding.Post,
+  call-reads.Asked,
+  call-reads.Learnt,
+  construct-reads.Asked,
+  construct-reads.Learnt,
+  case-of-below t,
+  case-of.Post,
+  size-reads.Asked,
+  size-reads.Learnt,
+  fit-below t,
+  fit.Post,
+) (behind-at t) behind.Post
+behind-index-requires-2 t c κs = tt
+
+behind-step-of-requires-4 : (t : ℕ) → behind-lts.Need-step-of-requires-4 (
+  code-reads.Asked,
+  code-reads.Learnt,
+  step-of-reads.Asked,
+  step-of-reads.Learnt,
+  opened-reads.Asked,
+  opened-reads.Learnt,
+  past-int-reads.Asked,
+  past-int-reads.Learnt,
+  index-reads.Asked,
+  index-reads.Learnt,
+  binding-below t,
+  binding.Post,
+  call-reads.Asked,
+  call-reads.Learnt,
+  construct-reads.Asked,
+  construct-reads.Learnt,
+  case-of-below t,
+  case-of.Post,
+  size-reads.Asked,
+  size-reads.Learnt,
+  fit-below t,
+  fit.Post,
+) (behind-at t) behind.Post
+behind-step-of-requires-4 t c κs = tt
+
+behind-opened-requires-9 : (t : ℕ) → behind-lts.Need-opened-requires-9 (
+  code-reads.Asked,
+  code-reads.Learnt,
+  step-of-reads.Asked,
+  step-of-reads.Learnt,
+  opened-reads.Asked,
+  opened-reads.Learnt,
+  past-int-reads.Asked,
+  past-int-reads.Learnt,
+  index-reads.Asked,
+  index-reads.Learnt,
+  binding-below t,
+  binding.Post,
+  call-reads.Asked,
+  call-reads.Learnt,
+  construct-reads.Asked,
+  construct-reads.Learnt,
+  case-of-below t,
+  case-of.Post,
+  size-reads.Asked,
+  size-reads.Learnt,
+  fit-below t,
+  fit.Post,
+) (behind-at t) behind.Post
+behind-opened-requires-9 t c κs = tt
 
 behind-fit-requires : (t : ℕ) → behind-lts.Need-fit-requires (
   code-reads.Asked,
@@ -821,9 +743,9 @@ behind-fit-requires : (t : ℕ) → behind-lts.Need-fit-requires (
   fit-below t,
   fit.Post,
 ) (behind-at t) behind.Post
-behind-fit-requires t c κs = (omega (arith, (c .before .before .pre .0)), ((c .before .before .pre .1 .0), (c .before .before .pre .1 .1 .0)))
+behind-fit-requires t c κs = (omega (arith, (c .before .before .before .pre .0)), ((c .before .before .before .pre .1 .0), (c .before .before .before .pre .1 .1 .0)))
 
-behind-opened-requires-11 : (t : ℕ) → behind-lts.Need-opened-requires-11 (
+behind-opened-requires-10 : (t : ℕ) → behind-lts.Need-opened-requires-10 (
   code-reads.Asked,
   code-reads.Learnt,
   step-of-reads.Asked,
@@ -847,7 +769,7 @@ behind-opened-requires-11 : (t : ℕ) → behind-lts.Need-opened-requires-11 (
   fit-below t,
   fit.Post,
 ) (behind-at t) behind.Post
-behind-opened-requires-11 t c κs = tt
+behind-opened-requires-10 t c κs = tt
 
 behind-returns : (t : ℕ) → behind-lts.Need-returns (
   code-reads.Asked,
@@ -951,7 +873,7 @@ behind-returns-4 : (t : ℕ) → behind-lts.Need-returns-4 (
   fit-below t,
   fit.Post,
 ) (behind-at t) behind.Post
-behind-returns-4 t c = opens-whole _ _ _ _ _ (c .before .before .before .before .before .args .form) (ap formAt (c .before .before .before .match .keys4)) now-whole (leaf-now _ _ _ _ _ (c .before .before .index2 .ensures) (c .before .step-of3 .ensures)) (c .opened4 .ensures)
+behind-returns-4 t c = opens-whole _ _ _ _ _ (c .before .before .before .before .args .form) (ap formAt (c .before .before .match .keys4)) let-whole (c .before .binding .ensures) (c .opened4 .ensures)
 
 behind-returns-5 : (t : ℕ) → behind-lts.Need-returns-5 (
   code-reads.Asked,
@@ -977,7 +899,7 @@ behind-returns-5 : (t : ℕ) → behind-lts.Need-returns-5 (
   fit-below t,
   fit.Post,
 ) (behind-at t) behind.Post
-behind-returns-5 t c = opens-whole _ _ _ _ _ (c .before .before .before .before .before .args .form) (ap formAt (c .before .before .before .match .keys5)) last-whole (leaf-last _ _ _ _ _ (c .before .before .index3 .ensures) (c .before .step-of4 .ensures)) (c .opened5 .ensures)
+behind-returns-5 t c = opens-if _ _ _ _ _ (c .before .before .before .args .form) (c .before .match .keys5) (c .opened5 .ensures)
 
 behind-returns-6 : (t : ℕ) → behind-lts.Need-returns-6 (
   code-reads.Asked,
@@ -1003,7 +925,7 @@ behind-returns-6 : (t : ℕ) → behind-lts.Need-returns-6 (
   fit-below t,
   fit.Post,
 ) (behind-at t) behind.Post
-behind-returns-6 t c = opens-whole _ _ _ _ _ (c .before .before .before .before .args .form) (ap formAt (c .before .before .match .keys6)) let-whole (c .before .binding .ensures) (c .opened6 .ensures)
+behind-returns-6 t c = opens-operator _ _ _ _ _ (c .before .before .before .before .before .args .form) (c .before .before .before .match .keys6) (c .before .before .code2 .ensures) (c .before .step-of3 .ensures) (c .opened6 .ensures)
 
 behind-returns-7 : (t : ℕ) → behind-lts.Need-returns-7 (
   code-reads.Asked,
@@ -1029,7 +951,7 @@ behind-returns-7 : (t : ℕ) → behind-lts.Need-returns-7 (
   fit-below t,
   fit.Post,
 ) (behind-at t) behind.Post
-behind-returns-7 t c = opens-if _ _ _ _ _ (c .before .before .before .args .form) (c .before .match .keys7) (c .opened7 .ensures)
+behind-returns-7 t c = opens-call _ _ _ _ _ (c .before .before .before .args .form) (c .before .match .keys7) (c .call .ensures)
 
 behind-returns-8 : (t : ℕ) → behind-lts.Need-returns-8 (
   code-reads.Asked,
@@ -1055,7 +977,7 @@ behind-returns-8 : (t : ℕ) → behind-lts.Need-returns-8 (
   fit-below t,
   fit.Post,
 ) (behind-at t) behind.Post
-behind-returns-8 t c = opens-operator _ _ _ _ _ (c .before .before .before .before .before .args .form) (c .before .before .before .match .keys8) (c .before .before .code2 .ensures) (c .before .step-of5 .ensures) (c .opened8 .ensures)
+behind-returns-8 t c = opens-construct _ _ _ _ _ (c .before .before .before .args .form) (c .before .match .keys8) (c .construct .ensures)
 
 behind-returns-9 : (t : ℕ) → behind-lts.Need-returns-9 (
   code-reads.Asked,
@@ -1081,7 +1003,7 @@ behind-returns-9 : (t : ℕ) → behind-lts.Need-returns-9 (
   fit-below t,
   fit.Post,
 ) (behind-at t) behind.Post
-behind-returns-9 t c = opens-call _ _ _ _ _ (c .before .before .before .args .form) (c .before .match .keys9) (c .call .ensures)
+behind-returns-9 t c = opens-whole _ _ _ _ _ (c .before .before .before .before .args .form) (ap formAt (c .before .before .match .keys9)) case-whole (c .before .case-of .ensures) (c .opened7 .ensures)
 
 behind-returns-10 : (t : ℕ) → behind-lts.Need-returns-10 (
   code-reads.Asked,
@@ -1107,7 +1029,7 @@ behind-returns-10 : (t : ℕ) → behind-lts.Need-returns-10 (
   fit-below t,
   fit.Post,
 ) (behind-at t) behind.Post
-behind-returns-10 t c = opens-construct _ _ _ _ _ (c .before .before .before .args .form) (c .before .match .keys10) (c .construct .ensures)
+behind-returns-10 t c = opens-size _ _ _ _ _ (c .before .before .before .before .args .form) (c .before .before .match .keys10) (c .before .size .ensures) (c .opened8 .ensures)
 
 behind-returns-11 : (t : ℕ) → behind-lts.Need-returns-11 (
   code-reads.Asked,
@@ -1133,7 +1055,7 @@ behind-returns-11 : (t : ℕ) → behind-lts.Need-returns-11 (
   fit-below t,
   fit.Post,
 ) (behind-at t) behind.Post
-behind-returns-11 t c = opens-whole _ _ _ _ _ (c .before .before .before .before .args .form) (ap formAt (c .before .before .match .keys11)) case-whole (c .before .case-of .ensures) (c .opened9 .ensures)
+behind-returns-11 t c = opens-channel _ _ _ _ _ (c .before .before .before .before .before .before .args .form) (channel-form (c .before .before .before .before .before .before .args .form) (c .before .before .before .if1 .taken) (c .before .before .before .before .match .rest)) (c .before .before .index2 .ensures) (c .before .step-of4 .ensures) (c .opened9 .ensures)
 
 behind-returns-12 : (t : ℕ) → behind-lts.Need-returns-12 (
   code-reads.Asked,
@@ -1159,33 +1081,7 @@ behind-returns-12 : (t : ℕ) → behind-lts.Need-returns-12 (
   fit-below t,
   fit.Post,
 ) (behind-at t) behind.Post
-behind-returns-12 t c = opens-size _ _ _ _ _ (c .before .before .before .before .args .form) (c .before .before .match .keys12) (c .before .size .ensures) (c .opened10 .ensures)
-
-behind-returns-13 : (t : ℕ) → behind-lts.Need-returns-13 (
-  code-reads.Asked,
-  code-reads.Learnt,
-  step-of-reads.Asked,
-  step-of-reads.Learnt,
-  opened-reads.Asked,
-  opened-reads.Learnt,
-  past-int-reads.Asked,
-  past-int-reads.Learnt,
-  index-reads.Asked,
-  index-reads.Learnt,
-  binding-below t,
-  binding.Post,
-  call-reads.Asked,
-  call-reads.Learnt,
-  construct-reads.Asked,
-  construct-reads.Learnt,
-  case-of-below t,
-  case-of.Post,
-  size-reads.Asked,
-  size-reads.Learnt,
-  fit-below t,
-  fit.Post,
-) (behind-at t) behind.Post
-behind-returns-13 t c = opens-whole _ _ _ _ _ (c .before .before .before .before .args .form) (ap formAt (last-form (c .before .before .before .before .args .form) (c .before .before .before .before .pre .1 .1 .1) (c .before .before .match .rest))) fit-whole (c .before .fit .ensures) (c .opened11 .ensures)
+behind-returns-12 t c = opens-whole _ _ _ _ _ (c .before .before .before .before .before .args .form) (ap formAt (last-form (c .before .before .before .before .before .args .form) (c .before .before .before .before .before .pre .1 .1 .1) (c .before .before .if1 .left) (c .before .before .before .match .rest))) fit-whole (c .before .fit .ensures) (c .opened10 .ensures)
 
 binding-nested-requires : (t : ℕ) → binding-lts.Need-nested-requires (
   nested-below t,
@@ -2271,26 +2167,23 @@ pub +behind+binding+branches+case-of+fit+head+nested-spec : {M : Type 1} → sta
     (behind-index-requires t)
     (behind-step-of-requires-2 t)
     (behind-opened-requires-3 t)
-    (behind-index-requires-2 t)
-    (behind-step-of-requires-3 t)
-    (behind-opened-requires-4 t)
-    (behind-index-requires-3 t)
-    (behind-step-of-requires-4 t)
-    (behind-opened-requires-5 t)
     (behind-binding-requires t)
-    (behind-opened-requires-6 t)
-    (behind-opened-requires-7 t)
+    (behind-opened-requires-4 t)
+    (behind-opened-requires-5 t)
     (behind-code-requires-2 t)
-    (behind-step-of-requires-5 t)
-    (behind-opened-requires-8 t)
+    (behind-step-of-requires-3 t)
+    (behind-opened-requires-6 t)
     (behind-call-requires t)
     (behind-construct-requires t)
     (behind-case-of-requires t)
-    (behind-opened-requires-9 t)
+    (behind-opened-requires-7 t)
     (behind-size-requires t)
-    (behind-opened-requires-10 t)
+    (behind-opened-requires-8 t)
+    (behind-index-requires-2 t)
+    (behind-step-of-requires-4 t)
+    (behind-opened-requires-9 t)
     (behind-fit-requires t)
-    (behind-opened-requires-11 t)
+    (behind-opened-requires-10 t)
     (behind-returns t)
     (behind-returns-2 t)
     (behind-returns-3 t)
@@ -2302,8 +2195,7 @@ pub +behind+binding+branches+case-of+fit+head+nested-spec : {M : Type 1} → sta
     (behind-returns-9 t)
     (behind-returns-10 t)
     (behind-returns-11 t)
-    (behind-returns-12 t)
-    (behind-returns-13 t))
+    (behind-returns-12 t))
     (λ t. binding-lts.spec
     (nested-below t, nested.Post, wider-reads.Asked, wider-reads.Learnt)
     (binding-at t)

@@ -4,11 +4,12 @@ use borrow.Author.Tests.{not-true, not-false}
 use mathlib.Core.Path.{sym, _∙_}
 use native.Mathlib.Omega.{arith}
 use native.Mathlib.Nat.{pos-of-ne-zero}
+use Rattle.heads.specs.HeadForms.{now-named, last-named}
 use Rattle.plain_types.specs.MadePlaces.{same-levels, same-variables, at-expr, at-want, at-let, at-if, at-op, at-call, at-con, at-several, at-case, at-branches, at-adj, at-fit}
 use Rattle.plain_types.specs.FormLaws.{want-wrong, want-other, want-done, let-wrong, let-done, fit-wrong, fit-unnamed, fit-none, fit-done, if-wrong, if-none, if-done, op-wrong, op-none, op-done, adj-stops, adj-wrong, adj-unnamed, adj-done}
 use Rattle.plain_types.specs.ListLaws.{several-none, several-wrong, several-more, call-done, con-done}
 use Rattle.plain_types.specs.CaseLaws.{branches-all, branches-wrong, branches-next, case-wrong, case-none, case-done}
-use Rattle.plain_types.specs.ExprLaws.{expr-cut, expr-missing, expr-bool, expr-int, expr-var, expr-now, expr-last, expr-let, expr-if, expr-op, expr-call, expr-con, expr-case, expr-adj, expr-fit}
+use Rattle.plain_types.specs.ExprLaws.{expr-cut, expr-missing, expr-bool, expr-int, expr-var, expr-channel, expr-let, expr-if, expr-op, expr-call, expr-con, expr-case, expr-adj, expr-fit}
 use Prim.Native.Nat.{ℕ, _+_, _*_, _<_}
 use borrow.Fn.Kinds.{In}
 use borrow.Fn.PlainCycle.{Measures, is, falls, and}
@@ -2018,7 +2019,7 @@ exprs·expr-returns-5 : (t : ℕ) → exprs·expr-lts.Need-returns-5 (
   exprs·fit-below t,
   exprs·fit.Post,
 ) (exprs·expr-at t) exprs·expr.Post
-exprs·expr-returns-5 t c = expr-now _ _ _ _ (c .before .before .before .before .before .before .before .before .frame-line .ensures) (c .before .before .before .before .before .before .head-at .ensures) (c .channel .ensures) (c .before .before .form2 .given .1)
+exprs·expr-returns-5 t c = expr-channel _ _ _ _ (c .before .before .before .before .before .before .before .before .frame-line .ensures) (c .before .before .before .before .before .before .head-at .ensures) (now-named (c .before .before .form2 .given .1)) (c .channel .ensures)
 
 exprs·expr-returns-6 : (t : ℕ) → exprs·expr-lts.Need-returns-6 (
   frame-line-reads.Asked,
@@ -2052,7 +2053,7 @@ exprs·expr-returns-6 : (t : ℕ) → exprs·expr-lts.Need-returns-6 (
   exprs·fit-below t,
   exprs·fit.Post,
 ) (exprs·expr-at t) exprs·expr.Post
-exprs·expr-returns-6 t c = expr-last _ _ _ _ (c .before .before .before .before .before .before .before .before .frame-line .ensures) (c .before .before .before .before .before .before .head-at .ensures) (c .channel2 .ensures) (c .before .before .form3 .given .1)
+exprs·expr-returns-6 t c = expr-channel _ _ _ _ (c .before .before .before .before .before .before .before .before .frame-line .ensures) (c .before .before .before .before .before .before .head-at .ensures) (last-named (c .before .before .form3 .given .1)) (c .channel2 .ensures)
 
 exprs·expr-returns-7 : (t : ℕ) → exprs·expr-lts.Need-returns-7 (
   frame-line-reads.Asked,

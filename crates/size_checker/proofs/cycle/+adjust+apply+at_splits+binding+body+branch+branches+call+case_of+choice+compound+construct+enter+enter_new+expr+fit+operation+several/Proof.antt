@@ -14,12 +14,13 @@ use denote.Enum.Declared.{tagOf, declared}
 use Rattle.heads.proofs.Form.{enum as form-enum}
 use Rattle.heads.specs.declared.Form.{Form}
 use Rattle.heads.specs.declared.Form.the-variants.{Bool as BoolForm, Int, Variable, Now, Last, Let, If, Operator, Call, Construct, Case, Adjust, Fit, Missing}
+use Rattle.heads.specs.HeadForms.{now-named, last-named}
 use Rattle.sizes.proofs.SizedType.{enum}
 use Rattle.sizes.specs.declared.SizedType.{SizedType}
 use Rattle.size_laws.specs.NamedTypes.{NotNamed}
 use Rattle.size_steps.specs.Leaves.{Operands}
 use Rattle.language.specs.Limits.{byteRange}
-use Rattle.size_laws.specs.ExprLaws.{isLeaf, expr-deep, expr-bool, expr-int, expr-variable, expr-now, expr-last, expr-compound, compound-is, compound-none, operands-of}
+use Rattle.size_laws.specs.ExprLaws.{isLeaf, expr-deep, expr-bool, expr-int, expr-variable, expr-channel, expr-compound, compound-is, compound-none, operands-of}
 use Rattle.size_laws.specs.SeveralLaws.{Turned, turned-start, turned-variable, turned-expr, several-part, several-done}
 use Rattle.size_laws.specs.CallLaws.{call-arguments, call-applied, apply-refused, apply-done}
 use Rattle.size_laws.specs.EnterLaws.{enter-found, enter-absent, new-refused, new-entered, entry-numbers}
@@ -5274,7 +5275,7 @@ expr-returns-5 : (t : ℕ) → expr-lts.Need-returns-5 (
   compound-below t,
   compound.Post,
 ) (expr-at t) expr.Post
-expr-returns-5 t c = expr-now (c .before .before .before .before .before .before .before .before .before .frame-line .ensures) (c .before .before .before .before .before .before .before .before .head-at .ensures) (c .before .before .before .before .before .before .down .ensures) (c .before .before .before .before .form2 .given .1) (c .before .before .channel-type .ensures) (c .leaf4 .ensures) (c .before .nothing2 .ensures)
+expr-returns-5 t c = expr-channel (c .before .before .before .before .before .before .before .before .before .frame-line .ensures) (c .before .before .before .before .before .before .before .before .head-at .ensures) (c .before .before .before .before .before .before .down .ensures) (now-named (c .before .before .before .before .form2 .given .1)) (c .before .before .channel-type .ensures) (c .leaf4 .ensures) (c .before .nothing2 .ensures)
 
 expr-returns-6 : (t : ℕ) → expr-lts.Need-returns-6 (
   frame-line-reads.Asked,
@@ -5296,7 +5297,7 @@ expr-returns-6 : (t : ℕ) → expr-lts.Need-returns-6 (
   compound-below t,
   compound.Post,
 ) (expr-at t) expr.Post
-expr-returns-6 t c = expr-last (c .before .before .before .before .before .before .before .before .before .frame-line .ensures) (c .before .before .before .before .before .before .before .before .head-at .ensures) (c .before .before .before .before .before .before .down .ensures) (c .before .before .before .before .form3 .given .1) (c .before .before .channel-type2 .ensures) (c .leaf5 .ensures) (c .before .nothing3 .ensures)
+expr-returns-6 t c = expr-channel (c .before .before .before .before .before .before .before .before .before .frame-line .ensures) (c .before .before .before .before .before .before .before .before .head-at .ensures) (c .before .before .before .before .before .before .down .ensures) (last-named (c .before .before .before .before .form3 .given .1)) (c .before .before .channel-type2 .ensures) (c .leaf5 .ensures) (c .before .nothing3 .ensures)
 
 expr-same-length : (t : ℕ) → expr-lts.Need-same-length (
   frame-line-reads.Asked,
