@@ -175,7 +175,7 @@ fn iterate_file(
     words: &mut [u32],
     scratch: &mut [u32],
 ) -> Result<(), Fault> {
-    require(is_valid(file, words, scratch))?;
+    require(is_valid(file, words, board.cells, scratch))?;
     let inputs = line::read(file, line).ok_or(Refusal::InputLine.in_frame(0))?;
     let mut evaluation = Evaluation::new(file, words);
     take_inputs(&mut evaluation, &inputs)?;

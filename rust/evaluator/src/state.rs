@@ -103,11 +103,6 @@ impl<W: AsRef<[u32]>> State<W> {
         self.words.as_ref()
     }
 
-    /// The cells the board lends.
-    pub fn capacity(&self) -> u32 {
-        ((self.words().len() - HEADER_WORDS) / CELL_WORDS) as u32
-    }
-
     pub fn used(&self) -> u32 {
         self.words()[0]
     }
@@ -181,7 +176,7 @@ impl<W: AsRef<[u32]> + AsMut<[u32]>> State<W> {
     /// Makes the next cell; none where no cell is free.
     pub fn make(&mut self, cell: Cell) -> Option<u32> {
         let at = self.used();
-        if at >= self.capacity() {
+        if cell_start(at + 1) > self.words().len() {
             return None;
         }
         self.set_cell(at, cell);

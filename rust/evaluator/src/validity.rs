@@ -6,11 +6,11 @@ use crate::state::{Cell, State, Tag};
 use crate::syntax::{Field, File, SizedType};
 use crate::value::{construction_size, fields_within};
 
-/// Exactly the words of the board's cells are looked at; `marks` is scratch of
+/// Exactly the words of the board's cells are lent; `marks` is scratch of
 /// at least one word a cell.
-pub fn is_valid(file: &File, words: &[u32], marks: &mut [u32]) -> bool {
+pub fn is_valid(file: &File, words: &[u32], cells: u32, marks: &mut [u32]) -> bool {
     let state = State::new(words);
-    state.used() <= state.capacity()
+    state.used() <= cells
         && (0..state.used()).all(|at| cell_is_valid(file, &state, at))
         && channels_are_valid(file, &state)
         && all_reached(file, &state, marks)

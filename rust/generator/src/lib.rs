@@ -22,6 +22,7 @@ pub mod case;
 pub mod damage;
 pub mod depths;
 pub mod edges;
+pub mod full;
 pub mod growth;
 pub mod mixture;
 pub mod readings;

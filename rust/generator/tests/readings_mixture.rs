@@ -52,7 +52,7 @@ fn asked(file: &File, case: &Case) -> Asked {
         Case::Run { .. } => Asked::CheckWithout,
         Case::Iteration { board, state, .. } => {
             let words = state.get(..state_words(board.cells));
-            let valid = |words| is_valid(file, words, &mut [0; SCRATCH_WORDS]);
+            let valid = |words| is_valid(file, words, board.cells, &mut [0; SCRATCH_WORDS]);
             match words.is_some_and(valid) {
                 true => Asked::Iteration,
                 false => Asked::IterationWithout,

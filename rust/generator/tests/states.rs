@@ -36,7 +36,8 @@ impl Described<'_> {
             let count = self.file.channel_count();
             (words[..count].to_vec(), words[count..].to_vec())
         };
-        if self.state.used() > self.state.capacity() || unused.iter().any(|word| *word != 0) {
+        let room = self.state.words().len() >= state_words(self.state.used());
+        if !room || unused.iter().any(|word| *word != 0) {
             return false;
         }
         let mut numbered = channels.iter().enumerate();

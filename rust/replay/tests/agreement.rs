@@ -74,6 +74,7 @@ fn the_copied_shared_cases_agree() {
     assert!(agree_unchanged(&own_folder(), "stage1") >= 80);
     assert!(agree_unchanged(&own_folder(), "stage2") >= 80);
     assert!(agree_unchanged(&own_folder(), "stage3") >= 80);
+    assert!(agree_unchanged(&own_folder(), "stage4") >= 80);
 }
 
 /// What is now answered where it was 2 or 6, and how often, in the shared cases of document 01.
@@ -138,4 +139,5 @@ fn all_shared_cases_agree() {
     agree_unchanged(&folder, "stage1");
     agree_unchanged(&folder, "stage2");
     agree_unchanged(&folder, "stage3");
+    agree_unchanged(&folder, "stage4");
 }
