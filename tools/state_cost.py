@@ -3,8 +3,8 @@ import os
 import subprocess
 
 from callgrind import inside, said
+from stack_used import ROOT
 
-ROOT = os.path.dirname(os.path.dirname(os.path.abspath(__file__)))
 RUST = os.path.join(ROOT, "rust")
 PROGRAM = os.path.join(RUST, "target", "release", "examples", "state_once")
 MOST_A_WORD = 60

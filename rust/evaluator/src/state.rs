@@ -1,6 +1,6 @@
 //! The words of a state: how cells and channels are laid out.
 
-use crate::limits::{CELL_HEAD_WORDS, CELL_WORDS, CHANNELS, FIELDS, HEADER_WORDS};
+use crate::limits::{state_words, CELL_HEAD_WORDS, CELL_WORDS, CHANNELS, FIELDS};
 use crate::syntax::File;
 use crate::value::Tree;
 use std::rc::Rc;
@@ -211,6 +211,7 @@ impl<W: AsRef<[u32]> + AsMut<[u32]>> State<W> {
     }
 }
 
+/// A cell starts where a state of the cells below it ends.
 fn cell_start(at: u32) -> usize {
-    HEADER_WORDS + CELL_WORDS * at as usize
+    state_words(at)
 }

@@ -4,6 +4,7 @@ use crate::build::{construction, declared, definition};
 use evaluator::limits::{state_words, BOARD_CELLS, FIELDS, INPUTS, LARGEST_SIZE, NODES};
 use evaluator::state::{Cell, State, Tag};
 use evaluator::syntax::{Expression, Field, File, Input, Node, TypeDefinition};
+use evaluator::value::construction_size;
 
 /// A file, and the words of a state of it.
 pub struct FullState {
@@ -46,12 +47,8 @@ impl Filling {
     }
 
     fn construct(&mut self, type_index: usize, constructor: usize, cells: &[u32]) -> u32 {
-        let fields = &self.file.constructor(type_index, constructor).fields;
-        let own = fields
-            .iter()
-            .zip(cells)
-            .filter(|(field, _)| **field == Field::Own);
-        let size = 1 + own.map(|(_, cell)| self.size(*cell)).sum::<usize>();
+        let sizes: Vec<usize> = cells.iter().map(|cell| self.size(*cell)).collect();
+        let size = construction_size(self.file.constructor(type_index, constructor), &sizes);
         let tag = Tag::Construction {
             type_index,
             constructor,

@@ -1,6 +1,7 @@
 //! Gives the proved library a full state and a line that is not allowed, for an instruction counter: the call ends behind the check
 //! of the state. The first argument names the state; with `refused` for the second its first word is out of range, so that the
-//! check ends there, and the difference of the two is what the check takes. Without arguments the cells, words and names of the states are written.
+//! check ends there, and the difference of the two is what the check takes. Without arguments the cells, words and names of the
+//! states are written.
 
 use evaluator::answer::{Answer, Board, Refusal};
 use evaluator::limits::BOARD_CELLS;
