@@ -1,4 +1,6 @@
 // Boards, their buffers and answers: refusals with and without bounds, 15 to 17, whether enough is lent, 18, and buffers cleared.
+#![tactic(auto)]
+
 ghost use Rattle.std.specs.Prelude.{◌≡◌};
 ghost use Rattle.answers.specs.Boards.{refusal_of, bounds_of, read_answer, Allows, Lends, LendsAll, LendsList, Judges, ClearsBoth};
 
@@ -10,7 +12,7 @@ use reader::Reading;
 use state_words::state_length;
 
 // What a board has.
-#[derive(Drop)]
+#[derive(Clone, Copy)]
 pub struct Board {
     pub cells: u32,
     pub slots: u32,
@@ -19,7 +21,7 @@ pub struct Board {
 
 // A number (0 where all is well), a frame (from 1; 0 where none is named) and three bounds.
 #[repr(C)]
-#[derive(Drop)]
+#[derive(Clone, Copy)]
 pub struct Answer {
     pub number: u32,
     pub frame: u32,

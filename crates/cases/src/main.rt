@@ -1,6 +1,8 @@
 // Document 01's cases that are no theorems, and damaged files, each answer on a line. First the reader's, number and frame, on small
 // files and damaged ones; then the checker's, number, frame, heap, environment and stack, on listing 3 with boards that fit and that
 // fall short by one, and on the two-frame file.
+#![tactic(auto)]
+
 use answers::Board;
 use checker::check_words;
 use instance_list::LIST_WORDS;

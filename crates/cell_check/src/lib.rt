@@ -1,4 +1,6 @@
 // Whether lent words are cells of the file, each over the cells below it. Fields are counted along; no place is divided.
+#![tactic(auto)]
+
 ghost use Rattle.std.specs.Prelude.{◌≡◌, ◌≤◌, drop};
 ghost use Rattle.language.specs.Limits.{fields_most};
 ghost use Rattle.language.specs.Layout.{tag_step, all_zero};

@@ -1,4 +1,6 @@
 // The worst cell count of a type at a size: recursion over type number and size, with a lent table of what is known already.
+#![tactic(auto)]
+
 ghost use Rattle.std.specs.Prelude.{◌≡◌, ◌+◌, ◌≤◌, get_or, set};
 ghost use Rattle.language.specs.Limits.{number_most};
 ghost use Rattle.cells.specs.Counts.{place, CountsCells, CountsOwn, CountsConstructor, CountsOthers, CountsField, CountsType, CountsChannels};

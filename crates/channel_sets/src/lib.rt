@@ -1,4 +1,6 @@
 // Sets of channels as the bits of a word.
+#![tactic(auto)]
+
 ghost use Rattle.std.specs.Prelude.{◌≡◌, ◌-◌, ◌^◌, ◌<◌};
 ghost use Rattle.channel_sets.specs.Sets.{word_bits, in_set};
 

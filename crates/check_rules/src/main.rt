@@ -1,4 +1,6 @@
 // Checks the rule file on standard input with the largest board, and writes the answer on one line.
+#![tactic(auto)]
+
 use answers::{Answer, Board};
 use checker::check_words;
 use instance_list::LIST_WORDS;

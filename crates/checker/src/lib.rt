@@ -1,4 +1,6 @@
 // The checker of rule files: refusals 1 to 18 and 25, the three bounds, and the list of instances.
+#![tactic(auto)]
+
 ghost use Rattle.std.specs.Prelude.{◌≡◌, length};
 ghost use Rattle.instance_list.specs.Records.{list_words};
 ghost use Rattle.checker.specs.Checks.{sizing_refusal, ReadHeld, OrderedHeld, Needs, ChecksGiven, ChecksWords};

@@ -1,4 +1,6 @@
 // A constructor's cell: "a constructor over size 64, a field above its k .. is refusal 23", and its size comes before its cell.
+#![tactic(auto)]
+
 ghost use Rattle.std.specs.Prelude.{◌<◌};
 ghost use Rattle.language.specs.Limits.{size_most};
 ghost use Rattle.new_cells.specs.Steps.{Board, Gives};

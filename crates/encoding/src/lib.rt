@@ -1,1 +1,2 @@
 // The lemmas stand in specs/; this crate has no code.
+#![tactic(auto)]

@@ -1,4 +1,6 @@
 // Where the expressions of a file end: a table over the places of the text, filled once. On the same walk, what each node reads by `13`.
+#![tactic(auto)]
+
 mod walk;
 
 ghost use Rattle.std.specs.Prelude.{◌≡◌, ◌*◌, ◌<◌};
@@ -18,7 +20,7 @@ use text::Cursor;
 use walk::expression;
 
 // The expressions of a frame: a function's body; a channel's initial value; a node's update.
-#[derive(Drop)]
+#[derive(Clone, Copy)]
 pub enum Part {
     Body,
     Initial,

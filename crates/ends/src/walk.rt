@@ -15,7 +15,7 @@ use language::limits::TEXT_MOST;
 use text::Cursor;
 
 // An expression that was walked over: the cursor behind it, and the channels that its `13`s name, as a set.
-#[derive(Drop)]
+#[derive(Clone, Copy)]
 pub struct Passed {
     pub behind: Cursor,
     pub readings: u32,

@@ -1,11 +1,13 @@
 // The three numbers of figure 7 as they are held: each stops at 65,535, and no sum overflows.
+#![tactic(auto)]
+
 ghost use Rattle.std.specs.Prelude.{◌≡◌, ◌+◌, max};
 ghost use Rattle.language.specs.Estimate.{stop, nothing as nothing_of, one_cell, after as after_of, either as either_of, with_slots, in_call};
 ghost use Rattle.estimate.specs.Stands.{Makes, Changes, Combines};
 
 use language::limits::NUMBER_MOST;
 
-#[derive(Drop)]
+#[derive(Clone, Copy)]
 pub struct Estimate {
     pub env: u32,
     pub heap: u32,

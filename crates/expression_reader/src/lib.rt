@@ -1,5 +1,7 @@
 // Passing over an expression: refusals 4 to 7, bytes left to right. Each function hands back the cursor behind what it passed, or
 // the number of the refusal.
+#![tactic(auto)]
+
 ghost use Rattle.std.specs.Prelude.{◌≡◌, [], ◌≤◌, ◌<◌, get_or, drop};
 ghost use Rattle.language.specs.Limits.{byte_range, nesting_most};
 ghost use Rattle.language.specs.ReadExpr.{expr_at, expr_behind, branches as branches_read, let_form, call_form, con_form, case_form, fit_form};
@@ -19,7 +21,7 @@ use text::{Cursor, Found, Number, Step, step_of};
 
 // What may be named where an expression stands: how many variables, size variables, channels (by `13` as by `14`), types
 // and functions.
-#[derive(Drop)]
+#[derive(Clone, Copy)]
 pub struct Names {
     pub variables: u32,
     pub sizes: u32,

@@ -1,4 +1,6 @@
 // Reading the head of an expression: its form by the first byte, with the bytes that belong to it.
+#![tactic(auto)]
+
 pub mod places;
 pub mod skip;
 
@@ -14,7 +16,7 @@ use language::codes::{
 use text::{Cursor, Number};
 
 // The form of an expression, with the bytes that belong to it; Missing where none is read.
-#[derive(Drop)]
+#[derive(Clone, Copy)]
 pub enum Form {
     Bool(u32),
     Int(u32),
@@ -33,7 +35,7 @@ pub enum Form {
 }
 
 // A form, and the cursor where its first part starts.
-#[derive(Drop)]
+#[derive(Clone, Copy)]
 pub struct Head {
     pub form: Form,
     pub next: Cursor,
@@ -148,7 +150,7 @@ pub fn head_at(line: &[u8], c: Cursor) -> Head
 }
 
 // A variable and the cursor behind it.
-#[derive(Drop)]
+#[derive(Clone, Copy)]
 pub enum VariableAt {
     Is(u32, Cursor),
     Other,

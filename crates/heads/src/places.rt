@@ -10,7 +10,7 @@ use text::{Cursor, TYPE_STEP};
 pub const SCOPE_WORDS: usize = VARIABLES_MOST as usize;
 
 // Where an expression stands: its place in the line of that number, the levels left, and how many variables are in scope.
-#[derive(Drop)]
+#[derive(Clone, Copy)]
 pub struct Place {
     pub at: Cursor,
     pub levels: u32,

@@ -1,5 +1,7 @@
 // The index that the reader leaves for later passes: one row of words, the counts of the file and a section each for its frames,
 // types, functions and channels. Where a word stands is said here; index_writer and signatures write by it, all else asks the accessors.
+#![tactic(auto)]
+
 pub mod channels;
 pub mod frames;
 pub mod functions;
@@ -82,7 +84,7 @@ pub const CHANNELS_FROM: usize = FUNCTIONS_FROM + FUNCTION_TABLE;
 pub const INDEX_WORDS: usize = CHANNELS_FROM + CHANNEL_TABLE;
 
 // How many frames of each kind a file has.
-#[derive(Drop)]
+#[derive(Clone, Copy)]
 pub struct Counts {
     pub types: u32,
     pub functions: u32,

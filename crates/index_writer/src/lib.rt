@@ -1,4 +1,6 @@
 // The words of the index written: counts, frames, the places of a function's parts, channels.
+#![tactic(auto)]
+
 ghost use Rattle.std.specs.Prelude.{◌≡◌, ◌+◌, ◌*◌, ◌^◌, ◌<◌, length, set};
 ghost use Rattle.index.specs.Tables.{frame_words, function_words, channel_words};
 ghost use Rattle.index.specs.FunctionTable.{head_words};

@@ -1,4 +1,6 @@
 // The state at the start: the cells of the initial values, laid one after the other in channel order, and the header that names them.
+#![tactic(auto)]
+
 ghost use Rattle.new_cells.specs.Steps.{Board};
 ghost use Rattle.initial_state.specs.Promises.{LaysInitials, LaysState};
 

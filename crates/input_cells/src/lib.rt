@@ -1,5 +1,7 @@
 // The cells of an input line's values, above those used: the fields of a constructor left to right before it. The line was judged before.
 // On bytes that spell no value it ends too, and keeps to its cells; what it then answers is free.
+#![tactic(auto)]
+
 ghost use Rattle.std.specs.Prelude.{◌+◌, ◌≤◌, length};
 ghost use Rattle.language.specs.Layout.{state_length};
 ghost use Rattle.language.specs.ReadExpr.{bool_form, int_form, con_form};
@@ -18,21 +20,21 @@ use state_words::{put_constructor, put_leaf};
 use text::{Cursor, Found, Number};
 
 // A value laid: how many cells are used then, of which its own is the last; its size; and the cursor behind it.
-#[derive(Drop)]
+#[derive(Clone, Copy)]
 struct Laid {
     pub used: u32,
     pub size: u32,
     pub next: Cursor,
 }
 
-#[derive(Drop)]
+#[derive(Clone, Copy)]
 enum Laying {
     Done(Laid),
     Full,
 }
 
 // All values laid, with so many cells used then; or the input whose cells are not all there.
-#[derive(Drop)]
+#[derive(Clone, Copy)]
 pub enum Inputs {
     Used(u32),
     Full(u32),

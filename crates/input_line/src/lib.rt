@@ -1,5 +1,7 @@
 // The input line: whether it is one that the file allows (document 01, "Estimation and memory"). It is judged whole before any cell is
 // made.
+#![tactic(auto)]
+
 ghost use Rattle.std.specs.Prelude.{◌≡◌, ◌≤◌};
 ghost use Rattle.language.specs.Line.{value_at, value_behind};
 ghost use Rattle.language.specs.ReadExpr.{bool_form, int_form, con_form};

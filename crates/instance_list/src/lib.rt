@@ -1,5 +1,7 @@
 // The lent list of instances, a slice of structs: a record added, a record found, and the list filled from the words in which the
 // checker keeps it.
+#![tactic(auto)]
+
 ghost use Rattle.std.specs.Prelude.{◌≡◌, ◌^◌, ◌<◌, length, set, replicate};
 ghost use Rattle.language.specs.Sizes.{same_sizes};
 ghost use Rattle.instance_list.specs.Records.{none, records_words, used_in, sizes_from, record_at, filled, same_key, FindsPlace};
@@ -16,7 +18,7 @@ pub const LIST_WORDS: usize = RECORDS_WORDS + 1;
 
 // A record of the list: a function, its sizes, unused 0, and its three numbers.
 #[repr(C)]
-#[derive(Drop)]
+#[derive(Clone, Copy)]
 pub struct Instance {
     pub function: u32,
     pub sizes: [u32; PARAMETERS_MOST],

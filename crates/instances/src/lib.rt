@@ -1,4 +1,6 @@
 // The checker's list of instances, as words: a record is the function, its sizes and its three numbers.
+#![tactic(auto)]
+
 ghost use Rattle.std.specs.Prelude.{◌≡◌, ◌+◌, ◌^◌, ◌<◌, ◌≤◌, length, replicate};
 ghost use Rattle.std.proofs.lemmas.List.Edits.{sets};
 ghost use Rattle.language.specs.Limits.{parameters_most};
@@ -31,7 +33,7 @@ pub const MEMO_WORDS: usize = HINT_WORDS + INSTANCES_MOST;
 const HINT_FACTOR: usize = 149;
 
 // The number of the record that is the instance.
-#[derive(Drop)]
+#[derive(Clone, Copy)]
 pub enum Search {
     Found(u32),
     Absent,

@@ -1,4 +1,6 @@
 // One iteration on a valid state with an allowed line: the inputs' cells, then the nodes' updates, then the slide.
+#![tactic(auto)]
+
 pub mod nodes;
 
 ghost use Rattle.std.specs.Prelude.{◌≡◌, ◌≤◌, length};

@@ -18,7 +18,7 @@ use state_words::reads::size;
 use state_words::tags::{CONSTRUCTOR_TAGS, word_size};
 
 // How many cells are used once all nodes are updated; or a refusal, and the channel where it was met.
-#[derive(Drop)]
+#[derive(Clone, Copy)]
 pub enum Updated {
     Used(u32),
     Refused(u32, u32),

@@ -141,7 +141,7 @@ pub const CARRIAGE_RETURN: u8 = 0x0D;
 
 pub const SEMICOLON: u8 = 0x3B;
 
-#[derive(Drop)]
+#[derive(Clone, Copy)]
 pub struct KindCodes {
     pub kind_type: u32,
     pub kind_function: u32,
@@ -151,7 +151,7 @@ pub struct KindCodes {
     pub kind_input_line: u32,
 }
 
-#[derive(Drop)]
+#[derive(Clone, Copy)]
 pub struct TypeCodes {
     pub type_bool: u32,
     pub type_int: u32,
@@ -166,7 +166,7 @@ pub struct TypeCodes {
     pub field_forms: u32,
 }
 
-#[derive(Drop)]
+#[derive(Clone, Copy)]
 pub struct SizeCodes {
     pub size_number: u32,
     pub size_variable: u32,
@@ -181,7 +181,7 @@ pub struct SizeCodes {
     pub relations: u32,
 }
 
-#[derive(Drop)]
+#[derive(Clone, Copy)]
 pub struct ExpressionCodes {
     pub expr_bool: u32,
     pub expr_int: u32,
@@ -200,7 +200,7 @@ pub struct ExpressionCodes {
     pub expr_forms: u32,
 }
 
-#[derive(Drop)]
+#[derive(Clone, Copy)]
 pub struct OperandCodes {
     pub operator_plus: u32,
     pub operator_minus: u32,
@@ -218,7 +218,7 @@ pub struct OperandCodes {
     pub bools: u32,
 }
 
-#[derive(Drop)]
+#[derive(Clone, Copy)]
 pub struct TextCodes {
     pub digit_base: u32,
     pub line_feed: u8,

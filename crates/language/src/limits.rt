@@ -56,7 +56,7 @@ pub const CELL_WORDS: usize = 2 + FIELDS_MOST;
 pub const SCRATCH_WORDS: usize = 2048;
 
 // The limits of a file, and of a board with its buffers.
-#[derive(Drop)]
+#[derive(Clone, Copy)]
 pub struct FileLimits {
     pub byte_range: u32,
     pub int_range: u64,
@@ -78,7 +78,7 @@ pub struct FileLimits {
     pub nesting: u32,
 }
 
-#[derive(Drop)]
+#[derive(Clone, Copy)]
 pub struct BoardLimits {
     pub instances: usize,
     pub number: u32,

@@ -78,7 +78,7 @@ pub const BUFFER_SHORT: u32 = 24;
 // Document 02, R-3: "some node reads itself through `13`, directly or by others"
 pub const SELF_READING: u32 = 25;
 
-#[derive(Drop)]
+#[derive(Clone, Copy)]
 pub struct RefusalNumbers {
     pub no_refusal: u32,
     pub no_frame: u32,

@@ -1,4 +1,6 @@
 // Marks what the channels reach, a word for each cell. A cell names lower ones, so the highest are visited first.
+#![tactic(auto)]
+
 ghost use Rattle.std.specs.Prelude.{◌≡◌, not, get_or, set, eqb};
 ghost use Rattle.state_words.specs.Words.{channel_at, field_at, row_of};
 ghost use Rattle.marking.specs.Marks.{Touched, Visited, MarkedFrom, MarksReached};

@@ -1,4 +1,6 @@
 // A new cell for a constant: written above the used ones, or refused with 20. What any step that makes a cell promises is in specs/.
+#![tactic(auto)]
+
 ghost use Rattle.std.specs.Prelude.{[], ◌∷◌};
 ghost use Rattle.language.specs.Limits.{fields_most};
 ghost use Rattle.language.specs.Layout.{padded};
@@ -10,7 +12,7 @@ use state_words::tags::{BOOL_TAG, INT_TAG};
 use state_words::{put_leaf, state_length};
 
 // A cell and how many are used, or a refusal.
-#[derive(Drop)]
+#[derive(Clone, Copy)]
 pub enum Value {
     Is(u32, u32),
     Refused(u32),

@@ -1,5 +1,7 @@
 // The order of an iteration's nodes: which node reads itself by `13`, directly or by others, and which node is next. Readings are a set of
 // channels for each node.
+#![tactic(auto)]
+
 ghost use Rattle.std.specs.Prelude.{◌≡◌, ◌+◌, ◌≤◌, ◌<◌, get_or};
 ghost use Rattle.channel_sets.specs.Sets.{word_bits};
 ghost use Rattle.node_order.specs.Lowest.{LowestBelow};

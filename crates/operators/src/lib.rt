@@ -1,5 +1,7 @@
 // What an operator gives of two cells: "sums, differences and products wrap", comparisons are signed; and whether the left side of and,
 // or decides alone.
+#![tactic(auto)]
+
 ghost use Rattle.std.specs.Prelude.{◌≡◌, ◌*◌, ◌%◌, ◌<◌, ◌≤◌};
 ghost use Rattle.language.specs.Limits.{int_range};
 ghost use Rattle.language.specs.Codes.{operator_equal, operator_and};

@@ -1,4 +1,6 @@
 // What a program links: the proved calls under plain names.
+#![tactic(auto)]
+
 ghost use Rattle.std.specs.Prelude.{◌≡◌, length};
 ghost use Rattle.language.specs.Reader.{read_file};
 ghost use Rattle.checker.specs.Checks.{ChecksWords, Checks};

@@ -1,4 +1,6 @@
 // Plain types in every frame of a file that was read: refusal 9. The definition stands in language/specs/PlainTypes.
+#![tactic(auto)]
+
 mod exprs;
 mod frames;
 mod initials;

@@ -2,7 +2,7 @@
 use super::words::{PlainType, Want};
 
 // Expressions in a row: what is wanted of them from a number on, how many, and the type answered where all fit.
-#[derive(Drop)]
+#[derive(Clone, Copy)]
 pub struct Series {
     pub of: Want,
     pub first: u32,
@@ -11,7 +11,7 @@ pub struct Series {
 }
 
 // The branches of a case: its type, the constructor of the first one, how many there are, and the type of each.
-#[derive(Drop)]
+#[derive(Clone, Copy)]
 pub struct BranchSeries {
     pub of: u32,
     pub first: u32,

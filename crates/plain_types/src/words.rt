@@ -18,7 +18,7 @@ use language::limits::{NESTING_MOST, SIZE_VARIABLES_MOST};
 use text::{Cursor, Number, Step, TYPE_STEP};
 
 // A plain type: Bool, Int, or the number of a named type.
-#[derive(Drop)]
+#[derive(Clone, Copy)]
 pub enum PlainType {
     Bool,
     Int,
@@ -26,20 +26,20 @@ pub enum PlainType {
 }
 
 // A plain type, and the cursor behind what has it.
-#[derive(Drop)]
+#[derive(Clone, Copy)]
 pub struct Typed {
     pub of: PlainType,
     pub next: Cursor,
 }
 
-#[derive(Drop)]
+#[derive(Clone, Copy)]
 pub enum Typing {
     Is(Typed),
     Wrong,
 }
 
 // What types a list of expressions is compared with: a function's parameters, a constructor's fields.
-#[derive(Drop)]
+#[derive(Clone, Copy)]
 pub enum Want {
     Parameters(u32),
     Fields(u32, u32),

@@ -1,4 +1,6 @@
 // The reader of rule files: refusals 1 to 8, and the index for later passes.
+#![tactic(auto)]
+
 mod frames;
 mod lines;
 
@@ -16,14 +18,14 @@ use lines::judge;
 use text_lines::Judged;
 
 // A frame that was taken, with the counts then; or the number of the refusal.
-#[derive(Drop)]
+#[derive(Clone, Copy)]
 pub enum Frame {
     Taken(Counts),
     Refused(u32),
 }
 
 // A text that was read; or the refusal's number and frame.
-#[derive(Drop)]
+#[derive(Clone, Copy)]
 pub enum Reading {
     Done,
     Fault(u32, u32),

@@ -1,4 +1,6 @@
 // The call that runs with every tin: an iteration.
+#![tactic(auto)]
+
 ghost use Rattle.std.specs.Prelude.{◌≡◌};
 ghost use Rattle.checker.specs.Checks.{ReadHeld};
 ghost use Rattle.runtime.specs.Runs.{frame_at, answer_of, Cleared, Walked, Lent, IteratesLent, IteratesRead, Iterates};

@@ -1,4 +1,6 @@
 // Written sizes worked out at the sizes of their variables; types with sizes, conditions and measures.
+#![tactic(auto)]
+
 ghost use Rattle.std.specs.Prelude.{◌≡◌, ◌<◌, ◌≤◌};
 ghost use Rattle.language.specs.Limits.{byte_range, nesting_most};
 ghost use Rattle.language.specs.Sizes.{same_type};
@@ -10,7 +12,7 @@ use language::limits::{NESTING_MOST, SIZE_MOST};
 use text::{Cursor, Found, Number, TYPE_STEP};
 
 // A size: what is added, what is taken away; the cursor behind it.
-#[derive(Drop)]
+#[derive(Clone, Copy)]
 struct Worked {
     pub added: u64,
     pub taken: u64,
@@ -18,14 +20,14 @@ struct Worked {
 }
 
 // The size of a type, 1 to 64, and the cursor behind it; outside of these is refusal 10.
-#[derive(Drop)]
+#[derive(Clone, Copy)]
 pub enum SizeAt {
     Is(u8, Cursor),
     Outside,
 }
 
 // A type with its size: Bool, Int, or the number of a named type and its size.
-#[derive(Drop)]
+#[derive(Clone, Copy)]
 pub enum SizedType {
     Bool,
     Int,
@@ -33,14 +35,14 @@ pub enum SizedType {
 }
 
 // A result or return type, and the cursor behind it; a size outside is refusal 10.
-#[derive(Drop)]
+#[derive(Clone, Copy)]
 pub enum TypeAt {
     Is(SizedType, Cursor),
     Outside,
 }
 
 // Whether a condition holds, and the cursor behind it.
-#[derive(Drop)]
+#[derive(Clone, Copy)]
 struct Judged {
     pub holds: bool,
     pub next: Cursor,

@@ -1,5 +1,7 @@
 // The cells that are reached slide down in their order, and take the new numbers with them. While cells are passed a cell's mark
 // becomes its new number: a cell names lower ones only, so whoever asks for it comes later.
+#![tactic(auto)]
+
 ghost use Rattle.std.specs.Prelude.{◌≡◌, ◌∷◌, ◌+◌, ◌^◌, ◌<◌, ◌≤◌, length, get_or, set};
 ghost use Rattle.std.proofs.lemmas.List.Edits.{sets};
 ghost use Rattle.language.specs.Limits.{fields_most, channels_most};

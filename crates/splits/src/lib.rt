@@ -1,4 +1,6 @@
 // The splits of a size into positive sizes, one after the other in a lent slice, in ascending dictionary order.
+#![tactic(auto)]
+
 ghost use Rattle.std.specs.Prelude.{◌≡◌, ◌<◌, ◌≤◌, length};
 ghost use Rattle.splits.specs.Next.{may_move};
 ghost use Rattle.splits.specs.Moves.{Starts, Moves, Pivot};

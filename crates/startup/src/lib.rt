@@ -1,4 +1,6 @@
 // The call that starts a rule file on a board.
+#![tactic(auto)]
+
 ghost use Rattle.std.specs.Prelude.{◌≡◌, length};
 ghost use Rattle.checker.specs.Checks.{ReadHeld};
 ghost use Rattle.instance_list.specs.Records.{list_words};

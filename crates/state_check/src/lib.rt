@@ -1,4 +1,6 @@
 // Whether lent words are a valid state of the file: refusal 18 (document 01, "Estimation and memory").
+#![tactic(auto)]
+
 ghost use Rattle.std.specs.Prelude.{◌≤◌, length};
 ghost use Rattle.language.specs.Layout.{state_length};
 ghost use Rattle.state_check.specs.Loads.{ChannelsJudged, MarksJudged, ReachedJudged, LaidJudged, RightJudged, StateJudged};

@@ -1,5 +1,7 @@
 // The words of a state: how many cells are used, a cell number for each channel, then the words of each cell. No other crate knows
 // where a word stands.
+#![tactic(auto)]
+
 pub mod reads;
 pub mod tags;
 

@@ -1,4 +1,6 @@
 // Hexadecimal text: digits, and a cursor over the bytes that a line spells.
+#![tactic(auto)]
+
 ghost use Rattle.std.specs.Prelude.{true, ◌≡◌, ◌<◌, ◌^◌, ltb};
 ghost use Rattle.language.specs.Limits.{byte_range};
 ghost use Rattle.language.specs.Parser.{byte as byte_read, index as index_read, count as count_read};
@@ -108,26 +110,26 @@ fn unspaced_int(line: &[u8], at: usize) -> bool
 
 // A place in a frame. That it is the number of characters before it, only this crate says: others hand it on. Each read hands it back moved
 // on.
-#[derive(Drop)]
+#[derive(Clone, Copy)]
 pub struct Cursor {
     pub at: usize,
 }
 
 // A number read, and the cursor behind it.
-#[derive(Drop)]
+#[derive(Clone, Copy)]
 pub struct Found {
     pub value: u32,
     pub next: Cursor,
 }
 
-#[derive(Drop)]
+#[derive(Clone, Copy)]
 pub enum Number {
     Is(Found),
     Refused(u32),
 }
 
 // The cursor behind what was passed over.
-#[derive(Drop)]
+#[derive(Clone, Copy)]
 pub enum Step {
     Next(Cursor),
     Stop(u32),

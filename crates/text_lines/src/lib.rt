@@ -1,4 +1,6 @@
 // The lines of a text: where each ends, whether its characters spell bytes, and whether it is a channel.
+#![tactic(auto)]
+
 pub mod rule_lines;
 
 ghost use Rattle.std.specs.Prelude.{◌≡◌, true, ◌+◌, ◌≤◌, length, drop};
@@ -13,14 +15,14 @@ use text::{BYTE_DIGITS, Cursor, FOURTH_PAIR, Number, SECOND_PAIR, THIRD_PAIR};
 const EIGHT: usize = 4 * BYTE_DIGITS;
 
 // A text judged as a whole: how many frames it has and how many of them are channels, or a refusal with its number and frame.
-#[derive(Drop)]
+#[derive(Clone, Copy)]
 pub enum Judged {
     Frames(u32, u32),
     Refused(u32, u32),
 }
 
 // Where a line ends, if it is ended by LF and spells bytes.
-#[derive(Drop)]
+#[derive(Clone, Copy)]
 pub enum LineEnd {
     At(usize),
     Bad,

@@ -9,14 +9,14 @@ use language::limits::BYTE_RANGE;
 use text::behind_spaces;
 
 // A frame's line: where its characters end, and where the next line starts.
-#[derive(Drop)]
+#[derive(Clone, Copy)]
 pub struct FrameEnd {
     pub end: usize,
     pub next: usize,
 }
 
 // A line of a rule file: one that is no frame, with where the next line starts; a frame's; or one that is refused.
-#[derive(Drop)]
+#[derive(Clone, Copy)]
 pub enum RuleLine {
     Extra(usize),
     Frame(FrameEnd),

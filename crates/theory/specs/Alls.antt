@@ -70,3 +70,4 @@ all_in (a ∷ l) f = all_cons (f a (in_head refl)) (all_in l (λ b i. f b (in_Ta
 pub all-member : {A : Type 0} {Q : A → Type 0} {l : List A} {a : A} → All Q l → In a l → Q a
 all-member {Q} (all_cons x p) (in_head e) = rw e x
 all-member (all_cons x p) (in_Tail i) = all-member p i
+all-member {A = A} {Q = Q} {a = a} all_nil x3 = elim x3 [ ]

@@ -4,7 +4,7 @@ use mathlib.Core.List.{List, [], ◌∷◌, ◌++◌}
 use Rattle.std.proofs.Math.Bool.{true}
 use Rattle.std.proofs.Math.Option.{some}
 use Rattle.std.proofs.Math.Path.{sym, subst}
-use Rattle.std.proofs.Common.{◌∙◌, arith, eqb-true}
+use Rattle.std.proofs.Common.{◌∙◌, arith, eqb-true, set}
 use Rattle.std.proofs.Math.ListN.{length, get_elem? as look, length-set, get_or-map}
 use Rattle.std.proofs.lemmas.List.{length-map}
 use Rattle.language.specs.Syntax.{Node, File, no_node, node_at_of, node_channel}
@@ -92,7 +92,7 @@ module _ (P : File) where
         derives = derives-from {done = done} k (kept-agree (f_next less new all rest) (next_node d small p)) all d;
         small = small;
       }))
-      (λ other. settles rest p (omega (arith, length-set now (node_channel P k) v)) i (one-cases (eqb i k) (mem i is) there (λ z. absurd (other (eqb-true i k z))) (λ z. z)))
+      (λ other. settles {now = set now (node_channel P k) v} rest p (omega (arith, length-set now (node_channel P k) v)) i (one-cases (eqb i k) (mem i is) there (λ z. absurd (other (eqb-true i k z))) (λ z. z)))
 
   -- ---- and where every node is settled, any order that respects the readings leads there
   pub leads : {last now vs : List Tree} {done is : List ℕ} → Follows (node_readings P) done is → ((i : ℕ) → i < length (node_readings P) → Settled last vs i) → Agree done now vs →
@@ -111,7 +111,7 @@ module _ (P : File) where
   leads {last} {now} {vs} (f_next {i} {done} {is} less new all rest) settled agree every room same =
       let s = settled i less in
       next_node (derives-from i (agree-sym agree) all s.derives) s.small
-      (leads rest settled (record {
+      (leads {now = set now (node_channel P i) s.tree} rest settled (record {
         at_inputs = λ c low. look-set-other now (node_channel P i) c s.tree (λ e. omega arith) ∙ agree.at_inputs c low;
         at_done = λ j e. equal_or_not j i
             (λ at. rw at (look-set-same now (node_channel P i) s.tree (omega arith) ∙ sym s.at))

@@ -4,7 +4,7 @@ use Rattle.std.specs.Prelude.{ℕ, suc, ◌+◌, ◌-◌, ◌≤◌, ◌<◌, Bo
 use mathlib.Core.List.{List, [], ◌∷◌, ◌++◌, Memᴰ as In}
 use Rattle.std.proofs.Math.Option.{some}
 use Rattle.std.proofs.Math.Path.{sym, ap}
-use Rattle.std.proofs.Common.{◌∙◌, lt-ltb, le-leb, eq-eqb}
+use Rattle.std.proofs.Common.{subst, ◌∙◌, lt-ltb, le-leb, eq-eqb}
 use Rattle.std.proofs.Math.ListN.{get_elem? as look}
 use Rattle.std.proofs.lemmas.Bool.{lt-leb}
 use Rattle.language.specs.Limits.{size_most}
@@ -262,7 +262,10 @@ module _ {P : File} {enter : Enter} {most left : ℕ} (en : EntersAgree P enter 
     agrees (t_op s a b r x) w u = rw x (op-agrees s (agrees a w.0 (all_left (instances_of a) _ u)) (agrees b w.1 (all_right (instances_of a) _ u)) r)
     agrees (t_call {g} {ks} {F} {τ} {n} es l s i c less fits d x) w u = rw x (call-agrees (agrees-all es w.1 (all_left (instances_of_all es) _ u)) w.0 l s i c less fits
         (λ frame. let v = all_right (instances_of_all es) _ u in en.enters K frame g F ks τ n l fits d (all_first v) (all_rest v)))
-    agrees (t_ctor es l s less i k x) w u = rw (x, k) (ctor-agrees (agrees-all es w u) l s less i)
+    agrees {p} {Γ} {Δ} (t_ctor {t} {i = j} {es = all} {ks} {m} {x = n} es l s less i k x) w u =
+        subst (λ (q : ℕ). Agrees P enter K most left p Γ Δ (econ t j all) (tnamed t q) n (instances_of_all es)) (sym k)
+        (subst (λ (q : Estimate). Agrees P enter K most left p Γ Δ (econ t j all) (tnamed t (1 + sum ks)) q (instances_of_all es)) (sym x)
+        (ctor-agrees (agrees-all es w u) l s less i))
     agrees (t_case e fits bs x) w u = rw x (case-agrees (agrees e w.0 (all_left (instances_of e) _ u)) fits (agrees-branches bs w.1 (all_right (instances_of e) _ u)))
     agrees (t_adj fits e le) w u = adj-agrees fits (agrees e w u) le
     agrees (t_fit a b d x) w u = rw x (fit-agrees (agrees a w.0 (all_left (instances_of a) _ u)) (agrees b w.1 (all_left (instances_of b) _ (all_right (instances_of a) _ u))) (agrees d w.2 (all_right (instances_of b) _ (all_right (instances_of a) _ u))))

@@ -12,6 +12,7 @@ in_appended : {A : Type 0} {a b : A} (l : List A) → In b (l ++ (a ∷ [])) →
 in_appended [] (in_head e) f = e
 in_appended (x ∷ l) (in_head e) f = absurd (f (in_head e))
 in_appended (x ∷ l) (in_Tail i) f = in_appended l i (λ j. f (in_Tail j))
+in_appended {A = A} {a = a} {b = b} [] (in_Tail i) f = elim i [ ]
 
 pub distinct_append : {A : Type 0} {a : A} {l : List A} → Distinct l → (In a l → ⊥) → Distinct (l ++ (a ∷ []))
 distinct_append distinct_nil f = distinct_cons f distinct_nil

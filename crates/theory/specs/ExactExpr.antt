@@ -24,6 +24,8 @@ module _ (n : ℕ) (inner : (S : Scope) → Exact (expr_at n S) expr_bytes (With
   unfolding exprs exprs_bytes and_then
   exprs-back S zero enil rest ws_nil = refl
   exprs-back S (suc m) (econs e es) rest (ws_cons w ws) = rw (append_assoc (expr_bytes e) (exprs_bytes es) rest, (inner S).back e _ w, exprs-back S m es rest ws)
+  exprs-back S zero (econs e es) rest x'' = elim x'' [ ]
+  exprs-back S (suc m) enil rest x3 = elim x3 [ ]
 
   exprs-forth : (S : Scope) (m : ℕ) → Behind exprs_bytes (WithinExprs n S m) [] (exprs (expr_at n S) m)
   unfolding exprs exprs_bytes
@@ -34,6 +36,8 @@ module _ (n : ℕ) (inner : (S : Scope) → Exact (expr_at n S) expr_bytes (With
   unfolding branches exprs_bytes and_then
   branches-back S [] enil rest wb_nil = refl
   branches-back S (fs ∷ cs) (econs b bs) rest (wb_cons w ws) = rw (append_assoc (expr_bytes b) (exprs_bytes bs) rest, (inner (wider (length fs) (owns fs) S)).back b _ w, branches-back S cs bs rest ws)
+  branches-back S [] (econs b bs) rest x'' = elim x'' [ ]
+  branches-back S (fs ∷ cs) enil rest x3 = elim x3 [ ]
 
   branches-forth : (S : Scope) (cs : List Constructor) → Behind exprs_bytes (WithinBranches n S cs) [] (branches (expr_at n) S cs)
   unfolding branches exprs_bytes

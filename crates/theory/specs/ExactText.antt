@@ -50,6 +50,7 @@ lines-forth (c ∷ t) = go (eqb c line_feed) refl (lines_of t).ended (lines_of t
 pub line-back : (bs : List ℕ) → Filled bs → line_bytes (spell_all pair_of bs) ≡ some bs
 unfolding line_bytes spell_all pair_of
 line-back (b ∷ bs) (filled w ws) = pairs-back (b ∷ bs) (all_cons w ws)
+line-back [] x' = elim x' [ ]
 
 pub line-forth : (l : List ℕ) → Whenever (λ bs. (l ≡ spell_all pair_of bs) × Filled bs) (line_bytes l)
 unfolding line_bytes spell_all
@@ -73,6 +74,7 @@ behind-back (b ∷ bs) (all_cons w ws) = rw (digit-is-not (b / digit_base) space
 pub frame_back : (bs : List ℕ) → Filled bs → frame_bytes (spell_all pair_of bs) ≡ some bs
 unfolding spell_all pair_of pair_at frame_bytes
 frame_back (b ∷ bs) (filled w ws) = rw (behind-back bs ws) (pair-back b bs w)
+frame_back [] x' = elim x' [ ]
 
 -- and what is read are bytes, for each of which the line has two characters
 record BytesIn (line bs : List ℕ) : Type 0 where
@@ -120,6 +122,7 @@ no_return (b ∷ c ∷ bs) = ap (λ (l : List ℕ). digit_of (b / digit_base) �
 not-extra : (bs : List ℕ) → Filled bs → is_extra (spell_all pair_of bs) ≡ false
 unfolding spell_all pair_of is_extra
 not-extra (b ∷ bs) (filled w ws) = digit-is-not (b / digit_base) semicolon (λ high. (omega arith, omega arith))
+not-extra [] x' = elim x' [ ]
 
 frame-lines-back : (fs : List (List ℕ)) → All Filled fs → frame_lines (map (spell_all pair_of) fs) ≡ map (spell_all pair_of) fs
 unfolding frame_lines choose

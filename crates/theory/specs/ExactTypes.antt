@@ -76,6 +76,7 @@ module _ (vars : ℕ) where
   size_back (suc n) (svar i) rest (w_svar u) = rw ((index-exact vars).back i rest u)
   size_back (suc n) (plus a b) rest (w_plus u v) = rw (append_assoc (size_bytes a) (size_bytes b) rest, size_back n a _ u, size_back n b rest v)
   size_back (suc n) (minus a b) rest (w_minus u v) = rw (append_assoc (size_bytes a) (size_bytes b) rest, size_back n a _ u, size_back n b rest v)
+  size_back zero s rest x' = elim x' [ ]
 
   size-forth : (n : ℕ) → Behind size_bytes (WithinSize vars n) [] (size_at n vars)
   unfolding size_at size_behind size_bytes

@@ -44,6 +44,8 @@ module _ (P : File) (n : ℕ) (inner : Exact (value_at n P) value_bytes (WithinT
   unfolding value_trees values_bytes and_then
   trees-back zero vnil rest ts_nil = refl
   trees-back (suc m) (vcons w ws) rest (ts_cons u us) = rw (append_assoc (value_bytes w) (values_bytes ws) rest, inner.back w _ u, trees-back m ws rest us)
+  trees-back zero (vcons w ws) rest x'' = elim x'' [ ]
+  trees-back (suc m) vnil rest x3 = elim x3 [ ]
 
   trees-forth : (m : ℕ) → Behind values_bytes (WithinTrees P n m) [] (value_trees (value_at n P) m)
   unfolding value_trees values_bytes

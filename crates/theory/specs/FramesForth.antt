@@ -160,6 +160,7 @@ frame-forth channels frame f (k ∷ bs) (filled w small) so = sat-from bad_frame
         entry (function-next channels frame bs small f.types f.functions f.inputs f.nodes so) (
         entry (input-next channels frame bs small f.types f.functions f.inputs f.nodes so) (
         entry (node-next channels frame bs small f.types f.functions f.inputs f.nodes so) no_entry)))
+frame-forth channels frame f [] x'' so = elim x'' [ ]
 
 -- P is the file that the frames ls give, which some node is among
 pub record AllRead (channels : ℕ) (ls : List (List ℕ)) (P : File) : Type 0 where

@@ -155,6 +155,7 @@ not-found-is-new g ks (r ∷ L) e (in_Tail i) = go (both (eqb r.function g) (sam
     go : (b : Bool) → ◌≡◌ {A = Option Estimate} (elim b [ true ↦ some r.numbers | false ↦ find L g ks ]) none → (find L g ks ≡ none → In (key g ks) (keys_of L) → ⊥) → ⊥
     go true e f = none-is-not-some (sym e)
     go false e f = f e i
+not-found-is-new g ks [] e x'' = elim x'' [ ]
 
 -- An instance being checked is never looked up: what a call finds is finished.
 pub found-is-finished : {P : File} {D : Instance → Type 0} {F : Function} {n : Estimate} (g : ℕ) (ks : List ℕ) (L : List Instance) →

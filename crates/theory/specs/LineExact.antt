@@ -56,6 +56,7 @@ module _ (P : File) where
   trees-read (k ∷ bs) (filled w small) =
       whenever-chain {Q = λ cs. (k ≡ kind_input_line) × (bs ≡ cs)} (whenever-when (eqb k kind_input_line) bs (λ e. (eqb-true k kind_input_line e, refl))) λ cs E.
       rw (E.0, ← E.1) (whenever-map (λ vs e. ap (λ (l : List ℕ). kind_input_line ∷ l) e) (all_read ((many-forth (value-exact P _) (length P.inputs)).reads bs small)))
+  trees-read [] x' = elim x' [ ]
 
   line_reads : (line : List ℕ) → Whenever (λ vs. (line ≡ input_text vs) × (trees_fit P vs (input_types P) ≡ true)) (line_trees P line)
   unfolding line_trees line_text

@@ -14,7 +14,7 @@ use Rattle.language.specs.Heap.{Cell, Tree, tree_at}
 use Rattle.language.specs.Values.{fits}
 use Rattle.language.specs.Evaluator.{value, refused, Channels, eval, run}
 use Rattle.language.specs.PlainMachine.{Derives}
-use Rattle.language.specs.Typing.{Place, channels_at, Typing, t_bool, t_int, t_var, t_node, t_atlast, t_let, t_if, t_op, t_call, t_ctor, t_case, t_adj, t_fit, Typings, ts_nil, ts_cons, Branches, t_none, t_skip, t_branch, AtSplits, s_cons}
+use Rattle.language.specs.Typing.{Place, channels_at, Typing, t_bool, t_int, t_var, t_node, t_atlast, t_let, t_if, t_op, t_call, t_ctor, t_case, t_adj, t_fit, Typings, ts_nil, ts_cons, Branches, t_none, t_skip, t_branch, AtSplits, s_none, s_cons}
 use Rattle.theory.specs.Lists.{none-is-not-some}
 use Rattle.theory.specs.RulesGive.{runs-not-refused}
 use Rattle.theory.specs.OneTree.{one-tree}
@@ -72,6 +72,7 @@ module _ {P : File} (within : Within P) (cap : ℕ) where
         (js : List ℕ) → Memᴰ js kss → Simulates P cap (channels_at p) (Γ ++ field_types t fs js) b τ x
     simulate-splits (s_cons {m} {n} b bs q) w js (Memᴰ.head e) = rw e (simulates-more (either_left m n q) (simulate b w))
     simulate-splits (s_cons {m} {n} b bs q) w js (Memᴰ.tail i) = simulates-more (either-right m n q) (simulate-splits bs w js i)
+    simulate-splits {r = r} {S = S} (s_none {p = p} {Γ = Γ} {Δ = Δ} {t = t} {fs = fs} {b = b} {τ = τ} _) w js x42 = elim x42 [ ]
 
 -- ---- theorem 4.4: with at least its three numbers free, an expression has a value of its type, and none of 20 to 23 is met
 module _ {P : File} (within : Within P) (cap : ℕ) {r : ℕ} {S : Scope} {p : Place} {Γ : List Ty} {Δ : List ℕ} {e : Expr} {τ : Ty} {x : Estimate} (typed : Typing P p Γ Δ e τ x) (limited : WithinExpr r S e)

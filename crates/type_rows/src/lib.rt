@@ -1,4 +1,6 @@
 // Rows of type words, as the size checker keeps them: the fields of a constructor, the types of values, their sizes.
+#![tactic(auto)]
+
 ghost use Rattle.std.specs.Prelude.{◌≡◌, ◌<◌, set};
 ghost use Rattle.language.specs.Limits.{byte_range};
 ghost use Rattle.index.specs.Sections.{types_of};
