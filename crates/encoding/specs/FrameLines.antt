@@ -77,7 +77,7 @@ from-earlier le (one_line h p w o) = one_line (le_trans le h) p w o
 lines-ordered : {t : List ℕ} {at : ℕ} (ls : List (List ℕ)) {rest : List ℕ} → Lines t at ls rest → Ordered t at (frame_lines_from at ls)
 unfolding frame_lines_from choose
 lines-ordered [] h = no_line h.within
-lines-ordered {t} {at} (l ∷ ls) h = go (is_extra (without_return l)) (lines-ordered ls (others h))
+lines-ordered {t} {at} (l ∷ ls) h = go (is_extra (without_return l)) (lines-ordered {at = at + length l + 1} ls (others h))
   where
     go : (b : Bool) → Ordered t (at + length l + 1) (frame_lines_from (at + length l + 1) ls) →
         Ordered t at (choose b (frame_lines_from (at + length l + 1) ls) (record { start = at; line = without_return l } ∷ frame_lines_from (at + length l + 1) ls))

@@ -49,14 +49,14 @@ same_first at p s then = ap₂ econs p (then (rw p at s))
 module _ {n : ℕ} {S : Scope} where
   pub exprs-once : {line : List ℕ} {at m : ℕ} {es fs : Exprs} → Spells exprs_bytes line at es → Spells exprs_bytes line at fs → WithinExprs n S m es → WithinExprs n S m fs → es ≡ fs
   exprs-once s r ws_nil ws_nil = refl
-  exprs-once {at} s r (ws_cons v vs) (ws_cons w ws) =
+  exprs-once {line = line} {at = at} s r (ws_cons {m = m} {e = e} {es = es} v vs) (ws_cons {e = e'} {es = es'} w ws) =
       let x = first-of-exprs s in
       let y = first-of-exprs r in
-      same_first at (expr-once x.spelled y.spelled v w) x.next (λ z. exprs-once z y.next vs ws)
+      same_first at (expr-once x.spelled y.spelled v w) x.next (λ z. exprs-once {at = past line at (length (expr_bytes e'))} z y.next vs ws)
 
   pub branches-once : {line : List ℕ} {at : ℕ} {cs : List Constructor} {es fs : Exprs} → Spells exprs_bytes line at es → Spells exprs_bytes line at fs → WithinBranches n S cs es → WithinBranches n S cs fs → es ≡ fs
   branches-once s r wb_nil wb_nil = refl
-  branches-once {at} s r (wb_cons v vs) (wb_cons w ws) =
+  branches-once {line = line} {at = at} s r (wb_cons {fs = fs} {cs = cs} {b = b} {bs = bs} v vs) (wb_cons {b = b'} {bs = bs'} w ws) =
       let x = first-of-exprs s in
       let y = first-of-exprs r in
-      same_first at (expr-once x.spelled y.spelled v w) x.next (λ z. branches-once z y.next vs ws)
+      same_first at (expr-once x.spelled y.spelled v w) x.next (λ z. branches-once {at = past line at (length (expr_bytes b'))} z y.next vs ws)

@@ -1,0 +1,14 @@
+use Prim.Native.Nat.{◌-◌}
+use native.Mathlib.Omega.{arith}
+use lib.ListN.{length}
+use borrow.Author.Tests.{not-false}
+use Rattle.text_lines.specs.Lines.{PairsTo}
+use Rattle.text_lines.specs.LinesPairs.{pairs_start}
+use Rattle.text_lines.specs.LinesEights.{pairs-behind}
+use Rattle.text_lines.proofs.eights_end.Given as goal
+
+abbrev pub invariant-loop-end : goal.invariant-loop-end
+invariant-loop-end l = PairsTo l.digits l.text l.at l.end
+
+abbrev pub decreases-loop-end : goal.decreases-loop-end
+decreases-loop-end l = length l.text - l.end

@@ -1,0 +1,12 @@
+use Prim.Native.Nat.{◌+◌, ◌-◌}
+use native.Mathlib.Omega.{arith}
+use lib.ListN.{length}
+use Rattle.text_lines.specs.Lines.{PairsTo}
+use Rattle.text_lines.specs.LinesPairs.{pairs-on, pairs-stop, pairs-halve, pairs_end}
+use Rattle.text_lines.proofs.pairs_end.Given as goal
+
+abbrev pub invariant-loop-end : goal.invariant-loop-end
+invariant-loop-end l = PairsTo l.digits l.text l.at l.end
+
+abbrev pub decreases-loop-end : goal.decreases-loop-end
+decreases-loop-end l = length l.text - l.end

@@ -1,0 +1,12 @@
+use Prim.Native.Nat.{◌-◌}
+use native.Mathlib.Omega.{arith}
+use lib.ListN.{length}
+use Rattle.text_lines.specs.DigitMarks.{wide-pairs}
+use Rattle.text_lines.specs.GroupWalk.{Grouped, group-missing, group-there, group-cut, group-closed, spaces-within, next-missing, next-there}
+use Rattle.text_lines.proofs.rule_lines.frame_line.Given as goal
+
+abbrev pub invariant-loop-end : goal.invariant-loop-end
+invariant-loop-end l = Grouped l.text l.at l.end
+
+abbrev pub decreases-loop-end : goal.decreases-loop-end
+decreases-loop-end l = length l.text - l.end
