@@ -65,7 +65,7 @@ module _ (line types functions : List ℕ) (c : Cursor) (levels : ℕ) where
     where
       none : (es : Exprs) → Skippable types functions levels 0 es → c.at ≡ past line c.at (length (exprs_bytes es))
       none enil no_more = sym (none-ends line c.at)
-  none (econs _ _) x3 = elim x3 [ ]
+      none (econs _ _) x3 = elim x3 [ ]
 
   pub several-done : {n : ℕ} {d r : Cursor} → (n ≡ 0 → ⊥) → Skips line types functions c levels d → SkipsAll line types functions d levels (n - 1) r → SkipsAll line types functions c levels n r
   several-done {n} {d} {r} some u a = record { says = λ es w s. more es (subst (λ m. Skippable types functions levels m es) (one_less n some) w) s }
@@ -75,4 +75,4 @@ module _ (line types functions : List ℕ) (c : Cursor) (levels : ℕ) where
           let two = first-of-exprs s in
           let place : d.at ≡ past line c.at (length (expr_bytes e)) = u.says S e h w two.spelled in
           a.says es ws (subst (λ m. Spells exprs_bytes line m es) (sym place) two.next) ∙ ap (λ (a : ℕ). past line a (length (exprs_bytes es))) place ∙ sym (more-ends line c.at e es)
-  more enil x'' s = elim x'' [ ]
+      more enil x'' s = elim x'' [ ]

@@ -9,7 +9,7 @@ pub loop-cell-init : goal.loop-cell-init
 loop-cell-init c = (omega arith, sweep-start _ _ _ _ c.requires)
 
 pub pass-next-requires : goal.pass-next-requires
-pass-next-requires c = (c.loop-cell.invariant.1.low, (omega (arith, omega (arith, c.loop-cell.invariant.1.wide, c.requires)))
+pass-next-requires c = record { next_le_cell = c.loop-cell.invariant.1.low; cell_bound = omega arith; cell_in_bounds = omega (arith, c.loop-cell.invariant.1.wide, c.requires) }
 
 pub loop-cell-preserved : goal.loop-cell-preserved
 loop-cell-preserved c = (omega arith, sweep-on c.requires c.loop-cell-test.true c.loop-cell.invariant.1 c.pass-next.ensures)

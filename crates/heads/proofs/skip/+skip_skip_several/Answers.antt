@@ -10,6 +10,7 @@ use Rattle.heads.specs.contracts.Form.{enum}
 use Rattle.heads.specs.declared.Form.{Form}
 use Rattle.heads.specs.SkipLaws.{skip-none, skip-parts, skip-adjust, skip-case, several-none, several-done}
 use Rattle.heads.proofs.skip.+skip_skip_several.Goals as goal
+use Rattle.heads.proofs.skip.+skip_skip_several.Goals.{skip-in-Case, skip-in-Adjust, skip-in_default}
 
 abbrev tag : Form → ℕ
 tag x = tag_of (declared enum) x
@@ -37,12 +38,12 @@ pub skip-skip_several-requires : goal.skip-skip_several-requires
 skip-skip_several-requires t c = (omega (arith, c.decreases, c.if-levels-eq0.false, c.parts-n.ensures.1), tt)
 
 pub skip-returns : goal.skip-returns
-skip-returns t c = ⊎_elim
-    (λ way. skip-case _ _ _ _ _ c.head_at-head.ensures c.if-levels-eq0.false c.parts-n.ensures.0 c.skip_several.ensures way.4 way.1.given.1 way.2.ensures way.3.ensures)
-    (⊎_elim
-    (λ way. skip-adjust _ _ _ _ _ c.head_at-head.ensures c.if-levels-eq0.false c.parts-n.ensures.0 c.skip_several.ensures way.3 way.1.given.1 way.2.ensures)
-    (λ way. skip-parts _ _ _ _ _ c.head_at-head.ensures c.if-levels-eq0.false c.parts-n.ensures.0 c.skip_several.ensures way.1 (λ t q. no-tag-between _ way.0.keys3 (omega (arith, ap tag q)) (omega (arith, ap tag q))) (λ q. no-tag-between _ way.0.keys3 (omega (arith, ap tag q)) (omega (arith, ap tag q)))))
-    c.match-form.branch
+skip-returns t c =
+    elim c.match-form.branch [
+      skip-in-Case w ↦ skip-case _ _ _ _ _ c.head_at-head.ensures c.if-levels-eq0.false c.parts-n.ensures.0 c.skip_several.ensures w.first-is w.in-Case.is w.skip-result.ensures w.behind_result-first.ensures
+    | skip-in-Adjust w ↦ skip-adjust _ _ _ _ _ c.head_at-head.ensures c.if-levels-eq0.false c.parts-n.ensures.0 c.skip_several.ensures w.first-is w.in-Adjust.is w.behind_size-first.ensures
+    | skip-in_default w ↦ skip-parts _ _ _ _ _ c.head_at-head.ensures c.if-levels-eq0.false c.parts-n.ensures.0 c.skip_several.ensures w.first-is w.in_default.not-Case w.in_default.not-Adjust
+    ]
 
 pub skip_several-returns-then-n-eq0 : goal.skip_several-returns-then-n-eq0
 skip_several-returns-then-n-eq0 t c = several-none _ _ _ _ _ c.if-n-eq0.true
