@@ -198,6 +198,7 @@ module _ (line types functions : List ℕ) (from : ℕ) (d : Passed) (levels : �
     where
       none : (es : Exprs) → Skippable types functions levels 0 es → WalkedBehind line from d es ends ends d
       none enil no_more = record { stops = sym (none-ends line d.behind.at); told = ds_nil; read = joins-nil d.readings; kept = record { before = λ i less. refl; behind = λ i le. refl } }
+      none (econs _ _) x3 = elim x3 [ ]
 
   module _ {n : ℕ} {first next r : Passed} {t₀ t₁ t₂ : List ℕ} (on : Reached first.behind (bit_or d.readings first.readings) next) where
     pub several-done : (n ≡ 0 → ⊥) → Walks line types functions from d.behind levels t₀ t₁ first → WalksAll line types functions from next levels (n - 1) t₁ t₂ r → WalksAll line types functions from d levels n t₀ t₂ r
@@ -220,6 +221,7 @@ module _ (line types functions : List ℕ) (from : ℕ) (d : Passed) (levels : �
                 behind = λ i le. others.kept.behind i (omega (arith, le, ends)) ∙ one.kept.behind i (omega (arith, le, ends, stops, past-least line next.behind.at (length (exprs_bytes es))));
               };
             }
+        more enil x3 s room = elim x3 [ ]
 
 -- ---- the loop over the parts
 module _ {line types functions : List ℕ} {from : ℕ} where
