@@ -133,12 +133,6 @@ less-deep {levels} {S} {e} some w = subst (λ m. WithinExpr m S e) (one_less lev
 abbrev tag : Form → ℕ
 tag f = tag_of (declared enum) f
 
-abbrev others : List ℕ
-others = 0 ∷ 1 ∷ 2 ∷ 4 ∷ 5 ∷ 6 ∷ 7 ∷ 8 ∷ 9 ∷ 12 ∷ 13 ∷ []
-
-no_other : {f g : Form} → OneOf others (tag f) → (OneOf others (tag g) → ⊥) → f ≡ g → ⊥
-no_other s none q = none (subst (OneOf others) (ap tag q) s)
-
 module _ (line types functions : List ℕ) (from : ℕ) (c : Cursor) (levels : ℕ) where
   pub walk_none : {ends ends' : List ℕ} {r : Passed} → levels ≡ 0 → Walks line types functions from c levels ends ends' r
   walk_none q = record { says = λ S e h w s room. absurd (no-level (subst (λ m. WithinExpr m S e) q w)) }
@@ -153,10 +147,9 @@ module _ (line types functions : List ℕ) (from : ℕ) (c : Cursor) (levels : �
           whole-walked s room (rw (is, start.place, count) (parted d h (less-deep some w) s head.form refl no_case no_adjust)) (nothing-began d w s t₁ from same no_case no_adjust) (rw (is, start.read) (named S e w s)) a long k;
     }
 
-    pub walk-parts : {before : Passed} → t₁ ≡ t₀ → first ≡ before → Reached head.next 0 before → OneOf others (tag head.form) → Walks line types functions from c levels t₀ t₃ r
-    walk-parts same is start o =
-        let no_case : (t : ℕ) → head.form ≡ Case t → ⊥ = λ t q. no_other o (miss others 10 tt) q in
-        at_once same is start no_case (λ q. no_other o (miss others 11 tt) q) (λ S e w s. nothing-named d w s head.form refl (λ i q. no_other o (miss others 3 tt) q) no_case)
+    pub walk-parts : {before : Passed} → t₁ ≡ t₀ → first ≡ before → Reached head.next 0 before → ((i : ℕ) → head.form ≡ Now i → ⊥) → ((t : ℕ) → head.form ≡ Case t → ⊥) → (head.form ≡ Adjust → ⊥) →
+        Walks line types functions from c levels t₀ t₃ r
+    walk-parts same is start no_now no_case no_adjust = at_once same is start no_case no_adjust (λ S e w s. nothing-named d w s head.form refl no_now no_case)
 
     pub walk-now : {before : Passed} {i word : ℕ} → t₁ ≡ t₀ → first ≡ before → Reached head.next word before → head.form ≡ Now i → Gathers (i ∷ []) word → Walks line types functions from c levels t₀ t₃ r
     walk-now same is start q g = at_once same is start (λ t other. omega (arith, ap tag (sym q ∙ other))) (λ other. omega (arith, ap tag (sym q ∙ other))) (λ S e w s. one-named d w s q g)

@@ -11,4 +11,4 @@ pub returns-then-state-state_length : goal.returns-then-state-state_length
 returns-then-state-state_length c = none-constructed c.own_sum-own.ensures c.if-own-ge-SIZE_MOST.false c.state_length.ensures c.if-state-state_length.true
 
 pub returns : goal.returns
-returns c = constructed c.own_sum-own.ensures _ c.if-own-ge-SIZE_MOST.false c.put_constructor-arg-2-1.given.0 c.constructor_tag-tag.ensures (cell-made (row_written _ _ _ c.state_length.ensures c.if-state-state_length.false c.put_constructor.ensures))
+returns c = constructed c.own_sum-own.ensures _ c.if-own-ge-SIZE_MOST.false c.put_constructor-arg-2-1.given c.constructor_tag-tag.ensures (cell-made (row_written _ _ _ c.state_length.ensures c.if-state-state_length.false c.put_constructor.ensures))

@@ -7,6 +7,7 @@ use Rattle.index.specs.Sections.{types_of, functions_of}
 use Rattle.ends.specs.Walks.{WalksOn}
 use Rattle.ends.specs.WalkLaws.{walk_none, walk-parts, walk-now, walk-adjust, walk-case, on-start, on-more, on-end}
 use Rattle.ends.proofs.walk.+expression.Goals as goal
+use Rattle.ends.proofs.walk.+expression.Goals.{in-Now, in-Case, in-Adjust, in_default}
 
 pub returns-then-levels-eq0 : goal.returns-then-levels-eq0
 returns-then-levels-eq0 t c = walk_none _ _ _ _ _ _ c.if-levels-eq0.true
@@ -33,11 +34,10 @@ pub loop-i-preserved : goal.loop-i-preserved
 loop-i-preserved t c = (omega (arith, c.loop-i-test.true), on-more c.loop-i-test.true c.loop-i.invariant.1 c.expression-part.ensures c.reached-so_far-in-loop-i.ensures)
 
 pub returns : goal.returns
-returns t c = ⊎_elim
-    (λ way. walk-now _ _ _ _ _ _ c.head_at-head.ensures c.if-levels-eq0.false c.parts-n.ensures.0 (on-end c.loop-i-test.false c.loop-i.invariant.1) c.note-arg-1.given.0.1 c.note.ensures way.5 way.6 way.4.ensures way.1.given.1 way.3.ensures)
-    (⊎_elim
-    (λ way. walk-case _ _ _ _ _ _ c.head_at-head.ensures c.if-levels-eq0.false c.parts-n.ensures.0 (on-end c.loop-i-test.false c.loop-i.invariant.1) c.note-arg-1.given.0.1 c.note.ensures way.9 way.7.ensures way.8 way.1.given.1 way.3.ensures way.6.ensures)
-    (⊎_elim
-    (λ way. walk-adjust _ _ _ _ _ _ c.head_at-head.ensures c.if-levels-eq0.false c.parts-n.ensures.0 (on-end c.loop-i-test.false c.loop-i.invariant.1) c.note-arg-1.given.0.1 c.note.ensures way.6 way.4.ensures way.5 way.1.given.1 way.3.ensures)
-    (λ way. walk-parts _ _ _ _ _ _ c.head_at-head.ensures c.if-levels-eq0.false c.parts-n.ensures.0 (on-end c.loop-i-test.false c.loop-i.invariant.1) c.note-arg-1.given.0.1 c.note.ensures way.2 way.3 way.1.ensures way.0.keys4)))
-    c.match-form.branch
+returns t c =
+    elim c.match-form.branch [
+      in-Now w ↦ walk-now _ _ _ _ _ _ c.head_at-head.ensures c.if-levels-eq0.false c.parts-n.ensures.0 (on-end c.loop-i-test.false c.loop-i.invariant.1) c.note-arg-1.given.0.1 c.note.ensures w.ends-is w.so_far-is w.reached-so_far.ensures w.in-Now.is w.named.ensures
+    | in-Case w ↦ walk-case _ _ _ _ _ _ c.head_at-head.ensures c.if-levels-eq0.false c.parts-n.ensures.0 (on-end c.loop-i-test.false c.loop-i.invariant.1) c.note-arg-1.given.0.1 c.note.ensures w.so_far-is w.reached-so_far-in-Case.ensures w.ends-is w.in-Case.is w.expression-subject.ensures w.note_result.ensures
+    | in-Adjust w ↦ walk-adjust _ _ _ _ _ _ c.head_at-head.ensures c.if-levels-eq0.false c.parts-n.ensures.0 (on-end c.loop-i-test.false c.loop-i.invariant.1) c.note-arg-1.given.0.1 c.note.ensures w.so_far-is w.reached-so_far-in-Adjust.ensures w.ends-is w.in-Adjust.is w.note_size.ensures
+    | in_default w ↦ walk-parts _ _ _ _ _ _ c.head_at-head.ensures c.if-levels-eq0.false c.parts-n.ensures.0 (on-end c.loop-i-test.false c.loop-i.invariant.1) c.note-arg-1.given.0.1 c.note.ensures w.ends-is w.so_far-is w.reached-so_far-in_default.ensures w.in_default.not-Now w.in_default.not-Case w.in_default.not-Adjust
+    ]
