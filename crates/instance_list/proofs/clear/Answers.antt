@@ -1,5 +1,5 @@
 -- Every record empty.
-use Rattle.std.proofs.Common.{arith, length, ◌≤◌, ◌≡◌, sym, ◌∙◌, replicate, ext_get_or}
+use Rattle.std.proofs.Common.{arith, sym, ◌∙◌, ext_get_or}
 use Rattle.std.proofs.lemmas.List.{length-replicate, get_or-replicate}
 use Rattle.instance_list.specs.Records.{none}
 use Rattle.instance_list.proofs.clear.Goals as goal

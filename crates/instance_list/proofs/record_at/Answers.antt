@@ -1,5 +1,4 @@
 -- No record, or the words of one.
-use native.Mathlib.Omega.{arith}
 use Rattle.instance_list.specs.RecordLaws.{record-beyond, record-here}
 use Rattle.instance_list.proofs.record_at.Goals as goal
 

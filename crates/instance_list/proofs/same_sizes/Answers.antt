@@ -1,9 +1,7 @@
 -- Sizes compared one by one.
-use Prim.Native.Nat.{◌-◌}
 use native.Mathlib.Omega.{arith}
 use borrow.Author.Rules.{rules}
-use Rattle.language.specs.Limits.{parameters_most}
-use Rattle.instance_list.specs.RecordLaws.{Compares, compare-start, compare-other, compare-on, compare-end}
+use Rattle.instance_list.specs.RecordLaws.{compare-start, compare-other, compare-on, compare-end}
 use Rattle.instance_list.proofs.same_sizes.Goals as goal
 
 pub loop-j-init : goal.loop-j-init

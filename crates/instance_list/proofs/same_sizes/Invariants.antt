@@ -1,8 +1,6 @@
 use Prim.Native.Nat.{◌-◌}
-use native.Mathlib.Omega.{arith}
-use borrow.Author.Rules.{rules}
 use Rattle.language.specs.Limits.{parameters_most}
-use Rattle.instance_list.specs.RecordLaws.{Compares, compare-start, compare-other, compare-on, compare-end}
+use Rattle.instance_list.specs.RecordLaws.{Compares}
 use Rattle.instance_list.proofs.same_sizes.Given as goal
 
 abbrev pub invariant-loop-j : goal.invariant-loop-j

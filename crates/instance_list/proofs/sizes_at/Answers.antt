@@ -1,9 +1,7 @@
 -- Sizes read one by one.
-use Prim.Native.Nat.{◌-◌}
 use native.Mathlib.Omega.{arith}
 use borrow.Author.Rules.{rules}
-use Rattle.language.specs.Limits.{parameters_most}
-use Rattle.instance_list.specs.RecordLaws.{ReadBefore, read-start, read-on, read-end}
+use Rattle.instance_list.specs.RecordLaws.{read-start, read-on, read-end}
 use Rattle.instance_list.proofs.sizes_at.Goals as goal
 
 pub loop-j-init : goal.loop-j-init

@@ -1,8 +1,6 @@
 use Prim.Native.Nat.{◌-◌}
-use native.Mathlib.Omega.{arith}
-use borrow.Author.Rules.{rules}
 use Rattle.language.specs.Limits.{parameters_most}
-use Rattle.instance_list.specs.RecordLaws.{ReadBefore, read-start, read-on, read-end}
+use Rattle.instance_list.specs.RecordLaws.{ReadBefore}
 use Rattle.instance_list.proofs.sizes_at.Given as goal
 
 abbrev pub invariant-loop-j : goal.invariant-loop-j
