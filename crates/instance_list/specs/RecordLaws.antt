@@ -89,18 +89,18 @@ From list key i = place_of list key ≡ i + place_of (drop i list) key
 pub from_start : (list : List Instance) (key : Instance) → From list key 0
 from_start list key = omega arith
 
-pub from-hit : (list : List Instance) (key : Instance) (i : ℕ) → i < length list → same_key (get_or list i none) key ≡ true → From list key i → i ≡ place_of list key
+pub from-hit : (list : List Instance) (key : Instance) (i : ℕ) (d : Instance) → i < length list → same_key (get_or list i d) key ≡ true → From list key i → i ≡ place_of list key
 unfolding place_of choose
-from-hit list key i less h e =
-    let d : place_of (drop i list) key ≡ 0 = rw (drop-cons list i none less, h) in
-    omega (arith, d, e)
+from-hit list key i d less h e =
+    let here : place_of (drop i list) key ≡ 0 = rw (drop-cons list i d less, h) in
+    omega (arith, here, e)
 
-pub from-miss : (list : List Instance) (key : Instance) (i : ℕ) → i < length list → same_key (get_or list i none) key ≡ false → From list key i → From list key (i + 1)
+pub from-miss : (list : List Instance) (key : Instance) (i : ℕ) (d : Instance) → i < length list → same_key (get_or list i d) key ≡ false → From list key i → From list key (i + 1)
 unfolding place_of choose
-from-miss list key i less h e =
-    let d : place_of (drop i list) key ≡ suc (place_of (drop (suc i) list) key) = rw (drop-cons list i none less, h) in
+from-miss list key i d less h e =
+    let here : place_of (drop i list) key ≡ suc (place_of (drop (suc i) list) key) = rw (drop-cons list i d less, h) in
     let f : place_of (drop (i + 1) list) key ≡ place_of (drop (suc i) list) key = rw add-one in
-    omega (arith, d, e, f)
+    omega (arith, here, e, f)
 
 pub from_end : (list : List Instance) (key : Instance) (i : ℕ) → i ≤ length list → length list ≤ i → From list key i → i ≡ place_of list key
 unfolding place_of

@@ -1,3 +1,0 @@
-pub mod Lends
-pub mod Rows
-pub mod Calls
