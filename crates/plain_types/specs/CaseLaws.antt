@@ -52,6 +52,7 @@ record MoreBranches (levels : ℕ) (S : Scope) (cs : List Constructor) (bs : Exp
 more-branches : {levels : ℕ} {S : Scope} (cs : List Constructor) (bs : Exprs) → WithinBranches levels S cs bs → (length cs ≡ 0 → ⊥) → MoreBranches levels S cs bs
 more-branches [] bs w h = absurd (h refl)
 more-branches (fs ∷ cs) (econs b bs) (wb_cons w ws) h = record { fields = fs; constructors = cs; branch = b; branches = bs; those = refl; list = refl; within = w; others = ws }
+more-branches {levels = levels} {S = S} (fs ∷ cs) enil w h = elim w [ ]
 
 record NoBranch (cs : List Constructor) (bs : Exprs) : Type 0 where
   those : cs ≡ []
@@ -60,6 +61,7 @@ record NoBranch (cs : List Constructor) (bs : Exprs) : Type 0 where
 no-branch : {levels : ℕ} {S : Scope} (cs : List Constructor) (bs : Exprs) → WithinBranches levels S cs bs → length cs ≡ 0 → NoBranch cs bs
 no-branch [] enil wb_nil e = record { those = refl; list = refl }
 no-branch (fs ∷ cs) bs w e = absurd (omega (arith, e))
+no-branch {levels = levels} {S = S} [] (econs _ _) w e = elim w [ ]
 
 -- the first of those from a number on
 dropped-less : {A : Type 0} (l : List A) (i : ℕ) {x : A} {xs : List A} → drop i l ≡ x ∷ xs → i < length l

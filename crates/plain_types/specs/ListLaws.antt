@@ -87,6 +87,7 @@ record More (levels : ℕ) (S : Scope) (τs : List Plain) (es : Exprs) : Type 0 
 more_of : {levels : ℕ} {S : Scope} (τs : List Plain) (es : Exprs) → WithinExprs levels S (length τs) es → (length τs ≡ 0 → ⊥) → More levels S τs es
 more_of [] es w h = absurd (h refl)
 more_of (τ ∷ τs) (econs e es) (ws_cons w ws) h = record { type = τ; types = τs; expr = e; exprs = es; wants = refl; list = refl; within = w; others = ws }
+more_of {levels = levels} {S = S} (τ ∷ τs) enil w h = elim w [ ]
 
 record None (τs : List Plain) (es : Exprs) : Type 0 where
   wants : τs ≡ []
@@ -95,6 +96,7 @@ record None (τs : List Plain) (es : Exprs) : Type 0 where
 none_of : {levels : ℕ} {S : Scope} (τs : List Plain) (es : Exprs) → WithinExprs levels S (length τs) es → length τs ≡ 0 → None τs es
 none_of [] enil ws_nil e = record { wants = refl; list = refl }
 none_of (τ ∷ τs) es w e = absurd (omega (arith, e))
+none_of {levels = levels} {S = S} [] (econs _ _) w e = elim w [ ]
 
 module _ (text index scope : List ℕ) (p : Place) (s : Series) where
   pub several-none : {r : Typing} → s.count ≡ 0 → r ≡ Is (record { of = s.answer; next = p.at }) → TypesSeveral text index scope p s r scope
