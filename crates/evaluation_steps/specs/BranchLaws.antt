@@ -80,7 +80,7 @@ module _ (text index ends : List ℕ) (line : ℕ) (P : File) (B : Body) (cells 
     is = λ ls E k h. refl;
   }
   chosen {at} (suc c) (wb_cons {b = b} {bs = bs} w ws) s (ds_cons e d ds) less =
-      let more = chosen c ws (first-of-exprs s).next ds (omega arith) in
+      let more = chosen {at = past (line_at text line) at (length (expr_bytes b))} c ws (first-of-exprs s).next ds (omega arith) in
       let place : end_after ends (frame_place (frames_of index) line) at (suc c) ≡ end_after ends (frame_place (frames_of index) line) (past (line_at text line) at (length (expr_bytes b))) c =
       end-first ends (frame_place (frames_of index) line) at c ∙ ap (λ m. end_after ends (frame_place (frames_of index) line) m c) (end-told e) in
       record {

@@ -154,3 +154,8 @@ module _ (P : File) (B : Body) (cells : ℕ) (N : Channels) where
     operands-first (ecase t e r bs) c_case = one-first e _ _ refl
     operands-first (eadj k e) c_adj = one-first e _ _ (given (eval P B cells N e E s h))
     operands-first (efit k a b d) c_fit = one-first a _ _ refl
+    operands-first (ebool _) x'' = elim x'' [ ]
+    operands-first (eint _) x3 = elim x3 [ ]
+    operands-first (evar _) x4 = elim x4 [ ]
+    operands-first (enow _) x5 = elim x5 [ ]
+    operands-first (elast _) x6 = elim x6 [ ]

@@ -33,15 +33,15 @@ swapped false true = refl
 swapped false false = refl
 
 -- ---- a value is of a type at a smaller size exactly where its own size is within that
+lower-within : {P : File} {v : Tree} {t j k : ℕ} → j ≤ k → TreeHas P v (tnamed t j) → both (fits P v (tnamed t k)) (leb (tree_size P v) j) ≡ true
+lower-within {P} {v} {t} {j} {k} le (has_named x small) = both_true ((fits-is-has P v (tnamed t k)).1 (has_named x (omega arith))) (le-leb (tree_size P v) j (omega (arith, val-size x)))
+
+lower-has : {P : File} {v : Tree} {t j k : ℕ} → tree_size P v ≤ j → TreeHas P v (tnamed t k) → TreeHas P v (tnamed t j)
+lower-has {j = j} within (has_named x small) = has_named {k = j} x (omega (arith, val-size x))
+
 module _ (P : File) (v : Tree) (t j k : ℕ) (le : j ≤ k) where
-  lower-within : TreeHas P v (tnamed t j) → both (fits P v (tnamed t k)) (leb (tree_size P v) j) ≡ true
-  lower-within (has_named x small) = both_true ((fits-is-has P v (tnamed t k)).1 (has_named x (omega arith))) (le-leb (tree_size P v) j (omega (arith, val-size x)))
-
-  lower-has : tree_size P v ≤ j → TreeHas P v (tnamed t k) → TreeHas P v (tnamed t j)
-  lower-has within (has_named x small) = has_named {k = j} x (omega (arith, val-size x))
-
   pub fits-lower : fits P v (tnamed t j) ≡ both (fits P v (tnamed t k)) (leb (tree_size P v) j)
-  fits-lower = same_truth _ _ (λ e. lower-within ((fits-is-has P v (tnamed t j)).0 e))
+  fits-lower = same_truth _ _ (λ e. lower-within le ((fits-is-has P v (tnamed t j)).0 e))
       (λ e. (fits-is-has P v (tnamed t j)).1 (lower-has (leb-true _ _ (both_right _ _ e)) ((fits-is-has P v (tnamed t k)).0 (both_left _ _ e))))
 
 -- ---- what is read behind something else
