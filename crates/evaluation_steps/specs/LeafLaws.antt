@@ -2,13 +2,10 @@
 use Rattle.std.specs.Prelude.{ℕ, ◌+◌, ◌-◌, ◌≤◌, ◌<◌, List, [], ◌∷◌, ◌≡◌, refl, get_or, take}
 use Rattle.std.proofs.Common.{sym, ap, ◌∙◌, subst, arith, add-one, length-take, get_or-take}
 use Rattle.std.proofs.Math.ListN.{get_or-eq_default}
-use denote.Enum.Declared.{tag_of, declared}
-use types.Run.{OneOf, miss}
 use Rattle.text.specs.declared.Cursor.{Cursor}
 use Rattle.heads.specs.declared.Form.{Form}
 use Rattle.heads.specs.declared.Form.TheVariants.{Bool as BoolForm, Int, Variable, Now, Last, Let, If, Operator, Call, Construct, Case, Adjust, Fit, Missing}
 use Rattle.heads.specs.Places.{line_behind_types}
-use Rattle.heads.specs.contracts.Form.{enum}
 use Rattle.index.specs.Sections.{functions_of}
 use Rattle.index.specs.Indexed.{body_at}
 use Rattle.ends.specs.EndOf.{end_of}
@@ -17,36 +14,24 @@ use Rattle.evaluation_steps.specs.Contexts.{body_context}
 use Rattle.evaluation_steps.specs.Slots.{Pushed}
 use Rattle.evaluation_steps.specs.Forms.{operand_count, reserved_count, first_at, end_after}
 
--- ---- operands, reserved, first_operand: the forms of the last arm, by their tags
-abbrev tag : Form → ℕ
-tag x = tag_of (declared enum) x
+-- ---- operands, reserved, first_operand: the forms of the last arm
+pub one-operand : (types functions : List ℕ) (f : Form) → ((o : ℕ) → f ≡ Operator o → ⊥) → ((g : ℕ) → f ≡ Call g → ⊥) → ((t k : ℕ) → f ≡ Construct t k → ⊥) → 1 ≡ operand_count types functions f
+one-operand types functions (BoolForm b) _ _ _ = refl
+one-operand types functions (Int n) _ _ _ = refl
+one-operand types functions (Variable v) _ _ _ = refl
+one-operand types functions (Now c) _ _ _ = refl
+one-operand types functions (Last c) _ _ _ = refl
+one-operand types functions Let _ _ _ = refl
+one-operand types functions If _ _ _ = refl
+one-operand types functions (Operator o) other _ _ = absurd (other o refl)
+one-operand types functions (Call f) _ other _ = absurd (other f refl)
+one-operand types functions (Construct t c) _ _ other = absurd (other t c refl)
+one-operand types functions (Case t) _ _ _ = refl
+one-operand types functions Adjust _ _ _ = refl
+one-operand types functions (Fit k) _ _ _ = refl
+one-operand types functions Missing _ _ _ = refl
 
-abbrev one_operand : List ℕ
-one_operand = 0 ∷ 1 ∷ 2 ∷ 3 ∷ 4 ∷ 5 ∷ 6 ∷ 10 ∷ 11 ∷ 12 ∷ 13 ∷ []
-
-abbrev no_call_of : List ℕ
-no_call_of = 0 ∷ 1 ∷ 2 ∷ 3 ∷ 4 ∷ 5 ∷ 6 ∷ 7 ∷ 9 ∷ 10 ∷ 11 ∷ 12 ∷ 13 ∷ []
-
-abbrev no_adjust : List ℕ
-no_adjust = 0 ∷ 1 ∷ 2 ∷ 3 ∷ 4 ∷ 5 ∷ 6 ∷ 7 ∷ 8 ∷ 9 ∷ 10 ∷ 12 ∷ 13 ∷ []
-
-pub one-operand : (types functions : List ℕ) (f : Form) → OneOf one_operand (tag f) → 1 ≡ operand_count types functions f
-one-operand types functions (BoolForm b) s = refl
-one-operand types functions (Int n) s = refl
-one-operand types functions (Variable v) s = refl
-one-operand types functions (Now c) s = refl
-one-operand types functions (Last c) s = refl
-one-operand types functions Let s = refl
-one-operand types functions If s = refl
-one-operand types functions (Operator o) s = absurd (miss one_operand 7 tt s)
-one-operand types functions (Call f) s = absurd (miss one_operand 8 tt s)
-one-operand types functions (Construct t c) s = absurd (miss one_operand 9 tt s)
-one-operand types functions (Case t) s = refl
-one-operand types functions Adjust s = refl
-one-operand types functions (Fit k) s = refl
-one-operand types functions Missing s = refl
-
-pub none-reserved : (functions : List ℕ) (f : Form) → OneOf no_call_of (tag f) → 0 ≡ reserved_count functions f
+pub none-reserved : (functions : List ℕ) (f : Form) → ((g : ℕ) → f ≡ Call g → ⊥) → 0 ≡ reserved_count functions f
 none-reserved functions (BoolForm b) s = refl
 none-reserved functions (Int n) s = refl
 none-reserved functions (Variable v) s = refl
@@ -55,14 +40,14 @@ none-reserved functions (Last c) s = refl
 none-reserved functions Let s = refl
 none-reserved functions If s = refl
 none-reserved functions (Operator o) s = refl
-none-reserved functions (Call f) s = absurd (miss no_call_of 8 tt s)
+none-reserved functions (Call f) other = absurd (other f refl)
 none-reserved functions (Construct t c) s = refl
 none-reserved functions (Case t) s = refl
 none-reserved functions Adjust s = refl
 none-reserved functions (Fit k) s = refl
 none-reserved functions Missing s = refl
 
-pub first-at-head : (ends : List ℕ) (from at : ℕ) (f : Form) → OneOf no_adjust (tag f) → at ≡ first_at ends from f at
+pub first-at-head : (ends : List ℕ) (from at : ℕ) (f : Form) → (f ≡ Adjust → ⊥) → at ≡ first_at ends from f at
 first-at-head ends from at (BoolForm b) s = refl
 first-at-head ends from at (Int n) s = refl
 first-at-head ends from at (Variable v) s = refl
@@ -74,7 +59,7 @@ first-at-head ends from at (Operator o) s = refl
 first-at-head ends from at (Call f) s = refl
 first-at-head ends from at (Construct t c) s = refl
 first-at-head ends from at (Case t) s = refl
-first-at-head ends from at Adjust s = absurd (miss no_adjust 11 tt s)
+first-at-head ends from at Adjust other = absurd (other refl)
 first-at-head ends from at (Fit k) s = refl
 first-at-head ends from at Missing s = refl
 

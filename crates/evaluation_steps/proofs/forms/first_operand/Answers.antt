@@ -6,4 +6,4 @@ pub returns-in-Adjust : goal.returns-in-Adjust
 returns-in-Adjust c = rw c.in-Adjust.is c.end_of.ensures
 
 pub returns-in_default : goal.returns-in_default
-returns-in_default c = first-at-head _ _ _ c.args.form c.in_default.in_default-own.keys2
+returns-in_default c = first-at-head _ _ _ c.args.form c.in_default.not-Adjust

@@ -13,4 +13,4 @@ pub returns-in-Construct : goal.returns-in-Construct
 returns-in-Construct c = (rw c.in-Construct.is c.fields.ensures.0, c.fields.ensures.1)
 
 pub returns-in_default : goal.returns-in_default
-returns-in_default c = (one-operand _ _ c.args.form c.in_default.in_default-own.keys4, omega arith)
+returns-in_default c = (one-operand _ _ c.args.form c.in_default.not-Operator c.in_default.not-Call c.in_default.not-Construct, omega arith)

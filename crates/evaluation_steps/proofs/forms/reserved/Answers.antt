@@ -7,4 +7,4 @@ pub returns-in-Call : goal.returns-in-Call
 returns-in-Call c = (rw c.in-Call.is c.arity.ensures.0, c.arity.ensures.1)
 
 pub returns-in_default : goal.returns-in_default
-returns-in_default c = (none-reserved _ c.args.form c.in_default.in_default-own.keys2, omega arith)
+returns-in_default c = (none-reserved _ c.args.form c.in_default.not-Call, omega arith)
