@@ -41,57 +41,41 @@ use borrow.Author.Rules.{rules}
 use Prim.Native.Nat.{ℕ, ◌<◌}
 use Rattle.heads.specs.Heads.{has_parts}
 use Rattle.size_checker.proofs.cycle.+adjust_apply_at_splits_binding_body_branch_branches_call_case_of_choice_compound_construct_enter_enter_new_expr_fit_operation_several.Goals as goal
+use Rattle.size_checker.proofs.cycle.+adjust_apply_at_splits_binding_body_branch_branches_call_case_of_choice_compound_construct_enter_enter_new_expr_fit_operation_several.Goals.{several-in-Is, several-in-Other+in-Is-x}
 
-abbrev tag : SizedType → ℕ
-tag x = tag_of (declared enum) x
+-- a form of the last arm is no leaf
+no-leaf : (f : Form) → ((b : ℕ) → f ≡ BoolForm b → ⊥) → ((n : ℕ) → f ≡ Int n → ⊥) → ((v : ℕ) → f ≡ Variable v → ⊥) → ((c : ℕ) → f ≡ Now c → ⊥) → ((c : ℕ) → f ≡ Last c → ⊥) → is_leaf f ≡ false
+no-leaf (BoolForm b) other _ _ _ _ = absurd (other b refl)
+no-leaf (Int n) _ other _ _ _ = absurd (other n refl)
+no-leaf (Variable v) _ _ other _ _ = absurd (other v refl)
+no-leaf (Now c) _ _ _ other _ = absurd (other c refl)
+no-leaf (Last c) _ _ _ _ other = absurd (other c refl)
+no-leaf Let _ _ _ _ _ = refl
+no-leaf If _ _ _ _ _ = refl
+no-leaf (Operator o) _ _ _ _ _ = refl
+no-leaf (Call f) _ _ _ _ _ = refl
+no-leaf (Construct t c) _ _ _ _ _ = refl
+no-leaf (Case t) _ _ _ _ _ = refl
+no-leaf Adjust _ _ _ _ _ = refl
+no-leaf (Fit k) _ _ _ _ _ = refl
+no-leaf Missing _ _ _ _ _ = refl
 
--- an answer of another form than Named is of no named type
-
-not_named : (x : SizedType) → (tag x ≡ 0) ⊎ (tag x ≡ 1) → NotNamed x
-not_named x s t k e = ⊎_elim (λ z. absurd (omega (arith, ap tag e, z))) (λ z. absurd (omega (arith, ap tag e, z))) s
-
-abbrev form-tag : Form → ℕ
-form-tag x = tag_of (declared form-enum) x
-
--- the forms of the last arms, by their tags
-
-behind-leaves : (n : ℕ) → (n ≡ 5) ⊎ ((n ≡ 6) ⊎ ((n ≡ 7) ⊎ ((n ≡ 8) ⊎ ((n ≡ 9) ⊎ ((n ≡ 10) ⊎ ((n ≡ 11) ⊎ ((n ≡ 12) ⊎ (n ≡ 13)))))))) → 5 ≤ n
-behind-leaves n s = (⊎_elim (λ z. omega (arith, z)) (⊎_elim (λ z. omega (arith, z)) (⊎_elim (λ z. omega (arith, z)) (⊎_elim (λ z. omega (arith, z)) (⊎_elim (λ z. omega (arith, z)) (⊎_elim (λ z. omega (arith, z)) (⊎_elim (λ z. omega (arith, z)) (⊎_elim (λ z. omega (arith, z)) (λ z. omega (arith, z)))))))))) s
-
-no-leaf : (f : Form) → 5 ≤ form-tag f → is_leaf f ≡ false
-no-leaf (BoolForm b) le = absurd (omega (arith, le))
-no-leaf (Int n) le = absurd (omega (arith, le))
-no-leaf (Variable v) le = absurd (omega (arith, le))
-no-leaf (Now c) le = absurd (omega (arith, le))
-no-leaf (Last c) le = absurd (omega (arith, le))
-no-leaf Let le = refl
-no-leaf If le = refl
-no-leaf (Operator o) le = refl
-no-leaf (Call f) le = refl
-no-leaf (Construct t c) le = refl
-no-leaf (Case t) le = refl
-no-leaf Adjust le = refl
-no-leaf (Fit k) le = refl
-no-leaf Missing le = refl
-
-leaf-or-missing : (n : ℕ) → (n ≡ 0) ⊎ ((n ≡ 1) ⊎ ((n ≡ 2) ⊎ ((n ≡ 3) ⊎ ((n ≡ 4) ⊎ (n ≡ 13))))) → (n < 5) ⊎ (n ≡ 13)
-leaf-or-missing n s = (⊎_elim (λ z. inl (omega (arith, z))) (⊎_elim (λ z. inl (omega (arith, z))) (⊎_elim (λ z. inl (omega (arith, z))) (⊎_elim (λ z. inl (omega (arith, z))) (⊎_elim (λ z. inl (omega (arith, z))) (λ z. inr z)))))) s
-
-no-parts : (f : Form) → (form-tag f < 5) ⊎ (form-tag f ≡ 13) → has_parts f ≡ false
-no-parts (BoolForm b) s = refl
-no-parts (Int n) s = refl
-no-parts (Variable v) s = refl
-no-parts (Now c) s = refl
-no-parts (Last c) s = refl
-no-parts Let s = absurd (⊎_elim (λ z. omega (arith, z)) (λ z. omega (arith, z)) s)
-no-parts If s = absurd (⊎_elim (λ z. omega (arith, z)) (λ z. omega (arith, z)) s)
-no-parts (Operator o) s = absurd (⊎_elim (λ z. omega (arith, z)) (λ z. omega (arith, z)) s)
-no-parts (Call f) s = absurd (⊎_elim (λ z. omega (arith, z)) (λ z. omega (arith, z)) s)
-no-parts (Construct t c) s = absurd (⊎_elim (λ z. omega (arith, z)) (λ z. omega (arith, z)) s)
-no-parts (Case t) s = absurd (⊎_elim (λ z. omega (arith, z)) (λ z. omega (arith, z)) s)
-no-parts Adjust s = absurd (⊎_elim (λ z. omega (arith, z)) (λ z. omega (arith, z)) s)
-no-parts (Fit k) s = absurd (⊎_elim (λ z. omega (arith, z)) (λ z. omega (arith, z)) s)
-no-parts Missing s = refl
+-- a form of the last arm of `compound` has no parts
+no-parts : (f : Form) → (f ≡ Let → ⊥) → (f ≡ If → ⊥) → ((o : ℕ) → f ≡ Operator o → ⊥) → ((g : ℕ) → f ≡ Call g → ⊥) → ((t c : ℕ) → f ≡ Construct t c → ⊥) → ((t : ℕ) → f ≡ Case t → ⊥) → (f ≡ Adjust → ⊥) → ((k : ℕ) → f ≡ Fit k → ⊥) → has_parts f ≡ false
+no-parts (BoolForm b) _ _ _ _ _ _ _ _ = refl
+no-parts (Int n) _ _ _ _ _ _ _ _ = refl
+no-parts (Variable v) _ _ _ _ _ _ _ _ = refl
+no-parts (Now c) _ _ _ _ _ _ _ _ = refl
+no-parts (Last c) _ _ _ _ _ _ _ _ = refl
+no-parts Let other _ _ _ _ _ _ _ = absurd (other refl)
+no-parts If _ other _ _ _ _ _ _ = absurd (other refl)
+no-parts (Operator o) _ _ other _ _ _ _ _ = absurd (other o refl)
+no-parts (Call f) _ _ _ other _ _ _ _ = absurd (other f refl)
+no-parts (Construct t c) _ _ _ _ other _ _ _ = absurd (other t c refl)
+no-parts (Case t) _ _ _ _ _ other _ _ = absurd (other t refl)
+no-parts Adjust _ _ _ _ _ _ other _ = absurd (other refl)
+no-parts (Fit k) _ _ _ _ _ _ _ other = absurd (other k refl)
+no-parts Missing _ _ _ _ _ _ _ _ = refl
 
 pub adjust-overflow_add-result : goal.adjust-overflow_add-result
 adjust-overflow_add-result t c = omega (arith, c.requires.line)
@@ -115,7 +99,7 @@ pub adjust-shape_of-list-in_default-ty : goal.adjust-shape_of-list-in_default-ty
 adjust-shape_of-list-in_default-ty t c = c.expr-x.auto.list
 
 pub adjust-returns-in_default-ty : goal.adjust-returns-in_default-ty
-adjust-returns-in_default-ty t c = adj-plain c.size_at-s.ensures c.frame_line-line.ensures c.in-Is.is c.moved_on-q.ensures c.expr-x.ensures c.in-Is-x.is (not_named _ c.in_default-ty.in_default-ty-own.keys2)
+adjust-returns-in_default-ty t c = adj-plain c.size_at-s.ensures c.frame_line-line.ensures c.in-Is.is c.moved_on-q.ensures c.expr-x.ensures c.in-Is-x.is c.in_default-ty.not-Named
 
 pub adjust-overflow_add-result-then-k-j : goal.adjust-overflow_add-result-then-k-j
 adjust-overflow_add-result-then-k-j t c = omega (arith, c.requires.line)
@@ -160,7 +144,7 @@ pub at_splits-shape_of-list-in_default : goal.at_splits-shape_of-list-in_default
 at_splits-shape_of-list-in_default t c = c.expr-x.auto.list ∙ c.loop-more.invariant.1
 
 pub at_splits-returns-in_default : goal.at_splits-returns-in_default
-at_splits-returns-in_default t c = splits-part (walks-are c.loop-more-test.true c.loop-more.invariant.0) c.fields-n.ensures c.own_fields-own.ensures (omega (arith, c.bind_fields-arg-1.given.0.1)) (omega (arith, c.bind_fields-arg-in-loop-more-2-1.given.0)) c.bind_fields.ensures c.moved_on.ensures c.widen-q.ensures c.expr-x.ensures c.in_default.is
+at_splits-returns-in_default t c = splits-part (walks-are c.loop-more-test.true c.loop-more.invariant.0) c.fields-n.ensures c.own_fields-own.ensures (omega (arith, c.bind_fields-arg-1.given)) (omega (arith, c.bind_fields-arg-in-loop-more-2-1.given)) c.bind_fields.ensures c.moved_on.ensures c.widen-q.ensures c.expr-x.ensures c.in_default.is
 
 pub at_splits-overflow_add-result : goal.at_splits-overflow_add-result
 at_splits-overflow_add-result t c = omega (arith, c.requires.room.line)
@@ -169,13 +153,13 @@ pub at_splits-shape_of-list-then-not-is_type : goal.at_splits-shape_of-list-then
 at_splits-shape_of-list-then-not-is_type t c = c.expr-x.auto.list ∙ c.loop-more.invariant.1
 
 pub at_splits-returns-then-not-is_type : goal.at_splits-returns-then-not-is_type
-at_splits-returns-then-not-is_type t c = splits-differ (walks-are c.loop-more-test.true c.loop-more.invariant.0) c.fields-n.ensures c.own_fields-own.ensures (omega (arith, c.bind_fields-arg-1.given.0.1)) (omega (arith, c.bind_fields-arg-in-loop-more-2-1.given.0)) c.bind_fields.ensures c.moved_on.ensures c.widen-q.ensures c.expr-x.ensures c.in-Is.is c.is_type.ensures c.if-not-is_type.true
+at_splits-returns-then-not-is_type t c = splits-differ (walks-are c.loop-more-test.true c.loop-more.invariant.0) c.fields-n.ensures c.own_fields-own.ensures (omega (arith, c.bind_fields-arg-1.given)) (omega (arith, c.bind_fields-arg-in-loop-more-2-1.given)) c.bind_fields.ensures c.moved_on.ensures c.widen-q.ensures c.expr-x.ensures c.in-Is.is c.is_type.ensures c.if-not-is_type.true
 
 pub at_splits-loop-more-smaller : goal.at_splits-loop-more-smaller
 at_splits-loop-more-smaller t c = less_as _ c.loop-more-test.true (turn-falls c.args.p _ _ c.moved_on.ensures c.widen-q.ensures c.expr-x.ensures.kept c.next_split-more.ensures)
 
 pub at_splits-loop-more-preserved : goal.at_splits-loop-more-preserved
-at_splits-loop-more-preserved t c = (splits-turn (walks-are c.loop-more-test.true c.loop-more.invariant.0) c.fields-n.ensures c.own_fields-own.ensures (omega (arith, c.bind_fields-arg-1.given.0.1)) (omega (arith, c.bind_fields-arg-in-loop-more-2-1.given.0)) c.bind_fields.ensures c.moved_on.ensures c.widen-q.ensures c.expr-x.ensures c.in-Is.is c.is_type.ensures c.if-not-is_type.false (omega (arith, c.next_split-arg-1.given.0.1)) c.larger-all.ensures.both c.larger-all.ensures.is c.next_split-more.ensures, c.expr-x.auto.list ∙ c.loop-more.invariant.1)
+at_splits-loop-more-preserved t c = (splits-turn (walks-are c.loop-more-test.true c.loop-more.invariant.0) c.fields-n.ensures c.own_fields-own.ensures (omega (arith, c.bind_fields-arg-1.given)) (omega (arith, c.bind_fields-arg-in-loop-more-2-1.given)) c.bind_fields.ensures c.moved_on.ensures c.widen-q.ensures c.expr-x.ensures c.in-Is.is c.is_type.ensures c.if-not-is_type.false (omega (arith, c.next_split-arg-1.given)) c.larger-all.ensures.both c.larger-all.ensures.is c.next_split-more.ensures, c.expr-x.auto.list ∙ c.loop-more.invariant.1)
 
 pub at_splits-shape_of-list : goal.at_splits-shape_of-list
 at_splits-shape_of-list t c = c.loop-more.invariant.1
@@ -322,7 +306,7 @@ pub case_of-shape_of-list-in_default-ty : goal.case_of-shape_of-list-in_default-
 case_of-shape_of-list-in_default-ty t c = c.expr-x.auto.list
 
 pub case_of-returns-in_default-ty : goal.case_of-returns-in_default-ty
-case_of-returns-in_default-ty t c = case-plain c.expr-x.ensures c.in-Is.is (not_named _ c.in_default-ty.in_default-ty-own.keys2)
+case_of-returns-in_default-ty t c = case-plain c.expr-x.ensures c.in-Is.is c.in_default-ty.not-Named
 
 pub case_of-overflow_add-result-in_default-y : goal.case_of-overflow_add-result-in_default-y
 case_of-overflow_add-result-in_default-y t c = omega (arith, c.requires.room.line)
@@ -466,7 +450,7 @@ pub compound-returns-in-Fit : goal.compound-returns-in-Fit
 compound-returns-in-Fit t c = compound-is c.in-Fit.is c.fit.ensures
 
 pub compound-returns-in_default : goal.compound-returns-in_default
-compound-returns-in_default t c = compound-none c.args.form (no-parts c.args.form (leaf-or-missing _ c.in_default.in_default-own.keys9))
+compound-returns-in_default t c = compound-none c.args.form (no-parts c.args.form c.in_default.not-Let c.in_default.not-If c.in_default.not-Operator c.in_default.not-Call c.in_default.not-Construct c.in_default.not-Case c.in_default.not-Adjust c.in_default.not-Fit)
 
 pub construct-several-x-requires : goal.construct-several-x-requires
 construct-several-x-requires t c = (load_same _ 900 c.decreases 300 (omega arith), (c.requires.room, c.fields-n.ensures.1))
@@ -547,7 +531,7 @@ pub expr-shape_of-list : goal.expr-shape_of-list
 expr-shape_of-list t c = c.compound.auto.list
 
 pub expr-returns-in_default : goal.expr-returns-in_default
-expr-returns-in_default t c = expr-compound c.frame_line-line.ensures c.head_at-h.ensures c.down-q.ensures c.head_at-h.result.form refl (no-leaf c.head_at-h.result.form (behind-leaves _ c.in_default.in_default-own.keys6)) c.compound.ensures
+expr-returns-in_default t c = expr-compound c.frame_line-line.ensures c.head_at-h.ensures c.down-q.ensures c.head_at-h.result.form refl (no-leaf c.head_at-h.result.form c.in_default.not-Bool c.in_default.not-Int c.in_default.not-Variable c.in_default.not-Now c.in_default.not-Last) c.compound.ensures
 
 pub fit-expr-x-requires : goal.fit-expr-x-requires
 fit-expr-x-requires t c = (load_same _ 900 c.decreases 0 (omega arith), room-same c.requires.0 (omega arith))
@@ -565,7 +549,7 @@ pub fit-shape_of-list-in_default-ty : goal.fit-shape_of-list-in_default-ty
 fit-shape_of-list-in_default-ty t c = c.expr-x.auto.list
 
 pub fit-returns-in_default-ty : goal.fit-returns-in_default-ty
-fit-returns-in_default-ty t c = fit-plain _ c.expr-x.ensures c.in-Is.is (not_named _ c.in_default-ty.in_default-ty-own.keys2)
+fit-returns-in_default-ty t c = fit-plain _ c.expr-x.ensures c.in-Is.is c.in_default-ty.not-Named
 
 pub fit-overflow_cast-k : goal.fit-overflow_cast-k
 fit-overflow_cast-k t c = omega (arith, c.requires.1)
@@ -655,10 +639,11 @@ pub several-loop-i-smaller : goal.several-loop-i-smaller
 several-loop-i-smaller t c = omega (arith, c.loop-i-test.true)
 
 pub several-loop-i-preserved : goal.several-loop-i-preserved
-several-loop-i-preserved t c = ⊎_elim
-    (λ way. turned-variable c.loop-i.invariant c.loop-i-test.true c.frame_line-line.ensures c.variable_at.ensures way.1.given.1 _ way.6.ensures way.7.ensures way.10.ensures way.11 way.12 way.13 way.14 way.15 way.16)
-    (λ way. turned-expr c.loop-i.invariant c.loop-i-test.true way.2.ensures way.7.ensures way.7.kept.1.1.0 way.11.given.1 _ way.14.ensures.is way.15.ensures way.18.ensures way.19 way.20 way.21 way.22 way.23 way.24)
-    c.match-variable_at.branch
+several-loop-i-preserved t c =
+    elim c.match-variable_at.branch [
+      several-in-Is w ↦ turned-variable c.loop-i.invariant c.loop-i-test.true c.frame_line-line.ensures c.variable_at.ensures w.in-Is.is _ w.word_at.ensures w.put.ensures w.passed-all.ensures w.list-is w.memo-is w.scope-is w.sizes-is w.row-is w.all-is
+    | several-in-Other+in-Is-x w ↦ turned-expr c.loop-i.invariant c.loop-i-test.true w.moved_on-q.ensures w.expr-x.ensures w.expr-x.auto.list w.in-Is-x.is _ w.type_word.ensures.is w.put-in-Other.ensures w.joined-all.ensures w.list-is w.memo-is w.scope-is w.sizes-is w.row-is w.all-is
+    ]
 
 pub several-shape_of-list : goal.several-shape_of-list
 several-shape_of-list t c = c.loop-i.invariant.list_long
