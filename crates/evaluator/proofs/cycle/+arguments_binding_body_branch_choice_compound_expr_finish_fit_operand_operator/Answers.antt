@@ -1,0 +1,841 @@
+-- The cycle of the evaluator meets its contracts: each need is answered by a law of its function's file.
+-- forms by their tags: those with parts, and the others
+use Prim.Native.Nat.{◌+◌, ◌-◌, ◌≤◌, ℕ, ◌<◌}
+use mathlib.Core.Bool.{true, false}
+use mathlib.Core.Logic.{◌⊎◌, inl, inr, ⊎_elim}
+use mathlib.Core.Path.{◌≡◌, refl, sym, ap, ◌∙◌}
+use native.Mathlib.Omega.{arith}
+use native.Mathlib.Nat.{le_refl}
+use lib.ListN.{length}
+use lib.Seq.{length-take-le}
+use denote.Enum.Declared.{tag_of, declared}
+use Rattle.heads.specs.contracts.Form.{enum as form-enum}
+use Rattle.heads.specs.declared.Form.{Form}
+use Rattle.heads.specs.declared.Form.TheVariants.{Bool as BoolForm, Int, Variable, Now, Last, Let, If, Operator, Call, Construct, Case, Adjust, Fit, Missing}
+use Rattle.index.specs.Sections.{frames_of}
+use Rattle.index.specs.Indexed.{frame_place}
+use Rattle.evaluation_steps.specs.Forms.{handed_on_all}
+use Rattle.evaluation_steps.specs.Measures.{measure_of, falls-here, falls-moved, falls-bound, falls-head, falls-body, head-shorter, shorter-behind, later-end, later-branch, later_first, later-all, later-two}
+use Rattle.evaluation_steps.specs.KeepLaws.{moved_by, board-moved, room_at, room_bound, room-body, room_cut, room_next}
+use Rattle.evaluation_steps.specs.ExprLaws.{expr-bool, expr-int, expr-variable, expr-now, expr-last, expr-missing, expr-compound, operand-variable}
+use Rattle.evaluation_steps.specs.ArmLaws.{bound-full, bound-done, choice-second, choice-third, fit-second, fit-third}
+use Rattle.evaluation_steps.specs.BranchLaws.{branch-beyond, branch-full, branch-done}
+use Rattle.evaluation_steps.specs.BodyLaws.{body-spent, body-done, part-all, part-back, part-long}
+use Rattle.evaluation_steps.specs.ArgumentLaws.{Gathered, gathered_none, gathered-more, gathered-refused, gathered-all}
+use Rattle.evaluation_steps.specs.CompoundLaws.{compound-full, compound-refused, compound-moved, compound-done, so-below, still-free}
+use Rattle.evaluation_steps.specs.SideLaws.{operator-both, operator-decided, operator-refused, operator-done}
+use Rattle.evaluation_steps.specs.FinishLaws.{finish-adjust, finish-operator, finish-construct, finish-call, finish-let, finish-if, finish-fit, finish-case, finish-none}
+use borrow.Author.Rules.{rules}
+use Rattle.heads.specs.Heads.{has_parts}
+use Rattle.evaluator.proofs.cycle.+arguments_binding_body_branch_choice_compound_expr_finish_fit_operand_operator.Goals as goal
+
+abbrev form-tag : Form → ℕ
+form-tag x = tag_of (declared form-enum) x
+
+behind-leaves : (n : ℕ) → (n ≡ 5) ⊎ ((n ≡ 6) ⊎ ((n ≡ 7) ⊎ ((n ≡ 8) ⊎ ((n ≡ 9) ⊎ ((n ≡ 10) ⊎ ((n ≡ 11) ⊎ (n ≡ 12))))))) → (5 ≤ n) × (n ≤ 12)
+behind-leaves n s = ⊎_elim (λ z. omega (arith, z)) (⊎_elim (λ z. omega (arith, z)) (⊎_elim (λ z. omega (arith, z)) (⊎_elim (λ z. omega (arith, z)) (⊎_elim (λ z. omega (arith, z)) (⊎_elim (λ z. omega (arith, z)) (⊎_elim (λ z. omega (arith, z)) (λ z. omega (arith, z)))))))) s
+
+no-leaf : (f : Form) → (5 ≤ form-tag f) × (form-tag f ≤ 12) → has_parts f ≡ true
+no-leaf (BoolForm b) le = absurd (omega (arith, le.0))
+no-leaf (Int n) le = absurd (omega (arith, le.0))
+no-leaf (Variable v) le = absurd (omega (arith, le.0))
+no-leaf (Now c) le = absurd (omega (arith, le.0))
+no-leaf (Last c) le = absurd (omega (arith, le.0))
+no-leaf Let le = refl
+no-leaf If le = refl
+no-leaf (Operator o) le = refl
+no-leaf (Call f) le = refl
+no-leaf (Construct t c) le = refl
+no-leaf (Case t) le = refl
+no-leaf Adjust le = refl
+no-leaf (Fit k) le = refl
+no-leaf Missing le = absurd (omega (arith, le.1))
+
+leaf-or-missing : (n : ℕ) → (n ≡ 0) ⊎ ((n ≡ 1) ⊎ ((n ≡ 2) ⊎ ((n ≡ 3) ⊎ ((n ≡ 4) ⊎ (n ≡ 13))))) → (n < 5) ⊎ (n ≡ 13)
+leaf-or-missing n s = ⊎_elim (λ z. inl (omega (arith, z))) (⊎_elim (λ z. inl (omega (arith, z))) (⊎_elim (λ z. inl (omega (arith, z))) (⊎_elim (λ z. inl (omega (arith, z))) (⊎_elim (λ z. inl (omega (arith, z))) inr)))) s
+
+no-parts : (f : Form) → (form-tag f < 5) ⊎ (form-tag f ≡ 13) → has_parts f ≡ false
+no-parts (BoolForm b) s = refl
+no-parts (Int n) s = refl
+no-parts (Variable v) s = refl
+no-parts (Now c) s = refl
+no-parts (Last c) s = refl
+no-parts Let s = absurd (⊎_elim (λ z. omega (arith, z)) (λ z. omega (arith, z)) s)
+no-parts If s = absurd (⊎_elim (λ z. omega (arith, z)) (λ z. omega (arith, z)) s)
+no-parts (Operator o) s = absurd (⊎_elim (λ z. omega (arith, z)) (λ z. omega (arith, z)) s)
+no-parts (Call f) s = absurd (⊎_elim (λ z. omega (arith, z)) (λ z. omega (arith, z)) s)
+no-parts (Construct t c) s = absurd (⊎_elim (λ z. omega (arith, z)) (λ z. omega (arith, z)) s)
+no-parts (Case t) s = absurd (⊎_elim (λ z. omega (arith, z)) (λ z. omega (arith, z)) s)
+no-parts Adjust s = absurd (⊎_elim (λ z. omega (arith, z)) (λ z. omega (arith, z)) s)
+no-parts (Fit k) s = absurd (⊎_elim (λ z. omega (arith, z)) (λ z. omega (arith, z)) s)
+no-parts Missing s = refl
+
+-- src/cycle.rt:147:5
+
+-- src/cycle.rt:156:13
+
+-- src/cycle.rt:148:13
+
+-- src/cycle.rt:158:23
+
+-- src/cycle.rt:159:13
+
+-- src/cycle.rt:159:13
+
+-- src/cycle.rt:159:13
+
+-- src/cycle.rt:159:13
+
+-- src/cycle.rt:159:13
+
+-- src/cycle.rt:161:18
+
+-- src/cycle.rt:161:9
+
+-- src/cycle.rt:162:9
+
+-- src/cycle.rt:164:9
+
+-- src/cycle.rt:147:5
+
+-- src/cycle.rt:147:5
+
+-- src/cycle.rt:128:1
+
+-- src/cycle.rt:128:1
+
+-- src/cycle.rt:128:1
+
+-- src/cycle.rt:269:9
+
+-- src/cycle.rt:271:5
+
+-- src/cycle.rt:273:9
+
+-- src/cycle.rt:274:5
+
+-- src/cycle.rt:255:1
+
+-- src/cycle.rt:255:1
+
+-- src/cycle.rt:255:1
+
+-- src/cycle.rt:373:9
+
+-- src/cycle.rt:376:5
+
+-- src/cycle.rt:377:9
+
+-- src/cycle.rt:378:46
+
+-- src/cycle.rt:378:46
+
+-- src/cycle.rt:378:46
+
+-- src/cycle.rt:378:46
+
+-- src/cycle.rt:378:5
+
+-- src/cycle.rt:356:1
+
+-- src/cycle.rt:356:1
+
+-- src/cycle.rt:356:1
+
+-- src/cycle.rt:339:9
+
+-- src/cycle.rt:340:8
+
+-- src/cycle.rt:341:9
+
+-- src/cycle.rt:341:9
+
+-- src/cycle.rt:343:9
+
+-- src/cycle.rt:344:8
+
+-- src/cycle.rt:344:31
+
+-- src/cycle.rt:345:9
+
+-- src/cycle.rt:345:9
+
+-- src/cycle.rt:347:5
+
+-- src/cycle.rt:349:9
+
+-- src/cycle.rt:350:9
+
+-- src/cycle.rt:351:26
+
+-- src/cycle.rt:351:9
+
+-- src/cycle.rt:352:5
+
+-- src/cycle.rt:325:1
+
+-- src/cycle.rt:325:1
+
+-- src/cycle.rt:325:1
+
+-- src/cycle.rt:291:8
+
+-- src/cycle.rt:292:9
+
+-- src/cycle.rt:292:9
+
+-- src/cycle.rt:292:9
+
+-- src/cycle.rt:292:9
+
+-- src/cycle.rt:295:9
+
+-- src/cycle.rt:296:9
+
+-- src/cycle.rt:297:5
+
+-- src/cycle.rt:278:1
+
+-- src/cycle.rt:278:1
+
+-- src/cycle.rt:278:1
+
+-- src/cycle.rt:100:9
+
+-- src/cycle.rt:101:19
+
+-- src/cycle.rt:101:19
+
+-- src/cycle.rt:102:8
+
+-- src/cycle.rt:103:9
+
+-- src/cycle.rt:105:16
+
+-- src/cycle.rt:106:26
+
+-- src/cycle.rt:106:9
+
+-- src/cycle.rt:114:9
+
+-- src/cycle.rt:114:9
+
+-- src/cycle.rt:108:9
+
+-- src/cycle.rt:120:21
+
+-- src/cycle.rt:121:9
+
+-- src/cycle.rt:121:9
+
+-- src/cycle.rt:121:9
+
+-- src/cycle.rt:121:9
+
+-- src/cycle.rt:121:9
+
+-- src/cycle.rt:123:9
+
+-- src/cycle.rt:124:5
+
+-- src/cycle.rt:85:1
+
+-- src/cycle.rt:85:1
+
+-- src/cycle.rt:85:1
+
+-- src/cycle.rt:67:9
+
+-- src/cycle.rt:69:9
+
+-- src/cycle.rt:72:9
+
+-- src/cycle.rt:74:20
+
+-- src/cycle.rt:74:26
+
+-- src/cycle.rt:75:19
+
+-- src/cycle.rt:75:25
+
+-- src/cycle.rt:76:24
+
+-- src/cycle.rt:76:40
+
+-- src/cycle.rt:77:19
+
+-- src/cycle.rt:77:53
+
+-- src/cycle.rt:77:35
+
+-- src/cycle.rt:78:20
+
+-- src/cycle.rt:78:36
+
+-- src/cycle.rt:79:26
+
+-- src/cycle.rt:80:14
+
+-- src/cycle.rt:55:1
+
+-- src/cycle.rt:55:1
+
+-- src/cycle.rt:55:1
+
+-- src/cycle.rt:55:1
+
+-- src/cycle.rt:55:1
+
+-- src/cycle.rt:55:1
+
+-- src/cycle.rt:55:1
+
+-- src/cycle.rt:55:1
+
+-- src/cycle.rt:55:1
+
+-- src/cycle.rt:55:1
+
+-- src/cycle.rt:55:1
+
+-- src/cycle.rt:55:1
+
+-- src/cycle.rt:55:1
+
+-- src/cycle.rt:209:9
+
+-- src/cycle.rt:211:24
+
+-- src/cycle.rt:211:30
+
+-- src/cycle.rt:212:25
+
+-- src/cycle.rt:212:34
+
+-- src/cycle.rt:213:25
+
+-- src/cycle.rt:214:20
+
+-- src/cycle.rt:214:26
+
+-- src/cycle.rt:215:20
+
+-- src/cycle.rt:215:26
+
+-- src/cycle.rt:216:57
+
+-- src/cycle.rt:216:21
+
+-- src/cycle.rt:217:19
+
+-- src/cycle.rt:217:25
+
+-- src/cycle.rt:218:59
+
+-- src/cycle.rt:218:22
+
+-- src/cycle.rt:193:1
+
+-- src/cycle.rt:193:1
+
+-- src/cycle.rt:193:1
+
+-- src/cycle.rt:193:1
+
+-- src/cycle.rt:193:1
+
+-- src/cycle.rt:193:1
+
+-- src/cycle.rt:193:1
+
+-- src/cycle.rt:193:1
+
+-- src/cycle.rt:193:1
+
+-- src/cycle.rt:193:1
+
+-- src/cycle.rt:193:1
+
+-- src/cycle.rt:193:1
+
+-- src/cycle.rt:193:1
+
+-- src/cycle.rt:193:1
+
+-- src/cycle.rt:193:1
+
+-- src/cycle.rt:193:1
+
+-- src/cycle.rt:193:1
+
+-- src/cycle.rt:193:1
+
+-- src/cycle.rt:193:1
+
+-- src/cycle.rt:193:1
+
+-- src/cycle.rt:193:1
+
+-- src/cycle.rt:193:1
+
+-- src/cycle.rt:315:8
+
+-- src/cycle.rt:316:9
+
+-- src/cycle.rt:316:9
+
+-- src/cycle.rt:316:9
+
+-- src/cycle.rt:316:9
+
+-- src/cycle.rt:319:9
+
+-- src/cycle.rt:320:9
+
+-- src/cycle.rt:321:5
+
+-- src/cycle.rt:301:1
+
+-- src/cycle.rt:301:1
+
+-- src/cycle.rt:301:1
+
+-- src/cycle.rt:185:9
+
+-- src/cycle.rt:187:24
+
+-- src/cycle.rt:187:43
+
+-- src/cycle.rt:188:64
+
+-- src/cycle.rt:188:30
+
+-- src/cycle.rt:170:1
+
+-- src/cycle.rt:170:1
+
+-- src/cycle.rt:170:1
+
+-- src/cycle.rt:170:1
+
+-- src/cycle.rt:170:1
+
+-- src/cycle.rt:239:9
+
+-- src/cycle.rt:241:48
+
+-- src/cycle.rt:241:9
+
+-- src/cycle.rt:241:9
+
+-- src/cycle.rt:241:9
+
+-- src/cycle.rt:243:9
+
+-- src/cycle.rt:244:8
+
+-- src/cycle.rt:245:40
+
+-- src/cycle.rt:245:9
+
+-- src/cycle.rt:245:9
+
+-- src/cycle.rt:245:9
+
+-- src/cycle.rt:247:9
+
+-- src/cycle.rt:248:19
+
+-- src/cycle.rt:249:9
+
+-- src/cycle.rt:249:9
+
+-- src/cycle.rt:249:9
+
+-- src/cycle.rt:249:9
+
+-- src/cycle.rt:251:5
+
+-- src/cycle.rt:225:1
+
+-- src/cycle.rt:225:1
+
+-- src/cycle.rt:225:1
+
+pub arguments-loop-i-init : goal.arguments-loop-i-init
+arguments-loop-i-init t c = gathered_none _ _ _ _ _ _ _ _ _ c.requires.room
+
+pub arguments-operand-x-requires : goal.arguments-operand-x-requires
+arguments-operand-x-requires t c = (falls-moved _ _ c.args.p 2 c.decreases 1 c.moved-q.ensures (c.loop-i.invariant.onward) (omega arith), (room_next c.requires.room c.moved-q.ensures (c.loop-i.invariant.moved) (c.loop-i.invariant.below), rw c.moved-q.ensures (c.requires.line_value)))
+
+pub arguments-shape_of-state-in_default : goal.arguments-shape_of-state-in_default
+arguments-shape_of-state-in_default t c = c.operand-x.auto.state ∙ c.loop-i.invariant.moved.long
+
+pub arguments-shape_of-slots-in_default : goal.arguments-shape_of-slots-in_default
+arguments-shape_of-slots-in_default t c = c.operand-x.auto.slots ∙ c.loop-i.invariant.below.long
+
+pub arguments-returns-in_default : goal.arguments-returns-in_default
+arguments-returns-in_default t c = gathered-refused _ _ _ _ _ _ _ _ c.loop-i.invariant c.loop-i-test.true c.moved-q.ensures c.operand-x.ensures c.in_default.is (c.refused_all.ensures ∙ ap handed_on_all c.in_default.is)
+
+pub arguments-overflow_add-i : goal.arguments-overflow_add-i
+arguments-overflow_add-i t c = omega (arith, c.loop-i-test.true)
+
+pub arguments-loop-i-smaller : goal.arguments-loop-i-smaller
+arguments-loop-i-smaller t c = omega (arith, c.loop-i-test.true)
+
+pub arguments-loop-i-preserved : goal.arguments-loop-i-preserved
+arguments-loop-i-preserved t c = gathered-more _ _ _ _ _ _ _ _ c.loop-i.invariant c.loop-i-test.true c.moved-q.ensures c.operand-x.ensures c.in-Is.is c.put-arg-1.given.0.1 c.put.ensures c.end_of-at.ensures
+
+pub arguments-shape_of-state : goal.arguments-shape_of-state
+arguments-shape_of-state t c = c.loop-i.invariant.moved.long
+
+pub arguments-shape_of-slots : goal.arguments-shape_of-slots
+arguments-shape_of-slots t c = c.loop-i.invariant.below.long
+
+pub arguments-returns : goal.arguments-returns
+arguments-returns t c = gathered-all _ _ _ _ _ _ _ _ c.loop-i.invariant c.loop-i-test.false refl
+
+pub binding-returns-then-slots-p : goal.binding-returns-then-slots-p
+binding-returns-then-slots-p t c = bound-full _ _ _ _ _ _ _ _ c.if-slots-p.true refl
+
+pub binding-bound-q-requires : goal.binding-bound-q-requires
+binding-bound-q-requires t c = omega (arith, c.if-slots-p.false)
+
+pub binding-expr-requires : goal.binding-expr-requires
+binding-expr-requires t c = (falls-bound _ _ c.args.p 1 c.decreases 0 _ c.bound-q.ensures (le_refl _) (omega arith), room_bound c.requires _ _ c.bound-q.ensures (c.put.auto.row) (omega (arith, c.if-slots-p.false)))
+
+pub binding-shape_of-state : goal.binding-shape_of-state
+binding-shape_of-state t c = c.expr.auto.state
+
+pub binding-shape_of-slots : goal.binding-shape_of-slots
+binding-shape_of-slots t c = c.expr.auto.slots ∙ c.put.auto.row
+
+pub binding-returns : goal.binding-returns
+binding-returns t c = bound-done _ _ _ _ _ _ _ _ c.if-slots-p.false c.put.ensures c.bound-q.ensures c.expr.ensures
+
+pub body-returns-then-p-eq0 : goal.body-returns-then-p-eq0
+body-returns-then-p-eq0 t c = body-spent _ _ _ _ _ _ _ _ _ _ c.if-p-eq0.true refl
+
+pub body-push-requires : goal.body-push-requires
+body-push-requires t c = c.requires.room.top
+
+pub body-body_context-q-requires : goal.body-body_context-q-requires
+body-body_context-q-requires t c = omega (arith, c.if-p-eq0.false)
+
+pub body-slice_bounds-expr-count : goal.body-slice_bounds-expr-count
+body-slice_bounds-expr-count t c = omega (arith, c.requires.room.top, c.push.auto.slots)
+
+pub body-slice_bounds-expr-start : goal.body-slice_bounds-expr-start
+body-slice_bounds-expr-start t c = omega (arith, c.requires.room.top, c.push.auto.slots)
+
+pub body-expr-requires : goal.body-expr-requires
+body-expr-requires t c = (falls-body _ _ c.args.p 1 c.decreases _ _ 0 c.body_context-q.ensures (omega arith) c.if-p-eq0.false (omega arith), room-body c.requires.room _ _ _ c.push.new.0 c.body_context-q.ensures (c.push.auto.slots) c.requires.n_in_bounds)
+
+pub body-shape_of-state : goal.body-shape_of-state
+body-shape_of-state t c = c.expr.auto.state
+
+pub body-shape_of-slots : goal.body-shape_of-slots
+body-shape_of-slots t c = part-long c.push.new.0 c.expr.new.1.1.1.1.1.0 c.args.p.top (omega (arith, c.requires.room.top, c.push.auto.slots)) c.expr.ensures.below.long ∙ c.push.auto.slots
+
+pub body-returns : goal.body-returns
+body-returns t c = body-done _ _ _ _ _ _ _ _ _ _ c.if-p-eq0.false c.requires.n_in_bounds c.push.ensures c.body_context-q.ensures (part-all c.push.new.0 c.args.p.top) (part-back c.push.new.0 c.expr.new.1.1.1.1.1.0 c.args.p.top) c.expr.ensures
+
+pub branch-returns-then-constructors-c : goal.branch-returns-then-constructors-c
+branch-returns-then-constructors-c t c = branch-beyond _ _ _ _ _ _ _ _ _ c.constructor-c.ensures c.constructors.ensures c.if-constructors-c.true refl
+
+pub branch-overflow_sub-slots : goal.branch-overflow_sub-slots
+branch-overflow_sub-slots t c = c.requires.top
+
+pub branch-returns-then-slots-p : goal.branch-returns-then-slots-p
+branch-returns-then-slots-p t c = branch-full _ _ _ _ _ _ _ _ _ c.constructor-c.ensures c.constructors.ensures c.if-constructors-c.false c.fields-n.ensures c.if-slots-p.true refl
+
+pub branch-push_fields-requires : goal.branch-push_fields-requires
+branch-push_fields-requires t c = c.requires.top
+
+pub branch-bound-q-requires : goal.branch-bound-q-requires
+branch-bound-q-requires t c = omega (arith, c.if-slots-p.false, c.requires.top)
+
+pub branch-expr-requires : goal.branch-expr-requires
+branch-expr-requires t c = (falls-bound _ _ c.args.p 1 c.decreases 0 _ c.bound-q.ensures (later-branch _ _ _ _ c.end_of-first.ensures c.branch_at-at.ensures) (omega arith), room_bound c.requires _ _ c.bound-q.ensures (c.push_fields.auto.slots) (omega (arith, c.if-slots-p.false, c.requires.top)))
+
+pub branch-shape_of-state : goal.branch-shape_of-state
+branch-shape_of-state t c = c.expr.auto.state
+
+pub branch-shape_of-slots : goal.branch-shape_of-slots
+branch-shape_of-slots t c = c.expr.auto.slots ∙ c.push_fields.auto.slots
+
+pub branch-returns : goal.branch-returns
+branch-returns t c = branch-done _ _ _ _ _ _ _ _ _ c.constructor-c.ensures c.constructors.ensures c.if-constructors-c.false c.fields-n.ensures c.requires.top c.if-slots-p.false c.push_fields.ensures c.end_of-first.ensures c.branch_at-at.ensures c.bound-q.ensures c.expr.ensures
+
+pub choice-expr-requires : goal.choice-expr-requires
+choice-expr-requires t c = (falls-here _ _ c.args.p 1 c.decreases 0 (omega arith), c.requires)
+
+pub choice-shape_of-state-then-truth : goal.choice-shape_of-state-then-truth
+choice-shape_of-state-then-truth t c = c.expr.auto.state
+
+pub choice-shape_of-slots-then-truth : goal.choice-shape_of-slots-then-truth
+choice-shape_of-slots-then-truth t c = c.expr.auto.slots
+
+pub choice-returns-then-truth : goal.choice-returns-then-truth
+choice-returns-then-truth t c = choice-second _ _ _ _ _ _ _ _ c.truth.ensures c.if-truth.true c.expr.ensures
+
+pub choice-expr-requires-2 : goal.choice-expr-requires-2
+choice-expr-requires-2 t c = (falls-moved _ _ c.args.p 1 c.decreases 0 c.moved-q.ensures (later-end _ _ _ c.end_of-third.ensures) (omega arith), room_at c.requires c.moved-q.ensures)
+
+pub choice-shape_of-state : goal.choice-shape_of-state
+choice-shape_of-state t c = c.expr-2.auto.state
+
+pub choice-shape_of-slots : goal.choice-shape_of-slots
+choice-shape_of-slots t c = c.expr-2.auto.slots
+
+pub choice-returns : goal.choice-returns
+choice-returns t c = choice-third _ _ _ _ _ _ _ _ c.truth.ensures c.if-truth.false c.end_of-third.ensures c.moved-q.ensures c.expr-2.ensures
+
+pub compound-overflow_cast-waiting : goal.compound-overflow_cast-waiting
+compound-overflow_cast-waiting t c = omega (arith, c.reserved-waiting.ensures.1)
+
+pub compound-overflow_sub-slots : goal.compound-overflow_sub-slots
+compound-overflow_sub-slots t c = c.requires.room.top
+
+pub compound-returns-then-slots-p : goal.compound-returns-then-slots-p
+compound-returns-then-slots-p t c = compound-full _ _ _ _ _ _ _ _ c.reserved-waiting.ensures c.if-slots-p.true refl
+
+pub compound-overflow_sub-room : goal.compound-overflow_sub-room
+compound-overflow_sub-room t c = omega (arith, c.if-slots-p.false)
+
+pub compound-slice_bounds-arguments-end-2 : goal.compound-slice_bounds-arguments-end-2
+compound-slice_bounds-arguments-end-2 t c = sym (length-take-le (length (c.args.slots.now) - c.reserved-waiting.result) (c.args.slots.now) (omega arith))
+
+pub compound-arguments-x-requires : goal.compound-arguments-x-requires
+compound-arguments-x-requires t c = (falls-moved _ _ c.args.p 4 c.decreases 2 c.moved-first.ensures (later_first (c.args.ends.now) (frame_place (frames_of (c.args.index.now)) (c.args.p.line)) c.args.form (c.args.p.at.at) c.first_operand.ensures) (omega arith), (room_cut c.requires.room (length (c.args.slots.now) - c.reserved-waiting.result) c.moved-first.ensures (omega arith) (omega (arith, c.if-slots-p.false, c.requires.room.top)), rw c.moved-first.ensures (c.requires.line_value)))
+
+pub compound-shape_of-state-in_default : goal.compound-shape_of-state-in_default
+compound-shape_of-state-in_default t c = c.arguments-x.auto.state
+
+pub compound-shape_of-slots-in_default : goal.compound-shape_of-slots-in_default
+compound-shape_of-slots-in_default t c = (so-below _ _ _ _ _ _ _ c.args.form c.reserved-waiting.ensures c.requires.room c.if-slots-p.false c.operands-n.ensures c.first_operand.ensures c.moved-first.ensures refl refl refl c.arguments-x.ensures).long
+
+pub compound-returns-in_default : goal.compound-returns-in_default
+compound-returns-in_default t c = compound-refused _ _ _ _ _ _ _ _ c.reserved-waiting.ensures c.requires.room c.if-slots-p.false c.operands-n.ensures c.first_operand.ensures c.moved-first.ensures refl refl refl c.arguments-x.ensures c.in_default.is c.refused.ensures
+
+pub compound-finish-requires : goal.compound-finish-requires
+compound-finish-requires t c = (falls-moved _ _ c.args.p 4 c.decreases 3 c.moved-q.ensures (later-two c.args.p (later_first (c.args.ends.now) (frame_place (frames_of (c.args.index.now)) (c.args.p.line)) c.args.form (c.args.p.at.at) c.first_operand.ensures) c.moved-first.ensures (later-all c.arguments-x.ensures.onward c.in-Are.is)) (omega arith), (room_next c.requires.room c.moved-q.ensures (compound-moved _ _ _ _ _ _ _ c.args.form c.reserved-waiting.ensures c.requires.room c.if-slots-p.false c.operands-n.ensures c.first_operand.ensures c.moved-first.ensures refl refl refl c.arguments-x.ensures c.in-Are.is) (so-below _ _ _ _ _ _ _ c.args.form c.reserved-waiting.ensures c.requires.room c.if-slots-p.false c.operands-n.ensures c.first_operand.ensures c.moved-first.ensures refl refl refl c.arguments-x.ensures), rw c.moved-q.ensures (still-free _ _ _ _ _ _ _ c.args.form c.reserved-waiting.ensures c.requires.room c.if-slots-p.false c.operands-n.ensures c.first_operand.ensures c.moved-first.ensures refl refl refl c.arguments-x.ensures)))
+
+pub compound-shape_of-state : goal.compound-shape_of-state
+compound-shape_of-state t c = c.finish.auto.state ∙ c.arguments-x.auto.state
+
+pub compound-shape_of-slots : goal.compound-shape_of-slots
+compound-shape_of-slots t c = c.finish.auto.slots ∙ (so-below _ _ _ _ _ _ _ c.args.form c.reserved-waiting.ensures c.requires.room c.if-slots-p.false c.operands-n.ensures c.first_operand.ensures c.moved-first.ensures refl refl refl c.arguments-x.ensures).long
+
+pub compound-returns : goal.compound-returns
+compound-returns t c = compound-done _ _ _ _ _ _ _ _ c.reserved-waiting.ensures c.requires.room c.if-slots-p.false c.operands-n.ensures c.first_operand.ensures c.moved-first.ensures refl refl refl c.arguments-x.ensures c.in-Are.is c.moved-q.ensures c.finish.ensures
+
+pub expr-new_bool-requires : goal.expr-new_bool-requires
+expr-new_bool-requires t c = c.requires.board
+
+pub expr-new_int-requires : goal.expr-new_int-requires
+expr-new_int-requires t c = c.requires.board
+
+pub expr-compound-requires : goal.expr-compound-requires
+expr-compound-requires t c = (falls-head _ _ c.args.p 0 c.decreases 4 c.moved-q.ensures (shorter-behind _ _ c.frame_line-line.ensures (head-shorter c.head_at-head.ensures c.head_at-head.result.form refl (no-leaf c.head_at-head.result.form (behind-leaves _ c.in_default.in_default-own.keys7)))) (omega arith), (room_at c.requires c.moved-q.ensures, rw c.moved-q.ensures (c.frame_line-line.ensures)))
+
+pub expr-shape_of-state-in-Bool : goal.expr-shape_of-state-in-Bool
+expr-shape_of-state-in-Bool t c = c.new_bool.auto.state
+
+pub expr-returns-in-Bool : goal.expr-returns-in-Bool
+expr-returns-in-Bool t c = expr-bool _ _ _ _ _ _ _ c.requires c.frame_line-line.ensures c.head_at-head.ensures c.in-Bool.is c.new_bool.ensures
+
+pub expr-shape_of-state-in-Int : goal.expr-shape_of-state-in-Int
+expr-shape_of-state-in-Int t c = c.new_int.auto.state
+
+pub expr-returns-in-Int : goal.expr-returns-in-Int
+expr-returns-in-Int t c = expr-int _ _ _ _ _ _ _ c.requires c.frame_line-line.ensures c.head_at-head.ensures c.in-Int.is c.new_int.ensures
+
+pub expr-returns-in-Variable : goal.expr-returns-in-Variable
+expr-returns-in-Variable t c = expr-variable _ _ _ _ _ _ _ c.requires c.frame_line-line.ensures c.head_at-head.ensures refl c.in-Variable.is c.variable.ensures
+
+pub expr-returns-in-Now : goal.expr-returns-in-Now
+expr-returns-in-Now t c = expr-now _ _ _ _ _ _ _ c.requires c.frame_line-line.ensures c.head_at-head.ensures refl c.in-Now.is c.word_at.ensures
+
+pub expr-returns-in-Last : goal.expr-returns-in-Last
+expr-returns-in-Last t c = expr-last _ _ _ _ _ _ _ c.requires c.frame_line-line.ensures c.head_at-head.ensures refl c.in-Last.is c.channel_cell.ensures
+
+pub expr-returns-in-Missing : goal.expr-returns-in-Missing
+expr-returns-in-Missing t c = expr-missing _ _ _ _ _ _ _ c.requires c.frame_line-line.ensures c.head_at-head.ensures c.in-Missing.is refl
+
+pub expr-shape_of-state-in_default : goal.expr-shape_of-state-in_default
+expr-shape_of-state-in_default t c = c.compound.auto.state
+
+pub expr-shape_of-slots-in_default : goal.expr-shape_of-slots-in_default
+expr-shape_of-slots-in_default t c = c.compound.auto.slots
+
+pub expr-returns-in_default : goal.expr-returns-in_default
+expr-returns-in_default t c = expr-compound _ _ _ _ _ _ _ c.requires c.frame_line-line.ensures c.head_at-head.ensures c.moved-q.ensures refl (no-leaf c.head_at-head.result.form (behind-leaves _ c.in_default.in_default-own.keys7)) c.compound.ensures
+
+pub finish-operator-requires : goal.finish-operator-requires
+finish-operator-requires t c = (falls-here _ _ c.args.p 3 c.decreases 1 (omega arith), c.requires.room)
+
+pub finish-construct-requires : goal.finish-construct-requires
+finish-construct-requires t c = c.requires.room.board
+
+pub finish-body-requires : goal.finish-body-requires
+finish-body-requires t c = (falls-here _ _ c.args.p 3 c.decreases 1 (omega arith), (c.requires.room, c.requires.waits _ c.in-Call.is))
+
+pub finish-branch-text-requires : goal.finish-branch-text-requires
+finish-branch-text-requires t c = (falls-here _ _ c.args.p 3 c.decreases 1 (omega arith), c.requires.room)
+
+pub finish-choice-requires : goal.finish-choice-requires
+finish-choice-requires t c = (falls-here _ _ c.args.p 3 c.decreases 1 (omega arith), c.requires.room)
+
+pub finish-fit-requires : goal.finish-fit-requires
+finish-fit-requires t c = (falls-here _ _ c.args.p 3 c.decreases 2 (omega arith), c.requires.room)
+
+pub finish-binding-requires : goal.finish-binding-requires
+finish-binding-requires t c = (falls-here _ _ c.args.p 3 c.decreases 1 (omega arith), c.requires.room)
+
+pub finish-shape_of-state-in-Operator : goal.finish-shape_of-state-in-Operator
+finish-shape_of-state-in-Operator t c = c.operator.auto.state
+
+pub finish-shape_of-slots-in-Operator : goal.finish-shape_of-slots-in-Operator
+finish-shape_of-slots-in-Operator t c = c.operator.auto.slots
+
+pub finish-returns-in-Operator : goal.finish-returns-in-Operator
+finish-returns-in-Operator t c = finish-operator _ _ _ _ _ _ _ _ _ c.in-Operator.is refl refl c.operator.ensures
+
+pub finish-shape_of-state-in-Construct : goal.finish-shape_of-state-in-Construct
+finish-shape_of-state-in-Construct t c = c.construct.auto.state
+
+pub finish-returns-in-Construct : goal.finish-returns-in-Construct
+finish-returns-in-Construct t c = finish-construct _ _ _ _ _ _ _ _ _ c.in-Construct.is c.construct.ensures
+
+pub finish-returns-in-Adjust : goal.finish-returns-in-Adjust
+finish-returns-in-Adjust t c = finish-adjust _ _ _ _ _ _ _ _ _ c.requires.room c.in-Adjust.is c.word_at-first.ensures refl
+
+pub finish-shape_of-state-in-Call : goal.finish-shape_of-state-in-Call
+finish-shape_of-state-in-Call t c = c.body.auto.state
+
+pub finish-shape_of-slots-in-Call : goal.finish-shape_of-slots-in-Call
+finish-shape_of-slots-in-Call t c = c.body.auto.slots
+
+pub finish-returns-in-Call : goal.finish-returns-in-Call
+finish-returns-in-Call t c = finish-call _ _ _ _ _ _ _ _ _ c.in-Call.is c.body.ensures
+
+pub finish-shape_of-state-in-Case : goal.finish-shape_of-state-in-Case
+finish-shape_of-state-in-Case t c = c.branch-text.auto.state
+
+pub finish-shape_of-slots-in-Case : goal.finish-shape_of-slots-in-Case
+finish-shape_of-slots-in-Case t c = c.branch-text.auto.slots
+
+pub finish-returns-in-Case : goal.finish-returns-in-Case
+finish-returns-in-Case t c = finish-case _ _ _ _ _ _ _ _ _ c.in-Case.is c.word_at-first.ensures c.branch-text.ensures
+
+pub finish-shape_of-state-in-If : goal.finish-shape_of-state-in-If
+finish-shape_of-state-in-If t c = c.choice.auto.state
+
+pub finish-shape_of-slots-in-If : goal.finish-shape_of-slots-in-If
+finish-shape_of-slots-in-If t c = c.choice.auto.slots
+
+pub finish-returns-in-If : goal.finish-returns-in-If
+finish-returns-in-If t c = finish-if _ _ _ _ _ _ _ _ _ c.in-If.is c.word_at-first.ensures c.choice.ensures
+
+pub finish-shape_of-state-in-Fit : goal.finish-shape_of-state-in-Fit
+finish-shape_of-state-in-Fit t c = c.fit.auto.state
+
+pub finish-shape_of-slots-in-Fit : goal.finish-shape_of-slots-in-Fit
+finish-shape_of-slots-in-Fit t c = c.fit.auto.slots
+
+pub finish-returns-in-Fit : goal.finish-returns-in-Fit
+finish-returns-in-Fit t c = finish-fit _ _ _ _ _ _ _ _ _ c.in-Fit.is c.word_at-first.ensures c.fit.ensures
+
+pub finish-shape_of-state-in-Let : goal.finish-shape_of-state-in-Let
+finish-shape_of-state-in-Let t c = c.binding.auto.state
+
+pub finish-shape_of-slots-in-Let : goal.finish-shape_of-slots-in-Let
+finish-shape_of-slots-in-Let t c = c.binding.auto.slots
+
+pub finish-returns-in-Let : goal.finish-returns-in-Let
+finish-returns-in-Let t c = finish-let _ _ _ _ _ _ _ _ _ c.in-Let.is c.word_at-first.ensures c.binding.ensures
+
+pub finish-returns-in_default : goal.finish-returns-in_default
+finish-returns-in_default t c = finish-none _ _ _ _ _ _ _ _ _ (no-parts c.args.form (leaf-or-missing _ c.in_default.in_default-own.keys9)) refl
+
+pub fit-binding-requires : goal.fit-binding-requires
+fit-binding-requires t c = (falls-here _ _ c.args.p 2 c.decreases 1 (omega arith), c.requires)
+
+pub fit-shape_of-state-then-size-k : goal.fit-shape_of-state-then-size-k
+fit-shape_of-state-then-size-k t c = c.binding.auto.state
+
+pub fit-shape_of-slots-then-size-k : goal.fit-shape_of-slots-then-size-k
+fit-shape_of-slots-then-size-k t c = c.binding.auto.slots
+
+pub fit-returns-then-size-k : goal.fit-returns-then-size-k
+fit-returns-then-size-k t c = fit-second _ _ _ _ _ _ _ _ c.size.ensures c.if-size-k.true c.binding.ensures
+
+pub fit-expr-requires : goal.fit-expr-requires
+fit-expr-requires t c = (falls-moved _ _ c.args.p 2 c.decreases 0 c.moved-q.ensures (later-end _ _ _ c.end_of-third.ensures) (omega arith), room_at c.requires c.moved-q.ensures)
+
+pub fit-shape_of-state : goal.fit-shape_of-state
+fit-shape_of-state t c = c.expr.auto.state
+
+pub fit-shape_of-slots : goal.fit-shape_of-slots
+fit-shape_of-slots t c = c.expr.auto.slots
+
+pub fit-returns : goal.fit-returns
+fit-returns t c = fit-third _ _ _ _ _ _ _ _ c.size.ensures c.if-size-k.false c.end_of-third.ensures c.moved-q.ensures c.expr.ensures
+
+pub operand-expr-requires : goal.operand-expr-requires
+operand-expr-requires t c = (falls-here _ _ c.args.p 1 c.decreases 0 (omega arith), c.requires.room)
+
+pub operand-returns-in-Is : goal.operand-returns-in-Is
+operand-returns-in-Is t c = operand-variable _ _ _ _ _ _ _ c.requires.room c.requires.line_value c.variable_at-x.ensures c.in-Is.is c.variable.ensures refl
+
+pub operand-shape_of-state : goal.operand-shape_of-state
+operand-shape_of-state t c = c.expr.auto.state
+
+pub operand-shape_of-slots-in-Other : goal.operand-shape_of-slots-in-Other
+operand-shape_of-slots-in-Other t c = c.expr.auto.slots
+
+pub operand-returns-in-Other : goal.operand-returns-in-Other
+operand-returns-in-Other t c = c.expr.ensures
+
+pub operator-operate-requires : goal.operator-operate-requires
+operator-operate-requires t c = c.requires.board
+
+pub operator-shape_of-state-then-o-lt-OPERATOR_AND : goal.operator-shape_of-state-then-o-lt-OPERATOR_AND
+operator-shape_of-state-then-o-lt-OPERATOR_AND t c = c.operate.auto.state
+
+pub operator-returns-then-o-lt-OPERATOR_AND : goal.operator-returns-then-o-lt-OPERATOR_AND
+operator-returns-then-o-lt-OPERATOR_AND t c = operator-both _ _ _ _ _ _ _ _ _ _ c.if-o-lt-OPERATOR_AND.true c.word_at-left.ensures c.word_at.ensures c.operate.ensures
+
+pub operator-new_bool-requires : goal.operator-new_bool-requires
+operator-new_bool-requires t c = c.requires.board
+
+pub operator-shape_of-state-then-decides : goal.operator-shape_of-state-then-decides
+operator-shape_of-state-then-decides t c = c.new_bool.auto.state
+
+pub operator-returns-then-decides : goal.operator-returns-then-decides
+operator-returns-then-decides t c = operator-decided _ _ _ _ _ _ _ _ _ _ c.if-o-lt-OPERATOR_AND.false c.word_at-left.ensures c.truth-holds.ensures c.decides.ensures c.if-decides.true c.one_if.ensures.0 c.new_bool.ensures
+
+pub operator-expr-x-requires : goal.operator-expr-x-requires
+operator-expr-x-requires t c = (falls-here _ _ c.args.p 1 c.decreases 0 (omega arith), c.requires)
+
+pub operator-shape_of-state-in_default : goal.operator-shape_of-state-in_default
+operator-shape_of-state-in_default t c = c.expr-x.auto.state
+
+pub operator-shape_of-slots-in_default : goal.operator-shape_of-slots-in_default
+operator-shape_of-slots-in_default t c = c.expr-x.auto.slots
+
+pub operator-returns-in_default : goal.operator-returns-in_default
+operator-returns-in_default t c = operator-refused _ _ _ _ _ _ _ _ _ _ c.if-o-lt-OPERATOR_AND.false c.word_at-left.ensures c.truth-holds.ensures c.decides.ensures c.if-decides.false c.expr-x.ensures c.in_default.is refl
+
+pub operator-operate-requires-2 : goal.operator-operate-requires-2
+operator-operate-requires-2 t c = board-moved (moved_by c.expr-x.ensures.kept c.in-Is.is) c.requires.board
+
+pub operator-shape_of-state : goal.operator-shape_of-state
+operator-shape_of-state t c = c.operate-2.auto.state ∙ c.expr-x.auto.state
+
+pub operator-shape_of-slots : goal.operator-shape_of-slots
+operator-shape_of-slots t c = c.expr-x.auto.slots
+
+pub operator-returns : goal.operator-returns
+operator-returns t c = operator-done _ _ _ _ _ _ _ _ _ _ c.if-o-lt-OPERATOR_AND.false c.word_at-left.ensures c.truth-holds.ensures c.decides.ensures c.if-decides.false c.expr-x.ensures c.in-Is.is c.operate-2.ensures

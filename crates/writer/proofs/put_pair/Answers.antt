@@ -1,0 +1,7 @@
+-- The two digits of a byte, one behind the other.
+use Rattle.writer.specs.LineLaws.{pair_put}
+use borrow.Author.Rules.{rules}
+use Rattle.writer.proofs.put_pair.Goals as goal
+
+pub returns : goal.returns
+returns c = pair_put _ _ _ c.digit_character.ensures c.digit_character-2.ensures
