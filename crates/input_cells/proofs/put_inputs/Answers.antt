@@ -11,4 +11,4 @@ pub slice_bounds-lay_inputs-length : goal.slice_bounds-lay_inputs-length
 slice_bounds-lay_inputs-length c = but_last c.args.line.now
 
 pub returns : goal.returns
-returns c = inputs-laid refl (c.lay-inputs-arg3.given.0.1) c.lay_inputs.ensures
+returns c = inputs-laid refl c.lay_inputs-arg-2-1.given.0.1 c.lay_inputs.ensures

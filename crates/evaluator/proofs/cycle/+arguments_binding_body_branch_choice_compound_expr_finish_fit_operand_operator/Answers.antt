@@ -29,438 +29,39 @@ use borrow.Author.Rules.{rules}
 use Rattle.heads.specs.Heads.{has_parts}
 use Rattle.evaluator.proofs.cycle.+arguments_binding_body_branch_choice_compound_expr_finish_fit_operand_operator.Goals as goal
 
-abbrev form-tag : Form → ℕ
-form-tag x = tag_of (declared form-enum) x
-
-behind-leaves : (n : ℕ) → (n ≡ 5) ⊎ ((n ≡ 6) ⊎ ((n ≡ 7) ⊎ ((n ≡ 8) ⊎ ((n ≡ 9) ⊎ ((n ≡ 10) ⊎ ((n ≡ 11) ⊎ (n ≡ 12))))))) → (5 ≤ n) × (n ≤ 12)
-behind-leaves n s = ⊎_elim (λ z. omega (arith, z)) (⊎_elim (λ z. omega (arith, z)) (⊎_elim (λ z. omega (arith, z)) (⊎_elim (λ z. omega (arith, z)) (⊎_elim (λ z. omega (arith, z)) (⊎_elim (λ z. omega (arith, z)) (⊎_elim (λ z. omega (arith, z)) (λ z. omega (arith, z)))))))) s
-
-no-leaf : (f : Form) → (5 ≤ form-tag f) × (form-tag f ≤ 12) → has_parts f ≡ true
-no-leaf (BoolForm b) le = absurd (omega (arith, le.0))
-no-leaf (Int n) le = absurd (omega (arith, le.0))
-no-leaf (Variable v) le = absurd (omega (arith, le.0))
-no-leaf (Now c) le = absurd (omega (arith, le.0))
-no-leaf (Last c) le = absurd (omega (arith, le.0))
-no-leaf Let le = refl
-no-leaf If le = refl
-no-leaf (Operator o) le = refl
-no-leaf (Call f) le = refl
-no-leaf (Construct t c) le = refl
-no-leaf (Case t) le = refl
-no-leaf Adjust le = refl
-no-leaf (Fit k) le = refl
-no-leaf Missing le = absurd (omega (arith, le.1))
-
-leaf-or-missing : (n : ℕ) → (n ≡ 0) ⊎ ((n ≡ 1) ⊎ ((n ≡ 2) ⊎ ((n ≡ 3) ⊎ ((n ≡ 4) ⊎ (n ≡ 13))))) → (n < 5) ⊎ (n ≡ 13)
-leaf-or-missing n s = ⊎_elim (λ z. inl (omega (arith, z))) (⊎_elim (λ z. inl (omega (arith, z))) (⊎_elim (λ z. inl (omega (arith, z))) (⊎_elim (λ z. inl (omega (arith, z))) (⊎_elim (λ z. inl (omega (arith, z))) inr)))) s
-
-no-parts : (f : Form) → (form-tag f < 5) ⊎ (form-tag f ≡ 13) → has_parts f ≡ false
-no-parts (BoolForm b) s = refl
-no-parts (Int n) s = refl
-no-parts (Variable v) s = refl
-no-parts (Now c) s = refl
-no-parts (Last c) s = refl
-no-parts Let s = absurd (⊎_elim (λ z. omega (arith, z)) (λ z. omega (arith, z)) s)
-no-parts If s = absurd (⊎_elim (λ z. omega (arith, z)) (λ z. omega (arith, z)) s)
-no-parts (Operator o) s = absurd (⊎_elim (λ z. omega (arith, z)) (λ z. omega (arith, z)) s)
-no-parts (Call f) s = absurd (⊎_elim (λ z. omega (arith, z)) (λ z. omega (arith, z)) s)
-no-parts (Construct t c) s = absurd (⊎_elim (λ z. omega (arith, z)) (λ z. omega (arith, z)) s)
-no-parts (Case t) s = absurd (⊎_elim (λ z. omega (arith, z)) (λ z. omega (arith, z)) s)
-no-parts Adjust s = absurd (⊎_elim (λ z. omega (arith, z)) (λ z. omega (arith, z)) s)
-no-parts (Fit k) s = absurd (⊎_elim (λ z. omega (arith, z)) (λ z. omega (arith, z)) s)
-no-parts Missing s = refl
-
--- src/cycle.rt:147:5
-
--- src/cycle.rt:156:13
-
--- src/cycle.rt:148:13
-
--- src/cycle.rt:158:23
-
--- src/cycle.rt:159:13
-
--- src/cycle.rt:159:13
-
--- src/cycle.rt:159:13
-
--- src/cycle.rt:159:13
-
--- src/cycle.rt:159:13
-
--- src/cycle.rt:161:18
-
--- src/cycle.rt:161:9
-
--- src/cycle.rt:162:9
-
--- src/cycle.rt:164:9
-
--- src/cycle.rt:147:5
-
--- src/cycle.rt:147:5
-
--- src/cycle.rt:128:1
-
--- src/cycle.rt:128:1
-
--- src/cycle.rt:128:1
-
--- src/cycle.rt:269:9
-
--- src/cycle.rt:271:5
-
--- src/cycle.rt:273:9
-
--- src/cycle.rt:274:5
-
--- src/cycle.rt:255:1
-
--- src/cycle.rt:255:1
-
--- src/cycle.rt:255:1
-
--- src/cycle.rt:373:9
-
--- src/cycle.rt:376:5
-
--- src/cycle.rt:377:9
-
--- src/cycle.rt:378:46
-
--- src/cycle.rt:378:46
-
--- src/cycle.rt:378:46
-
--- src/cycle.rt:378:46
-
--- src/cycle.rt:378:5
-
--- src/cycle.rt:356:1
-
--- src/cycle.rt:356:1
-
--- src/cycle.rt:356:1
-
--- src/cycle.rt:339:9
-
--- src/cycle.rt:340:8
-
--- src/cycle.rt:341:9
-
--- src/cycle.rt:341:9
-
--- src/cycle.rt:343:9
-
--- src/cycle.rt:344:8
-
--- src/cycle.rt:344:31
-
--- src/cycle.rt:345:9
-
--- src/cycle.rt:345:9
-
--- src/cycle.rt:347:5
-
--- src/cycle.rt:349:9
-
--- src/cycle.rt:350:9
-
--- src/cycle.rt:351:26
-
--- src/cycle.rt:351:9
-
--- src/cycle.rt:352:5
-
--- src/cycle.rt:325:1
-
--- src/cycle.rt:325:1
-
--- src/cycle.rt:325:1
-
--- src/cycle.rt:291:8
-
--- src/cycle.rt:292:9
-
--- src/cycle.rt:292:9
-
--- src/cycle.rt:292:9
-
--- src/cycle.rt:292:9
-
--- src/cycle.rt:295:9
-
--- src/cycle.rt:296:9
-
--- src/cycle.rt:297:5
-
--- src/cycle.rt:278:1
-
--- src/cycle.rt:278:1
-
--- src/cycle.rt:278:1
-
--- src/cycle.rt:100:9
-
--- src/cycle.rt:101:19
-
--- src/cycle.rt:101:19
-
--- src/cycle.rt:102:8
-
--- src/cycle.rt:103:9
-
--- src/cycle.rt:105:16
-
--- src/cycle.rt:106:26
-
--- src/cycle.rt:106:9
-
--- src/cycle.rt:114:9
-
--- src/cycle.rt:114:9
-
--- src/cycle.rt:108:9
-
--- src/cycle.rt:120:21
-
--- src/cycle.rt:121:9
-
--- src/cycle.rt:121:9
-
--- src/cycle.rt:121:9
-
--- src/cycle.rt:121:9
-
--- src/cycle.rt:121:9
-
--- src/cycle.rt:123:9
-
--- src/cycle.rt:124:5
-
--- src/cycle.rt:85:1
-
--- src/cycle.rt:85:1
-
--- src/cycle.rt:85:1
-
--- src/cycle.rt:67:9
-
--- src/cycle.rt:69:9
-
--- src/cycle.rt:72:9
-
--- src/cycle.rt:74:20
-
--- src/cycle.rt:74:26
-
--- src/cycle.rt:75:19
-
--- src/cycle.rt:75:25
-
--- src/cycle.rt:76:24
-
--- src/cycle.rt:76:40
-
--- src/cycle.rt:77:19
-
--- src/cycle.rt:77:53
-
--- src/cycle.rt:77:35
-
--- src/cycle.rt:78:20
-
--- src/cycle.rt:78:36
-
--- src/cycle.rt:79:26
-
--- src/cycle.rt:80:14
-
--- src/cycle.rt:55:1
-
--- src/cycle.rt:55:1
-
--- src/cycle.rt:55:1
-
--- src/cycle.rt:55:1
-
--- src/cycle.rt:55:1
-
--- src/cycle.rt:55:1
-
--- src/cycle.rt:55:1
-
--- src/cycle.rt:55:1
-
--- src/cycle.rt:55:1
-
--- src/cycle.rt:55:1
-
--- src/cycle.rt:55:1
-
--- src/cycle.rt:55:1
-
--- src/cycle.rt:55:1
-
--- src/cycle.rt:209:9
-
--- src/cycle.rt:211:24
-
--- src/cycle.rt:211:30
-
--- src/cycle.rt:212:25
-
--- src/cycle.rt:212:34
-
--- src/cycle.rt:213:25
-
--- src/cycle.rt:214:20
-
--- src/cycle.rt:214:26
-
--- src/cycle.rt:215:20
-
--- src/cycle.rt:215:26
-
--- src/cycle.rt:216:57
-
--- src/cycle.rt:216:21
-
--- src/cycle.rt:217:19
-
--- src/cycle.rt:217:25
-
--- src/cycle.rt:218:59
-
--- src/cycle.rt:218:22
-
--- src/cycle.rt:193:1
-
--- src/cycle.rt:193:1
-
--- src/cycle.rt:193:1
-
--- src/cycle.rt:193:1
-
--- src/cycle.rt:193:1
-
--- src/cycle.rt:193:1
-
--- src/cycle.rt:193:1
-
--- src/cycle.rt:193:1
-
--- src/cycle.rt:193:1
-
--- src/cycle.rt:193:1
-
--- src/cycle.rt:193:1
-
--- src/cycle.rt:193:1
-
--- src/cycle.rt:193:1
-
--- src/cycle.rt:193:1
-
--- src/cycle.rt:193:1
-
--- src/cycle.rt:193:1
-
--- src/cycle.rt:193:1
-
--- src/cycle.rt:193:1
-
--- src/cycle.rt:193:1
-
--- src/cycle.rt:193:1
-
--- src/cycle.rt:193:1
-
--- src/cycle.rt:193:1
-
--- src/cycle.rt:315:8
-
--- src/cycle.rt:316:9
-
--- src/cycle.rt:316:9
-
--- src/cycle.rt:316:9
-
--- src/cycle.rt:316:9
-
--- src/cycle.rt:319:9
-
--- src/cycle.rt:320:9
-
--- src/cycle.rt:321:5
-
--- src/cycle.rt:301:1
-
--- src/cycle.rt:301:1
-
--- src/cycle.rt:301:1
-
--- src/cycle.rt:185:9
-
--- src/cycle.rt:187:24
-
--- src/cycle.rt:187:43
-
--- src/cycle.rt:188:64
-
--- src/cycle.rt:188:30
-
--- src/cycle.rt:170:1
-
--- src/cycle.rt:170:1
-
--- src/cycle.rt:170:1
-
--- src/cycle.rt:170:1
-
--- src/cycle.rt:170:1
-
--- src/cycle.rt:239:9
-
--- src/cycle.rt:241:48
-
--- src/cycle.rt:241:9
-
--- src/cycle.rt:241:9
-
--- src/cycle.rt:241:9
-
--- src/cycle.rt:243:9
-
--- src/cycle.rt:244:8
-
--- src/cycle.rt:245:40
-
--- src/cycle.rt:245:9
-
--- src/cycle.rt:245:9
-
--- src/cycle.rt:245:9
-
--- src/cycle.rt:247:9
-
--- src/cycle.rt:248:19
-
--- src/cycle.rt:249:9
-
--- src/cycle.rt:249:9
-
--- src/cycle.rt:249:9
-
--- src/cycle.rt:249:9
-
--- src/cycle.rt:251:5
-
--- src/cycle.rt:225:1
-
--- src/cycle.rt:225:1
-
--- src/cycle.rt:225:1
+-- a form of the last arm of `expr` has parts
+no-leaf : (f : Form) → ((b : ℕ) → f ≡ BoolForm b → ⊥) → ((n : ℕ) → f ≡ Int n → ⊥) → ((v : ℕ) → f ≡ Variable v → ⊥) → ((c : ℕ) → f ≡ Now c → ⊥) → ((c : ℕ) → f ≡ Last c → ⊥) → (f ≡ Missing → ⊥) → has_parts f ≡ true
+no-leaf (BoolForm b) other _ _ _ _ _ = absurd (other b refl)
+no-leaf (Int n) _ other _ _ _ _ = absurd (other n refl)
+no-leaf (Variable v) _ _ other _ _ _ = absurd (other v refl)
+no-leaf (Now c) _ _ _ other _ _ = absurd (other c refl)
+no-leaf (Last c) _ _ _ _ other _ = absurd (other c refl)
+no-leaf Let _ _ _ _ _ _ = refl
+no-leaf If _ _ _ _ _ _ = refl
+no-leaf (Operator o) _ _ _ _ _ _ = refl
+no-leaf (Call f) _ _ _ _ _ _ = refl
+no-leaf (Construct t c) _ _ _ _ _ _ = refl
+no-leaf (Case t) _ _ _ _ _ _ = refl
+no-leaf Adjust _ _ _ _ _ _ = refl
+no-leaf (Fit k) _ _ _ _ _ _ = refl
+no-leaf Missing _ _ _ _ _ other = absurd (other refl)
+
+-- a form of the last arm of `finish` has none
+no-parts : (f : Form) → ((o : ℕ) → f ≡ Operator o → ⊥) → ((t c : ℕ) → f ≡ Construct t c → ⊥) → (f ≡ Adjust → ⊥) → ((g : ℕ) → f ≡ Call g → ⊥) → ((t : ℕ) → f ≡ Case t → ⊥) → (f ≡ If → ⊥) → ((k : ℕ) → f ≡ Fit k → ⊥) → (f ≡ Let → ⊥) → has_parts f ≡ false
+no-parts (BoolForm b) _ _ _ _ _ _ _ _ = refl
+no-parts (Int n) _ _ _ _ _ _ _ _ = refl
+no-parts (Variable v) _ _ _ _ _ _ _ _ = refl
+no-parts (Now c) _ _ _ _ _ _ _ _ = refl
+no-parts (Last c) _ _ _ _ _ _ _ _ = refl
+no-parts Let _ _ _ _ _ _ _ other = absurd (other refl)
+no-parts If _ _ _ _ _ other _ _ = absurd (other refl)
+no-parts (Operator o) other _ _ _ _ _ _ _ = absurd (other o refl)
+no-parts (Call f) _ _ _ other _ _ _ _ = absurd (other f refl)
+no-parts (Construct t c) _ other _ _ _ _ _ _ = absurd (other t c refl)
+no-parts (Case t) _ _ _ _ other _ _ _ = absurd (other t refl)
+no-parts Adjust _ _ other _ _ _ _ _ = absurd (other refl)
+no-parts (Fit k) _ _ _ _ _ _ other _ = absurd (other k refl)
+no-parts Missing _ _ _ _ _ _ _ _ = refl
 
 pub arguments-loop-i-init : goal.arguments-loop-i-init
 arguments-loop-i-init t c = gathered_none _ _ _ _ _ _ _ _ _ c.requires.room
@@ -529,16 +130,16 @@ pub body-slice_bounds-expr-start : goal.body-slice_bounds-expr-start
 body-slice_bounds-expr-start t c = omega (arith, c.requires.room.top, c.push.auto.slots)
 
 pub body-expr-requires : goal.body-expr-requires
-body-expr-requires t c = (falls-body _ _ c.args.p 1 c.decreases _ _ 0 c.body_context-q.ensures (omega arith) c.if-p-eq0.false (omega arith), room-body c.requires.room _ _ _ c.push.new.0 c.body_context-q.ensures (c.push.auto.slots) c.requires.n_in_bounds)
+body-expr-requires t c = (falls-body _ _ c.args.p 1 c.decreases _ _ 0 c.body_context-q.ensures (omega arith) c.if-p-eq0.false (omega arith), room-body c.requires.room _ _ _ c.push.new.slots c.body_context-q.ensures (c.push.auto.slots) c.requires.n_in_bounds)
 
 pub body-shape_of-state : goal.body-shape_of-state
 body-shape_of-state t c = c.expr.auto.state
 
 pub body-shape_of-slots : goal.body-shape_of-slots
-body-shape_of-slots t c = part-long c.push.new.0 c.expr.new.1.1.1.1.1.0 c.args.p.top (omega (arith, c.requires.room.top, c.push.auto.slots)) c.expr.ensures.below.long ∙ c.push.auto.slots
+body-shape_of-slots t c = part-long c.push.new.slots c.expr.new.slots c.args.p.top (omega (arith, c.requires.room.top, c.push.auto.slots)) c.expr.ensures.below.long ∙ c.push.auto.slots
 
 pub body-returns : goal.body-returns
-body-returns t c = body-done _ _ _ _ _ _ _ _ _ _ c.if-p-eq0.false c.requires.n_in_bounds c.push.ensures c.body_context-q.ensures (part-all c.push.new.0 c.args.p.top) (part-back c.push.new.0 c.expr.new.1.1.1.1.1.0 c.args.p.top) c.expr.ensures
+body-returns t c = body-done _ _ _ _ _ _ _ _ _ _ c.if-p-eq0.false c.requires.n_in_bounds c.push.ensures c.body_context-q.ensures (part-all c.push.new.slots c.args.p.top) (part-back c.push.new.slots c.expr.new.slots c.args.p.top) c.expr.ensures
 
 pub branch-returns-then-constructors-c : goal.branch-returns-then-constructors-c
 branch-returns-then-constructors-c t c = branch-beyond _ _ _ _ _ _ _ _ _ c.constructor-c.ensures c.constructors.ensures c.if-constructors-c.true refl
@@ -637,7 +238,7 @@ pub expr-new_int-requires : goal.expr-new_int-requires
 expr-new_int-requires t c = c.requires.board
 
 pub expr-compound-requires : goal.expr-compound-requires
-expr-compound-requires t c = (falls-head _ _ c.args.p 0 c.decreases 4 c.moved-q.ensures (shorter-behind _ _ c.frame_line-line.ensures (head-shorter c.head_at-head.ensures c.head_at-head.result.form refl (no-leaf c.head_at-head.result.form (behind-leaves _ c.in_default.in_default-own.keys7)))) (omega arith), (room_at c.requires c.moved-q.ensures, rw c.moved-q.ensures (c.frame_line-line.ensures)))
+expr-compound-requires t c = (falls-head _ _ c.args.p 0 c.decreases 4 c.moved-q.ensures (shorter-behind _ _ c.frame_line-line.ensures (head-shorter c.head_at-head.ensures c.head_at-head.result.form refl (no-leaf c.head_at-head.result.form c.in_default.not-Bool c.in_default.not-Int c.in_default.not-Variable c.in_default.not-Now c.in_default.not-Last c.in_default.not-Missing))) (omega arith), (room_at c.requires c.moved-q.ensures, rw c.moved-q.ensures (c.frame_line-line.ensures)))
 
 pub expr-shape_of-state-in-Bool : goal.expr-shape_of-state-in-Bool
 expr-shape_of-state-in-Bool t c = c.new_bool.auto.state
@@ -670,7 +271,7 @@ pub expr-shape_of-slots-in_default : goal.expr-shape_of-slots-in_default
 expr-shape_of-slots-in_default t c = c.compound.auto.slots
 
 pub expr-returns-in_default : goal.expr-returns-in_default
-expr-returns-in_default t c = expr-compound _ _ _ _ _ _ _ c.requires c.frame_line-line.ensures c.head_at-head.ensures c.moved-q.ensures refl (no-leaf c.head_at-head.result.form (behind-leaves _ c.in_default.in_default-own.keys7)) c.compound.ensures
+expr-returns-in_default t c = expr-compound _ _ _ _ _ _ _ c.requires c.frame_line-line.ensures c.head_at-head.ensures c.moved-q.ensures refl (no-leaf c.head_at-head.result.form c.in_default.not-Bool c.in_default.not-Int c.in_default.not-Variable c.in_default.not-Now c.in_default.not-Last c.in_default.not-Missing) c.compound.ensures
 
 pub finish-operator-requires : goal.finish-operator-requires
 finish-operator-requires t c = (falls-here _ _ c.args.p 3 c.decreases 1 (omega arith), c.requires.room)
@@ -757,7 +358,7 @@ pub finish-returns-in-Let : goal.finish-returns-in-Let
 finish-returns-in-Let t c = finish-let _ _ _ _ _ _ _ _ _ c.in-Let.is c.word_at-first.ensures c.binding.ensures
 
 pub finish-returns-in_default : goal.finish-returns-in_default
-finish-returns-in_default t c = finish-none _ _ _ _ _ _ _ _ _ (no-parts c.args.form (leaf-or-missing _ c.in_default.in_default-own.keys9)) refl
+finish-returns-in_default t c = finish-none _ _ _ _ _ _ _ _ _ (no-parts c.args.form c.in_default.not-Operator c.in_default.not-Construct c.in_default.not-Adjust c.in_default.not-Call c.in_default.not-Case c.in_default.not-If c.in_default.not-Fit c.in_default.not-Let) refl
 
 pub fit-binding-requires : goal.fit-binding-requires
 fit-binding-requires t c = (falls-here _ _ c.args.p 2 c.decreases 1 (omega arith), c.requires)
