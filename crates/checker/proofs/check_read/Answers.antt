@@ -1,0 +1,43 @@
+-- A return each for refusal 9 and 25, and what follows.
+-- src/lib.rt:104:9
+use Rattle.checker.specs.CheckLaws.{few-channels, types-refused, order-refused, ordered}
+use borrow.Author.Rules.{rules}
+use Rattle.checker.proofs.check_read.Goals as goal
+
+-- src/lib.rt:106:9
+
+-- src/lib.rt:107:9
+
+-- src/lib.rt:107:9
+
+-- src/lib.rt:107:9
+
+-- src/lib.rt:110:5
+
+-- src/lib.rt:111:9
+
+-- src/lib.rt:113:9
+
+-- src/lib.rt:114:9
+
+-- src/lib.rt:114:9
+
+-- src/lib.rt:114:9
+
+-- src/lib.rt:116:5
+
+-- src/lib.rt:93:1
+
+-- src/lib.rt:93:1
+
+pub returns-then-frame-ne-NO_FRAME : goal.returns-then-frame-ne-NO_FRAME
+returns-then-frame-ne-NO_FRAME c = types-refused c.requires.read_held c.plain_types-frame.ensures _ _ c.args.words.now c.if-frame-ne-NO_FRAME.true c.refusal.ensures c.clear.ensures
+
+pub self_reading_frame-node-requires : goal.self_reading_frame-node-requires
+self_reading_frame-node-requires c = few-channels c.requires.read_held
+
+pub returns-then-node-ne-NO_FRAME : goal.returns-then-node-ne-NO_FRAME
+returns-then-node-ne-NO_FRAME c = order-refused c.requires.read_held c.plain_types-frame.ensures _ _ c.args.words.now c.find_readings.ensures c.self_reading_frame-node.ensures c.if-frame-ne-NO_FRAME.false c.if-node-ne-NO_FRAME.true c.refusal-then-node-ne-NO_FRAME.ensures c.clear-then-node-ne-NO_FRAME.ensures
+
+pub check_ordered-requires : goal.check_ordered-requires
+check_ordered-requires c = record { ordered_held = ordered c.requires.read_held c.plain_types-frame.ensures c.find_readings.ensures c.self_reading_frame-node.ensures c.if-frame-ne-NO_FRAME.false c.if-node-ne-NO_FRAME.false; words_len = c.requires.words_len }
