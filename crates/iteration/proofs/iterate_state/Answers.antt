@@ -57,7 +57,9 @@ pub overflow_add-n : goal.overflow_add-n
 overflow_add-n c = omega (arith, c.frame_counts-counts.ensures.1.inputs, c.frame_counts-counts.ensures.1.nodes)
 
 pub collect-requires : goal.collect-requires
-collect-requires c = collects-there _ _ _ _ _ _ _ _ [] _ c.requires.begun c.take_channels.ensures c.update-x.ensures c.in-Used.is c.frame_counts-counts.ensures.0 c.put_channels.ensures c.requires.cells_in_bounds
+collect-requires c =
+    let room = collects-there _ _ _ _ _ _ _ _ [] _ c.requires.begun c.take_channels.ensures c.update-x.ensures c.in-Used.is c.frame_counts-counts.ensures.0 c.put_channels.ensures c.requires.cells_in_bounds in
+    record { channels_le_channels_most = room.0; used_in_bounds = room.1.0; used_in_bounds_2 = room.1.1 }
 
 pub shape_of-state : goal.shape_of-state
 shape_of-state c = c.collect.auto.state ∙ c.put_channels.auto.state ∙ c.update-x.ensures.kept.long
