@@ -41,6 +41,8 @@ calls-alike no_line no_line (both_end a b e) = both_done a b e
 calls-alike {text} {P} {m = m} {n = n} {w = w} (a_line {c = c} {cs = cs} l i rest) (a_line {c = d} {cs = ds} k j more) (both_go a b e same on) =
     both_on a b e (answer_is c i ∙ same ∙ sym (answer_is d j))
     (calls-alike rest more (subst (λ u. Alike text P m n c.after u (lent_in cs) (lent_in ds)) (sym (left_is d j)) (subst (λ u. Alike text P m n u (called text w (lent_by d)).state (lent_in cs) (lent_in ds)) (sym (left_is c i)) on)))
+calls-alike {text = text} {P = P} {m = m} {n = n} {w = w} (no_line {ws = ws}) (a_line {c = d} {cs = ds} k j more) x18 = elim x18 [ ]
+calls-alike {text = text} {P = P} {m = m} {n = n} {w = w} (a_line {ws = ws} {c = c} {cs = cs} l i rest) no_line x13 = elim x13 [ ]
 
 lines-lent : (cs : List LineCall) → lines_in (lent_in cs) ≡ lines_of cs
 lines-lent [] = refl
