@@ -1,4 +1,4 @@
-/* The proved library, target/staticlib/libpaugmeln.a (written by `rt staticlib paugmeln`).
+/* The proved library, target/staticlib/libpaugmeln.a (written by `tools/build library`).
  *
  * Every buffer is the caller's, lent for the time of the call; nothing is allocated, and nothing is kept between calls, so
  * that several threads may call at the same time. The buffers of one call must not overlap, and no other thread writes to

@@ -5,39 +5,37 @@ use answers::{Answer, Board};
 use checker::check_words;
 use instance_list::LIST_WORDS;
 use language::limits::{CALLS_MOST, CELLS_MOST, INSTANCES_MOST, SLOTS_MOST, TEXT_MOST};
-use libc::{STDIN_FILENO, STDOUT_FILENO};
-
-// A number behind a space.
-fn show_number(n: u32) {
-    io::write_all(STDOUT_FILENO, b" ");
-    io::print_decimal(STDOUT_FILENO, n as u64);
-}
+use std::io;
+use std::io::Read;
 
 // The word, on a refusal its number and frame, and the three bounds.
-fn show(r: Answer) {
-    if r.number == 0 {
-        io::write_all(STDOUT_FILENO, b"ACCEPT");
+fn show(rt: &impl Print, r: Answer) -> io::Result<()> {
+    let Answer {
+        number,
+        frame,
+        heap,
+        environment,
+        stack,
+    } = r;
+    if number == 0 {
+        println!(rt; "ACCEPT {heap} {environment} {stack}")
     } else {
-        io::write_all(STDOUT_FILENO, b"REFUSE");
-        show_number(r.number);
-        show_number(r.frame);
+        println!(rt; "REFUSE {number} {frame} {heap} {environment} {stack}")
     }
-    show_number(r.heap);
-    show_number(r.environment);
-    show_number(r.stack);
-    io::write_all(STDOUT_FILENO, b"\n");
 }
 
 // A character more than a rule file may have is enough to know that a text is too long.
-fn main() {
-    let mut text = [0u8; TEXT_MOST + 1];
-    let n = io::read_full(STDIN_FILENO, &mut text);
+fn main(rt: HostRuntime) -> io::Result<()> {
+    let mut text = Vec::new(rt.alloc());
+    rt.stdin()
+        .take(TEXT_MOST as u64 + 1)
+        .read_to_end(&mut text)?;
     let mut words = [0u32; LIST_WORDS];
     let b = Board {
         cells: CELLS_MOST,
         slots: SLOTS_MOST,
         calls: CALLS_MOST,
     };
-    let r = check_words(&text[..n], b, INSTANCES_MOST, &mut words);
-    show(r);
+    let r = check_words(&text, b, INSTANCES_MOST, &mut words);
+    show(&rt, r)
 }

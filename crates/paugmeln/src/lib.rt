@@ -1,4 +1,4 @@
-// What a program links: the proved calls under plain names.
+// What a program calls: the proved calls under plain names. `paugmeln_c` exports them to C.
 #![tactic(auto)]
 
 ghost use Rattle.std.specs.Prelude.{◌≡◌, length};
@@ -31,8 +31,7 @@ fn lent_board(cells: u32, slots: u32, calls: u32) -> Board
 }
 
 // The answer for a text as far as refusal 8; its bounds are 0.
-#[unsafe(no_mangle)]
-pub extern "C" fn paugmeln_read(text: &[u8]) -> Answer
+pub fn paugmeln_read(text: &[u8]) -> Answer
     ensures { Answers result (read_file text.now) }
 {
     let mut index = [0u32; INDEX_WORDS];
@@ -57,8 +56,7 @@ fn check_lent(
 }
 
 // The checker's answer for a text on a board; the list ends with the instances, or empty.
-#[unsafe(no_mangle)]
-pub extern "C" fn paugmeln_check(
+pub fn paugmeln_check(
     text: &[u8],
     cells: u32,
     slots: u32,
@@ -94,8 +92,7 @@ fn start_lent(
 }
 
 // The start of a text on a board: the list as above; the state of the initial values, or unchanged; scratch and environment zero.
-#[unsafe(no_mangle)]
-pub extern "C" fn paugmeln_start(
+pub fn paugmeln_start(
     text: &[u8],
     cells: u32,
     slots: u32,
@@ -125,16 +122,14 @@ pub extern "C" fn paugmeln_start(
 }
 
 // The place of the first record of a list that has the key's function and sizes, or the list's length.
-#[unsafe(no_mangle)]
-pub extern "C" fn paugmeln_find(list: &[Instance], key: Instance) -> usize
+pub fn paugmeln_find(list: &[Instance], key: Instance) -> usize
     ensures { FindsPlace list.now key result }
 {
     find(list, key)
 }
 
 // One iteration with a line of input: the state slid, or unchanged; scratch and environment zero.
-#[unsafe(no_mangle)]
-pub extern "C" fn paugmeln_iterate(
+pub fn paugmeln_iterate(
     text: &[u8],
     cells: u32,
     slots: u32,
@@ -151,8 +146,7 @@ pub extern "C" fn paugmeln_iterate(
 }
 
 // The strict text of a file, document 02, R-1: the buffer is zero behind it, or all of it on a refusal; bounds are 0.
-#[unsafe(no_mangle)]
-pub extern "C" fn paugmeln_write(text: &[u8], buffer: &mut [u8]) -> Answer
+pub fn paugmeln_write(text: &[u8], buffer: &mut [u8]) -> Answer
     ensures { Writes text.now buffer.old result buffer.new }
 {
     write(text, buffer)

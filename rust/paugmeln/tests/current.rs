@@ -20,7 +20,7 @@ fn the_archive_is_that_of_the_sources() {
 
 #[test]
 fn the_archive_linked_is_the_one_that_is_there() {
-    let record = fs::read_to_string(root().join("target/built-from/paugmeln"));
+    let record = fs::read_to_string(root().join("target/built-from/paugmeln_c"));
     let there: String = record.expect("a record").lines().collect();
     assert_eq!(there, env!("PAUGMELN_BUILT_FROM"));
 }
