@@ -1,4 +1,3 @@
--- src/lib.rt:11:5
 use Prim.Native.Nat.{◌^◌}
 use mathlib.Core.Path.{◌∙◌}
 use native.Mathlib.Omega.{arith}
@@ -7,8 +6,6 @@ use borrow.Author.Rules.{rules}
 use lib.Pow.{shl_exact}
 use Rattle.channel_sets.specs.Sets.{word_bits}
 use Rattle.channel_sets.proofs.single.Goals as goal
-
--- src/lib.rt:7:1
 
 pub returns : goal.returns
 returns c = shl_exact 1 c.args.c word_bits (omega arith) (omega (arith, c.requires)) ∙ one-mul (2 ^ c.args.c)

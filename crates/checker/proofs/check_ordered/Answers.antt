@@ -1,46 +1,9 @@
 -- A return each for refusal 18, 10 to 14, 15 to 17, and acceptance.
--- src/lib.rt:74:9
 use native.Mathlib.Omega.{arith}
 use borrow.Author.Tests.{not-true, not-false}
 use Rattle.checker.specs.CheckLaws.{lent-refused, sizes-refused, board-refused, board-accepts}
 use borrow.Author.Rules.{rules}
 use Rattle.checker.proofs.check_ordered.Goals as goal
-
--- src/lib.rt:75:9
-
--- src/lib.rt:75:9
-
--- src/lib.rt:75:9
-
--- src/lib.rt:77:9
-
--- src/lib.rt:78:23
-
--- src/lib.rt:79:15
-
--- src/lib.rt:79:9
-
--- src/lib.rt:80:9
-
--- src/lib.rt:80:9
-
--- src/lib.rt:80:9
-
--- src/lib.rt:82:22
-
--- src/lib.rt:82:9
-
--- src/lib.rt:84:9
-
--- src/lib.rt:85:9
-
--- src/lib.rt:85:9
-
--- src/lib.rt:87:5
-
--- src/lib.rt:62:1
-
--- src/lib.rt:62:1
 
 pub returns-then-not-given : goal.returns-then-not-given
 returns-then-not-given c = lent-refused c.requires.ordered_held _ _ c.args.words.now c.if-not-given.true c.refusal.ensures c.clear.ensures

@@ -1,34 +1,7 @@
 -- A return each for refusal 9 and 25, and what follows.
--- src/lib.rt:104:9
 use Rattle.checker.specs.CheckLaws.{few-channels, types-refused, order-refused, ordered}
 use borrow.Author.Rules.{rules}
 use Rattle.checker.proofs.check_read.Goals as goal
-
--- src/lib.rt:106:9
-
--- src/lib.rt:107:9
-
--- src/lib.rt:107:9
-
--- src/lib.rt:107:9
-
--- src/lib.rt:110:5
-
--- src/lib.rt:111:9
-
--- src/lib.rt:113:9
-
--- src/lib.rt:114:9
-
--- src/lib.rt:114:9
-
--- src/lib.rt:114:9
-
--- src/lib.rt:116:5
-
--- src/lib.rt:93:1
-
--- src/lib.rt:93:1
 
 pub returns-then-frame-ne-NO_FRAME : goal.returns-then-frame-ne-NO_FRAME
 returns-then-frame-ne-NO_FRAME c = types-refused c.requires.read_held c.plain_types-frame.ensures _ _ c.args.words.now c.if-frame-ne-NO_FRAME.true c.refusal.ensures c.clear.ensures

@@ -1,42 +1,9 @@
 -- An iteration on a valid state.
--- src/lib.rt:111:5
 use mathlib.Core.List.{[]}
 use native.Mathlib.Omega.{arith}
 use mathlib.Core.Path.{◌∙◌}
 use Rattle.iteration.specs.WholeLaws.{iterates-refused, collects-there, iterates-done}
 use Rattle.iteration.proofs.iterate_state.Goals as goal
-
--- src/lib.rt:112:9
-
--- src/lib.rt:113:9
-
--- src/lib.rt:125:23
-
--- src/lib.rt:126:21
-
--- src/lib.rt:126:9
-
--- src/lib.rt:127:9
-
--- src/lib.rt:127:9
-
--- src/lib.rt:127:9
-
--- src/lib.rt:129:9
-
--- src/lib.rt:130:13
-
--- src/lib.rt:131:5
-
--- src/lib.rt:132:5
-
--- src/lib.rt:94:1
-
--- src/lib.rt:94:1
-
--- src/lib.rt:94:1
-
--- src/lib.rt:94:1
 
 pub update-x-requires : goal.update-x-requires
 update-x-requires c = c.requires.begun

@@ -5,24 +5,6 @@ use Rattle.iteration.specs.Whole.{ChannelsPut}
 use Rattle.iteration.specs.WholeLaws.{put-none, put-more, put-long, put-done}
 use Rattle.iteration.proofs.put_channels.Goals as goal
 
--- src/lib.rt:51:5
-
--- src/lib.rt:52:54
-
--- src/lib.rt:52:36
-
--- src/lib.rt:52:9
-
--- src/lib.rt:53:9
-
--- src/lib.rt:51:5
-
--- src/lib.rt:51:5
-
--- src/lib.rt:47:1
-
--- src/lib.rt:47:1
-
 pub loop-c-init : goal.loop-c-init
 loop-c-init c = (put-none _ _, omega arith)
 

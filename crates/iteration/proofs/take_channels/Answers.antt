@@ -9,24 +9,6 @@ use Rattle.node_order.specs.RowLaws.{Filled, filled_more}
 use Rattle.iteration.specs.WholeLaws.{taken-all}
 use Rattle.iteration.proofs.take_channels.Goals as goal
 
--- src/lib.rt:40:5
-
--- src/lib.rt:40:16
-
--- src/lib.rt:41:23
-
--- src/lib.rt:41:35
-
--- src/lib.rt:41:9
-
--- src/lib.rt:42:9
-
--- src/lib.rt:40:5
-
--- src/lib.rt:40:5
-
--- src/lib.rt:36:1
-
 pub loop-c-init : goal.loop-c-init
 loop-c-init c = below_none
 

@@ -1,30 +1,9 @@
 -- The inputs laid, and the nodes updated.
--- src/lib.rt:75:9
 use mathlib.Core.List.{[]}
 use native.Mathlib.Omega.{arith}
 use mathlib.Core.Path.{◌∙◌}
 use Rattle.iteration.specs.FedLaws.{fed-full, fed-board, fed-done}
 use Rattle.iteration.proofs.update.Goals as goal
-
--- src/lib.rt:76:9
-
--- src/lib.rt:77:22
-
--- src/lib.rt:78:9
-
--- src/lib.rt:78:9
-
--- src/lib.rt:78:9
-
--- src/lib.rt:78:9
-
--- src/lib.rt:80:5
-
--- src/lib.rt:60:1
-
--- src/lib.rt:60:1
-
--- src/lib.rt:60:1
 
 pub put_inputs-x-requires : goal.put_inputs-x-requires
 put_inputs-x-requires c = record { cells_in_bounds = omega (arith, c.requires.board); used_le_cells = omega (arith, c.used_cells-used.ensures, c.requires.used) }

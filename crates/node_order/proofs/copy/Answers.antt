@@ -8,20 +8,6 @@ use Rattle.node_order.specs.LowestLaws.{below_none}
 use Rattle.node_order.specs.RowLaws.{Filled, filled_more, copied_all}
 use Rattle.node_order.proofs.copy.Goals as goal
 
--- src/lib.rt:103:5
-
--- src/lib.rt:104:20
-
--- src/lib.rt:104:9
-
--- src/lib.rt:105:9
-
--- src/lib.rt:103:5
-
--- src/lib.rt:103:5
-
--- src/lib.rt:99:1
-
 pub loop-i-init : goal.loop-i-init
 loop-i-init c = below_none
 

@@ -1,13 +1,8 @@
 -- A node's readings joined to another's.
--- src/lib.rt:60:8
 use mathlib.Core.Path.{sym, ◌∙◌}
 use Rattle.node_order.specs.RowLaws.{joined-there, joined-not}
 use borrow.Author.Rules.{rules}
 use Rattle.node_order.proofs.joined.Goals as goal
-
--- src/lib.rt:61:9
-
--- src/lib.rt:56:1
 
 pub returns-then-has : goal.returns-then-has
 returns-then-has c = joined-there _ _ _ (sym c.has.ensures ∙ c.if-has.true)

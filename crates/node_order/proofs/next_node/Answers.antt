@@ -9,22 +9,6 @@ use Rattle.node_order.specs.Lowest.{Below}
 use Rattle.node_order.specs.LowestLaws.{below_none, below_more, lowest-here, lowest-none}
 use Rattle.node_order.proofs.next_node.Goals as goal
 
--- src/lib.rt:36:5
-
--- src/lib.rt:37:37
-
--- src/lib.rt:37:12
-
--- src/lib.rt:38:13
-
--- src/lib.rt:40:9
-
--- src/lib.rt:36:5
-
--- src/lib.rt:36:5
-
--- src/lib.rt:31:1
-
 pub loop-i-init : goal.loop-i-init
 loop-i-init c = below_none
 

@@ -4,30 +4,6 @@ use native.Mathlib.Omega.{arith}
 use Rattle.node_order.specs.RowLaws.{ReadingOn, on_none, on-put, on-all}
 use Rattle.node_order.proofs.read_on.Goals as goal
 
--- src/lib.rt:71:13
-
--- src/lib.rt:72:9
-
--- src/lib.rt:74:5
-
--- src/lib.rt:75:37
-
--- src/lib.rt:75:13
-
--- src/lib.rt:76:23
-
--- src/lib.rt:76:35
-
--- src/lib.rt:76:9
-
--- src/lib.rt:77:9
-
--- src/lib.rt:74:5
-
--- src/lib.rt:74:5
-
--- src/lib.rt:67:1
-
 pub overflow_add-c : goal.overflow_add-c
 overflow_add-c c = omega (arith, c.requires)
 

@@ -4,18 +4,6 @@ use native.Mathlib.Omega.{arith}
 use Rattle.node_order.specs.RowLaws.{ReadingThrough, through-none, through-more, through-all}
 use Rattle.node_order.proofs.read_through.Goals as goal
 
--- src/lib.rt:87:5
-
--- src/lib.rt:88:9
-
--- src/lib.rt:89:9
-
--- src/lib.rt:87:5
-
--- src/lib.rt:87:5
-
--- src/lib.rt:82:1
-
 pub loop-k-init : goal.loop-k-init
 loop-k-init c = (through-none, omega arith)
 

@@ -9,26 +9,6 @@ use Rattle.node_order.specs.Lowest.{Below}
 use Rattle.node_order.specs.LowestLaws.{below_none, below_more, lowest-here, lowest-none}
 use Rattle.node_order.proofs.reads_itself.Goals as goal
 
--- src/lib.rt:89:5
-
--- src/lib.rt:90:34
-
--- src/lib.rt:90:16
-
--- src/lib.rt:90:47
-
--- src/lib.rt:90:12
-
--- src/lib.rt:91:13
-
--- src/lib.rt:93:9
-
--- src/lib.rt:89:5
-
--- src/lib.rt:89:5
-
--- src/lib.rt:84:1
-
 pub loop-node-init : goal.loop-node-init
 loop-node-init c = below_none
 

@@ -7,26 +7,6 @@ use Rattle.node_order.specs.Rows.{Lower}
 use Rattle.node_order.specs.RowLaws.{lower-here, lower-all, lower-not}
 use Rattle.node_order.proofs.reads_lower.Goals as goal
 
--- src/lib.rt:46:5
-
--- src/lib.rt:47:30
-
--- src/lib.rt:47:12
-
--- src/lib.rt:47:46
-
--- src/lib.rt:47:12
-
--- src/lib.rt:48:13
-
--- src/lib.rt:50:9
-
--- src/lib.rt:46:5
-
--- src/lib.rt:46:5
-
--- src/lib.rt:41:1
-
 pub loop-i-init : goal.loop-i-init
 loop-i-init c = below_none
 

@@ -1,23 +1,10 @@
 -- The frame of the lowest node that reads itself.
--- src/lib.rt:144:9
 use mathlib.Core.Path.{refl, ap}
 use native.Mathlib.Omega.{arith}
 use Rattle.index.specs.declared.Counts.{Counts}
 use Rattle.node_order.specs.FileLaws.{order-none, order-refused}
 use borrow.Author.Rules.{rules}
 use Rattle.node_order.proofs.self_reading_frame.Goals as goal
-
--- src/lib.rt:147:9
-
--- src/lib.rt:149:9
-
--- src/lib.rt:151:25
-
--- src/lib.rt:151:5
-
--- src/lib.rt:151:5
-
--- src/lib.rt:140:1
 
 pub self_reader-i-requires : goal.self_reader-i-requires
 self_reader-i-requires c = omega (arith, c.requires.few, ap (λ (n : Counts). n.inputs) c.frame_counts-counts.ensures.0, ap (λ (n : Counts). n.nodes) c.frame_counts-counts.ensures.0)

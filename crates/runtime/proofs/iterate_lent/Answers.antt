@@ -1,40 +1,9 @@
 -- An iteration with the board's words lent.
--- src/lib.rt:66:9
 use mathlib.Core.List.{[]}
 use borrow.Author.Tests.{not-true, not-false}
 use Rattle.runtime.specs.LentLaws.{state-refused, line_refused, begun, scratch-room, lent-iterated}
 use borrow.Author.Rules.{rules}
 use Rattle.runtime.proofs.iterate_lent.Goals as goal
-
--- src/lib.rt:67:9
-
--- src/lib.rt:67:9
-
--- src/lib.rt:67:9
-
--- src/lib.rt:67:9
-
--- src/lib.rt:69:9
-
--- src/lib.rt:70:9
-
--- src/lib.rt:70:9
-
--- src/lib.rt:70:9
-
--- src/lib.rt:70:9
-
--- src/lib.rt:72:9
-
--- src/lib.rt:84:5
-
--- src/lib.rt:51:1
-
--- src/lib.rt:51:1
-
--- src/lib.rt:51:1
-
--- src/lib.rt:51:1
 
 pub returns-then-not-valid_state : goal.returns-then-not-valid_state
 returns-then-not-valid_state c = state-refused _ _ _ _ _ _ _ _ _ _ c.requires c.valid_state.ensures c.if-not-valid_state.true c.refusal.ensures

@@ -1,36 +1,9 @@
 -- An iteration of a file of right plain types, no node of which reads itself.
--- src/lib.rt:103:9
 use mathlib.Core.List.{[]}
 use borrow.Author.Tests.{not-true, not-false}
 use Rattle.runtime.specs.IterateLaws.{lent-refused, words-there, words-cut, slots-there, slots-cut, lends, read-iterated}
 use borrow.Author.Rules.{rules}
 use Rattle.runtime.proofs.iterate_ordered.Goals as goal
-
--- src/lib.rt:104:9
-
--- src/lib.rt:104:9
-
--- src/lib.rt:106:9
-
--- src/lib.rt:107:16
-
--- src/lib.rt:113:9
-
--- src/lib.rt:113:9
-
--- src/lib.rt:115:9
-
--- src/lib.rt:115:9
-
--- src/lib.rt:108:5
-
--- src/lib.rt:88:1
-
--- src/lib.rt:88:1
-
--- src/lib.rt:88:1
-
--- src/lib.rt:88:1
 
 pub returns-then-not-buffers_lent : goal.returns-then-not-buffers_lent
 returns-then-not-buffers_lent c = lent-refused c.requires.walked _ _ _ _ _ c.buffers_lent.ensures c.if-not-buffers_lent.true c.refusal.ensures

@@ -1,31 +1,8 @@
 -- An iteration of a file that was read: a return each for refusal 9 and 25, and what follows.
--- src/lib.rt:136:9
 use Rattle.checker.specs.CheckLaws.{few-channels}
 use Rattle.runtime.specs.IterateLaws.{types-refused, order-refused, walked}
 use borrow.Author.Rules.{rules}
 use Rattle.runtime.proofs.iterate_read.Goals as goal
-
--- src/lib.rt:138:9
-
--- src/lib.rt:138:9
-
--- src/lib.rt:142:5
-
--- src/lib.rt:143:9
-
--- src/lib.rt:145:9
-
--- src/lib.rt:145:9
-
--- src/lib.rt:147:5
-
--- src/lib.rt:123:1
-
--- src/lib.rt:123:1
-
--- src/lib.rt:123:1
-
--- src/lib.rt:123:1
 
 pub returns-then-frame-ne-NO_FRAME : goal.returns-then-frame-ne-NO_FRAME
 returns-then-frame-ne-NO_FRAME c = types-refused c.requires.read_held _ _ _ _ _ c.plain_types-frame.ensures c.if-frame-ne-NO_FRAME.true c.refusal.ensures

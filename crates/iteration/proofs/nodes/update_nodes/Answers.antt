@@ -6,54 +6,6 @@ use Rattle.evaluation_steps.specs.KeepLaws.{board-moved}
 use Rattle.iteration.specs.NodesLaws.{Updating, updating-none, updating-more, updating-refused, updating-stopped, updating-all, few-inputs, few-nodes}
 use Rattle.iteration.proofs.nodes.update_nodes.Goals as goal
 
--- src/nodes.rt:107:9
-
--- src/nodes.rt:110:9
-
--- src/nodes.rt:113:5
-
--- src/nodes.rt:114:13
-
--- src/nodes.rt:116:13
-
--- src/nodes.rt:116:13
-
--- src/nodes.rt:116:13
-
--- src/nodes.rt:118:17
-
--- src/nodes.rt:119:13
-
--- src/nodes.rt:120:23
-
--- src/nodes.rt:121:13
-
--- src/nodes.rt:121:13
-
--- src/nodes.rt:121:13
-
--- src/nodes.rt:121:13
-
--- src/nodes.rt:121:13
-
--- src/nodes.rt:123:23
-
--- src/nodes.rt:123:9
-
--- src/nodes.rt:125:23
-
--- src/nodes.rt:126:9
-
--- src/nodes.rt:113:5
-
--- src/nodes.rt:113:5
-
--- src/nodes.rt:92:1
-
--- src/nodes.rt:92:1
-
--- src/nodes.rt:92:1
-
 pub first-done-requires : goal.first-done-requires
 first-done-requires c = few-inputs c.requires.few_channels c.frame_counts-counts.ensures.0
 
