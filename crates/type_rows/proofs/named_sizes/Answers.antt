@@ -15,8 +15,8 @@ overflow_add-count c = omega (arith, c.loop-i.invariant.low)
 pub loop-i-preserved : goal.loop-i-preserved
 loop-i-preserved c =
     elim c.if-word-ge-TYPE_STEP.branch [
-      then-word-ge-TYPE_STEP w ↦ writing-named c.loop-i.invariant c.loop-i-test.true c.word_at-word.ensures w.if-word-ge-TYPE_STEP.true w.put_size.ensures w.sizes-is w.count-is
-    | else-word-ge-TYPE_STEP w ↦ writing-plain c.loop-i.invariant c.loop-i-test.true c.word_at-word.ensures w.if-word-ge-TYPE_STEP.false w.sizes-is w.count-is
+      | then-word-ge-TYPE_STEP w ↦ writing-named c.loop-i.invariant c.loop-i-test.true c.word_at-word.ensures w.if-word-ge-TYPE_STEP.true w.put_size.ensures w.sizes-is w.count-is
+      | else-word-ge-TYPE_STEP w ↦ writing-plain c.loop-i.invariant c.loop-i-test.true c.word_at-word.ensures w.if-word-ge-TYPE_STEP.false w.sizes-is w.count-is
     ]
 
 pub shape_of-sizes : goal.shape_of-sizes

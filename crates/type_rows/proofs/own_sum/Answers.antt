@@ -16,8 +16,8 @@ overflow_add-sum c = omega (arith, c.loop-i.invariant.low, c.size_in-sum.ensures
 pub loop-i-preserved : goal.loop-i-preserved
 loop-i-preserved c =
     elim c.if-field_word-eq-OWN_FIELD.branch [
-      then-field_word-eq-OWN_FIELD w ↦ summed-own c.fields-n.ensures c.loop-i.invariant c.loop-i-test.true c.field_word.ensures w.if-field_word-eq-OWN_FIELD.true w.word_at.ensures w.size_in-sum.ensures w.sum-is
-    | else-field_word-eq-OWN_FIELD w ↦ summed-other c.fields-n.ensures c.loop-i.invariant c.loop-i-test.true c.field_word.ensures w.if-field_word-eq-OWN_FIELD.false w.sum-is
+      | then-field_word-eq-OWN_FIELD w ↦ summed-own c.fields-n.ensures c.loop-i.invariant c.loop-i-test.true c.field_word.ensures w.if-field_word-eq-OWN_FIELD.true w.word_at.ensures w.size_in-sum.ensures w.sum-is
+      | else-field_word-eq-OWN_FIELD w ↦ summed-other c.fields-n.ensures c.loop-i.invariant c.loop-i-test.true c.field_word.ensures w.if-field_word-eq-OWN_FIELD.false w.sum-is
     ]
 
 pub returns : goal.returns

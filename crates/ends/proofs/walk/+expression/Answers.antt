@@ -36,8 +36,8 @@ loop-i-preserved t c = (omega (arith, c.loop-i-test.true), on-more c.loop-i-test
 pub returns : goal.returns
 returns t c =
     elim c.match-form.branch [
-      in-Now w ↦ walk-now _ _ _ _ _ _ c.head_at-head.ensures c.if-levels-eq0.false c.parts-n.ensures.0 (on-end c.loop-i-test.false c.loop-i.invariant.1) c.note-arg-1.given.0.1 c.note.ensures w.ends-is w.so_far-is w.reached-so_far.ensures w.in-Now.is w.named.ensures
-    | in-Case w ↦ walk-case _ _ _ _ _ _ c.head_at-head.ensures c.if-levels-eq0.false c.parts-n.ensures.0 (on-end c.loop-i-test.false c.loop-i.invariant.1) c.note-arg-1.given.0.1 c.note.ensures w.so_far-is w.reached-so_far-in-Case.ensures w.ends-is w.in-Case.is w.expression-subject.ensures w.note_result.ensures
-    | in-Adjust w ↦ walk-adjust _ _ _ _ _ _ c.head_at-head.ensures c.if-levels-eq0.false c.parts-n.ensures.0 (on-end c.loop-i-test.false c.loop-i.invariant.1) c.note-arg-1.given.0.1 c.note.ensures w.so_far-is w.reached-so_far-in-Adjust.ensures w.ends-is w.in-Adjust.is w.note_size.ensures
-    | in_default w ↦ walk-parts _ _ _ _ _ _ c.head_at-head.ensures c.if-levels-eq0.false c.parts-n.ensures.0 (on-end c.loop-i-test.false c.loop-i.invariant.1) c.note-arg-1.given.0.1 c.note.ensures w.ends-is w.so_far-is w.reached-so_far-in_default.ensures w.in_default.not-Now w.in_default.not-Case w.in_default.not-Adjust
+      | in-Now w ↦ walk-now _ _ _ _ _ _ c.head_at-head.ensures c.if-levels-eq0.false c.parts-n.ensures.0 (on-end c.loop-i-test.false c.loop-i.invariant.1) c.note-arg-1.given.0.1 c.note.ensures w.ends-is w.so_far-is w.reached-so_far.ensures w.in-Now.is w.named.ensures
+      | in-Case w ↦ walk-case _ _ _ _ _ _ c.head_at-head.ensures c.if-levels-eq0.false c.parts-n.ensures.0 (on-end c.loop-i-test.false c.loop-i.invariant.1) c.note-arg-1.given.0.1 c.note.ensures w.so_far-is w.reached-so_far-in-Case.ensures w.ends-is w.in-Case.is w.expression-subject.ensures w.note_result.ensures
+      | in-Adjust w ↦ walk-adjust _ _ _ _ _ _ c.head_at-head.ensures c.if-levels-eq0.false c.parts-n.ensures.0 (on-end c.loop-i-test.false c.loop-i.invariant.1) c.note-arg-1.given.0.1 c.note.ensures w.so_far-is w.reached-so_far-in-Adjust.ensures w.ends-is w.in-Adjust.is w.note_size.ensures
+      | in_default w ↦ walk-parts _ _ _ _ _ _ c.head_at-head.ensures c.if-levels-eq0.false c.parts-n.ensures.0 (on-end c.loop-i-test.false c.loop-i.invariant.1) c.note-arg-1.given.0.1 c.note.ensures w.ends-is w.so_far-is w.reached-so_far-in_default.ensures w.in_default.not-Now w.in_default.not-Case w.in_default.not-Adjust
     ]

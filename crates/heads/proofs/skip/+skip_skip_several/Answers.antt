@@ -40,9 +40,9 @@ skip-skip_several-requires t c = (omega (arith, c.decreases, c.if-levels-eq0.fal
 pub skip-returns : goal.skip-returns
 skip-returns t c =
     elim c.match-form.branch [
-      skip-in-Case w ↦ skip-case _ _ _ _ _ c.head_at-head.ensures c.if-levels-eq0.false c.parts-n.ensures.0 c.skip_several.ensures w.first-is w.in-Case.is w.skip-result.ensures w.behind_result-first.ensures
-    | skip-in-Adjust w ↦ skip-adjust _ _ _ _ _ c.head_at-head.ensures c.if-levels-eq0.false c.parts-n.ensures.0 c.skip_several.ensures w.first-is w.in-Adjust.is w.behind_size-first.ensures
-    | skip-in_default w ↦ skip-parts _ _ _ _ _ c.head_at-head.ensures c.if-levels-eq0.false c.parts-n.ensures.0 c.skip_several.ensures w.first-is w.in_default.not-Case w.in_default.not-Adjust
+      | skip-in-Case w ↦ skip-case _ _ _ _ _ c.head_at-head.ensures c.if-levels-eq0.false c.parts-n.ensures.0 c.skip_several.ensures w.first-is w.in-Case.is w.skip-result.ensures w.behind_result-first.ensures
+      | skip-in-Adjust w ↦ skip-adjust _ _ _ _ _ c.head_at-head.ensures c.if-levels-eq0.false c.parts-n.ensures.0 c.skip_several.ensures w.first-is w.in-Adjust.is w.behind_size-first.ensures
+      | skip-in_default w ↦ skip-parts _ _ _ _ _ c.head_at-head.ensures c.if-levels-eq0.false c.parts-n.ensures.0 c.skip_several.ensures w.first-is w.in_default.not-Case w.in_default.not-Adjust
     ]
 
 pub skip_several-returns-then-n-eq0 : goal.skip_several-returns-then-n-eq0

@@ -641,8 +641,8 @@ several-loop-i-smaller t c = omega (arith, c.loop-i-test.true)
 pub several-loop-i-preserved : goal.several-loop-i-preserved
 several-loop-i-preserved t c =
     elim c.match-variable_at.branch [
-      several-in-Is w ↦ turned-variable c.loop-i.invariant c.loop-i-test.true c.frame_line-line.ensures c.variable_at.ensures w.in-Is.is _ w.word_at.ensures w.put.ensures w.passed-all.ensures w.list-is w.memo-is w.scope-is w.sizes-is w.row-is w.all-is
-    | several-in-Other+in-Is-x w ↦ turned-expr c.loop-i.invariant c.loop-i-test.true w.moved_on-q.ensures w.expr-x.ensures w.expr-x.auto.list w.in-Is-x.is _ w.type_word.ensures.is w.put-in-Other.ensures w.joined-all.ensures w.list-is w.memo-is w.scope-is w.sizes-is w.row-is w.all-is
+      | several-in-Is w ↦ turned-variable c.loop-i.invariant c.loop-i-test.true c.frame_line-line.ensures c.variable_at.ensures w.in-Is.is _ w.word_at.ensures w.put.ensures w.passed-all.ensures w.list-is w.memo-is w.scope-is w.sizes-is w.row-is w.all-is
+      | several-in-Other+in-Is-x w ↦ turned-expr c.loop-i.invariant c.loop-i-test.true w.moved_on-q.ensures w.expr-x.ensures w.expr-x.auto.list w.in-Is-x.is _ w.type_word.ensures.is w.put-in-Other.ensures w.joined-all.ensures w.list-is w.memo-is w.scope-is w.sizes-is w.row-is w.all-is
     ]
 
 pub several-shape_of-list : goal.several-shape_of-list
