@@ -1,6 +1,8 @@
 // Checks the rule file on standard input with the largest board, and writes the answer on one line.
 #![tactic(auto)]
 
+ghost use Rattle.std.specs.Prelude.{◌≤◌, length, IfOk};
+
 use answers::{Answer, Board};
 use checker::check_words;
 use instance_list::LIST_WORDS;
@@ -24,18 +26,31 @@ fn show(rt: &impl Print, r: Answer) -> io::Result<()> {
     }
 }
 
+// Reads to the end of the input, or as far as there is room, and says how many characters that are.
+fn read_text<R: Read>(input: &mut R, text: &mut [u8]) -> io::Result<usize>
+    ensures { IfOk result (λ n. n ≤ length text.new) }
+{
+    let mut n = 0;
+    while n < text.len() {
+        let k = input.read(&mut text[n..])?;
+        if k == 0 {
+            break;
+        }
+        n += k;
+    }
+    Ok(n)
+}
+
 // A character more than a rule file may have is enough to know that a text is too long.
 fn main(rt: HostRuntime) -> io::Result<()> {
-    let mut text = Vec::new(rt.alloc());
-    rt.stdin()
-        .take(TEXT_MOST as u64 + 1)
-        .read_to_end(&mut text)?;
+    let mut text = [0u8; TEXT_MOST + 1];
+    let n = read_text(&mut rt.stdin(), &mut text)?;
     let mut words = [0u32; LIST_WORDS];
     let b = Board {
         cells: CELLS_MOST,
         slots: SLOTS_MOST,
         calls: CALLS_MOST,
     };
-    let r = check_words(&text, b, INSTANCES_MOST, &mut words);
+    let r = check_words(&text[..n], b, INSTANCES_MOST, &mut words);
     show(&rt, r)
 }
