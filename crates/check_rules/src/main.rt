@@ -1,7 +1,8 @@
 // Checks the rule file on standard input with the largest board, and writes the answer on one line.
 #![tactic(auto)]
 
-ghost use Rattle.std.specs.Prelude.{◌≤◌, length, IfOk};
+ghost use Rattle.std.specs.Prelude.{◌≤◌, ◌<◌, length, take, IfOk};
+ghost use Rattle.std.specs.Io.KnownBytes.{Consumes, IsAtEnd};
 
 use answers::{Answer, Board};
 use checker::check_words;
@@ -28,7 +29,9 @@ fn show(rt: &impl Print, r: Answer) -> io::Result<()> {
 
 // Reads to the end of the input, or as far as there is room, and says how many characters that are.
 fn read_text<R: Read>(input: &mut R, text: &mut [u8]) -> io::Result<usize>
-    ensures { IfOk result (λ n. n ≤ length text.new) }
+    ensures within { IfOk result (λ n. n ≤ length text.new) }
+    ensures read { IfOk result (λ n. Consumes (R.remaining input.old) (R.remaining input.new) (take n text.new)) }
+    ensures to_the_end { IfOk result (λ n. n < length text.new → IsAtEnd (R.remaining input.new)) }
 {
     let mut n = 0;
     while n < text.len() {
