@@ -4,8 +4,9 @@ use Rattle.language.specs.Limits.{instances_most}
 use Rattle.language.specs.Refusals.{no_refusal, no_frame}
 use Rattle.language.specs.Estimate.{Estimate as Exact}
 use Rattle.language.specs.Machine.{Board as MachineBoard, Answer as MachineAnswer, Record, empty_record, answer, judge, board_allowed, list_lent, lengths_lent}
-use Rattle.reader.specs.declared.Reading.{Reading}
-use Rattle.reader.specs.declared.Reading.TheVariants.{Done, Fault}
+use Rattle.std.specs.Prelude.{Result as Outcome, Ok, Err}
+use Rattle.language.specs.declared.refusals.RefusalAt.{RefusalAt}
+use Rattle.language.specs.RefusalNumbers.{number_of}
 use Rattle.estimate.specs.declared.Estimate.{Estimate as Held}
 use Rattle.language.specs.Result.{both}
 use Rattle.answers.specs.declared.Board.{Board}
@@ -32,9 +33,10 @@ refusal_of n frame = record { number = n; frame = frame; heap = 0; environment =
 abbrev pub bounds_of : ℕ → Held → Answer
 bounds_of n x = record { number = n; frame = no_frame; heap = x.heap; environment = x.env; stack = x.stack }
 
-unfoldable pub read_answer : Reading → Answer
-read_answer Done = refusal_of no_refusal no_frame
-read_answer (Fault n frame) = refusal_of n frame
+-- without bounds: a refusal, or 0 where all is well
+unfoldable pub answer_of : {A : Type 0} → Outcome A RefusalAt → Answer
+answer_of (Ok a) = refusal_of no_refusal no_frame
+answer_of (Err e) = refusal_of (number_of e.refusal) e.frame
 
 -- ---- what is lent
 pub record Allows (b : Board) (r : Bool) : Type 0 where

@@ -2,13 +2,12 @@
 #![tactic(auto)]
 
 ghost use Rattle.std.specs.Prelude.{◌≡◌};
-ghost use Rattle.answers.specs.Boards.{refusal_of, bounds_of, read_answer, Allows, Lends, LendsAll, LendsList, Judges, ClearsBoth};
+ghost use Rattle.answers.specs.Boards.{bounds_of, answer_of, Allows, Lends, LendsAll, LendsList, Judges, ClearsBoth};
 
 use estimate::Estimate;
 use index::clear;
 use language::limits::{CALLS_MOST, CELLS_MOST, INSTANCES_MOST, SCRATCH_WORDS, SLOTS_MOST};
-use language::refusals::{ENVIRONMENT_SHORT, HEAP_SHORT, NO_FRAME, NO_REFUSAL, STACK_SHORT};
-use reader::Reading;
+use language::refusals::{NO_FRAME, NO_REFUSAL, Refusal, RefusalAt};
 use state_words::state_length;
 
 // What a board has.
@@ -30,25 +29,12 @@ pub struct Answer {
     pub stack: u32,
 }
 
-// A refusal without bounds.
-pub fn refusal(number: u32, frame: u32) -> Answer
-    ensures { result ≡ refusal_of number frame }
-{
-    Answer {
-        number: number,
-        frame: frame,
-        heap: 0,
-        environment: 0,
-        stack: 0,
-    }
-}
-
 // An answer with bounds; it names no frame.
 fn bounds(number: u32, x: Estimate) -> Answer
     ensures { result ≡ bounds_of number x }
 {
     Answer {
-        number: number,
+        number,
         frame: NO_FRAME,
         heap: x.heap,
         environment: x.env,
@@ -56,13 +42,22 @@ fn bounds(number: u32, x: Estimate) -> Answer
     }
 }
 
-// The answer for a text as far as refusal 8: its refusal, or 0 where it was read.
-pub fn read_answer(x: Reading) -> Answer
-    ensures { result ≡ read_answer x }
-{
-    match x {
-        Reading::Done => refusal(NO_REFUSAL, NO_FRAME),
-        Reading::Fault(n, f) => refusal(n, f),
+// The answer of a call without bounds: its refusal, or 0 where all is well.
+impl From<Result<(), RefusalAt>> for Answer {
+    ghost from_gives = { λ x r. r ≡ answer_of x };
+
+    fn from(x: Result<(), RefusalAt>) -> Answer {
+        let (number, frame) = match x {
+            Ok(()) => (NO_REFUSAL, NO_FRAME),
+            Err(e) => (e.refusal.number(), e.frame),
+        };
+        Answer {
+            number,
+            frame,
+            heap: 0,
+            environment: 0,
+            stack: 0,
+        }
     }
 }
 
@@ -120,13 +115,13 @@ pub fn judge(b: Board, x: Estimate) -> Answer
     ensures { Judges b x result }
 {
     if b.cells < x.heap {
-        return bounds(HEAP_SHORT, x);
+        return bounds(Refusal::HeapShort as u32, x);
     }
     if b.slots < x.env {
-        return bounds(ENVIRONMENT_SHORT, x);
+        return bounds(Refusal::EnvironmentShort as u32, x);
     }
     if b.calls < x.stack {
-        return bounds(STACK_SHORT, x);
+        return bounds(Refusal::StackShort as u32, x);
     }
     bounds(NO_REFUSAL, x)
 }

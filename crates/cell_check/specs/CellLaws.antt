@@ -36,7 +36,7 @@ field-none-left h t fint l = choose-zero (location_fits h l tint)
 field-none-left h t own l = let none : 0 - size_in (cell_at h l) ≡ 0 = omega arith in rw none (choose-zero (both (ltb l (length h)) (own_type t (cell_at h l))))
 field-none-left h t (other u j) l = choose-zero (location_fits h l (tnamed u j))
 
-none_left : (h : List Cell) (t : ℕ) (fs : List Field) (ls : List ℕ) → fields_left h t fs ls 0 ≡ 0
+pub none_left : (h : List Cell) (t : ℕ) (fs : List Field) (ls : List ℕ) → fields_left h t fs ls 0 ≡ 0
 unfolding fields_left
 none_left h t [] [] = refl
 none_left h t [] (l ∷ ls) = refl
@@ -145,9 +145,6 @@ zero-from f j less = drop-cons (row_of f fields_most) j 0 (omega (arith, row-len
 pub record UnusedFrom (words : List ℕ) (cell n j : ℕ) : Type 0 where
   pub is : all_zero (drop n (row_of (field_at words cell) fields_most)) ≡ all_zero (drop j (row_of (field_at words cell) fields_most))
 
-pub unused-start : (words : List ℕ) (cell n : ℕ) → UnusedFrom words cell n n
-unused-start words cell n = record { is = refl }
-
 pub unused-not : {words : List ℕ} {cell n j w : ℕ} → UnusedFrom words cell n j → j < fields_most → w ≡ field_at words cell j → ((w ≡ 0) → ⊥) → false ≡ all_zero (drop n (row_of (field_at words cell) fields_most))
 unfolding all_zero both
 unused-not {words} {cell} {n} {j} v less e ne = sym (v.is ∙ ap all_zero (zero-from (field_at words cell) j less) ∙ rw (ne_eqb (field_at words cell j) 0 (λ q. ne (e ∙ q))))
@@ -203,12 +200,12 @@ some_below : {A : Type 0} (l : List A) (i : ℕ) (d : A) → ltb i (length l) �
 unfolding is_some
 some_below l i d = below_or_not i (length l) (λ less. lt-ltb i (length l) less ∙ ap is_some (sym (look_at l i d less))) (λ le. le-ltb i (length l) le ∙ ap is_some (sym (look_none l i le)))
 
-pub type-unknown : {index : List ℕ} {types tag t : ℕ} → t ≡ tag / tag_step - 1 → types ≤ t → KnownJudged index types tag false
+pub type-unknown : {index : List ℕ} {types tag t : ℕ} → t ≡ tag / tag_step - 1 → types ≤ t → KnownJudged index types tag (ltb t types)
 unfolding is_some
 type-unknown {index} {types} {tag} {t} p le = record {
   says = λ text P x count.
       let none-there : constructors_of P (tag / tag_step - 1) ≡ [] = get_or-eq_default P.types [] {n = tag / tag_step - 1} (omega arith) in
-      ap (λ l. is_some (look l (tag % tag_step))) (sym none-there);
+      le-ltb t types le ∙ ap (λ l. is_some (look l (tag % tag_step))) (sym none-there);
 }
 
 pub type-known : {index : List ℕ} {types tag t c n : ℕ} → t ≡ tag / tag_step - 1 → t < types → c ≡ tag % tag_step → (n ≡ get_or (types_of index) (type_words * t) 0 % byte_range) × (n < byte_range) → KnownJudged index types tag (ltb c n)

@@ -1,5 +1,6 @@
 -- Fields against their types: what a word and a cell's tag and value say, and what is left of a constructor's size.
-use Rattle.std.specs.Prelude.{ℕ, suc, ◌+◌, ◌-◌, ◌*◌, ◌/◌, ◌%◌, ◌≤◌, ◌<◌, Bool, true, false, ◌≡◌, refl, length, drop, leb, eqb}
+use Rattle.std.specs.Prelude.{ℕ, suc, ◌+◌, ◌-◌, ◌*◌, ◌/◌, ◌%◌, ◌≤◌, ◌<◌, Bool, true, false, ◌≡◌, refl, length, drop, leb, eqb, Option as Maybe, Some, None, SomeIff, unwrap_or}
+use Rattle.std.specs.Bool.{then_some}
 use mathlib.Core.List.{List, []}
 use Rattle.std.proofs.Math.Path.{sym, ap}
 use Rattle.std.proofs.Common.{◌∙◌, add-one, arith, drop-cons}
@@ -25,6 +26,7 @@ use Rattle.state_words.specs.Words.{tag_at, value_at, field_at, row_of}
 use Rattle.state_words.specs.RowLaws.{row-length, row_at}
 use Rattle.state_words.specs.Holds.{Holds}
 use Rattle.state_words.specs.HoldLaws.{tag-held, value-held}
+use Rattle.cell_check.specs.CellLaws.{none_left}
 use Rattle.cell_check.specs.Judged.{type_fits, own_type, field_left, fields_left, Below, TagOf, LocationJudged, OwnLeft, FieldLeft, FieldsJudged}
 
 -- ---- the tests of a word, one after the other
@@ -99,7 +101,11 @@ unfolding own_type cell_value size_in
 own-size t (leaf x) e = absurd (let z : ◌≡◌ {A = ℕ} 0 1 = cc in omega arith)
 own-size t (con u c k ls) e = refl
 
-pub own-beyond : {words : List ℕ} {cell tag l left : ℕ} → cell ≤ l → OwnLeft words cell tag l left 0
+what_is_left : (left size : ℕ) (r : Maybe ℕ) → SomeIff r (size ≤ left) (left - size) → unwrap_or r 0 ≡ left - size
+what_is_left left size None s = omega (arith, s)
+what_is_left left size (Some n) s = s.1
+
+pub own-beyond : {words : List ℕ} {cell tag l left : ℕ} → cell ≤ l → OwnLeft words cell tag l left None
 unfolding field_left choose both
 own-beyond {l} le = record { says = λ P h v all t c g. rw (le-ltb l (length h) (omega (arith, v.count))) }
 
@@ -107,17 +113,17 @@ module _ {words : List ℕ} {cell tag l told : ℕ} {b : Bool} (less : l < cell)
   own_is : {P : File} {h : List Cell} → Holds words cell h → All (Writable P) h → (t c : ℕ) {fs : Constructor} → TagOf P tag t c fs → b ≡ own_type t (cell_at h l)
   own_is {h} v all t c g = q ∙ rw (p, tag-held v l less, g.is) (own-test (all_get_d all l (leaf (kbool false)) (omega (arith, v.count))) t c g.small)
 
-  pub own-other : {left : ℕ} → b ≡ false → OwnLeft words cell tag l left 0
+  pub own-other : {left : ℕ} → b ≡ false → OwnLeft words cell tag l left None
   unfolding field_left choose both
   own-other e = record { says = λ P h v all t c g. rw (lt-ltb l (length h) (omega (arith, v.count)), ← (own_is v all t c g), e) }
 
-  pub own-taken : {left size r : ℕ} → b ≡ true → size ≡ value_at words l → r ≡ left - size → OwnLeft words cell tag l left r
+  pub own-taken : {left size : ℕ} {r : Maybe ℕ} → b ≡ true → size ≡ value_at words l → SomeIff r (size ≤ left) (left - size) → OwnLeft words cell tag l left r
   unfolding field_left choose both
   own-taken {left} {size} {r} e z s = record {
     says = λ P h v all t c g.
         let is = own_is v all t c g in
         let size_is : size ≡ size_in (cell_at h l) = z ∙ value-held v l less ∙ own-size t (cell_at h l) (sym is ∙ e) in
-        s ∙ rw (lt-ltb l (length h) (omega (arith, v.count)), ← is, e, size_is);
+        what_is_left left size r s ∙ rw (lt-ltb l (length h) (omega (arith, v.count)), ← is, e, size_is);
   }
 
 -- ---- a field by its word
@@ -161,7 +167,7 @@ module _ {index words : List ℕ} {cell tag j word l : ℕ} (f : FieldRead index
       let same : get_or (constructors_of P t) c [] ≡ fs = look-get_d (constructors_of P t) c [] g.known in
       f.told ∙ rw (t-is, c-is) ((x.each_type t (look-inner-less P.types t c g.known)).fields c (look-less (constructors_of P t) c g.known) j (rw same less) ∙ rw same (get_or-map field_word fs j fbool))
 
-  pub field-own : {left r : ℕ} → word ≡ field_own → OwnLeft words cell tag l left r → FieldLeft index words cell tag j left r
+  pub field-own : {left : ℕ} {r : Maybe ℕ} → word ≡ field_own → OwnLeft words cell tag l left r → FieldLeft index words cell tag j left r
   field-own {left} {r} is o = record {
     says = λ P h b t c {fs} g less.
         let f-is : get_or fs j fbool ≡ own = own-word (get_or fs j fbool) (sym (word-told b.indexed t c g less) ∙ is) in
@@ -175,23 +181,20 @@ module _ {index words : List ℕ} {cell tag j word l : ℕ} (f : FieldRead index
         cases : OtherField h t (field_at words cell j) left t (get_or fs j fbool) → field_left h t (get_or fs j fbool) (field_at words cell j) left ≡ choose b left 0
         cases (as_type τ within is so) = so ∙ ap (λ x. choose x left 0) (ap (λ i. location_fits h i τ) (sym f.at) ∙ sym (v.says P h w.holds w.writable τ within (word-told w.indexed t c g less ∙ is)))
 
-    pub field_fits : {left : ℕ} → b ≡ true → FieldLeft index words cell tag j left left
+    pub field-typed : (left : ℕ) → {r : Maybe ℕ} → r ≡ then_some b left → FieldLeft index words cell tag j left r
     unfolding choose
-    field_fits {left} z = record { says = λ P h w t c g less. sym (other-left left P h w t c g less ∙ ap (λ x. choose x left 0) z) }
-
-    pub field-not : {left : ℕ} → b ≡ false → FieldLeft index words cell tag j left 0
-    unfolding choose
-    field-not {left} z = record { says = λ P h w t c g less. sym (other-left left P h w t c g less ∙ ap (λ x. choose x left 0) z) }
+    field-typed left {r} e = record { says = λ P h w t c g less. ap (λ o. unwrap_or o 0) e ∙ as_number b ∙ sym (other-left left P h w t c g less) }
+      where
+        as_number : (b : Bool) → unwrap_or (then_some b left) 0 ≡ choose b left 0
+        as_number true = refl
+        as_number false = refl
 
 -- ---- all fields
 pub record LeftTo (index words : List ℕ) (cell tag n j left : ℕ) : Type 0 where
   pub says : (P : File) (h : List Cell) → Below index words cell P h → (t c : ℕ) {fs : Constructor} → TagOf P tag t c fs → n ≡ length fs →
       fields_left h t fs (row_of (field_at words cell) n) (value_at words cell) ≡ fields_left h t (drop j fs) (drop j (row_of (field_at words cell) n)) left
 
-pub left-start : (index words : List ℕ) (cell tag n : ℕ) {left : ℕ} → left ≡ value_at words cell → LeftTo index words cell tag n 0 left
-left-start index words cell tag n e = record { says = λ P h b t c {fs} g same. ap (fields_left h t fs (row_of (field_at words cell) n)) (sym e) }
-
-pub left-on : {index words : List ℕ} {cell tag n j left r : ℕ} → LeftTo index words cell tag n j left → j < n → FieldLeft index words cell tag j left r → LeftTo index words cell tag n (j + 1) r
+pub left-on : {index words : List ℕ} {cell tag n j left : ℕ} {r : Maybe ℕ} → LeftTo index words cell tag n j left → j < n → FieldLeft index words cell tag j left r → LeftTo index words cell tag n (j + 1) (unwrap_or r 0)
 unfolding fields_left
 left-on {index} {words} {cell} {tag} {n} {j} {left} {r} v less f = record {
   says = λ P h b t c {fs} g same.
@@ -199,6 +202,14 @@ left-on {index} {words} {cell} {tag} {n} {j} {left} {r} v less f = record {
       let inside : j < length ls = omega (arith, row-length (field_at words cell) n) in
       v.says P h b t c g same ∙ rw (add-one, drop-cons fs j fbool (omega (arith, same)), drop-cons ls j 0 inside, row_at (field_at words cell) n j less)
       (ap (fields_left h t (drop (suc j) fs) (drop (suc j) ls)) (sym (f.says P h b t c g (omega (arith, same)))));
+}
+
+-- one that does not fit: nothing is left
+pub left-out : {index words : List ℕ} {cell tag n j left : ℕ} → LeftTo index words cell tag n j left → j < n → FieldLeft index words cell tag j left None → FieldsJudged index words cell tag n false
+left-out {index} {words} {cell} {tag} {n} {j} v less f = record {
+  says = λ P h b t c {fs} g same.
+      let out = (left-on v less f).says P h b t c g same in
+      ap (λ m. eqb m 1) (sym (out ∙ none_left h t (drop (j + 1) fs) (drop (j + 1) (row_of (field_at words cell) n))));
 }
 
 pub left_end : {index words : List ℕ} {cell tag n j left : ℕ} → j ≤ n → n ≤ j → LeftTo index words cell tag n j left → FieldsJudged index words cell tag n (eqb left 1)

@@ -5,7 +5,7 @@ use Rattle.std.specs.Prelude.{Bool, ◌≡◌, length, get_or, take, drop, leb, 
 use Rattle.std.proofs.Math.Bool.{true, false}
 use Rattle.std.proofs.Math.Option.{Option, none, some}
 use Rattle.std.proofs.Math.Path.{refl, sym, ap}
-use Rattle.std.proofs.Common.{◌∙◌, subst, zero-add, suc-add, add-one, length-take-le, drop-drop, get_or-drop, ltb-true, leb-true}
+use Rattle.std.proofs.Common.{◌∙◌, zero-add, suc-add, add-one, length-take-le, drop-drop, get_or-drop, ltb-true, leb-true}
 use native.Mathlib.Omega.{arith}
 use Rattle.std.proofs.Math.ListN.{length-drop, get_elem? as look}
 use Rattle.language.specs.Limits.{fields_most, header_words, cell_words, int_range}
@@ -171,7 +171,3 @@ module _ {index words : List ℕ} {types i : ℕ} {b : Bool} (v : HeapSoFar inde
         let place : (used - suc i) + suc i ≡ used = omega arith in
         sym (ap is_some (ap (heap_to P words) (sym place) ∙ no-heap P words (suc i) (used - suc i) (none_of (heap_to P words (suc i)) (next-heap text P x count (omega arith) ∙ e))));
   }
-
-pub heap-end : {index words : List ℕ} {types used i : ℕ} → i ≤ used → used ≤ i → HeapSoFar index types words i → CellsJudged index types words used true
-heap-end {index} {words} {types} {used} {i} low high v = let same : i ≡ used = omega arith in
-    record { says = λ text P x count room. sym (subst (λ n. state_length n ≤ length words → is_some (heap_to P words n) ≡ true) same (v.says text P x count) room) }

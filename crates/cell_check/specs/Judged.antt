@@ -1,5 +1,5 @@
 -- The test of a lent heap cell by cell, beside the definition's, and what the functions promise that make it.
-use Rattle.std.specs.Prelude.{ℕ, zero, suc, ◌+◌, ◌-◌, ◌*◌, ◌/◌, ◌%◌, ◌≤◌, ◌<◌, List, [], ◌∷◌, ◌++◌, Bool, false, ◌≡◌, length, get_or, ltb, leb, eqb}
+use Rattle.std.specs.Prelude.{ℕ, zero, suc, ◌+◌, ◌-◌, ◌*◌, ◌/◌, ◌%◌, ◌≤◌, ◌<◌, List, [], ◌∷◌, ◌++◌, Bool, false, ◌≡◌, length, get_or, ltb, leb, eqb, Option as Maybe, unwrap_or}
 use Rattle.std.proofs.Math.Option.{Option, some}
 use Rattle.std.proofs.Math.ListN.{get_elem? as look}
 use Rattle.language.specs.Limits.{fields_most}
@@ -71,11 +71,11 @@ pub record TagOf (P : File) (tag t c : ℕ) (fs : Constructor) : Type 0 where
 pub record LocationJudged (words : List ℕ) (used l word : ℕ) (r : Bool) : Type 0 where
   pub says : (P : File) (h : List Cell) → Holds words used h → All (Writable P) h → {types : ℕ} (τ : Ty) → WithinDeclared types τ → word ≡ declared_word τ → r ≡ location_fits h l τ
 
-pub record OwnLeft (words : List ℕ) (cell tag l left r : ℕ) : Type 0 where
-  pub says : (P : File) (h : List Cell) → Holds words cell h → All (Writable P) h → (t c : ℕ) {fs : Constructor} → TagOf P tag t c fs → r ≡ field_left h t own l left
+pub record OwnLeft (words : List ℕ) (cell tag l left : ℕ) (r : Maybe ℕ) : Type 0 where
+  pub says : (P : File) (h : List Cell) → Holds words cell h → All (Writable P) h → (t c : ℕ) {fs : Constructor} → TagOf P tag t c fs → unwrap_or r 0 ≡ field_left h t own l left
 
-pub record FieldLeft (index words : List ℕ) (cell tag j left r : ℕ) : Type 0 where
-  pub says : (P : File) (h : List Cell) → Below index words cell P h → (t c : ℕ) {fs : Constructor} → TagOf P tag t c fs → j < length fs → r ≡ field_left h t (get_or fs j fbool) (field_at words cell j) left
+pub record FieldLeft (index words : List ℕ) (cell tag j left : ℕ) (r : Maybe ℕ) : Type 0 where
+  pub says : (P : File) (h : List Cell) → Below index words cell P h → (t c : ℕ) {fs : Constructor} → TagOf P tag t c fs → j < length fs → unwrap_or r 0 ≡ field_left h t (get_or fs j fbool) (field_at words cell j) left
 
 pub record FieldsJudged (index words : List ℕ) (cell tag n : ℕ) (r : Bool) : Type 0 where
   pub says : (P : File) (h : List Cell) → Below index words cell P h → (t c : ℕ) {fs : Constructor} → TagOf P tag t c fs → n ≡ length fs → r ≡ eqb (fields_left h t fs (row_of (field_at words cell) n) (value_at words cell)) 1

@@ -21,12 +21,10 @@ use state_words::{cell_field, cell_tag, cell_value};
 fn unused_clear(state: &[u32], cell: u32, n: u32) -> bool
     ensures { result ≡ all_zero (drop n (row_of (field_at state.now cell) fields_most)) }
 {
-    let mut j = n;
-    while j < (FIELDS_MOST as u32) {
+    for j in n..FIELDS_MOST as u32 {
         if cell_field(state, cell, j) != 0 {
             return false;
         }
-        j += 1;
     }
     true
 }
@@ -35,16 +33,11 @@ fn unused_clear(state: &[u32], cell: u32, n: u32) -> bool
 fn type_fits(word: u32, tag: u32, value: u32) -> bool
     ensures { result ≡ type_fits word tag value }
 {
-    if word == FIELD_BOOL {
-        return tag == BOOL_TAG;
+    match word {
+        FIELD_BOOL => tag == BOOL_TAG,
+        FIELD_INT => tag == INT_TAG,
+        _ => same_type(tag, word) && value <= word_size(word),
     }
-    if word == FIELD_INT {
-        return tag == INT_TAG;
-    }
-    if same_type(tag, word) {
-        return value <= word_size(word);
-    }
-    false
 }
 
 // Whether a number names one of the cells used, of the type that a word stands for.
@@ -57,24 +50,20 @@ pub fn location_fits(state: &[u32], used: u32, l: u32, word: u32) -> bool
     type_fits(word, cell_tag(state, l), cell_value(state, l))
 }
 
-// A field of the type itself takes its size from what is left of a constructor's; 0 where it does not fit.
-fn own_left(state: &[u32], cell: u32, tag: u32, l: u32, left: u32) -> u32
+// What is left of a constructor's size behind a field of the type itself; none where the field does not fit.
+fn own_left(state: &[u32], cell: u32, tag: u32, l: u32, left: u32) -> Option<u32>
     ensures { OwnLeft state.now cell tag l left result }
 {
     if cell <= l {
-        return 0;
+        return None;
     }
     if !same_type(cell_tag(state, l), tag) {
-        return 0;
+        return None;
     }
-    let size = cell_value(state, l);
-    if left <= size {
-        return 0;
-    }
-    left - size
+    left.checked_sub(cell_value(state, l))
 }
 
-// What is left behind field j.
+// What is left behind field j; none where it does not fit.
 fn field_left(
     index: &[u32; INDEX_WORDS],
     state: &[u32],
@@ -82,7 +71,7 @@ fn field_left(
     tag: u32,
     j: u32,
     left: u32,
-) -> u32
+) -> Option<u32>
     requires { tag_step ≤ tag }
     ensures { FieldLeft index.now state.now cell tag j left result }
 {
@@ -91,10 +80,7 @@ fn field_left(
     if word == OWN_FIELD {
         return own_left(state, cell, tag, l, left);
     }
-    if location_fits(state, cell, l, word) {
-        return left;
-    }
-    0
+    location_fits(state, cell, l, word).then_some(left)
 }
 
 // Whether the fields of a constructor are cells below it of their types, and its size is one more than those of its own type.
@@ -103,10 +89,11 @@ fn fields_fit(index: &[u32; INDEX_WORDS], state: &[u32], cell: u32, tag: u32, n:
     ensures { FieldsJudged index.now state.now cell tag n result }
 {
     let mut left = cell_value(state, cell);
-    let mut j: u32 = 0;
-    while j < n {
-        left = field_left(index, state, cell, tag, j, left);
-        j += 1;
+    for j in 0..n {
+        let Some(rest) = field_left(index, state, cell, tag, j, left) else {
+            return false;
+        };
+        left = rest;
     }
     left == 1
 }
@@ -117,10 +104,7 @@ fn known_constructor(index: &[u32; INDEX_WORDS], types: u32, tag: u32) -> bool
     ensures { KnownJudged index.now types tag result }
 {
     let t = tag_type(tag);
-    if types <= t {
-        return false;
-    }
-    tag_constructor(tag) < constructors(index, t)
+    t < types && tag_constructor(tag) < constructors(index, t)
 }
 
 // Whether a cell is a Bool or an Int: it has no fields.
@@ -158,12 +142,10 @@ fn cell_fits(index: &[u32; INDEX_WORDS], types: u32, state: &[u32], cell: u32) -
 pub fn cells_fit(index: &[u32; INDEX_WORDS], types: u32, state: &[u32], used: u32) -> bool
     ensures { CellsJudged index.now types state.now used result }
 {
-    let mut cell: u32 = 0;
-    while cell < used {
+    for cell in 0..used {
         if !cell_fits(index, types, state, cell) {
             return false;
         }
-        cell += 1;
     }
     true
 }

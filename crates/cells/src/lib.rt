@@ -27,7 +27,7 @@ fn place_of(t: u32, r: u32, m: u32) -> usize
     ROW_WORDS * (t as usize) + SIZE_WORDS * (r as usize) + (m as usize)
 }
 
-// What is known: 0 nothing, else the number and one.
+// What is known: 0 nothing, else the number and one, and no Option: a table of zeros, in which nothing is known, is one clear.
 fn known(table: &[u32; CELLS_TABLE], t: u32, r: u32, m: u32) -> u32
     ensures { result ≡ get_or table.now (place t r m) 0 }
 {
@@ -43,11 +43,11 @@ fn note(table: &mut [u32; CELLS_TABLE], t: u32, r: u32, m: u32, number: u32)
 }
 
 // The most cells of a value of type t and size at most k.
-#[cycle(cells_cells_of_constructor_cells_field_cells_other_cells_own_cells)]
+#[cycle(cell_counts)]
 pub fn cells(index: &[u32; INDEX_WORDS], table: &mut [u32; CELLS_TABLE], t: u32, k: u32) -> u32
     ensures { CountsCells index.now table.old t k result table.new }
 {
-    if (TYPES_MOST as u32) <= t {
+    if TYPES_MOST as u32 <= t {
         return 0;
     }
     if SIZE_MOST < k {
@@ -59,18 +59,16 @@ pub fn cells(index: &[u32; INDEX_WORDS], table: &mut [u32; CELLS_TABLE], t: u32,
     }
     let n = constructors(index, t);
     let mut most: u32 = 0;
-    let mut c: u32 = 0;
-    while c < n {
+    for c in 0..n {
         let made = constructor_cells(index, table, t, k, c);
         most = capped_larger(made, most);
-        c += 1;
     }
     note(table, t, 0, k, most);
     most
 }
 
 // The most cells of a value of size at most k that a constructor makes.
-#[cycle(cells_cells_of_constructor_cells_field_cells_other_cells_own_cells)]
+#[cycle(cell_counts)]
 fn constructor_cells(
     index: &[u32; INDEX_WORDS],
     table: &mut [u32; CELLS_TABLE],
@@ -90,7 +88,7 @@ fn constructor_cells(
 }
 
 // The most cells of r values of type t whose sizes sum to at most m.
-#[cycle(cells_cells_of_constructor_cells_field_cells_other_cells_own_cells)]
+#[cycle(cell_counts)]
 fn own_cells(
     index: &[u32; INDEX_WORDS],
     table: &mut [u32; CELLS_TABLE],
@@ -115,36 +113,32 @@ fn own_cells(
     }
     let last = m - (r - 1);
     let mut most: u32 = 0;
-    let mut p: u32 = 0;
-    while p < last {
+    for p in 0..last {
         let first = cells(index, table, t, p + 1);
         let rest = own_cells(index, table, t, r - 1, m - (p + 1));
         let both = capped_sum(first, rest);
         most = capped_larger(both, most);
-        p += 1;
     }
     note(table, t, r, m, most);
     most
 }
 
 // The cells of a constructor's fields that are not of the type itself.
-#[cycle(cells_cells_of_constructor_cells_field_cells_other_cells_own_cells)]
+#[cycle(cell_counts)]
 fn other_cells(index: &[u32; INDEX_WORDS], table: &mut [u32; CELLS_TABLE], t: u32, c: u32) -> u32
     ensures { CountsOthers index.now table.old t c result table.new }
 {
     let n = fields(index, t, c);
     let mut sum: u32 = 0;
-    let mut i: u32 = 0;
-    while i < n {
+    for i in 0..n {
         let one = field_cells(index, table, t, c, i);
         sum = capped_sum(sum, one);
-        i += 1;
     }
     sum
 }
 
 // The cells of a field; none of one that is of the type itself.
-#[cycle(cells_cells_of_constructor_cells_field_cells_other_cells_own_cells)]
+#[cycle(cell_counts)]
 fn field_cells(
     index: &[u32; INDEX_WORDS],
     table: &mut [u32; CELLS_TABLE],
@@ -165,7 +159,7 @@ fn field_cells(
 }
 
 // The cells of a type given as a word.
-#[cycle(cells_cells_of_constructor_cells_field_cells_other_cells_own_cells)]
+#[cycle(cell_counts)]
 pub fn cells_of(index: &[u32; INDEX_WORDS], table: &mut [u32; CELLS_TABLE], word: u32) -> u32
     ensures { CountsType index.now table.old word result table.new }
 {
@@ -180,12 +174,10 @@ pub fn channels_cells(index: &[u32; INDEX_WORDS], table: &mut [u32; CELLS_TABLE]
     ensures { CountsChannels index.now table.old n result table.new }
 {
     let mut sum: u32 = 0;
-    let mut i: u32 = 0;
-    while i < n {
+    for i in 0..n {
         let word = declared_word(index, i);
         let one = cells_of(index, table, word);
         sum = capped_sum(sum, one);
-        i += 1;
     }
     sum
 }

@@ -5,7 +5,7 @@ ghost use Rattle.std.specs.Prelude.{◌≡◌, ◌-◌, ◌^◌, ◌<◌};
 ghost use Rattle.channel_sets.specs.Sets.{word_bits, in_set};
 
 // The bits of a word: channels below this can be in a set.
-pub const WORD_BITS: u32 = 32;
+pub const WORD_BITS: u32 = u32::BITS;
 
 // The set of channel c alone.
 pub fn single(c: u32) -> u32

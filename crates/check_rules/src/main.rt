@@ -34,6 +34,7 @@ fn read_text<R: Read>(input: &mut R, text: &mut [u8]) -> io::Result<usize>
     ensures to_the_end { IfOk result (λ n. n < length text.new → IsAtEnd (R.remaining input.new)) }
 {
     let mut n = 0;
+    // Each read takes as many as there are: no range says the places.
     while n < text.len() {
         let k = input.read(&mut text[n..])?;
         if k == 0 {

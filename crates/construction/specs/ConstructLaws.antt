@@ -1,13 +1,13 @@
 -- A constructor's cell: what the index tells of its fields, the loop over them, and what its size decides.
-use Rattle.std.specs.Prelude.{ℕ, suc, ◌+◌, ◌*◌, ◌%◌, ◌≤◌, ◌<◌, Bool, true, false, ◌≡◌, length, get_or, take, ltb}
+use Rattle.std.specs.Prelude.{ℕ, suc, ◌+◌, ◌*◌, ◌%◌, ◌≤◌, ◌<◌, Bool, true, false, ◌≡◌, length, get_or, take, ltb, Option, Some, None, Err, IfSome}
 use mathlib.Core.List.{List, [], ◌∷◌}
 use Rattle.std.proofs.Math.Path.{refl, sym}
-use Rattle.std.proofs.Common.{ap, ◌∙◌, add-one, drop-cons}
+use Rattle.std.proofs.Common.{ap, subst, ◌∙◌, add-one, drop-cons}
 use native.Mathlib.Omega.{arith}
 use Rattle.std.proofs.Math.ListN.{drop, drop_of_length-le, get_or-map}
-use borrow.Author.Tests.{lt-ltb, le-ltb, ltb-true}
+use borrow.Author.Tests.{lt-ltb, ltb-true}
+use Rattle.language.specs.declared.refusals.Refusal.TheVariants.{HeapSpent, ValueTooLarge}
 use Rattle.language.specs.Limits.{byte_range, fields_most, parameters_most, size_most}
-use Rattle.language.specs.Refusals.{heap_spent, value_too_large}
 use Rattle.language.specs.Result.{both, choose}
 use Rattle.language.specs.Syntax.{fbool, File, constructors_of, fields_of}
 use Rattle.language.specs.Within.{WithinField}
@@ -24,12 +24,10 @@ use Rattle.index.specs.Sections.{types_of}
 use Rattle.index.specs.Indexed.{field_at}
 use Rattle.state_words.specs.RowLaws.{row-are, row-length, row_at}
 use Rattle.state_words.specs.Holds.{Holds}
-use Rattle.new_cells.specs.Steps.{Gives}
-use Rattle.new_cells.specs.Asked.{Allocates, Applied, Constructs, summed, Adds, Sums}
+use Rattle.new_cells.specs.Steps.{Evaluated, Gives}
+use Rattle.new_cells.specs.Asked.{Allocates, Applied, Constructs, summed, size_told, Adds, Sums}
 use Rattle.new_cells.specs.AllocLaws.{gives-asked, gives-refused, none_left}
 use Rattle.construction.specs.FieldLaws.{field-on}
-use Rattle.new_cells.specs.declared.Value.{Value}
-use Rattle.new_cells.specs.declared.Value.TheVariants.{Refused}
 
 -- ---- what the index tells of the constructor
 module _ {index values : List ℕ} {t c n : ℕ} {P : File} {ls : List ℕ} (a : Applied index values t c n P ls) where
@@ -62,6 +60,9 @@ module _ {index values : List ℕ} {t c n : ℕ} {P : File} {ls : List ℕ} (a :
   first-values : length values ≡ parameters_most → ls ≡ take n values
   first-values wide = a.given ∙ row-are (λ j. get_or values j 0) n values (omega (arith, a.count, few, wide)) (λ j less. refl)
 
+IfSome-at : {A : Type 0} (P : A → Type 0) {o : Option A} {x : A} → o ≡ Some x → IfSome o P → P x
+IfSome-at P e h = subst (λ o. IfSome o P) e h
+
 -- ---- the loop: the sum so far and the fields from here on give the whole
 pub record SummedTo (index words : List ℕ) (used : ℕ) (values : List ℕ) (t c n i sum : ℕ) : Type 0 where
   pub low : sum < size_most
@@ -72,18 +73,19 @@ module _ {index words : List ℕ} {used : ℕ} {values : List ℕ} {t c n : ℕ}
   summed-start = record { low = omega arith; says = λ a v. refl }
 
   module _ {i sum : ℕ} (s : SummedTo index words used values t c n i sum) where
-    pub summed-end : n ≤ i → Sums index words used values t c n sum
+    pub summed-end : n ≤ i → Sums index words used values t c n (Some sum)
     unfolding summed own_sum fields_within_of both choose
     summed-end le = record {
       says = λ {P} {ls} {h} a v.
           let none : drop i (fields_of P t c) ≡ [] = drop_of_length-le (fields_of P t c) {i = i} (omega (arith, a.count)) in
           let all : sum + 0 ≡ sum = omega arith in
           sym (s.says a v ∙ rw (none, all, lt-ltb sum size_most s.low));
+      low = s.low;
     }
 
-    module _ {word l r : ℕ} (less : i < n) (told : word ≡ field_at (types_of index) t c i) (is : l ≡ get_or values i 0) (f : Adds words used sum word l r) where
+    module _ {word l : ℕ} {x : Option ℕ} (less : i < n) (told : word ≡ field_at (types_of index) t c i) (is : l ≡ get_or values i 0) (f : Adds words used sum word l x) where
       field-turn : {P : File} {ls : List ℕ} {h : List Cell} → Applied index values t c n P ls → Holds words used h →
-          summed h (fields_of P t c) ls 0 ≡ choose (ltb r size_most) (summed h (drop (suc i) (fields_of P t c)) (drop (suc i) ls) r) size_most
+          summed h (fields_of P t c) ls 0 ≡ choose (ltb (size_told x) size_most) (summed h (drop (suc i) (fields_of P t c)) (drop (suc i) ls) (size_told x)) size_most
       field-turn {P} {ls} {h} a v =
           let fs = fields_of P t c in
           let value : l ≡ get_or ls i 0 = is ∙ sym (value-at a i less) in
@@ -91,13 +93,15 @@ module _ {index words : List ℕ} {used : ℕ} {values : List ℕ} {t c n : ℕ}
           s.says a v ∙ rw (drop-cons fs i fbool (omega (arith, a.count)), drop-cons ls i 0 (omega (arith, as_many a)), ← value)
           (field-on h (drop (suc i) fs) (drop (suc i) ls) sum s.low (get_or fs i fbool) l ∙ rw (← next))
 
-      pub summed-on : r < size_most → SummedTo index words used values t c n (i + 1) r
+      pub summed-on : {r : ℕ} → x ≡ Some r → SummedTo index words used values t c n (i + 1) r
       unfolding choose
-      summed-on low = record { low = low; says = λ a v. field-turn a v ∙ rw (lt-ltb r size_most low, add-one) }
+      summed-on {r} d =
+          let low : r < size_most = IfSome-at (λ s. s < size_most) d f.low in
+          record { low = low; says = λ a v. field-turn a v ∙ rw (ap size_told d, lt-ltb r size_most low, add-one) }
 
-      pub summed-over : size_most ≤ r → Sums index words used values t c n size_most
+      pub summed-over : x ≡ None → Sums index words used values t c n None
       unfolding choose
-      summed-over le = record { says = λ a v. sym (field-turn a v ∙ rw (le-ltb r size_most le)) }
+      summed-over d = record { says = λ a v. sym (field-turn a v ∙ rw (ap size_told d)); low = tt }
 
 -- ---- what the sum decides
 over-refused : (s : ℕ) (w : Bool) {r : ℕ} (b : Bool) → both (ltb s size_most) w ≡ b → r ≡ choose b s size_most → size_most ≤ r → b ≡ false
@@ -110,32 +114,32 @@ unfolding choose
 under-taken s true q less = (refl, q)
 under-taken s false q less = absurd (omega arith)
 
-module _ {index words : List ℕ} {used : ℕ} {values : List ℕ} {t c n r : ℕ} (s : Sums index words used values t c n r) where
+module _ {index words : List ℕ} {used : ℕ} {values : List ℕ} {t c n : ℕ} {x : Option ℕ} (s : Sums index words used values t c n x) where
   sum_is : {P : File} {ls : List ℕ} {h : List Cell} → Applied index values t c n P ls → Holds words used h →
-      r ≡ choose (both (ltb (own_sum h (fields_of P t c) ls) size_most) (fields_within_of h (fields_of P t c) ls)) (own_sum h (fields_of P t c) ls) size_most
+      size_told x ≡ choose (both (ltb (own_sum h (fields_of P t c) ls) size_most) (fields_within_of h (fields_of P t c) ls)) (own_sum h (fields_of P t c) ls) size_most
   unfolding summed
   sum_is {P} {ls} {h} a v = let all : 0 + own_sum h (fields_of P t c) ls ≡ own_sum h (fields_of P t c) ls = omega arith in s.says a v ∙ rw all
 
-  pub too_large : size_most ≤ r → Gives words used (Constructs index values t c n) (Refused value_too_large) words
+  pub too_large : x ≡ None → Gives words used (Constructs index values t c n) (Err ValueTooLarge) words
   unfolding needs
-  too_large le = gives-refused (λ P cells h o v k. k.is ∙ rw (over-refused (own_sum h (fields_of P t c) k.ls) (fields_within_of h (fields_of P t c) k.ls) _ refl (sum_is k.applied v.held) le))
+  too_large d = gives-refused (λ P cells h o v k. k.is ∙ rw (over-refused (own_sum h (fields_of P t c) k.ls) (fields_within_of h (fields_of P t c) k.ls) _ refl (sum_is k.applied v.held) (rw (ap size_told d) (omega arith))))
 
-  taken : {P : File} {ls : List ℕ} {h : List Cell} → Applied index values t c n P ls → Holds words used h → r < size_most →
+  taken : {P : File} {ls : List ℕ} {h : List Cell} {r : ℕ} → Applied index values t c n P ls → Holds words used h → x ≡ Some r →
       (both (ltb (own_sum h (fields_of P t c) ls) size_most) (fields_within_of h (fields_of P t c) ls) ≡ true) × (r ≡ own_sum h (fields_of P t c) ls)
-  taken {P} {ls} {h} a v less = under-taken (own_sum h (fields_of P t c) ls) (both (ltb (own_sum h (fields_of P t c) ls) size_most) (fields_within_of h (fields_of P t c) ls)) (sum_is a v) less
+  taken {P} {ls} {h} {r} a v d = under-taken (own_sum h (fields_of P t c) ls) (both (ltb (own_sum h (fields_of P t c) ls) size_most) (fields_within_of h (fields_of P t c) ls)) (sym (ap size_told d) ∙ sum_is a v) (IfSome-at (λ s. s < size_most) d s.low)
 
-  pub none-constructed : {end : ℕ} → r < size_most → end ≡ state_length (used + 1) → length words < end → Gives words used (Constructs index values t c n) (Refused heap_spent) words
+  pub none-constructed : {end r : ℕ} → x ≡ Some r → end ≡ state_length (used + 1) → length words < end → Gives words used (Constructs index values t c n) (Err HeapSpent) words
   unfolding needs
-  none-constructed less told short = gives-refused (λ P cells h o v k. k.is ∙ rw (taken k.applied v.held less).0 (none_left told short v (con t c (1 + own_sum h (fields_of P t c) k.ls) k.ls)))
+  none-constructed d told short = gives-refused (λ P cells h o v k. k.is ∙ rw (taken k.applied v.held d).0 (none_left told short v (con t c (1 + own_sum h (fields_of P t c) k.ls) k.ls)))
 
-  pub constructed : {words' : List ℕ} {out : Value} (tag : ℕ) → r < size_most → length values ≡ parameters_most → tag ≡ tag_step * (t % byte_range + 1) + c % byte_range →
+  pub constructed : {words' : List ℕ} {out : Evaluated} {r : ℕ} (tag : ℕ) → x ≡ Some r → length values ≡ parameters_most → tag ≡ tag_step * (t % byte_range + 1) + c % byte_range →
       Gives words used (Allocates (tag ∷ (r + 1) ∷ padded fields_most (take n values))) out words' → Gives words used (Constructs index values t c n) out words'
   unfolding needs words_of cell_tag cell_value fields_in
-  constructed tag less wide told g = gives-asked (λ P cells h o v k.
+  constructed {r = r} tag d wide told g = gives-asked (λ P cells h o v k.
       let a = k.applied in
       let fs = fields_of P t c in
       let sum = own_sum h fs k.ls in
-      let fits = taken a v.held less in
+      let fits = taken a v.held d in
       let tag_is : tag_step * (t + 1) + c ≡ tag = omega (arith, told, small-type a, small-constructor a) in
       let size_is : 1 + sum ≡ r + 1 = omega (arith, fits.1) in
       record {

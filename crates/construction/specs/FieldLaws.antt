@@ -1,5 +1,5 @@
 -- A constructor's fields one after the other: the own-type sizes summed, each other size against its k.
-use Rattle.std.specs.Prelude.{ℕ, ◌+◌, ◌-◌, ◌%◌, ◌≤◌, ◌<◌, Bool, ◌≡◌, ltb, leb}
+use Rattle.std.specs.Prelude.{ℕ, ◌+◌, ◌-◌, ◌%◌, ◌≤◌, ◌<◌, Bool, ◌≡◌, ltb, leb, Option, Some, None, IfSome}
 use mathlib.Core.List.{List, ◌∷◌}
 use Rattle.std.proofs.Math.Bool.{true, false}
 use Rattle.std.proofs.Math.Path.{refl, sym, ap}
@@ -16,14 +16,14 @@ use Rattle.language.specs.Layout.{tag_step}
 use Rattle.theory.specs.Lists.{both-never}
 use Rattle.text.specs.Bytes.{field_word}
 use Rattle.state_words.specs.Holds.{Holds, Reads}
-use Rattle.new_cells.specs.Asked.{summed, added, Adds}
+use Rattle.new_cells.specs.Asked.{summed, added, size_told, Adds}
 
 -- ---- one field
 module _ {words : List ℕ} {used sum word l : ℕ} (low : sum < size_most) where
   -- a Bool or an Int
-  pub constant-added : word < field_own → Adds words used sum word l sum
+  pub constant-added : word < field_own → Adds words used sum word l (Some sum)
   unfolding added field_word
-  constant-added less = record { says = go; most = omega arith }
+  constant-added less = record { says = go; low = low }
     where
       go : {t : ℕ} {f : Field} {h : List Cell} → WithinField t f → field_word f ≡ word → Holds words used h → sum ≡ added sum f (size_in (cell_at h l))
       go w_fbool e v = refl
@@ -34,31 +34,31 @@ module _ {words : List ℕ} {used sum word l : ℕ} (low : sum < size_most) wher
   module _ {s : ℕ} (p : Reads words used (λ h. size_in (cell_at h l)) s) where
     -- of the type itself
     module _ (is : word ≡ field_own) where
-      own-size : {r : ℕ} → r ≤ size_most → choose (ltb (sum + s) size_most) (sum + s) size_most ≡ r → Adds words used sum word l r
+      own-size : {r : Option ℕ} → IfSome r (λ n. n < size_most) → choose (ltb (sum + s) size_most) (sum + s) size_most ≡ size_told r → Adds words used sum word l r
       unfolding added field_word
-      own-size {r} most e = record { says = go; most = most }
+      own-size {r} less e = record { says = go; low = less }
         where
-          go : {t : ℕ} {f : Field} {h : List Cell} → WithinField t f → field_word f ≡ word → Holds words used h → r ≡ added sum f (size_in (cell_at h l))
+          go : {t : ℕ} {f : Field} {h : List Cell} → WithinField t f → field_word f ≡ word → Holds words used h → size_told r ≡ added sum f (size_in (cell_at h l))
           go w_fbool q v = absurd (omega arith)
           go w_fint q v = absurd (omega arith)
           go {h = h} w_own q v = sym e ∙ ap (λ n. choose (ltb (sum + n) size_most) (sum + n) size_most) (p.says h v)
           go (w_other u k) q v = absurd (omega arith)
 
-      pub own-added : s < size_most - sum → Adds words used sum word l (sum + s)
+      pub own-added : s < size_most - sum → Adds words used sum word l (Some (sum + s))
       unfolding choose
       own-added less = own-size (omega arith) (rw (lt-ltb (sum + s) size_most (omega arith)))
 
-      pub own-over : size_most - sum ≤ s → Adds words used sum word l size_most
+      pub own-over : size_most - sum ≤ s → Adds words used sum word l None
       unfolding choose
-      own-over le = own-size (omega arith) (rw (le-ltb (sum + s) size_most (omega arith)))
+      own-over le = own-size tt (rw (le-ltb (sum + s) size_most (omega arith)))
 
     -- of another type
     module _ {k : ℕ} (high : field_own ≤ word) (not_own : word ≡ field_own → ⊥) (told : k ≡ word % tag_step) where
-      other-size : {r : ℕ} → r ≤ size_most → choose (leb s k) sum size_most ≡ r → Adds words used sum word l r
+      other-size : {r : Option ℕ} → IfSome r (λ n. n < size_most) → choose (leb s k) sum size_most ≡ size_told r → Adds words used sum word l r
       unfolding added field_word
-      other-size {r} most e = record { says = go; most = most }
+      other-size {r} less e = record { says = go; low = less }
         where
-          go : {t : ℕ} {f : Field} {h : List Cell} → WithinField t f → field_word f ≡ word → Holds words used h → r ≡ added sum f (size_in (cell_at h l))
+          go : {t : ℕ} {f : Field} {h : List Cell} → WithinField t f → field_word f ≡ word → Holds words used h → size_told r ≡ added sum f (size_in (cell_at h l))
           go w_fbool q v = absurd (omega arith)
           go w_fint q v = absurd (omega arith)
           go w_own q v = absurd (not_own (sym q))
@@ -66,13 +66,13 @@ module _ {words : List ℕ} {used sum word l : ℕ} (low : sum < size_most) wher
               let same : k ≡ j = omega (arith, bound.1) in
               sym e ∙ ap (λ n. choose (leb n k) sum size_most) (p.says h v) ∙ ap (λ n. choose (leb (size_in (cell_at h l)) n) sum size_most) same
 
-      pub other-added : s ≤ k → Adds words used sum word l sum
+      pub other-added : s ≤ k → Adds words used sum word l (Some sum)
       unfolding choose
-      other-added le = other-size (omega arith) (rw (le-leb s k le))
+      other-added le = other-size low (rw (le-leb s k le))
 
-      pub other-over : k < s → Adds words used sum word l size_most
+      pub other-over : k < s → Adds words used sum word l None
       unfolding choose
-      other-over less = other-size (omega arith) (rw (lt-leb s k less))
+      other-over less = other-size tt (rw (lt-leb s k less))
 
 -- ---- the sum goes on behind a field, or has reached the largest size
 module _ (h : List Cell) (fs : List Field) (ls : List ℕ) (sum : ℕ) (low : sum < size_most) where

@@ -3,10 +3,9 @@ use Rattle.std.specs.Prelude.{ℕ, suc, ◌+◌, ◌-◌, ◌≤◌, ◌<◌, Li
 use Rattle.std.proofs.Common.{sym, ap, ◌∙◌, subst, subst₂, arith, get_or-set_same, get_or-set_other}
 use Rattle.std.specs.Int.Bits.{bit_or}
 use denote.Enum.Declared.{tag_of, declared}
-use types.Run.{OneOf, miss}
 use Rattle.language.specs.Limits.{text_most, types_most, size_variables_most, nesting_most}
 use Rattle.language.specs.Syntax.{Expr, ecase, eadj, Exprs, enil, econs}
-use Rattle.language.specs.Order.{readings, all_readings}
+use Rattle.language.specs.Order.{all_readings}
 use Rattle.language.specs.Format.{expr_bytes, exprs_bytes, size_bytes, result_bytes}
 use Rattle.language.specs.Scope.{Scope}
 use Rattle.language.specs.Within.{WithinSize, WithinResult, WithinExpr}

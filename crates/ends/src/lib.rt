@@ -31,14 +31,8 @@ pub enum Part {
 fn word_at(ends: &[u16], from: usize, at: Cursor) -> usize
     ensures { result ≡ end_in ends.now from at.at }
 {
-    let place = at.at;
-    if ends.len() <= from {
-        return 0;
-    }
-    if ends.len() - from <= place {
-        return 0;
-    }
-    ends[from + place] as usize
+    let place = from.saturating_add(at.at);
+    usize::from(ends.get(place).copied().unwrap_or(0))
 }
 
 // Where what starts at a place of the line that starts at `from` ends, as the table has it; never before that place.
@@ -46,10 +40,8 @@ pub fn end_from(ends: &[u16; TEXT_MOST], from: usize, at: Cursor) -> Cursor
     ensures { result.at ≡ end_of ends.now from at.at }
 {
     let word = word_at(ends, from, at);
-    if word < at.at {
-        return at;
-    }
-    Cursor { at: word }
+    let end = word.max(at.at);
+    Cursor { at: end }
 }
 
 // The same of a place of line `line`, from 0.
@@ -71,8 +63,7 @@ fn line_ends(
 {
     let line = frame_line(text, index, i);
     let from = frame_place(index, i);
-    let whole = expression(line, index, ends, from, at, NESTING_MOST);
-    whole.readings
+    expression(line, index, ends, from, at, NESTING_MOST).readings
 }
 
 // Where such a part of function or channel i starts in its line.
@@ -101,8 +92,7 @@ fn lines_ends(
     requires n_bound { n < 2 * byte_range }
     ensures { TellsLines text.now index.now part first from n n ends.old ends.new }
 {
-    let mut k: u32 = 0;
-    while k < n {
+    for k in 0..n {
         line_ends(
             text,
             index,
@@ -110,7 +100,6 @@ fn lines_ends(
             first + k,
             part_start(index, part, from + k),
         );
-        k += 1;
     }
 }
 
@@ -126,12 +115,10 @@ fn updates_ends(
     ensures { WalksUpdates text.now index.now c c.nodes ends.old ends.new readings.new }
 {
     let before = c.types + c.functions + c.inputs;
-    let mut k: u32 = 0;
-    while k < c.nodes {
+    for k in 0..c.nodes {
         let at = part_start(index, Part::Update, c.inputs + k);
         let set = line_ends(text, index, ends, before + k, at);
         put(readings, k as usize, set);
-        k += 1;
     }
 }
 

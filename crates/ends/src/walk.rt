@@ -71,10 +71,7 @@ fn named(channel: u32) -> u32
 fn reached(behind: Cursor, readings: u32) -> Passed
     ensures { Reached behind readings result }
 {
-    Passed {
-        behind: behind,
-        readings: readings,
-    }
+    Passed { behind, readings }
 }
 
 // An expression with so many levels left: notes its ends, and gives the cursor behind it with its readings.
@@ -106,12 +103,10 @@ pub fn expression(
         Form::Adjust => reached(note_size(line, ends, from, next), 0),
         _ => reached(next, 0),
     };
-    let mut i: u32 = 0;
-    while i < n {
+    for _ in 0..n {
         let part = expression(line, index, ends, from, so_far.behind, inner);
         let readings = so_far.readings | part.readings;
         so_far = reached(part.behind, readings);
-        i += 1;
     }
     note(ends, from, c, so_far.behind);
     so_far

@@ -18,33 +18,21 @@ pub struct Estimate {
 fn capped(n: u32) -> u32
     ensures { result ≡ stop n }
 {
-    if NUMBER_MOST < n {
-        return NUMBER_MOST;
-    }
-    n
+    n.min(NUMBER_MOST)
 }
 
 // A sum, which stops there.
 pub fn capped_sum(a: u32, b: u32) -> u32
     ensures { result ≡ stop (a + b) }
 {
-    if NUMBER_MOST < a {
-        return NUMBER_MOST;
-    }
-    if NUMBER_MOST - a < b {
-        return NUMBER_MOST;
-    }
-    a + b
+    capped(a.saturating_add(b))
 }
 
 // The larger of two, which stops there.
 pub fn capped_larger(a: u32, b: u32) -> u32
     ensures { result ≡ stop (max a b) }
 {
-    if a < b {
-        return capped(b);
-    }
-    capped(a)
+    capped(a.max(b))
 }
 
 // No cell, no slot, no call.
@@ -76,11 +64,7 @@ pub fn after(a: Estimate, b: Estimate) -> Estimate
     let env = capped_larger(a.env, b.env);
     let heap = capped_sum(a.heap, b.heap);
     let stack = capped_larger(a.stack, b.stack);
-    Estimate {
-        env: env,
-        heap: heap,
-        stack: stack,
-    }
+    Estimate { env, heap, stack }
 }
 
 // a or b: the larger of each.
@@ -90,11 +74,7 @@ pub fn either(a: Estimate, b: Estimate) -> Estimate
     let env = capped_larger(a.env, b.env);
     let heap = capped_larger(a.heap, b.heap);
     let stack = capped_larger(a.stack, b.stack);
-    Estimate {
-        env: env,
-        heap: heap,
-        stack: stack,
-    }
+    Estimate { env, heap, stack }
 }
 
 // a with n slots held.
@@ -104,11 +84,7 @@ pub fn with_slots(n: u32, a: Estimate) -> Estimate
     let env = capped_sum(n, a.env);
     let heap = capped(a.heap);
     let stack = capped(a.stack);
-    Estimate {
-        env: env,
-        heap: heap,
-        stack: stack,
-    }
+    Estimate { env, heap, stack }
 }
 
 // a inside a call.
@@ -118,9 +94,5 @@ pub fn in_call(a: Estimate) -> Estimate
     let env = capped(a.env);
     let heap = capped(a.heap);
     let stack = capped_sum(1, a.stack);
-    Estimate {
-        env: env,
-        heap: heap,
-        stack: stack,
-    }
+    Estimate { env, heap, stack }
 }

@@ -1,4 +1,9 @@
 -- Expressions one after the other: what is left decides the whole, turn by turn.
+use Rattle.std.specs.Prelude.{Ok, Err}
+use Rattle.language.specs.declared.refusals.Refusal.{Refusal}
+use Rattle.new_cells.specs.declared.Value.{Value}
+use Rattle.new_cells.specs.Steps.{Evaluated}
+use Rattle.evaluation_steps.specs.Promises.{EvaluatedAll}
 use Rattle.std.specs.Prelude.{ℕ, zero, suc, ◌+◌, ◌-◌, ◌≤◌, ◌<◌, ◌≡◌, length, get_or, take, set}
 use mathlib.Core.List.{List, [], ◌∷◌, ◌++◌, append-nil, append_assoc}
 use Rattle.std.proofs.Math.Path.{refl, sym, ap, subst, subst₂}
@@ -25,12 +30,8 @@ use Rattle.state_words.specs.Words.{row_of}
 use Rattle.state_words.specs.Holds.{Holds}
 use Rattle.ends.specs.Ended.{EndedAll, ds_cons}
 use Rattle.ends.specs.EndOf.{end_of, end-told, end-least}
-use Rattle.new_cells.specs.declared.Value.{Value}
-use Rattle.new_cells.specs.declared.Value.TheVariants.{Is, Refused as RefusedValue}
-use Rattle.new_cells.specs.Steps.{Agrees, is_value, is_refused, Kept, has_grown}
+use Rattle.new_cells.specs.Steps.{Numbered, Agrees, is_value, is_refused, Kept, has_grown}
 use Rattle.evaluation_steps.specs.declared.Context.{Context}
-use Rattle.evaluation_steps.specs.declared.Values.{Values}
-use Rattle.evaluation_steps.specs.declared.Values.TheVariants.{Are, Refused}
 use Rattle.evaluation_steps.specs.Contexts.{moved_to}
 use Rattle.evaluation_steps.specs.Promises.{Room, Below, Stage, Stands, StandsAll, cells_in, are_values, are_refused, goes_on, goes_out, EvalsAll}
 use Rattle.evaluation_steps.specs.Asks.{EvalsExpr}
@@ -43,17 +44,23 @@ pub record Valued (P : File) (words' : List ℕ) (used' l : ℕ) (o : Out) : Typ
   pub held : Holds words' used' heap
   pub writable : All (Writable P) heap
 
-pub valued : {P : File} {words' : List ℕ} {x : Value} {o : Out} {l used' : ℕ} → Agrees P words' x o → x ≡ Is l used' → Valued P words' used' l o
-valued {P} {words'} {x} {o} {l} {used'} a e = go (subst (λ r. Agrees P words' r o) e a)
+pub valued : {P : File} {words' : List ℕ} {x : Evaluated} {o : Out} {v : Value} → Agrees P words' x o → x ≡ Ok v → Valued P words' v.used v.cell o
+valued {P} {words'} {x} {o} {v} a e = go (subst (λ r. Agrees P words' r o) e a)
   where
-    go : {o : Out} → Agrees P words' (Is l used') o → Valued P words' used' l o
+    go : {o : Out} → Agrees P words' (Ok v) o → Valued P words' v.used v.cell o
     go (is_value {h = h} held writable) = record { heap = h; is = refl; held = held; writable = writable }
 
-pub not-valued : {P : File} {words' : List ℕ} {x : Value} {o : Out} {k : ℕ} → Agrees P words' x o → x ≡ RefusedValue k → o ≡ refused k
+-- a refusal, by the number that the definition gives it
+pub record Unvalued (k : Refusal) (o : Out) : Type 0 where
+  pub number : ℕ
+  pub is : o ≡ refused number
+  pub numbered : Numbered k number
+
+pub not-valued : {P : File} {words' : List ℕ} {x : Evaluated} {o : Out} {k : Refusal} → Agrees P words' x o → x ≡ Err k → Unvalued k o
 not-valued {P} {words'} {x} {o} {k} a e = go (subst (λ r. Agrees P words' r o) e a)
   where
-    go : {o : Out} → Agrees P words' (RefusedValue k) o → o ≡ refused k
-    go is_refused = refl
+    go : {o : Out} → Agrees P words' (Err k) o → Unvalued k o
+    go (is_refused {m = m} n) = record { number = m; is = refl; numbered = n }
 
 -- ---- cells before those of the rest
 unfoldable before : List ℕ → Outs → Outs
@@ -157,7 +164,7 @@ module _ (text index ends now words slots : List ℕ) (p : Context) (n : ℕ) wh
 
   module _ {words₁ slots₁ row₁ : List ℕ} {at₁ : Cursor} {used₁ i : ℕ} (g : Gathered text index ends now words slots p n words₁ slots₁ row₁ at₁ used₁ i) where
     -- ---- one more
-    module _ (some : i < n) {q : Context} (e : q ≡ moved_to p at₁ used₁) {x : Value} {words₂ slots₂ : List ℕ} (v : EvalsExpr text index ends now words₁ slots₁ q x words₂ slots₂) where
+    module _ (some : i < n) {q : Context} (e : q ≡ moved_to p at₁ used₁) {x : Evaluated} {words₂ slots₂ : List ℕ} (v : EvalsExpr text index ends now words₁ slots₁ q x words₂ slots₂) where
       here : EvalsExpr text index ends now words₁ slots₁ (moved_to p at₁ used₁) x words₂ slots₂
       here = rw e at v
 
@@ -184,50 +191,49 @@ module _ (text index ends now words slots : List ℕ) (p : Context) (n : ℕ) wh
         unfolding evals
         opened = l.is ∙ ap (λ (z : Exprs). before l.done (evals P (run P cells p.calls) cells N z (take p.top slots) (length slots - p.top) l.heap)) f.is
 
-      pub gathered-more : {cell more : ℕ} {row₂ : List ℕ} {at₂ : Cursor} → x ≡ Is cell more → length row₁ ≡ parameters_most → row₂ ≡ set row₁ i cell → at₂.at ≡ end_of ends (frame_place (frames_of index) p.line) at₁.at →
-          Gathered text index ends now words slots p n words₂ slots₂ row₂ at₂ more (i + 1)
+      pub gathered-more : {u : Value} {row₂ : List ℕ} {at₂ : Cursor} → x ≡ Ok u → length row₁ ≡ parameters_most → row₂ ≡ set row₁ i u.cell → at₂.at ≡ end_of ends (frame_place (frames_of index) p.line) at₁.at →
+          Gathered text index ends now words slots p n words₂ slots₂ row₂ at₂ u.used (i + 1)
       unfolding first
-      gathered-more {cell} {more} {row₂} {at₂} d wide w a = record {
+      gathered-more {u} {row₂} {at₂} d wide w a = record {
         few = omega arith;
-        moved =
-            let m = moved_by (kept_then g.moved here.kept) d in
-            m;
+        moved = moved_by (kept_then g.moved here.kept) d;
         below = both_below;
         onward = omega (arith, g.onward, a, end-least ends (frame_place (frames_of index) p.line) at₁.at);
         says = λ {P} {cells} {S} {N} {h} {es} st s.
             let k = l st s in
             let one = f st s in
-            let u = valued (answer st s) d in
+            let value = valued (answer st s) d in
             let fewer : n - i - 1 ≡ n - (i + 1) = omega arith in
             let place : at₂.at ≡ past (line_at text p.line) at₁.at (length (expr_bytes one.one)) = a ∙ one.end in
             record {
-              done = k.done ++ (cell ∷ []);
+              done = k.done ++ (u.cell ∷ []);
               left = one.others;
-              heap = u.heap;
-              stored = ap (λ (r : List ℕ). cells_in r (i + 1)) w ∙ row_more row₁ i cell (omega (arith, wide, s.few)) ∙ ap (λ (z : List ℕ). z ++ (cell ∷ [])) k.stored;
-              held = u.held;
-              writable = u.writable;
+              heap = value.heap;
+              stored = ap (λ (r : List ℕ). cells_in r (i + 1)) w ∙ row_more row₁ i u.cell (omega (arith, wide, s.few)) ∙ ap (λ (z : List ℕ). z ++ (u.cell ∷ [])) k.stored;
+              held = value.held;
+              writable = value.writable;
               stands = subst₂ (λ b c. StandsAll text index ends p.line S b c one.others) (sym place) fewer one.more;
               behind = k.behind ∙ ap (λ (z : Exprs). past (line_at text p.line) at₁.at (length (exprs_bytes z))) one.is ∙ more-ends (line_at text p.line) at₁.at one.one one.others ∙
                   ap (λ b. past (line_at text p.line) b (length (exprs_bytes one.others))) (sym place);
-              is = opened st s ∙ ap (λ (z : Out). before k.done (first z (λ c b. rest c (evals P (run P cells p.calls) cells N one.others (take p.top slots) (length slots - p.top) b)))) u.is ∙
-                  before-rest k.done cell _;
+              is = opened st s ∙ ap (λ (z : Out). before k.done (first z (λ c b. rest c (evals P (run P cells p.calls) cells N one.others (take p.top slots) (length slots - p.top) b)))) value.is ∙
+                  before-rest k.done u.cell _;
             };
       }
 
       -- ---- or a refusal
-      pub gathered-refused : {k : ℕ} {r : Values} → x ≡ RefusedValue k → r ≡ Refused k → EvalsAll text index ends now words slots p n r words₂ slots₂ row₁
+      pub gathered-refused : {k : Refusal} {r : EvaluatedAll} → x ≡ Err k → r ≡ Err k → EvalsAll text index ends now words slots p n r words₂ slots₂ row₁
       unfolding first before
       gathered-refused {k} {r} d q = rw q (record {
         says = λ {P} {cells} {S} {N} {h} {es} st s.
-            rw (opened st s ∙ ap (λ (z : Out). before (l st s).done (first z (λ c b. rest c (evals P (run P cells p.calls) cells N (f st s).others (take p.top slots) (length slots - p.top) b)))) (not-valued (answer st s) d)) are_refused;
+            let u = not-valued (answer st s) d in
+            rw (opened st s ∙ ap (λ (z : Out). before (l st s).done (first z (λ c b. rest c (evals P (run P cells p.calls) cells N (f st s).others (take p.top slots) (length slots - p.top) b)))) u.is) (are_refused u.numbered);
         kept = subst (Kept words words₂ p.used) d (kept_then g.moved here.kept);
         below = both_below;
         onward = goes_out;
       })
 
     -- ---- all of them
-    pub gathered-all : {r : Values} → n ≤ i → r ≡ Are used₁ at₁ → EvalsAll text index ends now words slots p n r words₁ slots₁ row₁
+    pub gathered-all : {r : EvaluatedAll} → n ≤ i → r ≡ Ok (record { used = used₁; next = at₁ }) → EvalsAll text index ends now words slots p n r words₁ slots₁ row₁
     unfolding evals before
     gathered-all {r} all q = rw q (record {
       says = λ {P} {cells} {S} {N} {h} {es} st s.

@@ -1,9 +1,11 @@
 -- The second part of a let, and the arms of an if and of a fit, return by return.
+use Rattle.std.specs.Prelude.{Err}
+use Rattle.language.specs.declared.refusals.Refusal.TheVariants.{EnvironmentSpent}
+use Rattle.new_cells.specs.Steps.{Evaluated, by_number}
 use Rattle.std.specs.Prelude.{ℕ, ◌+◌, ◌-◌, ◌≤◌, ◌<◌, List, [], ◌∷◌, ◌++◌, Bool, true, false, ◌≡◌, refl, length, take, set}
 use Rattle.std.proofs.Common.{sym, ap, ◌∙◌, subst, arith, add-one, length-set, take-suc-set, lt-ltb, le-ltb, le-leb}
 use Rattle.std.proofs.lemmas.List.{take-set-le}
 use Rattle.std.proofs.lemmas.Bool.{lt-leb}
-use Rattle.language.specs.Refusals.{environment_spent}
 use Rattle.language.specs.Syntax.{File}
 use Rattle.language.specs.Scope.{Scope, wider}
 use Rattle.language.specs.Heap.{Cell, truth, cell_at, constant_in, size_in}
@@ -14,8 +16,6 @@ use Rattle.index.specs.Sections.{frames_of}
 use Rattle.index.specs.Indexed.{frame_place}
 use Rattle.state_words.specs.Holds.{Reads}
 use Rattle.ends.specs.EndOf.{end_of, end-told}
-use Rattle.new_cells.specs.declared.Value.{Value}
-use Rattle.new_cells.specs.declared.Value.TheVariants.{Refused}
 use Rattle.evaluation_steps.specs.declared.Context.{Context}
 use Rattle.evaluation_steps.specs.Operands.{choose-first, choose-second, needs-met, needs-unmet}
 use Rattle.evaluation_steps.specs.Contexts.{moved_to, bound_to}
@@ -38,14 +38,14 @@ below_one slots top l = record { low = take-set-le top slots top l (omega arith)
 
 module _ (text index ends now words slots : List ℕ) (p : Context) (l : ℕ) where
   -- ---- `15`
-  pub bound-full : {r : Value} → length slots ≤ p.top → r ≡ Refused environment_spent → EvalsBound text index ends now words slots p l r words slots
+  pub bound-full : {r : Evaluated} → length slots ≤ p.top → r ≡ Err EnvironmentSpent → EvalsBound text index ends now words slots p l r words slots
   bound-full full q = record {
-    says = λ st ask. agrees-refused q (needs-unmet _ _ _ ask.is (le-ltb 0 (length slots - p.top) (omega arith)));
+    says = λ st ask. agrees-refused by_number q (needs-unmet _ _ _ ask.is (le-ltb 0 (length slots - p.top) (omega arith)));
     kept = kept-not q;
     below = below-same p.top slots;
   }
 
-  pub bound-done : {q : Context} {r : Value} {slots₁ words' slots₂ : List ℕ} → p.top < length slots → slots₁ ≡ set slots p.top l → q ≡ bound_to p p.at 1 → EvalsExpr text index ends now words slots₁ q r words' slots₂ →
+  pub bound-done : {q : Context} {r : Evaluated} {slots₁ words' slots₂ : List ℕ} → p.top < length slots → slots₁ ≡ set slots p.top l → q ≡ bound_to p p.at 1 → EvalsExpr text index ends now words slots₁ q r words' slots₂ →
       EvalsBound text index ends now words slots p l r words' slots₂
   bound-done {r = r} {words' = words'} {slots₂ = slots₂} free e f v = go (rw (e, f) at v)
     where
@@ -67,7 +67,7 @@ module _ (text index ends now words slots : List ℕ) (p : Context) (l : ℕ) wh
 
   -- ---- `16`
   -- an arm, at its own place
-  at-arm : {X : Asked} {q : Context} {c : Cursor} {r : Value} {words' slots' : List ℕ} → q ≡ moved_to p c p.used → EvalsExpr text index ends now words slots q r words' slots' →
+  at-arm : {X : Asked} {q : Context} {c : Cursor} {r : Evaluated} {words' slots' : List ℕ} → q ≡ moved_to p c p.used → EvalsExpr text index ends now words slots q r words' slots' →
       ((P : File) (cells : ℕ) (S : Scope) (N : Channels) (h : List Cell) (o : Out) → Stage text index ends now words p P cells S N h → X P cells S N h o → AskExpr text index ends slots (moved_to p c p.used) P cells S N h o) →
       Evals text index ends now words slots p X r words' slots'
   at-arm {X} {q} {c} {r} {words'} {slots'} e v ask = go (rw e at v)
@@ -75,7 +75,7 @@ module _ (text index ends now words slots : List ℕ) (p : Context) (l : ℕ) wh
       go : EvalsExpr text index ends now words slots (moved_to p c p.used) r words' slots' → Evals text index ends now words slots p X r words' slots'
       go v = record { says = λ {P} {cells} {S} {N} {h} {o} st x. v.says (stage_at c st) (ask P cells S N h o st x); kept = v.kept; below = v.below }
 
-  module _ {b : Bool} (test : Reads words p.used (λ h. truth (constant_in (cell_at h l))) b) {r : Value} {words' slots' : List ℕ} where
+  module _ {b : Bool} (test : Reads words p.used (λ h. truth (constant_in (cell_at h l))) b) {r : Evaluated} {words' slots' : List ℕ} where
     pub choice-second : b ≡ true → EvalsExpr text index ends now words slots p r words' slots' → EvalsChoice text index ends now words slots p l r words' slots'
     choice-second right v = at-arm {c = p.at} refl v (λ P cells S N h o st ask. record {
       expr = ask.second;
@@ -92,7 +92,7 @@ module _ (text index ends now words slots : List ℕ) (p : Context) (l : ℕ) wh
     })
 
   -- ---- `1C`
-  module _ {k m : ℕ} (size : Reads words p.used (λ h. size_in (cell_at h l)) m) {r : Value} {words' slots' : List ℕ} where
+  module _ {k m : ℕ} (size : Reads words p.used (λ h. size_in (cell_at h l)) m) {r : Evaluated} {words' slots' : List ℕ} where
     pub fit-second : m ≤ k → EvalsBound text index ends now words slots p l r words' slots' → EvalsFit text index ends now words slots p k l r words' slots'
     fit-second small v = record {
       says = λ {P} {cells} {S} {N} {h} st ask. v.says st (record {

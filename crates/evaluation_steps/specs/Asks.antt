@@ -1,5 +1,6 @@
 -- What each function of the cycle is asked for: an expression, an expression whose head was read, what a form makes of its operands' cells,
 -- an arm, a branch, the body of a function.
+use Rattle.new_cells.specs.Steps.{Evaluated}
 use Rattle.std.specs.Prelude.{ℕ, ◌-◌, ◌≤◌, ◌<◌, List, [], ◌∷◌, ◌++◌, true, ◌≡◌, length, get_or, take, ltb, leb}
 use Rattle.std.proofs.Math.Option.{some}
 use Rattle.std.proofs.Math.ListN.{get_elem? as look}
@@ -23,7 +24,6 @@ use Rattle.heads.specs.Heads.{Heads, has_parts}
 use Rattle.index.specs.Sections.{frames_of}
 use Rattle.index.specs.Indexed.{frame_place}
 use Rattle.ends.specs.Ended.{EndAt, EndedAll}
-use Rattle.new_cells.specs.declared.Value.{Value}
 use Rattle.evaluation_steps.specs.declared.Context.{Context}
 use Rattle.evaluation_steps.specs.Operands.{the_operands_of, right_side, finished}
 use Rattle.evaluation_steps.specs.Promises.{Stands, Evals, cells_in}
@@ -110,29 +110,29 @@ module _ (text index ends slots : List ℕ) (p : Context) where
     pub is : o ≡ run P cells p.calls f (cells_in row n) (length slots - p.top - n) h
 
 module _ (text index ends now words slots : List ℕ) (p : Context) where
-  abbrev pub EvalsExpr : Value → List ℕ → List ℕ → Type 0
+  abbrev pub EvalsExpr : Evaluated → List ℕ → List ℕ → Type 0
   EvalsExpr r words' slots' = Evals text index ends now words slots p (AskExpr text index ends slots p) r words' slots'
 
-  abbrev pub EvalsForm : Form → Value → List ℕ → List ℕ → Type 0
+  abbrev pub EvalsForm : Form → Evaluated → List ℕ → List ℕ → Type 0
   EvalsForm form r words' slots' = Evals text index ends now words slots p (AskForm text index ends slots p form) r words' slots'
 
-  abbrev pub Finishes : Form → List ℕ → ℕ → Value → List ℕ → List ℕ → Type 0
+  abbrev pub Finishes : Form → List ℕ → ℕ → Evaluated → List ℕ → List ℕ → Type 0
   Finishes form row n r words' slots' = Evals text index ends now words slots p (AskFinish text index ends slots p form row n) r words' slots'
 
-  abbrev pub EvalsBound : ℕ → Value → List ℕ → List ℕ → Type 0
+  abbrev pub EvalsBound : ℕ → Evaluated → List ℕ → List ℕ → Type 0
   EvalsBound l r words' slots' = Evals text index ends now words slots p (AskBound text index ends slots p l) r words' slots'
 
-  abbrev pub EvalsOperator : ℕ → ℕ → ℕ → Value → List ℕ → List ℕ → Type 0
+  abbrev pub EvalsOperator : ℕ → ℕ → ℕ → Evaluated → List ℕ → List ℕ → Type 0
   EvalsOperator o l m r words' slots' = Evals text index ends now words slots p (AskOperator text index ends slots p o l m) r words' slots'
 
-  abbrev pub EvalsChoice : ℕ → Value → List ℕ → List ℕ → Type 0
+  abbrev pub EvalsChoice : ℕ → Evaluated → List ℕ → List ℕ → Type 0
   EvalsChoice l r words' slots' = Evals text index ends now words slots p (AskChoice text index ends slots p l) r words' slots'
 
-  abbrev pub EvalsFit : ℕ → ℕ → Value → List ℕ → List ℕ → Type 0
+  abbrev pub EvalsFit : ℕ → ℕ → Evaluated → List ℕ → List ℕ → Type 0
   EvalsFit k l r words' slots' = Evals text index ends now words slots p (AskFit text index ends slots p k l) r words' slots'
 
-  abbrev pub EvalsBranch : ℕ → ℕ → Value → List ℕ → List ℕ → Type 0
+  abbrev pub EvalsBranch : ℕ → ℕ → Evaluated → List ℕ → List ℕ → Type 0
   EvalsBranch t l r words' slots' = Evals text index ends now words slots p (AskBranch text index ends slots p t l) r words' slots'
 
-  abbrev pub EvalsBody : ℕ → List ℕ → ℕ → Value → List ℕ → List ℕ → Type 0
+  abbrev pub EvalsBody : ℕ → List ℕ → ℕ → Evaluated → List ℕ → List ℕ → Type 0
   EvalsBody f row n r words' slots' = Evals text index ends now words slots p (AskBody text index ends slots p f row n) r words' slots'

@@ -1,4 +1,7 @@
 -- The body of a function at its arguments, return by return.
+use Rattle.std.specs.Prelude.{Err}
+use Rattle.language.specs.declared.refusals.Refusal.TheVariants.{StackSpent}
+use Rattle.new_cells.specs.Steps.{Evaluated, by_number}
 use Rattle.std.specs.Prelude.{ℕ, ◌+◌, ◌-◌, ◌≤◌, List, [], ◌++◌, ◌≡◌, length, get_or, take, drop}
 use Rattle.std.proofs.Common.{append-nil, sym, ◌∙◌, subst, arith, length-drop, length-append, drop_of_length-le, take_all, ext_get_or, drop_at, length-take-le, take_at}
 use Rattle.std.proofs.Math.Option.{some}
@@ -17,8 +20,6 @@ use Rattle.heads.specs.Places.{line_behind_types, function-line}
 use Rattle.index.specs.Indexed.{function_line}
 use Rattle.state_words.specs.RowLaws.{row_at, row-length}
 use Rattle.state_words.specs.WriteLaws.{drop_of_take}
-use Rattle.new_cells.specs.declared.Value.{Value}
-use Rattle.new_cells.specs.declared.Value.TheVariants.{Refused}
 use Rattle.evaluation_steps.specs.declared.Context.{Context}
 use Rattle.evaluation_steps.specs.Contexts.{body_context}
 use Rattle.evaluation_steps.specs.Promises.{Below, Stage, Stands, cells_in}
@@ -74,8 +75,8 @@ module _ (P : File) (cells f : ℕ) (ls : List ℕ) (s : ℕ) (h : List Cell) wh
   a_call {u} F more there = ap (λ n. run P cells n f ls s h) (one_less u more) ∙ rw there
 
 module _ (text index ends now words slots : List ℕ) (p : Context) (f : ℕ) (row : List ℕ) (n : ℕ) where
-  pub body-spent : {r : Value} → p.calls ≡ 0 → r ≡ Refused stack_spent → EvalsBody text index ends now words slots p f row n r words slots
-  body-spent none q = record { says = λ {P} {cells} {S} {N} {h} st ask. agrees-refused q (ask.is ∙ no_call P cells f (cells_in row n) (length slots - p.top - n) h none); kept = kept-not q; below = below-same p.top slots }
+  pub body-spent : {r : Evaluated} → p.calls ≡ 0 → r ≡ Err StackSpent → EvalsBody text index ends now words slots p f row n r words slots
+  body-spent none q = record { says = λ {P} {cells} {S} {N} {h} st ask. agrees-refused by_number q (ask.is ∙ no_call P cells f (cells_in row n) (length slots - p.top - n) h none); kept = kept-not q; below = below-same p.top slots }
 
   module _ {P : File} {cells : ℕ} {S : Scope} {N : Channels} {h : List Cell} {o : Out} (st : Stage text index ends now words p P cells S N h) (ask : AskBody text index ends slots p f row n P cells S N h o) where
     its-line : line_behind_types index f ≡ function_line P f
@@ -100,7 +101,7 @@ module _ (text index ends now words slots : List ℕ) (p : Context) (f : ℕ) (r
         (record { levels = nesting_most; within = (body-known st.indexed.within f ask.there).within; spelled = (st.indexed.each_function f ask.there).body; ended = st.told.each f ask.there })
 
   -- in slots of its own
-  pub body-done : {slots₁ part part' slots₂ : List ℕ} {q : Context} {r : Value} {words' : List ℕ} → (p.calls ≡ 0 → ⊥) → p.top + n ≤ length slots → Pushed (WordOf row) slots p.top n slots₁ → q ≡ body_context index p f n →
+  pub body-done : {slots₁ part part' slots₂ : List ℕ} {q : Context} {r : Evaluated} {words' : List ℕ} → (p.calls ≡ 0 → ⊥) → p.top + n ≤ length slots → Pushed (WordOf row) slots p.top n slots₁ → q ≡ body_context index p f n →
       part ≡ drop p.top slots₁ → slots₂ ≡ take p.top slots₁ ++ part' → EvalsExpr text index ends now words part q r words' part' → EvalsBody text index ends now words slots p f row n r words' slots₂
   body-done {slots₁} {part} {part'} {slots₂} {q} {r} {words'} more room pushed e d back v = go (rw (e, d) at v)
     where

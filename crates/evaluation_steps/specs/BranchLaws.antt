@@ -1,4 +1,8 @@
 -- The branch of a cell's constructor, return by return.
+use Rattle.std.specs.Prelude.{Err}
+use Rattle.language.specs.declared.refusals.Refusal.{Refusal}
+use Rattle.language.specs.declared.refusals.Refusal.TheVariants.{Unnamed, EnvironmentSpent}
+use Rattle.new_cells.specs.Steps.{Evaluated, by_number}
 use Prim.Native.Nat.{ℕ, zero, suc, ◌+◌, ◌-◌, ◌*◌, ◌%◌, ◌≤◌, ◌<◌}
 use Rattle.std.specs.Prelude.{List, ◌++◌, ◌≡◌, refl, get_or, take, leb}
 use Rattle.std.proofs.Common.{sym, ◌∙◌, arith, le-leb}
@@ -29,8 +33,6 @@ use Rattle.state_words.specs.Holds.{ReadsConstructor, ReadsCount}
 use Rattle.state_words.specs.ReadLaws.{few-fields}
 use Rattle.ends.specs.Ended.{EndedAll, ds_cons}
 use Rattle.ends.specs.EndOf.{end_of, end-told}
-use Rattle.new_cells.specs.declared.Value.{Value}
-use Rattle.new_cells.specs.declared.Value.TheVariants.{Refused}
 use Rattle.evaluation_steps.specs.declared.Context.{Context}
 use Rattle.evaluation_steps.specs.Operands.{needs-met, needs-unmet}
 use Rattle.evaluation_steps.specs.Contexts.{bound_to}
@@ -98,9 +100,9 @@ module _ (text index ends now words slots : List ℕ) (p : Context) (t l : ℕ) 
       let told = (known-shapes st.indexed st.known).each t ask.less in
       branches-counted ask.within ∙ omega (arith, count.0, told.constructors, told.few)
 
-  pub branch-beyond : {r : Value} → m ≤ c → r ≡ Refused no_refusal → EvalsBranch text index ends now words slots p t l r words slots
+  pub branch-beyond : {r : Evaluated} → m ≤ c → r ≡ Err Unnamed → EvalsBranch text index ends now words slots p t l r words slots
   branch-beyond beyond q = record {
-    says = λ {P} {cells} {S} {N} {h} st ask. agrees-refused q (ask.is ∙ branch-none P (run P cells p.calls) cells N ask.branches (constructor_in (cell_at h l)) (fields_in (cell_at h l)) (take p.top slots) (length slots - p.top) h
+    says = λ {P} {cells} {S} {N} {h} st ask. agrees-refused by_number q (ask.is ∙ branch-none P (run P cells p.calls) cells N ask.branches (constructor_in (cell_at h l)) (fields_in (cell_at h l)) (take p.top slots) (length slots - p.top) h
         (omega (arith, beyond, counted st ask, which.says P h st.lies.held st.lies.writable)));
     kept = kept-not q;
     below = below-same p.top slots;
@@ -121,14 +123,14 @@ module _ (text index ends now words slots : List ℕ) (p : Context) (t l : ℕ) 
           (eval P (run P cells p.calls) cells N one.branch (take p.top slots ++ fields_in (cell_at h l)) (length slots - p.top - length (fields_in (cell_at h l))) h)
       branched = ask.is ∙ ap (λ k. eval_branch P (run P cells p.calls) cells N ask.branches k (fields_in (cell_at h l)) (take p.top slots) (length slots - p.top) h) (sym is_c) ∙ one.is (fields_in (cell_at h l)) (take p.top slots) (length slots - p.top) h
 
-    pub branch-full : {r : Value} → length slots - p.top < n → r ≡ Refused environment_spent → EvalsBranch text index ends now words slots p t l r words slots
+    pub branch-full : {r : Evaluated} → length slots - p.top < n → r ≡ Err EnvironmentSpent → EvalsBranch text index ends now words slots p t l r words slots
     branch-full full q = record {
-      says = λ {P} {cells} {S} {N} {h} st ask. agrees-refused q (needs-unmet _ _ _ (branched st ask) (lt-leb (length (fields_in (cell_at h l))) (length slots - p.top) (omega (arith, full, is-n st ask))));
+      says = λ {P} {cells} {S} {N} {h} st ask. agrees-refused by_number q (needs-unmet _ _ _ (branched st ask) (lt-leb (length (fields_in (cell_at h l))) (length slots - p.top) (omega (arith, full, is-n st ask))));
       kept = kept-not q;
       below = below-same p.top slots;
     }
 
-    pub branch-done : {slots₁ : List ℕ} {first at : Cursor} {q : Context} {r : Value} {words' slots₂ : List ℕ} → p.top ≤ length slots → n ≤ length slots - p.top → Pushed (FieldOf words p.used l) slots p.top n slots₁ →
+    pub branch-done : {slots₁ : List ℕ} {first at : Cursor} {q : Context} {r : Evaluated} {words' slots₂ : List ℕ} → p.top ≤ length slots → n ≤ length slots - p.top → Pushed (FieldOf words p.used l) slots p.top n slots₁ →
         first.at ≡ end_of ends (frame_place (frames_of index) p.line) p.at.at → at.at ≡ end_after ends (frame_place (frames_of index) p.line) first.at c → q ≡ bound_to p at n →
         EvalsExpr text index ends now words slots₁ q r words' slots₂ → EvalsBranch text index ends now words slots p t l r words' slots₂
     branch-done {slots₁} {first} {at} {r = r} {words' = words'} {slots₂ = slots₂} top free pushed f a e v = go (rw e at v)

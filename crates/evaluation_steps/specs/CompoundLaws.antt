@@ -1,11 +1,16 @@
 -- An expression that has parts, return by return: no slots for a call, an operand that is refused, and what the form makes of them.
+use Rattle.std.specs.Prelude.{Ok, Err}
+use Rattle.language.specs.declared.refusals.Refusal.{Refusal}
+use Rattle.language.specs.declared.refusals.Refusal.TheVariants.{EnvironmentSpent}
+use Rattle.evaluation_steps.specs.declared.Values.{Values}
+use Rattle.new_cells.specs.Steps.{Evaluated, Numbered, by_number}
+use Rattle.evaluation_steps.specs.Promises.{EvaluatedAll}
 use Rattle.std.specs.Prelude.{ℕ, ◌-◌, ◌≤◌, ◌<◌, List, ◌++◌, ◌≡◌, length, take, drop}
 use Rattle.std.proofs.Math.Path.{refl, ap, subst}
 use Rattle.std.proofs.Common.{sym, ◌∙◌, subst₂, arith, le_refl, length-append, length-drop, take-take, length-take-le, le-leb}
 use Rattle.std.proofs.lemmas.List.{take-append-le}
 use Rattle.std.proofs.lemmas.Bool.{lt-leb}
 use Rattle.language.specs.Limits.{byte_range}
-use Rattle.language.specs.Refusals.{environment_spent}
 use Rattle.language.specs.Syntax.{File}
 use Rattle.language.specs.Format.{exprs_bytes}
 use Rattle.language.specs.Scope.{Scope}
@@ -21,14 +26,10 @@ use Rattle.heads.specs.declared.Form.{Form}
 use Rattle.index.specs.Sections.{frames_of, types_of, functions_of}
 use Rattle.index.specs.Indexed.{frame_place}
 use Rattle.state_words.specs.Holds.{Holds}
-use Rattle.new_cells.specs.declared.Value.{Value}
-use Rattle.new_cells.specs.declared.Value.TheVariants.{Refused as RefusedValue}
 use Rattle.new_cells.specs.Steps.{Kept}
 use Rattle.evaluation_steps.specs.declared.Context.{Context}
-use Rattle.evaluation_steps.specs.declared.Values.{Values}
-use Rattle.evaluation_steps.specs.declared.Values.TheVariants.{Are, Refused}
 use Rattle.evaluation_steps.specs.Operands.{the_operands_of, reserved_for, finished, operands-first, needs-met, needs-unmet}
-use Rattle.evaluation_steps.specs.Forms.{operand_count, reserved_count, first_at, handed_on}
+use Rattle.evaluation_steps.specs.Forms.{operand_count, reserved_count, first_at}
 use Rattle.evaluation_steps.specs.Contexts.{moved_to}
 use Rattle.evaluation_steps.specs.Promises.{Room, Waits, Below, Stage, StandsAll, cells_in, AgreesAll, are_values, are_refused, as_value, EvalsAll}
 use Rattle.evaluation_steps.specs.Asks.{AskForm, EvalsForm, Finishes}
@@ -37,24 +38,30 @@ use Rattle.evaluation_steps.specs.ExprLaws.{agrees-refused, kept-not, stage_at}
 use Rattle.evaluation_steps.specs.PartLaws.{Parts, parts-of, first-behind}
 
 -- ---- what the operands' answer says
-record Gave (P : File) (words' row : List ℕ) (n end used' : ℕ) (next : Cursor) (o : Outs) : Type 0 where
+record Gave (P : File) (words' row : List ℕ) (n end : ℕ) (v : Values) (o : Outs) : Type 0 where
   heap : List Cell
   is : o ≡ values (cells_in row n) heap
-  held : Holds words' used' heap
+  held : Holds words' v.used heap
   writable : All (Writable P) heap
-  place : next.at ≡ end
+  place : v.next.at ≡ end
 
-gave : {P : File} {words' row : List ℕ} {n end used' : ℕ} {next : Cursor} {x : Values} {o : Outs} → AgreesAll P words' row n end x o → x ≡ Are used' next → Gave P words' row n end used' next o
-gave {P} {words'} {row} {n} {end} {used'} {next} {x} {o} a e = go (subst (λ r. AgreesAll P words' row n end r o) e a)
+gave : {P : File} {words' row : List ℕ} {n end : ℕ} {v : Values} {x : EvaluatedAll} {o : Outs} → AgreesAll P words' row n end x o → x ≡ Ok v → Gave P words' row n end v o
+gave {P} {words'} {row} {n} {end} {v} {x} {o} a e = go (subst (λ r. AgreesAll P words' row n end r o) e a)
   where
-    go : {o : Outs} → AgreesAll P words' row n end (Are used' next) o → Gave P words' row n end used' next o
+    go : {o : Outs} → AgreesAll P words' row n end (Ok v) o → Gave P words' row n end v o
     go (are_values {h = h} held writable stored place) = record { heap = h; is = ap (λ (ls : List ℕ). values ls h) (sym stored); held = held; writable = writable; place = place }
 
-gave_not : {P : File} {words' row : List ℕ} {n end k : ℕ} {x : Values} {o : Outs} → AgreesAll P words' row n end x o → x ≡ Refused k → o ≡ refused_all_of k
+-- a refusal, by the number that the definition gives it
+record GaveNot (k : Refusal) (o : Outs) : Type 0 where
+  number : ℕ
+  is : o ≡ refused_all_of number
+  numbered : Numbered k number
+
+gave_not : {P : File} {words' row : List ℕ} {n end : ℕ} {k : Refusal} {x : EvaluatedAll} {o : Outs} → AgreesAll P words' row n end x o → x ≡ Err k → GaveNot k o
 gave_not {P} {words'} {row} {n} {end} {k} {x} {o} a e = go (subst (λ r. AgreesAll P words' row n end r o) e a)
   where
-    go : {o : Outs} → AgreesAll P words' row n end (Refused k) o → o ≡ refused_all_of k
-    go are_refused = refl
+    go : {o : Outs} → AgreesAll P words' row n end (Err k) o → GaveNot k o
+    go (are_refused {m = m} n) = record { number = m; is = refl; numbered = n }
 
 -- ---- slots lent up to a place
 pub cut_below : {top room : ℕ} {slots part part' slots' : List ℕ} → top ≤ room → room ≤ length slots → part ≡ take room slots → Below top part part' → slots' ≡ part' ++ drop room slots → Below top slots slots'
@@ -73,10 +80,10 @@ module _ (text index ends now words slots : List ℕ) (p : Context) (form : Form
     waits : reserved_for P ask.expr ≡ w
     waits = parts.reserved ∙ sym wait.0
 
-  pub compound-full : {r : Value} → length slots - p.top < w → r ≡ RefusedValue environment_spent → EvalsForm text index ends now words slots p form r words slots
+  pub compound-full : {r : Evaluated} → length slots - p.top < w → r ≡ Err EnvironmentSpent → EvalsForm text index ends now words slots p form r words slots
   compound-full full q = record {
     says = λ {P} {cells} {S} {N} {h} st ask.
-        agrees-refused q (needs-unmet _ _ _ (ask.is ∙ operands-first P (run P cells p.calls) cells N (take p.top slots) (length slots - p.top) h ask.expr (parts st ask).compound)
+        agrees-refused by_number q (needs-unmet _ _ _ (ask.is ∙ operands-first P (run P cells p.calls) cells N (take p.top slots) (length slots - p.top) h ask.expr (parts st ask).compound)
         (lt-leb (reserved_for P ask.expr) (length slots - p.top) (omega (arith, full, waits st ask))));
     kept = kept-not q;
     below = below-same p.top slots;
@@ -85,7 +92,7 @@ module _ (text index ends now words slots : List ℕ) (p : Context) (form : Form
   module _ (room : Room words slots p) (free : w ≤ length slots - p.top) {n : ℕ} (count : (n ≡ operand_count (types_of index) (functions_of index) form) × (n < byte_range))
       {c : Cursor} (first : c.at ≡ first_at ends (frame_place (frames_of index) p.line) form p.at.at) {q₁ : Context} (there : q₁ ≡ moved_to p c p.used)
       {cut : ℕ} (until : cut ≡ length slots - w) {part part₁ slots₁ words₁ row₁ : List ℕ} (lent : part ≡ take cut slots) (back : slots₁ ≡ part₁ ++ drop cut slots)
-      {x : Values} (v : EvalsAll text index ends now words part q₁ n x words₁ part₁ row₁) where
+      {x : EvaluatedAll} (v : EvalsAll text index ends now words part q₁ n x words₁ part₁ row₁) where
     here : EvalsAll text index ends now words part (moved_to p c p.used) n x words₁ part₁ row₁
     here = rw there at v
 
@@ -114,33 +121,32 @@ module _ (text index ends now words slots : List ℕ) (p : Context) (form : Form
       split = needs-met _ _ _ (ask.is ∙ operands-first P (run P cells p.calls) cells N (take p.top slots) (length slots - p.top) h ask.expr (parts st ask).compound)
           (le-leb (reserved_for P ask.expr) (length slots - p.top) (omega (arith, free, waits st ask)))
 
-    pub compound-moved : {used₁ : ℕ} {next : Cursor} → x ≡ Are used₁ next → Moved words p.used words₁ used₁
+    pub compound-moved : {y : Values} → x ≡ Ok y → Moved words p.used words₁ y.used
     compound-moved d = moved_by here.kept (ap as_value d)
 
-    pub compound-refused : {k : ℕ} {r : Value} → x ≡ Refused k → r ≡ handed_on x → EvalsForm text index ends now words slots p form r words₁ slots₁
+    pub compound-refused : {k : Refusal} {r : Evaluated} → x ≡ Err k → r ≡ Err k → EvalsForm text index ends now words slots p form r words₁ slots₁
     unfolding bind_outs
-    compound-refused {k} {r} d q =
-        let told : r ≡ RefusedValue k = q ∙ ap handed_on d in
-        rw told (record {
-          says = λ {P} {cells} {S} {N} {h} st ask.
-              agrees-refused refl (split st ask ∙ ap (λ (z : Outs). bind_outs z (λ ls g. finished P (run P cells p.calls) cells N ask.expr (take p.top slots) (length slots - p.top) ls g)) (gave_not (given st ask) d));
-          kept = subst (Kept words words₁ p.used) (ap as_value d) here.kept;
-          below = so-below;
-        })
+    compound-refused {k} {r} d q = rw q (record {
+      says = λ {P} {cells} {S} {N} {h} st ask.
+          let u = gave_not (given st ask) d in
+          agrees-refused u.numbered refl (split st ask ∙ ap (λ (z : Outs). bind_outs z (λ ls g. finished P (run P cells p.calls) cells N ask.expr (take p.top slots) (length slots - p.top) ls g)) u.is);
+      kept = subst (Kept words words₁ p.used) (ap as_value d) here.kept;
+      below = so-below;
+    })
 
-    pub compound-done : {used₁ : ℕ} {next : Cursor} {q₂ : Context} {r : Value} {words₂ slots₂ : List ℕ} → x ≡ Are used₁ next → q₂ ≡ moved_to p next used₁ → Finishes text index ends now words₁ slots₁ q₂ form row₁ n r words₂ slots₂ →
+    pub compound-done : {y : Values} {q₂ : Context} {r : Evaluated} {words₂ slots₂ : List ℕ} → x ≡ Ok y → q₂ ≡ moved_to p y.next y.used → Finishes text index ends now words₁ slots₁ q₂ form row₁ n r words₂ slots₂ →
         EvalsForm text index ends now words slots p form r words₂ slots₂
     unfolding bind_outs
-    compound-done {used₁} {next} {q₂} {r} {words₂} {slots₂} d e f = go (rw e at f)
+    compound-done {y} {q₂} {r} {words₂} {slots₂} d e f = go (rw e at f)
       where
-        m : Moved words p.used words₁ used₁
+        m : Moved words p.used words₁ y.used
         m = compound-moved d
 
-        go : Finishes text index ends now words₁ slots₁ (moved_to p next used₁) form row₁ n r words₂ slots₂ → EvalsForm text index ends now words slots p form r words₂ slots₂
+        go : Finishes text index ends now words₁ slots₁ (moved_to p y.next y.used) form row₁ n r words₂ slots₂ → EvalsForm text index ends now words slots p form r words₂ slots₂
         go f = record {
           says = λ {P} {cells} {S} {N} {h} st ask.
               let u = gave (given st ask) d in
-              f.says (stage-moved st m next u.held u.writable) (record {
+              f.says (stage-moved st m y.next u.held u.writable) (record {
                 expr = ask.expr;
                 at = ask.at;
                 next = p.at;

@@ -1,4 +1,7 @@
 -- What a form makes of its operands' cells, return by return.
+use Rattle.std.specs.Prelude.{Ok, Err}
+use Rattle.language.specs.declared.refusals.Refusal.{Refusal}
+use Rattle.new_cells.specs.Steps.{Evaluated}
 use Rattle.std.specs.Prelude.{ℕ, ◌-◌, ◌≤◌, ◌<◌, false, get_or, take, ltb, leb}
 use mathlib.Core.List.{List, [], ◌∷◌, ◌++◌}
 use Rattle.std.proofs.Math.Path.{◌≡◌, refl, sym, ap, subst}
@@ -27,8 +30,6 @@ use Rattle.index.specs.Sections.{frames_of}
 use Rattle.index.specs.Indexed.{frame_place}
 use Rattle.state_words.specs.RowLaws.{row_at}
 use Rattle.ends.specs.Ended.{EndAt}
-use Rattle.new_cells.specs.declared.Value.{Value}
-use Rattle.new_cells.specs.declared.Value.TheVariants.{Is, Refused}
 use Rattle.new_cells.specs.Steps.{Gives}
 use Rattle.new_cells.specs.Asked.{Constructs}
 use Rattle.evaluation_steps.specs.declared.Context.{Context}
@@ -48,17 +49,17 @@ spelled_at {bytes = bytes} {line = line} {a = a} q s = subst (λ m. Spells bytes
 
 module _ (text index ends now words slots : List ℕ) (p : Context) (row : List ℕ) (n : ℕ) where
   -- the form is known: what it is asked for, in its own words
-  as-form : {form f : Form} {r : Value} {words' slots' : List ℕ} → form ≡ f → Finishes text index ends now words slots p f row n r words' slots' → Finishes text index ends now words slots p form row n r words' slots'
+  as-form : {form f : Form} {r : Evaluated} {words' slots' : List ℕ} → form ≡ f → Finishes text index ends now words slots p f row n r words' slots' → Finishes text index ends now words slots p form row n r words' slots'
   as-form {r = r} {words' = words'} {slots' = slots'} e v = rw e v
 
   -- a function of the cycle answers
-  by_part : {form : Form} {X : Asked} {r : Value} {words' slots' : List ℕ} → Evals text index ends now words slots p X r words' slots' →
+  by_part : {form : Form} {X : Asked} {r : Evaluated} {words' slots' : List ℕ} → Evals text index ends now words slots p X r words' slots' →
       ((P : File) (cells : ℕ) (S : Scope) (N : Channels) (h : List Cell) (o : Out) → Stage text index ends now words p P cells S N h → AskFinish text index ends slots p form row n P cells S N h o → X P cells S N h o) →
       Finishes text index ends now words slots p form row n r words' slots'
   by_part v ask = record { says = λ {P} {cells} {S} {N} {h} {o} st x. v.says st (ask P cells S N h o st x); kept = v.kept; below = v.below }
 
   -- a new cell is made
-  by-cell : {form : Form} {asked : File → ℕ → List Cell → Out → Type 0} {r : Value} {words' : List ℕ} → Gives words p.used asked r words' →
+  by-cell : {form : Form} {asked : File → ℕ → List Cell → Out → Type 0} {r : Evaluated} {words' : List ℕ} → Gives words p.used asked r words' →
       ((P : File) (cells : ℕ) (S : Scope) (N : Channels) (h : List Cell) (o : Out) → Stage text index ends now words p P cells S N h → AskFinish text index ends slots p form row n P cells S N h o → asked P cells h o) →
       Finishes text index ends now words slots p form row n r words' slots
   by-cell g ask = record { says = λ {P} {cells} {S} {N} {h} {o} st x. g.says st.lies (ask P cells S N h o st x); kept = g.kept; below = below-same p.top slots }
@@ -83,7 +84,7 @@ module _ (text index ends now words slots : List ℕ) (p : Context) (row : List 
   first_cell : {l : ℕ} → l ≡ get_or row 0 0 → 1 ≡ n → l ≡ get_or (cells_in row n) 0 0
   first_cell w one = w ∙ sym (cell-at 0 (omega arith))
 
-  pub finish-adjust : {form : Form} {l : ℕ} {r : Value} → Room words slots p → form ≡ Adjust → l ≡ get_or row 0 0 → r ≡ Is l p.used → Finishes text index ends now words slots p form row n r words slots
+  pub finish-adjust : {form : Form} {l : ℕ} {r : Evaluated} → Room words slots p → form ≡ Adjust → l ≡ get_or row 0 0 → r ≡ Ok (record { cell = l; used = p.used }) → Finishes text index ends now words slots p form row n r words slots
   unfolding finished the_operands_of expr_count
   finish-adjust {l = l} {r = r} room e w q = as-form e (record {
     says = λ {P} {cells} {S} {N} {h} st ask.
@@ -93,7 +94,7 @@ module _ (text index ends now words slots : List ℕ) (p : Context) (row : List 
     below = below-same p.top slots;
   })
 
-  pub finish-operator : {form : Form} {o l m : ℕ} {r : Value} {words' slots' : List ℕ} → form ≡ Operator o → l ≡ get_or row 0 0 → m ≡ get_or row 1 0 → EvalsOperator text index ends now words slots p o l m r words' slots' →
+  pub finish-operator : {form : Form} {o l m : ℕ} {r : Evaluated} {words' slots' : List ℕ} → form ≡ Operator o → l ≡ get_or row 0 0 → m ≡ get_or row 1 0 → EvalsOperator text index ends now words slots p o l m r words' slots' →
       Finishes text index ends now words slots p form row n r words' slots'
   unfolding finished expr_count
   finish-operator {o = o} {l = l} {m = m} e w x v = as-form e (by_part v (λ P cells S N h out st ask.
@@ -117,7 +118,7 @@ module _ (text index ends now words slots : List ℕ) (p : Context) (row : List 
             ap (λ a. alloc cells h (leaf (apply_op y.op (constant_in (cell_at h l)) (constant_in (cell_at h a))))) (cell-at 1 (omega (arith, two low)) ∙ sym x);
       }))
 
-  pub finish-construct : {form : Form} {t c : ℕ} {r : Value} {words' : List ℕ} → form ≡ Construct t c → Gives words p.used (Constructs index row t c n) r words' → Finishes text index ends now words slots p form row n r words' slots
+  pub finish-construct : {form : Form} {t c : ℕ} {r : Evaluated} {words' : List ℕ} → form ≡ Construct t c → Gives words p.used (Constructs index row t c n) r words' → Finishes text index ends now words slots p form row n r words' slots
   unfolding finished the_operands_of
   finish-construct {t = t} {c = c} e g = as-form e (by-cell g (λ P cells S N h o st ask.
       let y = con-head ask.heads ask.stands.spelled ask.stands.within refl in
@@ -133,7 +134,7 @@ module _ (text index ends now words slots : List ℕ) (p : Context) (row : List 
         is = is-finished ask y.is;
       }))
 
-  pub finish-call : {form : Form} {f : ℕ} {r : Value} {words' slots' : List ℕ} → form ≡ Call f → EvalsBody text index ends now words slots p f row n r words' slots' → Finishes text index ends now words slots p form row n r words' slots'
+  pub finish-call : {form : Form} {f : ℕ} {r : Evaluated} {words' slots' : List ℕ} → form ≡ Call f → EvalsBody text index ends now words slots p f row n r words' slots' → Finishes text index ends now words slots p form row n r words' slots'
   unfolding finished the_operands_of parameter_count
   finish-call {f = f} e v = as-form e (by_part v (λ P cells S N h o st ask.
       let y = call-head ask.heads ask.stands.spelled ask.stands.within refl in
@@ -147,7 +148,7 @@ module _ (text index ends now words slots : List ℕ) (p : Context) (row : List 
         is = is-finished ask y.is ∙ ap (λ k. run P cells p.calls f (cells_in row n) (length slots - p.top - k) h) same;
       }))
 
-  pub finish-let : {form : Form} {l : ℕ} {r : Value} {words' slots' : List ℕ} → form ≡ Let → l ≡ get_or row 0 0 → EvalsBound text index ends now words slots p l r words' slots' → Finishes text index ends now words slots p form row n r words' slots'
+  pub finish-let : {form : Form} {l : ℕ} {r : Evaluated} {words' slots' : List ℕ} → form ≡ Let → l ≡ get_or row 0 0 → EvalsBound text index ends now words slots p l r words' slots' → Finishes text index ends now words slots p form row n r words' slots'
   unfolding finished the_operands_of expr_count
   finish-let {l = l} e w v = as-form e (by_part v (λ P cells S N h o st ask.
       let y = let-head ask.heads ask.stands.spelled ask.stands.within refl in
@@ -160,7 +161,7 @@ module _ (text index ends now words slots : List ℕ) (p : Context) (row : List 
         is = is-finished ask y.is ∙ ap (λ a. needs (ltb 0 (length slots - p.top)) environment_spent (eval P (run P cells p.calls) cells N y.second (take p.top slots ++ (a ∷ [])) (length slots - p.top - 1) h)) (sym cell);
       }))
 
-  pub finish-if : {form : Form} {l : ℕ} {r : Value} {words' slots' : List ℕ} → form ≡ If → l ≡ get_or row 0 0 → EvalsChoice text index ends now words slots p l r words' slots' → Finishes text index ends now words slots p form row n r words' slots'
+  pub finish-if : {form : Form} {l : ℕ} {r : Evaluated} {words' slots' : List ℕ} → form ≡ If → l ≡ get_or row 0 0 → EvalsChoice text index ends now words slots p l r words' slots' → Finishes text index ends now words slots p form row n r words' slots'
   unfolding finished the_operands_of expr_count
   finish-if {l = l} e w v = as-form e (by_part v (λ P cells S N h o st ask.
       let y = if-head ask.heads ask.stands.spelled ask.stands.within refl in
@@ -176,7 +177,7 @@ module _ (text index ends now words slots : List ℕ) (p : Context) (row : List 
         is = is-finished ask y.is ∙ ap (λ a. choose (truth (constant_in (cell_at h a))) (eval P (run P cells p.calls) cells N y.second (take p.top slots) (length slots - p.top) h) (eval P (run P cells p.calls) cells N y.third (take p.top slots) (length slots - p.top) h)) (sym cell);
       }))
 
-  pub finish-fit : {form : Form} {k l : ℕ} {r : Value} {words' slots' : List ℕ} → form ≡ Fit k → l ≡ get_or row 0 0 → EvalsFit text index ends now words slots p k l r words' slots' → Finishes text index ends now words slots p form row n r words' slots'
+  pub finish-fit : {form : Form} {k l : ℕ} {r : Evaluated} {words' slots' : List ℕ} → form ≡ Fit k → l ≡ get_or row 0 0 → EvalsFit text index ends now words slots p k l r words' slots' → Finishes text index ends now words slots p form row n r words' slots'
   unfolding finished the_operands_of expr_count
   finish-fit {k = k} {l = l} e w v = as-form e (by_part v (λ P cells S N h o st ask.
       let y = fit-head ask.heads ask.stands.spelled ask.stands.within refl in
@@ -194,7 +195,7 @@ module _ (text index ends now words slots : List ℕ) (p : Context) (row : List 
             (eval P (run P cells p.calls) cells N y.third (take p.top slots) (length slots - p.top) h)) (sym cell);
       }))
 
-  pub finish-case : {form : Form} {t l : ℕ} {r : Value} {words' slots' : List ℕ} → form ≡ Case t → l ≡ get_or row 0 0 → EvalsBranch text index ends now words slots p t l r words' slots' → Finishes text index ends now words slots p form row n r words' slots'
+  pub finish-case : {form : Form} {t l : ℕ} {r : Evaluated} {words' slots' : List ℕ} → form ≡ Case t → l ≡ get_or row 0 0 → EvalsBranch text index ends now words slots p t l r words' slots' → Finishes text index ends now words slots p form row n r words' slots'
   unfolding finished the_operands_of expr_count
   finish-case {t = t} {l = l} e w v = as-form e (by_part v (λ P cells S N h o st ask.
       let y = case-head ask.heads ask.stands.spelled ask.stands.within refl in
@@ -216,5 +217,5 @@ module _ (text index ends now words slots : List ℕ) (p : Context) (row : List 
       }))
 
   -- a form without parts has no operands
-  pub finish-none : {form : Form} {k : ℕ} {r : Value} → has_parts form ≡ false → r ≡ Refused k → Finishes text index ends now words slots p form row n r words slots
+  pub finish-none : {form : Form} {k : Refusal} {r : Evaluated} → has_parts form ≡ false → r ≡ Err k → Finishes text index ends now words slots p form row n r words slots
   finish-none none q = record { says = λ st ask. false-is-not-true (sym none ∙ ask.compound); kept = kept-not q; below = below-same p.top slots }

@@ -1,19 +1,14 @@
--- What a form asks of the index, and a refusal handed on.
+-- What a form asks of the index.
 use Rattle.std.specs.Prelude.{ℕ, zero, suc, ◌+◌, ◌*◌, ◌%◌, ◌≤◌, ◌<◌, List, Bool, ◌≡◌, get_or, leb}
 use Rattle.std.proofs.Common.{le-leb}
 use Rattle.std.proofs.lemmas.Bool.{lt-leb}
 use Rattle.language.specs.Limits.{byte_range}
 use Rattle.language.specs.Codes.{operator_and}
-use Rattle.language.specs.Refusals.{no_refusal}
 use Rattle.language.specs.Result.{choose}
 use Rattle.index.specs.Tables.{type_words, constructor_words, function_words}
 use Rattle.heads.specs.declared.Form.{Form}
 use Rattle.heads.specs.declared.Form.TheVariants.{Bool as BoolForm, Int, Variable, Now, Last, Let, If, Operator, Call, Construct, Case, Adjust, Fit, Missing}
 use Rattle.ends.specs.EndOf.{end_of}
-use Rattle.new_cells.specs.declared.Value.{Value}
-use Rattle.new_cells.specs.declared.Value.TheVariants.{Is, Refused}
-use Rattle.evaluation_steps.specs.declared.Values.{Values}
-use Rattle.evaluation_steps.specs.declared.Values.TheVariants.{Are, Refused as RefusedAll}
 
 -- whether the left side of the operator of a code may decide
 abbrev pub may_decide : ℕ → Bool
@@ -85,11 +80,3 @@ first_at ends from Missing at = at
 unfoldable pub end_after : List ℕ → ℕ → ℕ → ℕ → ℕ
 end_after ends from at zero = at
 end_after ends from at (suc n) = end_of ends from (end_after ends from at n)
-
-abbrev pub handed_on : Values → Value
-handed_on (Are used next) = Refused no_refusal
-handed_on (RefusedAll n) = Refused n
-
-abbrev pub handed_on_all : Value → Values
-handed_on_all (Is l used) = RefusedAll no_refusal
-handed_on_all (Refused n) = RefusedAll n

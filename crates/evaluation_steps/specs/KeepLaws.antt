@@ -1,4 +1,6 @@
 -- What stays as it was over two steps, and what the second may rest on: words, slots, the place's file and heap.
+use Rattle.std.specs.Prelude.{Ok, Err}
+use Rattle.new_cells.specs.Steps.{Evaluated}
 use Rattle.std.specs.Prelude.{ℕ, ◌+◌, ◌-◌, ◌≤◌, ◌<◌, List, ◌≡◌, refl, length, get_or, take, drop}
 use Rattle.std.proofs.Common.{sym, ap, ◌∙◌, subst, arith, le_refl, length-drop, length-take-le, get_or-take}
 use Rattle.language.specs.Limits.{channels_most}
@@ -13,10 +15,10 @@ use Rattle.theory.specs.CellWords.{Writable}
 use Rattle.text.specs.declared.Cursor.{Cursor}
 use Rattle.state_words.specs.Words.{channel_at}
 use Rattle.state_words.specs.Holds.{Holds}
-use Rattle.new_cells.specs.declared.Value.{Value}
-use Rattle.new_cells.specs.declared.Value.TheVariants.{Is, Refused}
 use Rattle.new_cells.specs.Steps.{Board, Grown, has_grown, not_grown, Kept}
 use Rattle.evaluation_steps.specs.declared.Context.{Context}
+use Rattle.new_cells.specs.declared.Value.{Value}
+use Rattle.language.specs.declared.refusals.Refusal.{Refusal}
 use Rattle.evaluation_steps.specs.Contexts.{moved_to, bound_to, body_context}
 use Rattle.evaluation_steps.specs.Promises.{Room, Below, Stage}
 
@@ -30,16 +32,16 @@ pub record Moved (words : List ℕ) (used : ℕ) (words' : List ℕ) (used' : �
 
 module _ {words : List ℕ} {used : ℕ} where
   -- nothing was written
-  pub kept-refused : {n : ℕ} → Kept words words used (Refused n)
+  pub kept-refused : {n : Refusal} → Kept words words used (Err n)
   kept-refused = record { long = refl; low = refl; grown = not_grown }
 
-  pub kept-value : {l : ℕ} → Board words used → Kept words words used (Is l used)
+  pub kept-value : {l : ℕ} → Board words used → Kept words words used (Ok (record { cell = l; used = used }))
   kept-value b = record { long = refl; low = refl; grown = has_grown (le_refl used) b.fits refl }
 
-  pub moved_by : {words' : List ℕ} {x : Value} {l used' : ℕ} → Kept words words' used x → x ≡ Is l used' → Moved words used words' used'
-  moved_by {words'} {x} {l} {used'} k e = go (subst (Grown words words' used) e k.grown)
+  pub moved_by : {words' : List ℕ} {x : Evaluated} {v : Value} → Kept words words' used x → x ≡ Ok v → Moved words used words' v.used
+  moved_by {words'} {x} {v} k e = go (subst (Grown words words' used) e k.grown)
     where
-      go : Grown words words' used (Is l used') → Moved words used words' used'
+      go : Grown words words' used (Ok v) → Moved words used words' v.used
       go (has_grown more fits high) = record { more = more; fits = fits; long = k.long; low = k.low; high = high }
 
   module _ {words₁ : List ℕ} {used₁ : ℕ} (m : Moved words used words₁ used₁) where
@@ -49,12 +51,12 @@ module _ {words : List ℕ} {used : ℕ} where
     longer : state_length used ≤ state_length used₁
     longer = omega (arith, m.more)
 
-    pub kept_then : {words₂ : List ℕ} {r : Value} → Kept words₁ words₂ used₁ r → Kept words words₂ used r
+    pub kept_then : {words₂ : List ℕ} {r : Evaluated} → Kept words₁ words₂ used₁ r → Kept words words₂ used r
     kept_then {words₂} {r} k = record { long = k.long ∙ m.long; low = take-fewer (state_length used) (state_length used₁) words₂ words₁ longer k.low ∙ m.low; grown = go k.grown }
       where
-        go : {r : Value} → Grown words₁ words₂ used₁ r → Grown words words₂ used r
-        go (has_grown {used' = used₂} more fits high) =
-            has_grown {used' = used₂} (omega (arith, more, m.more)) (omega (arith, fits, m.long)) (high ∙ drop_more (state_length used₁) (state_length used₂) words₁ words (omega (arith, more)) m.high)
+        go : {r : Evaluated} → Grown words₁ words₂ used₁ r → Grown words words₂ used r
+        go (has_grown {v} more fits high) =
+            has_grown (omega (arith, more, m.more)) (omega (arith, fits, m.long)) (high ∙ drop_more (state_length used₁) (state_length v.used) words₁ words (omega (arith, more)) m.high)
         go not_grown = not_grown
 
     -- the channels' words

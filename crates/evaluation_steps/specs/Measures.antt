@@ -1,4 +1,7 @@
 -- The measure of the cycle: the calls left, then what is left of the line, then the function's rank.
+use Rattle.std.specs.Prelude.{Ok}
+use Rattle.evaluation_steps.specs.declared.Values.{Values}
+use Rattle.evaluation_steps.specs.Promises.{EvaluatedAll}
 use Rattle.std.specs.Prelude.{ℕ, zero, suc, ◌+◌, ◌-◌, ◌*◌, ◌≤◌, ◌<◌, ◌^◌, List, true, ◌≡◌, refl, length, drop}
 use Rattle.std.proofs.Common.{ap, subst, arith, suc-mul, le_refl, length-take, length-drop}
 use Rattle.theory.specs.Lists.{false-is-not-true}
@@ -13,8 +16,6 @@ use Rattle.index.specs.Sections.{frames_of}
 use Rattle.index.specs.Indexed.{frame_place, frame_length, frame_part}
 use Rattle.evaluation_steps.specs.declared.Context.{Context}
 use Rattle.ends.specs.EndOf.{end_of, end-least}
-use Rattle.evaluation_steps.specs.declared.Values.{Values}
-use Rattle.evaluation_steps.specs.declared.Values.TheVariants.{Are}
 use Rattle.evaluation_steps.specs.Forms.{first_at, end_after}
 use Rattle.evaluation_steps.specs.Contexts.{moved_to, bound_to, body_context}
 use Rattle.evaluation_steps.specs.Promises.{Onward, goes_on}
@@ -68,9 +69,6 @@ module _ (text index : List ℕ) (p : Context) {t : ℕ} (rank : ℕ) (e : measu
       rw (← e, calls) (one-call call_share p.calls _ _ more (share-most (bytes_left (frame_part text (frames_of index) q.line) q.at.at) (length text) rank' (omega (arith, most, part)) short less))
 
   -- by the way the place was made
-  pub falls-here : (rank' : ℕ) → rank' < rank → measure_of text index p rank' < t
-  falls-here rank' less = falls-to p rank' refl refl (le_refl p.at.at) less
-
   module _ {q : Context} {c : Cursor} (rank' : ℕ) where
     pub falls-moved : {used : ℕ} → q ≡ moved_to p c used → p.at.at ≤ c.at → rank' < rank → measure_of text index q rank' < t
     falls-moved {used} m later less = rw m (falls-to (moved_to p c used) rank' refl refl later less)
@@ -133,10 +131,10 @@ later_first ends from (Fit k) at e = omega (arith, e)
 later_first ends from Missing at e = omega (arith, e)
 
 -- the cursor behind several is not before the first
-pub later-all : {at : ℕ} {x : Values} {used : ℕ} {next : Cursor} → Onward at x → x ≡ Are used next → at ≤ next.at
-later-all {at} {x} {used} {next} o e = go (subst (Onward at) e o)
+pub later-all : {at : ℕ} {x : EvaluatedAll} {v : Values} → Onward at x → x ≡ Ok v → at ≤ v.next.at
+later-all {at} {x} {v} o e = go (subst (Onward at) e o)
   where
-    go : Onward at (Are used next) → at ≤ next.at
+    go : Onward at (Ok v) → at ≤ v.next.at
     go (goes_on le) = le
 
 pub later-two : (p : Context) {q : Context} {c next : Cursor} {used : ℕ} → p.at.at ≤ c.at → q ≡ moved_to p c used → q.at.at ≤ next.at → p.at.at ≤ next.at

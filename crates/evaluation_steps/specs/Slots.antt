@@ -31,9 +31,6 @@ take-sets [] slots top = refl
 take-sets (l ∷ row) slots top = take-fewer top (suc top) (sets (set slots top l) (suc top) row) (set slots top l) (omega arith) (take-sets row (set slots top l) (suc top)) ∙ take-set-le top slots top l (omega arith)
 
 module _ {asked : ℕ → ℕ → Type 0} where
-  pub pushed_none : (slots : List ℕ) (top : ℕ) → Pushed asked slots top 0 slots
-  pushed_none slots top = record { row = []; long = refl; stored = refl; each = λ j less. absurd (omega arith) }
-
   pub pushed_more : {slots slots₁ slots₂ : List ℕ} {top i l : ℕ} → Pushed asked slots top i slots₁ → asked i l → slots₂ ≡ set slots₁ (top + i) l → Pushed asked slots top (i + 1) slots₂
   pushed_more {slots} {slots₁} {slots₂} {top} {i} {l} q a e = record {
     row = q.row ++ (l ∷ []);

@@ -12,13 +12,7 @@ use text::Cursor;
 pub fn moved(p: Context, at: Cursor, used: u32) -> Context
     ensures { result ≡ moved_to p at used }
 {
-    Context {
-        at: at,
-        line: p.line,
-        top: p.top,
-        used: used,
-        calls: p.calls,
-    }
+    Context { at, used, ..p }
 }
 
 // The same with n more slots in the environment.
@@ -27,11 +21,9 @@ pub fn bound(p: Context, at: Cursor, n: usize) -> Context
     ensures { result ≡ bound_to p at n }
 {
     Context {
-        at: at,
-        line: p.line,
+        at,
         top: p.top + n,
-        used: p.used,
-        calls: p.calls,
+        ..p
     }
 }
 
@@ -43,8 +35,8 @@ pub fn body_context(index: &[u32; INDEX_WORDS], p: Context, f: u32, n: usize) ->
     let at = body_start(index, f);
     let line = line_behind_types(index, f);
     Context {
-        at: at,
-        line: line,
+        at,
+        line,
         top: n,
         used: p.used,
         calls: p.calls - 1,

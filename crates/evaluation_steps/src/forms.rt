@@ -3,9 +3,9 @@ ghost use Rattle.std.specs.Prelude.{◌≡◌, ◌<◌};
 ghost use Rattle.language.specs.Limits.{byte_range};
 ghost use Rattle.index.specs.Sections.{frames_of, types_of, functions_of};
 ghost use Rattle.index.specs.Indexed.{frame_place};
-ghost use Rattle.evaluation_steps.specs.Forms.{side_count, operand_count, reserved_count, first_at, end_after, handed_on, handed_on_all};
+ghost use Rattle.evaluation_steps.specs.Forms.{side_count, operand_count, reserved_count, first_at, end_after};
 
-use super::{Context, Values};
+use super::Context;
 use ends::end_of;
 use heads::Form;
 use index::INDEX_WORDS;
@@ -13,8 +13,6 @@ use index::functions::arity;
 use index::types::fields;
 use language::codes::OPERATOR_AND;
 use language::limits::TEXT_MOST;
-use language::refusals::NO_REFUSAL;
-use new_cells::Value;
 use text::Cursor;
 
 // How many sides of an operator are operands: of and, or the left one, which may decide.
@@ -76,29 +74,8 @@ pub fn branch_at(
     ensures { result.at ≡ end_after ends.now (frame_place (frames_of index.now) line) first.at c }
 {
     let mut at = first;
-    let mut i: u32 = 0;
-    while i < c {
+    for _ in 0..c {
         at = end_of(ends, index, line, at);
-        i += 1;
     }
     at
-}
-
-// A refusal handed on, of several values as of one, and of one as of several.
-pub fn refused(x: Values) -> Value
-    ensures { result ≡ handed_on x }
-{
-    match x {
-        Values::Are(_, _) => Value::Refused(NO_REFUSAL),
-        Values::Refused(n) => Value::Refused(n),
-    }
-}
-
-pub fn refused_all(x: Value) -> Values
-    ensures { result ≡ handed_on_all x }
-{
-    match x {
-        Value::Is(_, _) => Values::Refused(NO_REFUSAL),
-        Value::Refused(n) => Values::Refused(n),
-    }
 }

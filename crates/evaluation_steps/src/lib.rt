@@ -5,7 +5,18 @@ pub mod contexts;
 pub mod forms;
 pub mod slots;
 
+use index::INDEX_WORDS;
+use language::limits::{CHANNELS_MOST, TEXT_MOST};
 use text::Cursor;
+
+// A rule file as it is evaluated: its text, its index, where the expressions end, and the cells of its channels as they stand now.
+#[derive(Clone, Copy)]
+pub struct Program<'a> {
+    pub text: &'a [u8],
+    pub index: &'a [u32; INDEX_WORDS],
+    pub ends: &'a [u16; TEXT_MOST],
+    pub channels: &'a [u32; CHANNELS_MOST],
+}
 
 // Where an expression is evaluated: its place in the line of a frame, counted from 0, how many slots its environment has, how many cells
 // are used, and how many calls are left.
@@ -18,9 +29,9 @@ pub struct Context {
     pub calls: u32,
 }
 
-// Arguments or fields that were evaluated: how many cells are used, and the cursor behind them; or a refusal.
+// Arguments or fields that were evaluated: how many cells are used, and the cursor behind them.
 #[derive(Clone, Copy)]
-pub enum Values {
-    Are(u32, Cursor),
-    Refused(u32),
+pub struct Values {
+    pub used: u32,
+    pub next: Cursor,
 }

@@ -21,10 +21,8 @@ pub fn push(slots: &mut [u32], top: usize, row: &[u32; PARAMETERS_MOST], n: u32)
     requires { top ≤ length slots.old }
     ensures { Pushed (WordOf row.now) slots.old top n slots.new }
 {
-    let mut i: u32 = 0;
-    while i < n {
+    for i in 0..n {
         put(slots, top + (i as usize), word_at(row, i as usize));
-        i += 1;
     }
 }
 
@@ -33,9 +31,7 @@ pub fn push_fields(slots: &mut [u32], top: usize, state: &[u32], used: u32, cell
     requires { top ≤ length slots.old }
     ensures { Pushed (FieldOf state.now used cell) slots.old top n slots.new }
 {
-    let mut i: u32 = 0;
-    while i < n {
+    for i in 0..n {
         put(slots, top + (i as usize), field(state, used, cell, i));
-        i += 1;
     }
 }

@@ -16,11 +16,10 @@ use Rattle.encoding.specs.Known.{outer-known}
 use Rattle.heads.specs.Places.{channel_line_of, channel-line}
 use Rattle.index.specs.Indexed.{channel_line, Indexed}
 use Rattle.state_words.specs.Words.{channel_at}
-use Rattle.new_cells.specs.declared.Value.{Value}
-use Rattle.new_cells.specs.Steps.{Board, Lies, Agrees, Kept}
+use Rattle.new_cells.specs.Steps.{Evaluated, Lies, Agrees, Kept}
 use Rattle.ends.specs.Ended.{LineEnded, BodiesTold}
 use Rattle.evaluation_steps.specs.declared.Context.{Context}
-use Rattle.evaluation_steps.specs.Promises.{Room, Stage, Stands}
+use Rattle.evaluation_steps.specs.Promises.{Stage, Stands}
 use Rattle.evaluation_steps.specs.Asks.{EvalsExpr}
 
 abbrev pub channel_context : List ℕ → ℕ → Cursor → ℕ → ℕ → Context
@@ -44,7 +43,7 @@ pub record OfChannel (text index ends row words : List ℕ) (used : ℕ) (P : Fi
   pub spelled : Spells expr_bytes (line_at text (channel_line P c)) at e
   pub ended : LineEnded text index (channel_line P c) at e ends
 
-pub record EvalsChannel (text index ends row : List ℕ) (c at used calls : ℕ) (words slots : List ℕ) (r : Value) (words' slots' : List ℕ) : Type 0 where
+pub record EvalsChannel (text index ends row : List ℕ) (c at used calls : ℕ) (words slots : List ℕ) (r : Evaluated) (words' slots' : List ℕ) : Type 0 where
   pub says : {P : File} {cells channels : ℕ} {N : Channels} {h : List Cell} {e : Expr} → OfChannel text index ends row words used P cells c at channels N h e → Agrees P words' r (eval P (run P cells calls) cells N e [] (length slots) h)
   pub kept : Kept words words' used r
   pub long : length slots' ≡ length slots
@@ -52,9 +51,6 @@ pub record EvalsChannel (text index ends row : List ℕ) (c at used calls : ℕ)
 -- ---- where it is evaluated
 pub channel-placed : (index : List ℕ) (c : ℕ) (at : Cursor) (used calls : ℕ) {line : ℕ} → line ≡ channel_line_of index c → ◌≡◌ {A = Context} (record { at = at; line = line; top = 0; used = used; calls = calls }) (channel_context index c at used calls)
 channel-placed index c at used calls e = λ i. record { at = at; line = e i; top = 0; used = used; calls = calls }
-
-pub channel-room : {words slots : List ℕ} {p : Context} (index : List ℕ) (c : ℕ) (at : Cursor) (used calls : ℕ) → Board words used → p ≡ channel_context index c at used calls → Room words slots p
-channel-room index c at used calls b e = rw e (record { board = b; top = omega arith })
 
 -- ---- what it gives
 module _ (text index ends row : List ℕ) (c : ℕ) (at : Cursor) (used calls : ℕ) (words slots : List ℕ) where
@@ -78,7 +74,7 @@ module _ (text index ends row : List ℕ) (c : ℕ) (at : Cursor) (used calls : 
     stands : Stands text index ends (channel_line_of index c) (outer_scope P.types P.functions channels) at.at e
     stands = subst (λ i. Stands text index ends i (outer_scope P.types P.functions channels) at.at e) (sym its-line) (record { levels = nesting_most; within = o.within; spelled = o.spelled; ended = o.ended })
 
-  pub channel-evaluated : {p : Context} {x : Value} {words' slots' : List ℕ} → p ≡ channel_context index c at used calls → EvalsExpr text index ends row words slots p x words' slots' → EvalsChannel text index ends row c at.at used calls words slots x words' slots'
+  pub channel-evaluated : {p : Context} {x : Evaluated} {words' slots' : List ℕ} → p ≡ channel_context index c at used calls → EvalsExpr text index ends row words slots p x words' slots' → EvalsChannel text index ends row c at.at used calls words slots x words' slots'
   channel-evaluated {x = x} {words' = words'} {slots' = slots'} e v =
       let here : EvalsExpr text index ends row words slots (channel_context index c at used calls) x words' slots' = rw e at v in
       record {

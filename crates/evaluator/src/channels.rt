@@ -4,10 +4,11 @@ ghost use Rattle.new_cells.specs.Steps.{Board};
 ghost use Rattle.evaluator.specs.ChannelValues.{channel_context, EvalsChannel};
 
 use super::cycle::expr;
-use evaluation_steps::Context;
+use evaluation_steps::{Context, Program};
 use heads::places::channel_line;
 use index::INDEX_WORDS;
 use language::limits::{CHANNELS_MOST, TEXT_MOST};
+use language::refusals::Refusal;
 use new_cells::Value;
 use text::Cursor;
 
@@ -17,11 +18,11 @@ fn channel_context(index: &[u32; INDEX_WORDS], c: u32, at: Cursor, used: u32, ca
 {
     let line = channel_line(index, c);
     Context {
-        at: at,
-        line: line,
+        at,
+        line,
         top: 0,
-        used: used,
-        calls: calls,
+        used,
+        calls,
     }
 }
 
@@ -37,10 +38,16 @@ pub fn channel_value(
     at: Cursor,
     used: u32,
     calls: u32,
-) -> Value
+) -> Result<Value, Refusal>
     requires { Board state.old used }
     ensures { EvalsChannel text.now index.now ends.now channels.now c at.at used calls state.old slots.old result state.new slots.new }
 {
     let p = channel_context(index, c, at, used, calls);
-    expr(text, index, ends, channels, state, slots, p)
+    let program = Program {
+        text,
+        index,
+        ends,
+        channels,
+    };
+    expr(&program, state, slots, p)
 }

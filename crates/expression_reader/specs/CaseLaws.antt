@@ -1,5 +1,7 @@
 -- A case and its branches, a fit: what stands behind their codes, return by return.
-use Rattle.std.specs.Prelude.{ℕ, ◌+◌, ◌-◌, ◌*◌, ◌%◌, ◌≤◌, ◌<◌, List, [], ◌∷◌, ◌≡◌, refl, length, get_or, drop}
+use Rattle.language.specs.declared.refusals.Refusal.{Refusal}
+use Rattle.std.specs.Prelude.{Ok, Err}
+use Rattle.std.specs.Prelude.{ℕ, ◌+◌, ◌*◌, ◌%◌, ◌≤◌, ◌<◌, List, [], ◌∷◌, ◌≡◌, refl, length, get_or, drop}
 use Rattle.std.proofs.Common.{sym, ap, ◌∙◌, subst, arith, add-one, drop_of_length-le, drop-cons}
 use Rattle.language.specs.Limits.{byte_range, size_most}
 use Rattle.language.specs.Syntax.{Constructor, fbool, fint, own, other, owns, ecase, efit, econs}
@@ -8,11 +10,7 @@ use Rattle.language.specs.Parser.{index as index_read, count}
 use Rattle.language.specs.ReadExpr.{bound, result, case_form, fit_form, branches, expr_behind, expr_at}
 use Rattle.text.specs.declared.Cursor.{Cursor}
 use Rattle.text.specs.declared.Found.{Found}
-use Rattle.text.specs.declared.Number.{Number}
-use Rattle.text.specs.declared.Number.TheVariants.{Is, Refused}
-use Rattle.text.specs.declared.Step.{Step}
-use Rattle.text.specs.declared.Step.TheVariants.{Next, Stop}
-use Rattle.text.specs.Bytes.{bytes_from, forget, step_of, ReadsNumber, Passes, Below}
+use Rattle.text.specs.Bytes.{Number, Step, bytes_from, forget, step_of, ReadsNumber, Passes, Below}
 use Rattle.text.specs.StepLaws.{ends-within, moved_none, pass-moved, pass-here, number-moved, read-then-pass, read-stops-pass, pass-then-pass, pass-stops-pass, forget-then}
 use Rattle.expression_reader.specs.declared.Names.{Names}
 use Rattle.index.specs.Tables.{type_words, constructor_words}
@@ -36,7 +34,7 @@ module _ (line index : List ℕ) (c : Cursor) (s : Names) (levels : ℕ) where
     count-is : (S : Scope) → Tells index s S → n ≡ length (get_or S.types t [])
     count-is S h = let d = h.each t known in q.0 ∙ small (length (get_or S.types t [])) (get_or (types_of index) (type_words * t) 0) d.constructors (omega (arith, d.few))
 
-    pub branches-none : n ≤ k → Follows line index c s (Next c) (λ S. branches (expr_at levels) S (drop k (get_or S.types t [])))
+    pub branches-none : n ≤ k → Follows line index c s (Ok c) (λ S. branches (expr_at levels) S (drop k (get_or S.types t [])))
     unfolding branches forget
     branches-none le = record { says = λ S h here. rw (drop_of_length-le (get_or S.types t []) {i = k} (omega (arith, count-is S h))) (pass-here (moved_none here) refl); on = λ here. moved_none here }
 
@@ -53,11 +51,11 @@ module _ (line index : List ℕ) (c : Cursor) (s : Names) (levels : ℕ) where
       split : (S : Scope) → Tells index s S → drop k (get_or S.types t []) ≡ get_or (get_or S.types t []) k [] ∷ drop (k + 1) (get_or S.types t [])
       split S h = rw add-one (drop-cons (get_or S.types t []) k [] (omega (arith, count-is S h)))
 
-      pub branches-stop : {m : ℕ} → x ≡ Stop m → Follows line index c s x (λ S. branches (expr_at levels) S (drop k (get_or S.types t [])))
+      pub branches-stop : {m : Refusal} → x ≡ Err m → Follows line index c s x (λ S. branches (expr_at levels) S (drop k (get_or S.types t [])))
       unfolding branches
       branches-stop e = record { says = λ S h here. rw (split S h) (pass-stops-pass (expr_at levels (wider (length (get_or (get_or S.types t []) k [])) (owns (get_or (get_or S.types t []) k [])) S) (bytes_from line c.at)) _ (u.says _ (branch-scope S h) here) e); on = u.on }
 
-      pub branches-done : {d : Cursor} {r : Step} → x ≡ Next d → Follows line index d s r (λ S. branches (expr_at levels) S (drop (k + 1) (get_or S.types t []))) → Follows line index c s r (λ S. branches (expr_at levels) S (drop k (get_or S.types t [])))
+      pub branches-done : {d : Cursor} {r : Step} → x ≡ Ok d → Follows line index d s r (λ S. branches (expr_at levels) S (drop (k + 1) (get_or S.types t []))) → Follows line index c s r (λ S. branches (expr_at levels) S (drop k (get_or S.types t [])))
       unfolding branches
       branches-done {d} e w = record {
         says = λ S h here. let v = u.says _ (branch-scope S h) here in
@@ -68,20 +66,20 @@ module _ (line index : List ℕ) (c : Cursor) (s : Names) (levels : ℕ) where
 
   -- ---- `1A`
   module _ {x : Number} (v : ReadsNumber line c.at x (index_read s.types (bytes_from line c.at)) × Below byte_range x) where
-    pub case-stops : {m : ℕ} {r : Step} → x ≡ Refused m → r ≡ step_of x → Follows line index c s r (λ S. expr_behind (expr_at levels) S case_form)
+    pub case-stops : {m : Refusal} {r : Step} → x ≡ Err m → r ≡ step_of x → Follows line index c s r (λ S. expr_behind (expr_at levels) S case_form)
     unfolding expr_behind
     case-stops e d = record { says = λ S t here. rw t.type_count (read-stops-pass _ v.0 e d); on = λ here. rw d v.0.on }
 
-    module _ {f : Found} (e : x ≡ Is f) {y : Step} (u : Follows line index f.next s y (expr_at levels)) where
-      pub case-subject : {m : ℕ} → y ≡ Stop m → Follows line index c s y (λ S. expr_behind (expr_at levels) S case_form)
+    module _ {f : Found} (e : x ≡ Ok f) {y : Step} (u : Follows line index f.next s y (expr_at levels)) where
+      pub case-subject : {m : Refusal} → y ≡ Err m → Follows line index c s y (λ S. expr_behind (expr_at levels) S case_form)
       unfolding expr_behind
       case-subject h = record { says = λ S t here. rw t.type_count (read-then-pass _ v.0 e (pass-stops-pass (expr_at levels S (bytes_from line f.next.at)) _ (u.says S t (ends-within (number-moved v.0 e))) h)); on = λ here. on_then v.0.on (ap step_of e) u.on }
 
-      module _ {d : Cursor} (h : y ≡ Next d) {z : Step} (w : Passes line d.at z (forget (result s.types s.sizes (bytes_from line d.at)))) where
+      module _ {d : Cursor} (h : y ≡ Ok d) {z : Step} (w : Passes line d.at z (forget (result s.types s.sizes (bytes_from line d.at)))) where
         at-scope : (S : Scope) → Tells index s S → Passes line d.at z (forget (result s.types S.sizes (bytes_from line d.at)))
         at-scope S t = subst (λ n. Passes line d.at z (forget (result s.types n (bytes_from line d.at)))) (sym t.sizes) w
 
-        pub case-type : {m : ℕ} → z ≡ Stop m → Follows line index c s z (λ S. expr_behind (expr_at levels) S case_form)
+        pub case-type : {m : Refusal} → z ≡ Err m → Follows line index c s z (λ S. expr_behind (expr_at levels) S case_form)
         unfolding expr_behind
         case-type g = record {
           says = λ S t here. rw t.type_count (read-then-pass _ v.0 e (pass-then-pass (expr_at levels S (bytes_from line f.next.at)) _ (u.says S t (ends-within (number-moved v.0 e))) h
@@ -89,7 +87,7 @@ module _ (line index : List ℕ) (c : Cursor) (s : Names) (levels : ℕ) where
           on = λ here. on_then v.0.on (ap step_of e) (λ k. on_then (u.on k) h (λ i. w.on));
         }
 
-        pub case-done : {b : Cursor} {r : Step} → z ≡ Next b → Follows line index b s r (λ S. branches (expr_at levels) S (drop 0 (get_or S.types f.value []))) → Follows line index c s r (λ S. expr_behind (expr_at levels) S case_form)
+        pub case-done : {b : Cursor} {r : Step} → z ≡ Ok b → Follows line index b s r (λ S. branches (expr_at levels) S (drop 0 (get_or S.types f.value []))) → Follows line index c s r (λ S. expr_behind (expr_at levels) S case_form)
         unfolding expr_behind
         case-done {b} g k = record {
           says = λ S t here. rw t.type_count (read-then-pass _ v.0 e (pass-then-pass (expr_at levels S (bytes_from line f.next.at)) _ (u.says S t (ends-within (number-moved v.0 e))) h
@@ -100,17 +98,17 @@ module _ (line index : List ℕ) (c : Cursor) (s : Names) (levels : ℕ) where
 
   -- ---- `1C`
   module _ {x : Number} (v : ReadsNumber line c.at x (count 1 size_most (bytes_from line c.at)) × Below byte_range x) where
-    pub fit-stops : {m : ℕ} {r : Step} → x ≡ Refused m → r ≡ step_of x → Follows line index c s r (λ S. expr_behind (expr_at levels) S fit_form)
+    pub fit-stops : {m : Refusal} {r : Step} → x ≡ Err m → r ≡ step_of x → Follows line index c s r (λ S. expr_behind (expr_at levels) S fit_form)
     unfolding expr_behind bound
     fit-stops e d = record { says = λ S t here. read-stops-pass _ v.0 e d; on = λ here. rw d v.0.on }
 
-    module _ {f : Found} (e : x ≡ Is f) {y : Step} (u : Follows line index f.next s y (expr_at levels)) where
-      pub fit-subject : {m : ℕ} → y ≡ Stop m → Follows line index c s y (λ S. expr_behind (expr_at levels) S fit_form)
+    module _ {f : Found} (e : x ≡ Ok f) {y : Step} (u : Follows line index f.next s y (expr_at levels)) where
+      pub fit-subject : {m : Refusal} → y ≡ Err m → Follows line index c s y (λ S. expr_behind (expr_at levels) S fit_form)
       unfolding expr_behind bound
       fit-subject h = record { says = λ S t here. read-then-pass _ v.0 e (pass-stops-pass (expr_at levels S (bytes_from line f.next.at)) _ (u.says S t (ends-within (number-moved v.0 e))) h); on = λ here. on_then v.0.on (ap step_of e) u.on }
 
-      module _ {d : Cursor} (h : y ≡ Next d) {z : Names} (wide : z ≡ wider_names 1 0 s) {w : Step} (a : Follows line index d z w (expr_at levels)) where
-        pub fit-arm : {m : ℕ} → w ≡ Stop m → Follows line index c s w (λ S. expr_behind (expr_at levels) S fit_form)
+      module _ {d : Cursor} (h : y ≡ Ok d) {z : Names} (wide : z ≡ wider_names 1 0 s) {w : Step} (a : Follows line index d z w (expr_at levels)) where
+        pub fit-arm : {m : Refusal} → w ≡ Err m → Follows line index c s w (λ S. expr_behind (expr_at levels) S fit_form)
         unfolding expr_behind bound
         fit-arm g = record {
           says = λ S t here. let p = u.says S t (ends-within (number-moved v.0 e)) in
@@ -119,7 +117,7 @@ module _ (line index : List ℕ) (c : Cursor) (s : Names) (levels : ℕ) where
           on = λ here. on_then v.0.on (ap step_of e) (λ i. on_then (u.on i) h a.on);
         }
 
-        pub fit-done : {b : Cursor} {r : Step} → w ≡ Next b → Follows line index b s r (expr_at levels) → Follows line index c s r (λ S. expr_behind (expr_at levels) S fit_form)
+        pub fit-done : {b : Cursor} {r : Step} → w ≡ Ok b → Follows line index b s r (expr_at levels) → Follows line index c s r (λ S. expr_behind (expr_at levels) S fit_form)
         unfolding expr_behind bound
         fit-done {b} g l = record {
           says = λ S t here.

@@ -1,18 +1,15 @@
 -- What the functions that pass over an expression promise: from a place within the line, and for every scope that the index
 -- tells, the answer is the parser's.
+use Rattle.std.specs.Prelude.{Ok, Err}
 use Rattle.std.specs.Prelude.{ℕ, ◌+◌, ◌*◌, ◌<◌, ◌≤◌, List, [], ◌≡◌, length, get_or, leb}
 use Rattle.language.specs.Limits.{parameters_most, variables_most, size_variables_most}
 use Rattle.language.specs.Result.{both, choose}
 use Rattle.language.specs.Scope.{Scope}
 use Rattle.language.specs.Parser.{Parser}
 use Rattle.language.specs.ReadExpr.{Form, bool_form, forms}
-use Rattle.text.specs.Bytes.{bytes_from, IsPlace, bytes_left, forget, step_of, Moved, Passes, ReadsNumber}
+use Rattle.text.specs.Bytes.{Number, Step, bytes_from, IsPlace, bytes_left, forget, step_of, Moved, Passes, ReadsNumber}
 use Rattle.text.specs.declared.Cursor.{Cursor}
 use Rattle.text.specs.declared.Found.{Found}
-use Rattle.text.specs.declared.Number.{Number}
-use Rattle.text.specs.declared.Number.TheVariants.{Is, Refused}
-use Rattle.text.specs.declared.Step.{Step}
-use Rattle.text.specs.declared.Step.TheVariants.{Next, Stop}
 use Rattle.expression_reader.specs.Parts.{head_at_of}
 use Rattle.expression_reader.specs.declared.Names.{Names}
 use Rattle.index.specs.Tables.{function_words}
@@ -43,13 +40,17 @@ pub record Opens (line index : List ℕ) (c : Cursor) (s : Names) (r : Number) (
 -- the head of an expression: where there is one, the cursor has gone on and a level was left
 pub record Heads (line index : List ℕ) (c : Cursor) (s : Names) (r : Number) (levels : ℕ) : Type 0 where
   pub says : (S : Scope) → Tells index s S → IsPlace line c.at → ReadsNumber line c.at r (head_at_of levels S (bytes_from line c.at))
-  pub further : {f : Found} → r ≡ Is f → Moved line c.at (Next f.next) × (bytes_left line f.next.at < bytes_left line c.at)
-  pub level : {f : Found} → r ≡ Is f → 0 < levels
+  pub further : {f : Found} → r ≡ Ok f → Moved line c.at (Ok f.next) × (bytes_left line f.next.at < bytes_left line c.at)
+  pub level : {f : Found} → r ≡ Ok f → 0 < levels
 
 -- what was passed, with so many parts behind it
+abbrev pub opened_at : Cursor → ℕ → Found
+opened_at c n = record { value = n; next = c }
+
+-- the same for a step
 abbrev pub opened_by : Step → ℕ → Number
-opened_by (Next c) n = Is (record { value = n; next = c })
-opened_by (Stop m) n = Refused m
+opened_by (Ok c) n = Ok (opened_at c n)
+opened_by (Err m) n = Err m
 
 -- a scope that is not too wide: what stands behind a code is read only there
 pub record Roomy (s : Names) : Type 0 where

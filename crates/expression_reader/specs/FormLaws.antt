@@ -1,5 +1,7 @@
 -- What stands behind the code of a form, up to its parts, return by return.
-use Rattle.std.specs.Prelude.{ℕ, zero, suc, ◌+◌, ◌-◌, ◌*◌, ◌%◌, ◌<◌, List, [], ◌∷◌, Bool, true, false, ◌≡◌, refl, ◌⊎◌, ltb}
+use Rattle.language.specs.declared.refusals.Refusal.{Refusal}
+use Rattle.std.specs.Prelude.{Ok, Err}
+use Rattle.std.specs.Prelude.{ℕ, zero, suc, ◌+◌, ◌*◌, ◌%◌, ◌<◌, List, [], ◌∷◌, Bool, true, false, ◌≡◌, refl, ◌⊎◌, ltb}
 use Rattle.std.proofs.Math.Option.{some}
 use Rattle.std.proofs.Common.{sym, ◌∙◌, ⊎_elim, arith, ltb-true}
 use Rattle.std.proofs.Math.Path.{ap}
@@ -11,11 +13,7 @@ use Rattle.language.specs.Parser.{Read, got, bad, Parser, and_then, must, byte, 
 use Rattle.language.specs.ReadExpr.{Form, bool_form, int_form, var_form, now_form, last_form, let_form, call_form, con_form, case_form, fit_form, int, ops, bools, size_at, expr_behind, expr_at}
 use Rattle.text.specs.declared.Cursor.{Cursor}
 use Rattle.text.specs.declared.Found.{Found}
-use Rattle.text.specs.declared.Number.{Number}
-use Rattle.text.specs.declared.Number.TheVariants.{Is, Refused}
-use Rattle.text.specs.declared.Step.{Step}
-use Rattle.text.specs.declared.Step.TheVariants.{Next, Stop}
-use Rattle.text.specs.Bytes.{bytes_from, IsPlace, given, forget, step_of, Moved, stopped, ReadsNumber, Passes, Below}
+use Rattle.text.specs.Bytes.{Number, Step, bytes_from, IsPlace, given, forget, step_of, Moved, stopped, ReadsNumber, Passes, Below}
 use Rattle.text.specs.Codes.{code_place}
 use Rattle.text.specs.CodeLaws.{code-then, code-stops, code_below}
 use Rattle.text.specs.ReadLaws.{read-then}
@@ -24,11 +22,11 @@ use Rattle.expression_reader.specs.declared.Names.{Names}
 use Rattle.index.specs.Tables.{type_words, constructor_words, function_words}
 use Rattle.index.specs.Sections.{types_of, functions_of}
 use Rattle.expression_reader.specs.Parts.{whole, parts}
-use Rattle.expression_reader.specs.Follows.{Tells, Follows, Opens, opened_by, wider_names, form_at}
+use Rattle.expression_reader.specs.Follows.{Tells, Follows, Opens, opened_at, opened_by, wider_names, form_at}
 use Rattle.expression_reader.specs.ScopeLaws.{tells-wider, small}
 
 -- ---- the cursor's way, whatever the index tells
-pub on_then : {line : List ℕ} {at : ℕ} {x r : Step} {d : Cursor} → Moved line at x → x ≡ Next d → (IsPlace line d.at → Moved line d.at r) → Moved line at r
+pub on_then : {line : List ℕ} {at : ℕ} {x r : Step} {d : Cursor} → Moved line at x → x ≡ Ok d → (IsPlace line d.at → Moved line d.at r) → Moved line at r
 on_then u e w = let m = rw e at u in moved_on m (w (ends-within m))
 
 -- an index that was read is below its bound
@@ -41,19 +39,25 @@ tested-less {bound} {i} {cs} (got n bs) e = go (ltb n bound) refl e
     go false h q = absurd (let z : ◌≡◌ {A = ℕ} 0 1 = cc in omega arith)
 tested-less (bad n) e = absurd (let z : ◌≡◌ {A = ℕ} 0 1 = cc in omega arith)
 
-pub index-less : {line : List ℕ} {at bound : ℕ} {x : Number} {f : Found} → ReadsNumber line at x (index_read bound (bytes_from line at)) → x ≡ Is f → f.value < bound
+pub index-less : {line : List ℕ} {at bound : ℕ} {x : Number} {f : Found} → ReadsNumber line at x (index_read bound (bytes_from line at)) → x ≡ Ok f → f.value < bound
 unfolding index_read
 index-less {line} {at} v e = tested-less (byte (bytes_from line at)) (number-got v e)
 
 -- ---- what was passed, and so many parts behind it
 opened-moved : {line : List ℕ} {at : ℕ} (x : Step) (n : ℕ) → Moved line at x → Moved line at (step_of (opened_by x n))
-opened-moved (Next c) n m = m
-opened-moved (Stop k) n m = stopped
+opened-moved (Ok c) n m = m
+opened-moved (Err k) n m = stopped
 
 opened-reads : {A : Type 0} {line : List ℕ} {at : ℕ} (x : Step) (n : ℕ) (y : Read A) → Passes line at x (forget y) → ReadsNumber line at (opened_by x n) (and_then y (λ a cs. got n cs))
 unfolding and_then given
-opened-reads (Next c) n y v = let g = pass-got v refl in record { is = sym (ap (λ z. and_then z (λ a cs. got n cs)) g.is); on = v.on }
-opened-reads (Stop k) n y v = record { is = sym (ap (λ z. and_then z (λ a cs. got n cs)) (pass-bad {y = y} v refl)); on = stopped }
+opened-reads (Ok c) n y v = let g = pass-got v refl in record { is = sym (ap (λ z. and_then z (λ a cs. got n cs)) g.is); on = v.on }
+opened-reads (Err k) n y v = record { is = sym (ap (λ z. and_then z (λ a cs. got n cs)) (pass-bad {y = y} v refl)); on = stopped }
+
+pub opened-some : {x : Step} {c : Cursor} {f : Found} {n : ℕ} → x ≡ Ok c → f ≡ opened_at c n → Ok f ≡ opened_by x n
+opened-some {n = n} e o = ap Ok o ∙ sym (ap (λ s. opened_by s n) e)
+
+pub opened-none : {x : Step} {r : Number} {m : Refusal} (n : ℕ) → x ≡ Err m → r ≡ Err m → r ≡ opened_by x n
+opened-none n e o = o ∙ sym (ap (λ s. opened_by s n) e)
 
 -- the forms of which no part is left over
 pub data Whole : Form → Type 0 where
@@ -85,10 +89,10 @@ some_at (a ∷ T) (suc i) less = some_at T i (omega arith)
 -- a code, and a value made of it; a pass whose value does not matter
 code-ends-pass : {A B : Type 0} (first : ℕ) (T : List A) (g : A → B) {line : List ℕ} {at : ℕ} {r : Step} (x : Number) → ReadsNumber line at x (code_place first (length T) (bytes_from line at)) → r ≡ step_of x → Passes line at r (forget (and_then (code first T (bytes_from line at)) (λ a bs. got (g a) bs)))
 unfolding forget
-code-ends-pass first T g (Is f) v e =
+code-ends-pass first T g (Ok f) v e =
     let found = some_at T f.value (code_below first T v refl) in
     rw e (pass-here (number-moved v refl) (ap forget (code-then first T (λ a bs. got (g a) bs) v found.0 refl refl found.1)))
-code-ends-pass first T g (Refused n) v e = pass-none refl e (ap forget (code-stops first T (λ a bs. got (g a) bs) v refl))
+code-ends-pass first T g (Err n) v e = pass-none refl e (ap forget (code-stops first T (λ a bs. got (g a) bs) v refl))
 
 module _ (line index : List ℕ) (c : Cursor) (s : Names) where
   module _ (levels : ℕ) where
@@ -124,7 +128,7 @@ module _ (line index : List ℕ) (c : Cursor) (s : Names) where
     opens-channel form is v d o = ⊎_elim (λ e. opens-whole form (ap form_at e) now_whole (leaf-now v d) o) (λ e. opens-whole form (ap form_at e) last_whole (leaf_last v d) o) is
 
     -- ---- `16`, `17`, `1B`
-    pub opens-if : {r : Number} (form : ℕ) → form ≡ 6 → r ≡ opened_by (Next c) 3 → Opens line index c s r (λ S. parts (expr_at levels) S (form_at form))
+    pub opens-if : {r : Number} (form : ℕ) → form ≡ 6 → r ≡ opened_by (Ok c) 3 → Opens line index c s r (λ S. parts (expr_at levels) S (form_at form))
     unfolding parts given
     opens-if form e o = rw (e, o) (record { says = λ S t here. record { is = refl; on = moved_none here }; on = λ here. moved_none here })
 
@@ -153,11 +157,11 @@ module _ (line index : List ℕ) (c : Cursor) (s : Names) where
 
     -- ---- `15`
     module _ {x : Step} (u : Follows line index c s x (expr_at levels)) where
-      pub binding-stops : {m : ℕ} → x ≡ Stop m → Follows line index c s x (λ S. expr_behind (expr_at levels) S let_form)
+      pub binding-stops : {m : Refusal} → x ≡ Err m → Follows line index c s x (λ S. expr_behind (expr_at levels) S let_form)
       unfolding expr_behind
       binding-stops e = record { says = λ S t here. pass-stops-pass (expr_at levels S (bytes_from line c.at)) _ (u.says S t here) e; on = u.on }
 
-      pub binding-done : {d : Cursor} {r : Step} {z : Names} → x ≡ Next d → z ≡ wider_names 1 0 s → Follows line index d z r (expr_at levels) → Follows line index c s r (λ S. expr_behind (expr_at levels) S let_form)
+      pub binding-done : {d : Cursor} {r : Step} {z : Names} → x ≡ Ok d → z ≡ wider_names 1 0 s → Follows line index d z r (expr_at levels) → Follows line index c s r (λ S. expr_behind (expr_at levels) S let_form)
       unfolding expr_behind
       binding-done {d} {r} e q w = record {
         says = λ S t here. let v = u.says S t here in
@@ -167,11 +171,11 @@ module _ (line index : List ℕ) (c : Cursor) (s : Names) where
 
   -- ---- `18`
   module _ {x : Number} (v : ReadsNumber line c.at x (index_read s.functions (bytes_from line c.at)) × Below byte_range x) where
-    pub call_none : {m : ℕ} → x ≡ Refused m → Opens line index c s x (λ S. parts (expr_at 0) S call_form)
+    pub call_none : {m : Refusal} → x ≡ Err m → Opens line index c s x (λ S. parts (expr_at 0) S call_form)
     unfolding parts
     call_none e = record { says = λ S t here. rw t.function_count (read-stops-read _ v.0 e); on = λ here. v.0.on }
 
-    pub call-some : {f : Found} {y : Step} {r : Number} {n : ℕ} → x ≡ Is f → (n ≡ get_or (functions_of index) (function_words * f.value) 0 % byte_range) × (n < byte_range) → y ≡ Next f.next → r ≡ opened_by y n → Opens line index c s r (λ S. parts (expr_at 0) S call_form)
+    pub call-some : {f : Found} {y : Step} {r : Number} {n : ℕ} → x ≡ Ok f → (n ≡ get_or (functions_of index) (function_words * f.value) 0 % byte_range) × (n < byte_range) → y ≡ Ok f.next → r ≡ opened_by y n → Opens line index c s r (λ S. parts (expr_at 0) S call_form)
     unfolding parts
     call-some {f} {n = n} e q d o = rw (o, d) (record {
       says = λ S t here.
@@ -183,25 +187,25 @@ module _ (line index : List ℕ) (c : Cursor) (s : Names) where
 
   -- ---- `19`
   module _ {x : Number} (v : ReadsNumber line c.at x (index_read s.types (bytes_from line c.at)) × Below byte_range x) where
-    pub construct-none : {m : ℕ} → x ≡ Refused m → Opens line index c s x (λ S. parts (expr_at 0) S con_form)
+    pub construct-none : {m : Refusal} → x ≡ Err m → Opens line index c s x (λ S. parts (expr_at 0) S con_form)
     unfolding parts
     construct-none e = record { says = λ S t here. rw t.type_count (read-stops-read _ v.0 e); on = λ here. v.0.on }
 
-    module _ {f : Found} (e : x ≡ Is f) {k : ℕ} (q : (k ≡ get_or (types_of index) (type_words * f.value) 0 % byte_range) × (k < byte_range)) {y : Number} (w : ReadsNumber line f.next.at y (index_read k (bytes_from line f.next.at)) × Below byte_range y) where
+    module _ {f : Found} (e : x ≡ Ok f) {k : ℕ} (q : (k ≡ get_or (types_of index) (type_words * f.value) 0 % byte_range) × (k < byte_range)) {y : Number} (w : ReadsNumber line f.next.at y (index_read k (bytes_from line f.next.at)) × Below byte_range y) where
       type-less : f.value < s.types
       type-less = index-less v.0 e
 
       constructor-count : (S : Scope) → Tells index s S → k ≡ length (get_or S.types f.value [])
       constructor-count S t = let d = t.each f.value type-less in q.0 ∙ small (length (get_or S.types f.value [])) (get_or (types_of index) (type_words * f.value) 0) d.constructors (omega (arith, d.few))
 
-      pub construct-no : {m : ℕ} → y ≡ Refused m → Opens line index c s y (λ S. parts (expr_at 0) S con_form)
+      pub construct-no : {m : Refusal} → y ≡ Err m → Opens line index c s y (λ S. parts (expr_at 0) S con_form)
       unfolding parts
       construct-no h = record {
         says = λ S t here. rw t.type_count (read-then-read _ v.0 e (rw (← (constructor-count S t)) (read-stops-read _ w.0 h)));
         on = λ here. moved_on (number-moved v.0 e) w.0.on;
       }
 
-      pub construct-some : {g : Found} {z : Step} {r : Number} {n : ℕ} → y ≡ Is g → (n ≡ get_or (types_of index) (type_words * f.value + 1 + constructor_words * g.value) 0 % byte_range) × (n < byte_range) → z ≡ Next g.next → r ≡ opened_by z n → Opens line index c s r (λ S. parts (expr_at 0) S con_form)
+      pub construct-some : {g : Found} {z : Step} {r : Number} {n : ℕ} → y ≡ Ok g → (n ≡ get_or (types_of index) (type_words * f.value + 1 + constructor_words * g.value) 0 % byte_range) × (n < byte_range) → z ≡ Ok g.next → r ≡ opened_by z n → Opens line index c s r (λ S. parts (expr_at 0) S con_form)
       unfolding parts
       construct-some {g} {n = n} h p j o = rw (o, j) (record {
         says = λ S t here.

@@ -1,4 +1,7 @@
 -- The head of an expression: its code, and what stands behind it up to its parts.
+use Rattle.language.specs.RefusalNumbers.{number_of}
+use Rattle.language.specs.declared.refusals.Refusal.{Refusal}
+use Rattle.std.specs.Prelude.{Ok, Err}
 use Prim.Native.Nat.{ℕ, zero, suc, ◌+◌, ◌*◌, ◌-◌, ◌≤◌, ◌<◌}
 use Rattle.std.specs.Prelude.{List, [], ◌∷◌, Bool, ◌⊎◌, length, ltb, leb}
 use Rattle.std.proofs.Math.Bool.{true, false}
@@ -12,9 +15,7 @@ use Rattle.language.specs.Parser.{Read, got, bad, and_then, must, return, refuse
 use Rattle.language.specs.ReadExpr.{bool_form, forms, expr_at}
 use Rattle.text.specs.declared.Cursor.{Cursor}
 use Rattle.text.specs.declared.Found.{Found}
-use Rattle.text.specs.declared.Number.{Number}
-use Rattle.text.specs.declared.Number.TheVariants.{Is, Refused}
-use Rattle.text.specs.Bytes.{bytes_from, IsPlace, bytes_left, step_of, ReadsNumber, Below}
+use Rattle.text.specs.Bytes.{Number, bytes_from, IsPlace, bytes_left, step_of, ReadsNumber, Below}
 use Rattle.text.specs.Codes.{code_place, place_in}
 use Rattle.text.specs.CodeLaws.{no_room, code-in-then, code-in-stops, code-in-below}
 use Rattle.text.specs.StepLaws.{moved_on, moved-left, ends-within, number-got, number-moved, number-none, reads-behind}
@@ -48,22 +49,22 @@ place-shorter room first size bs e = code-shorter first size bs (room-same room 
 
 -- ---- the code, with so many levels left
 module _ (line : List ℕ) (c : Cursor) (levels : ℕ) {x : Number} (v : ReadsNumber line c.at x (place_in (ltb 0 levels) 16 13 (bytes_from line c.at)) × Below byte_range x) where
-  pub code-level : {f : Found} → x ≡ Is f → 0 < levels
+  pub code-level : {f : Found} → x ≡ Ok f → 0 < levels
   code-level {f} e = by levels v.0
     where
       by : (n : ℕ) → ReadsNumber line c.at x (place_in (ltb 0 n) 16 13 (bytes_from line c.at)) → 0 < n
       by zero w = absurd (no_room 16 13 w e)
       by (suc n) w = omega arith
 
-  pub code-form : {f : Found} → x ≡ Is f → f.value < 13
+  pub code-form : {f : Found} → x ≡ Ok f → f.value < 13
   code-form e = code-in-below (ltb 0 levels) 16 forms v.0 e
 
-  code-fewer : {f : Found} → x ≡ Is f → bytes_left line f.next.at < bytes_left line c.at
+  code-fewer : {f : Found} → x ≡ Ok f → bytes_left line f.next.at < bytes_left line c.at
   code-fewer {f} e = omega (arith, place-shorter (ltb 0 levels) 16 13 (bytes_from line c.at) (number-got v.0 e))
 
 module _ (line index : List ℕ) (c : Cursor) (s : Names) (levels : ℕ) {x : Number} (v : ReadsNumber line c.at x (place_in (ltb 0 levels) 16 13 (bytes_from line c.at)) × Below byte_range x) (room : 0 < levels → Roomy s) where
   -- no code: refused as the definition refuses
-  pub head-none : {n : ℕ} → x ≡ Refused n → Heads line index c s x levels
+  pub head-none : {n : Refusal} → x ≡ Err n → Heads line index c s x levels
   unfolding head_at_of
   head-none {n} e = record {
     says = λ S t here. number-none v.0 e (by S t levels room v.0);
@@ -71,11 +72,11 @@ module _ (line index : List ℕ) (c : Cursor) (s : Names) (levels : ℕ) {x : Nu
     level = λ h. absurd (let z : ◌≡◌ {A = ℕ} 0 1 = cc in omega arith);
   }
     where
-      by : (S : Scope) → Tells index s S → (m : ℕ) → (0 < m → Roomy s) → ReadsNumber line c.at x (place_in (ltb 0 m) 16 13 (bytes_from line c.at)) → head_at_of m S (bytes_from line c.at) ≡ bad n
+      by : (S : Scope) → Tells index s S → (m : ℕ) → (0 < m → Roomy s) → ReadsNumber line c.at x (place_in (ltb 0 m) 16 13 (bytes_from line c.at)) → head_at_of m S (bytes_from line c.at) ≡ bad (number_of n)
       by S t zero w r = code-in-stops false 16 forms (λ form. refuse 7) r e
       by S t (suc m) w r = rw (tells-roomy t (w (omega arith))) (code-in-stops true 16 forms (λ form. parts (expr_at m) S form) (rw (lt-ltb 0 (suc m) (omega arith)) at r) e)
 
-  module _ {f : Found} (e : x ≡ Is f) {r : Number} (u : Opens line index f.next s r (λ S. parts (expr_at (levels - 1)) S (form_at f.value))) where
+  module _ {f : Found} (e : x ≡ Ok f) {r : Number} (u : Opens line index f.next s r (λ S. parts (expr_at (levels - 1)) S (form_at f.value))) where
     head-is : (S : Scope) → Tells index s S → head_at_of levels S (bytes_from line c.at) ≡ parts (expr_at (levels - 1)) S (form_at f.value) (bytes_from line f.next.at)
     unfolding head_at_of
     head-is S t = by levels room v.0 (code-level line c levels v e)

@@ -1,5 +1,7 @@
 -- The loop over an expression and the parts of those that are open.
-use Rattle.std.specs.Prelude.{ℕ, suc, ◌+◌, ◌-◌, ◌*◌, ◌≤◌, ◌<◌, List, ◌≡◌, refl, length, get_or, set}
+use Rattle.language.specs.declared.refusals.Refusal.{Refusal}
+use Rattle.std.specs.Prelude.{Ok, Err}
+use Rattle.std.specs.Prelude.{ℕ, suc, ◌+◌, ◌-◌, ◌≤◌, ◌<◌, List, ◌≡◌, refl, length, get_or, set}
 use Rattle.std.proofs.Common.{sym, ap, subst, ◌∙◌, arith, length-set, get_or-set_same}
 use borrow.Author.Rules.{read_below}
 use Rattle.language.specs.Limits.{nesting_most}
@@ -8,11 +10,7 @@ use Rattle.language.specs.Parser.{Parser, and_then}
 use Rattle.language.specs.ReadExpr.{exprs, expr_at}
 use Rattle.text.specs.declared.Cursor.{Cursor}
 use Rattle.text.specs.declared.Found.{Found}
-use Rattle.text.specs.declared.Number.{Number}
-use Rattle.text.specs.declared.Number.TheVariants.{Is, Refused}
-use Rattle.text.specs.declared.Step.{Step}
-use Rattle.text.specs.declared.Step.TheVariants.{Next}
-use Rattle.text.specs.Bytes.{bytes_from, bytes_left, forget, step_of, stopped, Passes}
+use Rattle.text.specs.Bytes.{Number, Step, bytes_from, forget, step_of, stopped, Passes}
 use Rattle.text.specs.StepLaws.{ends-within, moved_none, moved_on, pass-here, read-then-pass, read-stops-pass}
 use Rattle.expression_reader.specs.declared.Names.{Names}
 use Rattle.expression_reader.specs.Parts.{remaining}
@@ -44,9 +42,9 @@ module _ (line index : List ℕ) (c : Cursor) (s : Names) (levels : ℕ) where
 
   module _ {most : ℕ} {next : Cursor} {W : List ℕ} {depth left : ℕ} (p : NestedTo line index c s levels most next W depth left) where
     -- nothing is left
-    pub nested-end : left ≡ 0 → depth ≡ 0 → Follows line index c s (Next next) (expr_at levels)
+    pub nested-end : left ≡ 0 → depth ≡ 0 → Follows line index c s (Ok next) (expr_at levels)
     unfolding forget
-    nested-end none out = p.rest (Next next) (rw (none, out) (record {
+    nested-end none out = p.rest (Ok next) (rw (none, out) (record {
       says = λ S t here. pass-here (moved_none here) (ap forget (remaining-none most S W (bytes_from line next.at)));
       on = λ here. moved_none here;
     }))
@@ -68,13 +66,13 @@ module _ (line index : List ℕ) (c : Cursor) (s : Names) (levels : ℕ) where
 
     -- ---- the head of the next one
     module _ (some : left ≡ 0 → ⊥) {x : Number} (h : Heads line index next s x (most - depth)) where
-      pub nested-refused : {m : ℕ} {r : Step} → x ≡ Refused m → r ≡ step_of x → Follows line index c s r (expr_at levels)
+      pub nested-refused : {m : Refusal} {r : Step} → x ≡ Err m → r ≡ step_of x → Follows line index c s r (expr_at levels)
       nested-refused {r = r} e d = p.rest r (record {
         says = λ S t here. subst (λ y. Passes line next.at r y) (sym (remaining-head most S W left depth (bytes_from line next.at) (omega (arith, some)))) (read-stops-pass _ (h.says S t here) e d);
         on = λ here. rw (d, e) stopped;
       })
 
-      module _ {f : Found} (e : x ≡ Is f) where
+      module _ {f : Found} (e : x ≡ Ok f) where
         -- what is left behind the head
         behind-head : (r : Step) (q : Scope → Parser (Unit {0})) → ((S : Scope) (cs : List ℕ) → and_then (exprs (expr_at (most - depth - 1) S) f.value cs) (λ es ds. remaining most S (left - 1) W depth ds) ≡ q S cs) → Follows line index f.next s r q → Follows line index next s r (λ S. remaining most S left W depth)
         behind-head r q same u = record {
@@ -103,7 +101,3 @@ module _ (line index : List ℕ) (c : Cursor) (s : Names) (levels : ℕ) where
                 let one : suc depth ≡ depth + 1 = omega arith in
                 remaining-inside most S W (set W depth (left - 1)) (left - 1) depth f.value (get_or-set_same W depth (left - 1) 0 (omega (arith, p.long, few, h.level e))) (λ k less. read_below ℕ W depth k (left - 1) 0 (get_or W k 0) less refl) cs
                 ∙ ap (λ k. remaining most S f.value (set W depth (left - 1)) k cs) one
-
--- ---- the loop ends: the bytes left count for two, since one more may wait
-pub fewer-left : {line index : List ℕ} {next d : Cursor} {s : Names} {x : Number} {levels : ℕ} {f : Found} (depth deeper : ℕ) → deeper ≤ depth + 1 → Heads line index next s x levels → x ≡ Is f → d ≡ f.next → bytes_left line d.at * 2 + deeper < bytes_left line next.at * 2 + depth
-fewer-left {line} {next = next} {f = f} depth deeper few h e q = rw q (omega (arith, few, (h.further e).1))

@@ -1,11 +1,11 @@
 // Passing over an expression: refusals 4 to 7, bytes left to right. Each function hands back the cursor behind what it passed, or
-// the number of the refusal.
+// the refusal.
 #![tactic(auto)]
 
 ghost use Rattle.std.specs.Prelude.{◌≡◌, [], ◌≤◌, ◌<◌, get_or, drop};
 ghost use Rattle.language.specs.Limits.{byte_range, nesting_most};
 ghost use Rattle.language.specs.ReadExpr.{expr_at, expr_behind, branches as branches_read, let_form, call_form, con_form, case_form, fit_form};
-ghost use Rattle.expression_reader.specs.Follows.{Follows, Opens, Heads, Roomy, wider_names, levels_in, opened_by, form_at};
+ghost use Rattle.expression_reader.specs.Follows.{Follows, Opens, Heads, Roomy, wider_names, levels_in, opened_at, form_at};
 ghost use Rattle.expression_reader.specs.Parts.{parts};
 
 use index::functions::arity;
@@ -17,7 +17,8 @@ use language::codes::{
     OPERATOR_FIRST, OPERATORS,
 };
 use language::limits::{NESTING_MOST, SIZE_MOST, SIZE_VARIABLES_MOST, VARIABLES_MOST};
-use text::{Cursor, Found, Number, Step, step_of};
+use language::refusals::Refusal;
+use text::{Cursor, Found};
 
 // What may be named where an expression stands: how many variables, size variables, channels (by `13` as by `14`), types
 // and functions.
@@ -34,13 +35,11 @@ pub struct Names {
 fn levels_in(s: Names, levels: u32) -> u32
     ensures { result ≡ levels_in s levels }
 {
-    if VARIABLES_MOST < s.variables {
-        return 0;
+    if s.variables <= VARIABLES_MOST && s.sizes <= SIZE_VARIABLES_MOST {
+        levels
+    } else {
+        0
     }
-    if SIZE_VARIABLES_MOST < s.sizes {
-        return 0;
-    }
-    levels
 }
 
 // The scope with more variables and size variables.
@@ -52,60 +51,40 @@ fn wider(s: Names, variables: u32, sizes: u32) -> Names
     Names {
         variables: s.variables + variables,
         sizes: s.sizes + sizes,
-        channels: s.channels,
-        types: s.types,
-        functions: s.functions,
+        ..s
     }
 }
 
 // What was passed, and how many parts follow in the same scope.
-fn opened(x: Step, parts: u32) -> Number
-    ensures { result ≡ opened_by x parts }
+fn opened(next: Cursor, parts: u32) -> Found
+    ensures { result ≡ opened_at next parts }
 {
-    match x {
-        Step::Next(next) => Number::Is(Found {
-            value: parts,
-            next: next,
-        }),
-        Step::Stop(n) => Number::Refused(n),
-    }
+    Found { value: parts, next }
 }
 
 // `18`: a call; its arguments follow.
-fn call(line: &[u8], index: &[u32; INDEX_WORDS], c: Cursor, s: Names) -> Number
+fn call(line: &[u8], index: &[u32; INDEX_WORDS], c: Cursor, s: Names) -> Result<Found, Refusal>
     ensures { Opens line.now index.now c s result (λ S. parts (expr_at 0) S call_form) }
 {
-    let known = s.functions;
-    let x = c.index(line, known);
-    let Number::Is(f) = x else {
-        return x;
-    };
+    let f = c.index(line, s.functions)?;
     let parts = arity(index, f.value);
-    opened(step_of(x), parts)
+    Ok(opened(f.next, parts))
 }
 
 // `19`: a constructor; its fields follow.
-fn construct(line: &[u8], index: &[u32; INDEX_WORDS], c: Cursor, s: Names) -> Number
+fn construct(line: &[u8], index: &[u32; INDEX_WORDS], c: Cursor, s: Names) -> Result<Found, Refusal>
     ensures { Opens line.now index.now c s result (λ S. parts (expr_at 0) S con_form) }
 {
-    let known = s.types;
-    let x = c.index(line, known);
-    let Number::Is(f) = x else {
-        return x;
-    };
+    let f = c.index(line, s.types)?;
     let t = f.value;
-    let second = f.next;
     let count = constructors(index, t);
-    let y = second.index(line, count);
-    let Number::Is(g) = y else {
-        return y;
-    };
+    let g = f.next.index(line, count)?;
     let parts = fields(index, t, g.value);
-    opened(step_of(y), parts)
+    Ok(opened(g.next, parts))
 }
 
 // An expression; none is nested deeper than the limit.
-pub fn expr(line: &[u8], index: &[u32; INDEX_WORDS], c: Cursor, s: Names) -> Step
+pub fn expr(line: &[u8], index: &[u32; INDEX_WORDS], c: Cursor, s: Names) -> Result<Cursor, Refusal>
     ensures { Follows line.now index.now c s result (expr_at nesting_most) }
 {
     nested(line, index, c, s, NESTING_MOST)
@@ -113,8 +92,14 @@ pub fn expr(line: &[u8], index: &[u32; INDEX_WORDS], c: Cursor, s: Names) -> Ste
 
 // An expression with so many levels left. The parts of a form that are in its own scope are passed in the same loop; for each level
 // inside, `waiting` has how many are still to be passed there.
-#[cycle(behind_binding_branches_case_of_fit_head_nested)]
-fn nested(line: &[u8], index: &[u32; INDEX_WORDS], c: Cursor, s: Names, levels: u32) -> Step
+#[cycle(passing)]
+fn nested(
+    line: &[u8],
+    index: &[u32; INDEX_WORDS],
+    c: Cursor,
+    s: Names,
+    levels: u32,
+) -> Result<Cursor, Refusal>
     requires { levels ≤ nesting_most }
     ensures { Follows line.now index.now c s result (expr_at levels) }
 {
@@ -123,18 +108,16 @@ fn nested(line: &[u8], index: &[u32; INDEX_WORDS], c: Cursor, s: Names, levels: 
     let mut next = c;
     let mut depth: u32 = 0;
     let mut left: u32 = 1;
+    // Levels are entered and left as the text has them: no range counts the turns.
     loop {
         if left == 0 {
             if depth == 0 {
-                return Step::Next(next);
+                return Ok(next);
             }
             depth -= 1;
             left = word_at(&waiting, depth as usize);
         } else {
-            let x = head(line, index, next, s, most - depth);
-            let Number::Is(f) = x else {
-                return step_of(x);
-            };
+            let f = head(line, index, next, s, most - depth)?;
             next = f.next;
             left -= 1;
             if f.value != 0 {
@@ -147,18 +130,20 @@ fn nested(line: &[u8], index: &[u32; INDEX_WORDS], c: Cursor, s: Names, levels: 
 }
 
 // The code of an expression and what stands behind it, up to parts in the same scope: how many of those follow.
-#[cycle(behind_binding_branches_case_of_fit_head_nested)]
-fn head(line: &[u8], index: &[u32; INDEX_WORDS], c: Cursor, s: Names, levels: u32) -> Number
+#[cycle(passing)]
+fn head(
+    line: &[u8],
+    index: &[u32; INDEX_WORDS],
+    c: Cursor,
+    s: Names,
+    levels: u32,
+) -> Result<Found, Refusal>
     requires levels_le_nesting_most { levels ≤ nesting_most }
     requires roomy { 0 < levels → Roomy s }
     ensures { Heads line.now index.now c s result levels }
 {
-    let x = c.code_in(line, 0 < levels, EXPR_FIRST, EXPR_FORMS);
-    let Number::Is(f) = x else {
-        return x;
-    };
-    let next = f.next;
-    behind(line, index, next, s, levels - 1, f.value)
+    let f = c.code_in(line, 0 < levels, EXPR_FIRST, EXPR_FORMS)?;
+    behind(line, index, f.next, s, levels - 1, f.value)
 }
 
 // The forms of an expression, counted from the first code; the last is a fit.
@@ -187,7 +172,7 @@ const CASE: u32 = EXPR_CASE - EXPR_FIRST;
 const ADJUST: u32 = EXPR_ADJUST - EXPR_FIRST;
 
 // What stands behind the code of a form, with so many levels left inside; forms are counted from `10`.
-#[cycle(behind_binding_branches_case_of_fit_head_nested)]
+#[cycle(passing)]
 fn behind(
     line: &[u8],
     index: &[u32; INDEX_WORDS],
@@ -195,71 +180,67 @@ fn behind(
     s: Names,
     levels: u32,
     form: u32,
-) -> Number
+) -> Result<Found, Refusal>
     requires levels_le_nesting_most { levels ≤ nesting_most }
     requires roomy { Roomy s }
     requires form_bound { form < 13 }
     ensures { Opens line.now index.now c s result (λ S. parts (expr_at levels) S (form_at form)) }
 {
     match form {
-        BOOL => opened(step_of(c.code(line, BOOL_FIRST, BOOLS)), 0),
-        INT => opened(c.past_int(line), 0),
-        VARIABLE => opened(step_of(c.index(line, s.variables)), 0),
-        NOW | LAST => opened(step_of(c.index(line, s.channels)), 0),
-        LET => opened(binding(line, index, c, s, levels), 0),
-        IF => opened(Step::Next(c), 3),
-        OPERATOR => opened(step_of(c.code(line, OPERATOR_FIRST, OPERATORS)), 2),
+        BOOL => Ok(opened(c.code(line, BOOL_FIRST, BOOLS)?.next, 0)),
+        INT => Ok(opened(c.past_int(line)?, 0)),
+        VARIABLE => Ok(opened(c.index(line, s.variables)?.next, 0)),
+        NOW | LAST => Ok(opened(c.index(line, s.channels)?.next, 0)),
+        LET => Ok(opened(binding(line, index, c, s, levels)?, 0)),
+        IF => Ok(opened(c, 3)),
+        OPERATOR => Ok(opened(c.code(line, OPERATOR_FIRST, OPERATORS)?.next, 2)),
         CALL => call(line, index, c, s),
         CONSTRUCT => construct(line, index, c, s),
-        CASE => opened(case_of(line, index, c, s, levels), 0),
-        ADJUST => opened(c.size(line, s.sizes, NESTING_MOST), 1),
-        _ => opened(fit(line, index, c, s, levels), 0),
+        CASE => Ok(opened(case_of(line, index, c, s, levels)?, 0)),
+        ADJUST => Ok(opened(c.size(line, s.sizes, NESTING_MOST)?, 1)),
+        _ => Ok(opened(fit(line, index, c, s, levels)?, 0)),
     }
 }
 
 // `15`: a let.
-#[cycle(behind_binding_branches_case_of_fit_head_nested)]
-fn binding(line: &[u8], index: &[u32; INDEX_WORDS], c: Cursor, s: Names, levels: u32) -> Step
+#[cycle(passing)]
+fn binding(
+    line: &[u8],
+    index: &[u32; INDEX_WORDS],
+    c: Cursor,
+    s: Names,
+    levels: u32,
+) -> Result<Cursor, Refusal>
     requires levels_le_nesting_most { levels ≤ nesting_most }
     requires roomy { Roomy s }
     ensures { Follows line.now index.now c s result (λ S. expr_behind (expr_at levels) S let_form) }
 {
-    let x = nested(line, index, c, s, levels);
-    let Step::Next(next) = x else {
-        return x;
-    };
+    let next = nested(line, index, c, s, levels)?;
     let inner = wider(s, 1, 0);
     nested(line, index, next, inner, levels)
 }
 
 // `1A`: a case: its subject, its return type, a branch for each constructor.
-#[cycle(behind_binding_branches_case_of_fit_head_nested)]
-fn case_of(line: &[u8], index: &[u32; INDEX_WORDS], c: Cursor, s: Names, levels: u32) -> Step
+#[cycle(passing)]
+fn case_of(
+    line: &[u8],
+    index: &[u32; INDEX_WORDS],
+    c: Cursor,
+    s: Names,
+    levels: u32,
+) -> Result<Cursor, Refusal>
     requires levels_le_nesting_most { levels ≤ nesting_most }
     requires roomy { Roomy s }
     ensures { Follows line.now index.now c s result (λ S. expr_behind (expr_at levels) S case_form) }
 {
-    let known = s.types;
-    let sizes = s.sizes;
-    let x = c.index(line, known);
-    let Number::Is(f) = x else {
-        return step_of(x);
-    };
-    let t = f.value;
-    let subject = f.next;
-    let y = nested(line, index, subject, s, levels);
-    let Step::Next(written) = y else {
-        return y;
-    };
-    let z = written.result(line, known, sizes);
-    let Step::Next(next) = z else {
-        return z;
-    };
-    branches(line, index, next, s, levels, t, 0)
+    let f = c.index(line, s.types)?;
+    let written = nested(line, index, f.next, s, levels)?;
+    let next = written.result(line, s.types, s.sizes)?;
+    branches(line, index, next, s, levels, f.value, 0)
 }
 
 // The branches of a case over type t from constructor k on.
-#[cycle(behind_binding_branches_case_of_fit_head_nested)]
+#[cycle(passing)]
 fn branches(
     line: &[u8],
     index: &[u32; INDEX_WORDS],
@@ -268,7 +249,7 @@ fn branches(
     levels: u32,
     t: u32,
     k: u32,
-) -> Step
+) -> Result<Cursor, Refusal>
     requires levels_le_nesting_most { levels ≤ nesting_most }
     requires roomy { Roomy s }
     requires t_lt_types { (t < s.types) × (k < byte_range) }
@@ -276,38 +257,31 @@ fn branches(
 {
     let count = constructors(index, t);
     if count <= k {
-        return Step::Next(c);
+        return Ok(c);
     }
     let variables = fields(index, t, k);
     let sizes = own_fields(index, t, k);
     let inner = wider(s, variables, sizes);
-    let x = nested(line, index, c, inner, levels);
-    let Step::Next(next) = x else {
-        return x;
-    };
+    let next = nested(line, index, c, inner, levels)?;
     branches(line, index, next, s, levels, t, k + 1)
 }
 
 // `1C`: a fit: its bound, the subject, the arm where it fits, the other arm.
-#[cycle(behind_binding_branches_case_of_fit_head_nested)]
-fn fit(line: &[u8], index: &[u32; INDEX_WORDS], c: Cursor, s: Names, levels: u32) -> Step
+#[cycle(passing)]
+fn fit(
+    line: &[u8],
+    index: &[u32; INDEX_WORDS],
+    c: Cursor,
+    s: Names,
+    levels: u32,
+) -> Result<Cursor, Refusal>
     requires levels_le_nesting_most { levels ≤ nesting_most }
     requires roomy { Roomy s }
     ensures { Follows line.now index.now c s result (λ S. expr_behind (expr_at levels) S fit_form) }
 {
-    let x = c.count(line, 1, SIZE_MOST);
-    let Number::Is(f) = x else {
-        return step_of(x);
-    };
-    let first = f.next;
-    let y = nested(line, index, first, s, levels);
-    let Step::Next(second) = y else {
-        return y;
-    };
+    let f = c.count(line, 1, SIZE_MOST)?;
+    let second = nested(line, index, f.next, s, levels)?;
     let inner = wider(s, 1, 0);
-    let z = nested(line, index, second, inner, levels);
-    let Step::Next(third) = z else {
-        return z;
-    };
+    let third = nested(line, index, second, inner, levels)?;
     nested(line, index, third, s, levels)
 }

@@ -1,12 +1,12 @@
 -- The head of an expression, return by return: what the reads so far say gives what the head promises.
+use Rattle.language.specs.declared.refusals.Refusal.{Refusal}
+use Rattle.std.specs.Prelude.{Ok, Err}
 use Rattle.std.specs.Prelude.{ℕ, ◌+◌, ◌-◌, ◌<◌, List, ◌≡◌, refl}
 use Rattle.std.proofs.Common.{sym, ap, ◌∙◌, arith}
 use Rattle.language.specs.ReadExpr.{int}
 use Rattle.text.specs.declared.Cursor.{Cursor}
 use Rattle.text.specs.declared.Found.{Found}
-use Rattle.text.specs.declared.Number.{Number}
-use Rattle.text.specs.declared.Number.TheVariants.{Is, Refused}
-use Rattle.text.specs.Bytes.{bytes_from, past, bytes_left, ReadsNumber}
+use Rattle.text.specs.Bytes.{Number, bytes_from, past, bytes_left, ReadsNumber}
 use Rattle.text.specs.Places.{past-past, left-past}
 use Rattle.text.specs.IntLaws.{ByteAt}
 use Rattle.heads.specs.declared.Form.TheVariants.{Int, Construct, Missing}
@@ -32,28 +32,28 @@ module _ {line : List ℕ} {at code k next : ℕ} (d : Coded line at code k next
   ends-behind m q = q ∙ ap (λ (a : ℕ). past line a m) d.ends ∙ past-past line at k m
 
   -- one byte more
-  coded-more : {x : Number} {f : Found} → ByteAt line next x → x ≡ Is f → Coded line at code (k + 1) f.next.at
+  coded-more : {x : Number} {f : Found} → ByteAt line next x → x ≡ Ok f → Coded line at code (k + 1) f.next.at
   coded-more v e = let found = byte-found v e in record { code = d.code; ends = ends-behind 1 found.ends; within = omega (arith, left_behind, found.some, d.within) }
 
 -- ---- the code
 module _ {line : List ℕ} {start : Cursor} {x : Number} (v : ByteAt line start.at x) where
-  pub code-missing : {m : ℕ} {r : Head} → x ≡ Refused m → r ≡ missing_head start → Heads line start.at r
+  pub code-missing : {m : Refusal} {r : Head} → x ≡ Err m → r ≡ missing_head start → Heads line start.at r
   code-missing e q = missing-here q (no_code (none_left (bytes_left line start.at) (byte-none v e)))
 
-  pub code_read : {f : Found} → x ≡ Is f → Coded line start.at f.value 1 f.next.at
+  pub code_read : {f : Found} → x ≡ Ok f → Coded line start.at f.value 1 f.next.at
   code_read e = let found = byte-found v e in record { code = sym found.value.is; ends = found.ends; within = found.some }
 
   -- the code is k
-  pub code_is : {f : Found} (k : ℕ) → x ≡ Is f → f.value ≡ k → Coded line start.at k 1 f.next.at
+  pub code_is : {f : Found} (k : ℕ) → x ≡ Ok f → f.value ≡ k → Coded line start.at k 1 f.next.at
   code_is k e q = rw q at (code_read e)
 
 module _ {line : List ℕ} {start c : Cursor} where
   -- ---- one byte behind the code
   module _ {code : ℕ} (d : Coded line start.at code 1 c.at) where
-    pub operand-missing : {x : Number} {m : ℕ} {r : Head} → OtherCode code → ByteAt line c.at x → x ≡ Refused m → r ≡ missing_head start → Heads line start.at r
+    pub operand-missing : {x : Number} {m : Refusal} {r : Head} → OtherCode code → ByteAt line c.at x → x ≡ Err m → r ≡ missing_head start → Heads line start.at r
     operand-missing o v e q = missing-here q (no_operand (rw (← d.code) at o) (omega (arith, none_left (bytes_left line c.at) (byte-none v e), left_behind d)))
 
-    pub operand_read : {x : Number} {f : Found} (k : ℕ) → code ≡ k → ByteAt line c.at x → x ≡ Is f → Coded line start.at k 2 f.next.at × OperandAt line (past line start.at 1) f.value
+    pub operand_read : {x : Number} {f : Found} (k : ℕ) → code ≡ k → ByteAt line c.at x → x ≡ Ok f → Coded line start.at k 2 f.next.at × OperandAt line (past line start.at 1) f.value
     operand_read k q v e =
         let found = byte-found v e in
         (record { code = d.code ∙ q; ends = ends-behind d 1 found.ends; within = omega (arith, left_behind d, found.some) }, rw d.ends at found.value)
@@ -63,24 +63,24 @@ module _ {line : List ℕ} {start c : Cursor} where
 
   -- ---- `11`
   module _ (d : Coded line start.at 0x11 1 c.at) {x : Number} (v : ReadsNumber line c.at x (int (bytes_from line c.at))) where
-    pub number-missing : {m : ℕ} {r : Head} → x ≡ Refused m → r ≡ missing_head start → Heads line start.at r
+    pub number-missing : {m : Refusal} {r : Head} → x ≡ Err m → r ≡ missing_head start → Heads line start.at r
     number-missing e q = missing-here q (no-int d.code (omega (arith, int-none v e, left_behind d)))
 
-    pub number_read : {f : Found} → x ≡ Is f → Heads line start.at (record { form = Int f.value; next = f.next })
+    pub number_read : {f : Found} → x ≡ Ok f → Heads line start.at (record { form = Int f.value; next = f.next })
     number_read e =
         let found = int-found v e in
         record { shows = (record { code = d.code; ends = ends-behind d 4 found.ends; within = omega (arith, left_behind d, found.within) }, rw d.ends at found.value) }
 
   -- ---- `19`
   module _ (d : Coded line start.at 0x19 1 c.at) {x : Number} (v : ByteAt line c.at x) where
-    pub construct-missing : {m : ℕ} {r : Head} → x ≡ Refused m → r ≡ missing_head start → Heads line start.at r
+    pub construct-missing : {m : Refusal} {r : Head} → x ≡ Err m → r ≡ missing_head start → Heads line start.at r
     construct-missing e q = missing-here q (no_constructor d.code (omega (arith, none_left (bytes_left line c.at) (byte-none v e), left_behind d)))
 
-    module _ {f : Found} (e : x ≡ Is f) {y : Number} (u : ByteAt line f.next.at y) where
-      pub construct-cut : {m : ℕ} {r : Head} → y ≡ Refused m → r ≡ missing_head start → Heads line start.at r
+    module _ {f : Found} (e : x ≡ Ok f) {y : Number} (u : ByteAt line f.next.at y) where
+      pub construct-cut : {m : Refusal} {r : Head} → y ≡ Err m → r ≡ missing_head start → Heads line start.at r
       construct-cut o q = missing-here q (no_constructor d.code (omega (arith, none_left (bytes_left line f.next.at) (byte-none u o), left_behind (coded-more d v e))))
 
-      pub construct-read : {g : Found} → y ≡ Is g → Heads line start.at (record { form = Construct f.value g.value; next = g.next })
+      pub construct-read : {g : Found} → y ≡ Ok g → Heads line start.at (record { form = Construct f.value g.value; next = g.next })
       construct-read {g} o =
           let two = coded-more d v e in
           (record { shows = (coded-more two u o, (rw d.ends at (byte-found v e).value, rw two.ends at (byte-found u o).value)) })

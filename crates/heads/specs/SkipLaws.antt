@@ -1,4 +1,7 @@
 -- Skipping an expression and a list, return by return: what the calls so far promise, the function promises.
+use Rattle.language.specs.declared.refusals.Refusal.{Refusal}
+use Rattle.std.specs.Prelude.{Ok, Err}
+use Rattle.std.specs.Result.{result_unwrap_or}
 use Rattle.std.specs.Prelude.{ℕ, zero, suc, ◌-◌, List, ◌≡◌, refl, length}
 use Rattle.std.proofs.Common.{sym, ap, ◌∙◌, subst}
 use Rattle.language.specs.Limits.{types_most, size_variables_most, nesting_most}
@@ -10,9 +13,7 @@ use Rattle.language.specs.Parser.{Parser}
 use Rattle.theory.specs.Exact.{Exact}
 use Rattle.theory.specs.Places.{one_less}
 use Rattle.text.specs.declared.Cursor.{Cursor}
-use Rattle.text.specs.declared.Step.{Step}
-use Rattle.text.specs.declared.Step.TheVariants.{Next, Stop}
-use Rattle.text.specs.Bytes.{bytes_from, past, forget, Passes}
+use Rattle.text.specs.Bytes.{Step, bytes_from, past, forget, Passes}
 use Rattle.encoding.specs.Spells.{Spells}
 use Rattle.encoding.specs.ExprLists.{first-of-exprs}
 use Rattle.encoding.specs.CursorSpells.{passed_over}
@@ -26,11 +27,16 @@ use Rattle.heads.specs.Parted.{Parted, parted, adj-parted, case-parted}
 
 -- ---- a step over what is spelled
 module _ {A : Type 0} {p : Parser A} {bytes : A → List ℕ} {W : A → Type 0} (exact : Exact p bytes W) {line : List ℕ} {at : ℕ} {x : Step} (v : Passes line at x (forget (p (bytes_from line at)))) where
-  pub over-next : {d : Cursor} → x ≡ Next d → Over bytes W line at d
+  over-next : {d : Cursor} → x ≡ Ok d → Over bytes W line at d
   over-next q = record { says = λ a w s. next-at (passed_over exact s w x v) q }
 
-  pub over-stop : {m : ℕ} {r : Cursor} → x ≡ Stop m → Over bytes W line at r
+  over-stop : {m : Refusal} {r : Cursor} → x ≡ Err m → Over bytes W line at r
   over-stop q = record { says = λ a w s. absurd (next-there (passed_over exact s w x v) q) }
+
+pub over-step : {A : Type 0} {p : Parser A} {bytes : A → List ℕ} {W : A → Type 0} (exact : Exact p bytes W) {line : List ℕ} {at : ℕ} (x : Step) → Passes line at x (forget (p (bytes_from line at))) →
+    (c : Cursor) {r : Cursor} → r ≡ result_unwrap_or x c → Over bytes W line at r
+over-step exact (Ok d) v c q = rw q (over-next exact v refl)
+over-step exact (Err m) v c q = over-stop exact v refl
 
 -- ---- levels
 pub no-level : {S : Scope} {e : Expr} → WithinExpr zero S e → ⊥

@@ -13,7 +13,7 @@ use language::codes::{
     EXPR_ADJUST, EXPR_BOOL, EXPR_CALL, EXPR_CASE, EXPR_CONSTRUCT, EXPR_FIT, EXPR_IF, EXPR_INT,
     EXPR_LAST, EXPR_LET, EXPR_NOW, EXPR_OPERATOR, EXPR_VARIABLE,
 };
-use text::{Cursor, Number};
+use text::{Cursor, Found};
 
 // The form of an expression, with the bytes that belong to it; Missing where none is read.
 #[derive(Clone, Copy)]
@@ -41,7 +41,7 @@ pub struct Head {
     pub next: Cursor,
 }
 
-// No form: the cursor stays where it was.
+// No form, in place of an Option: the walks are promised a form on any bytes. The cursor stays where it was.
 fn missing(start: Cursor) -> Head
     ensures { result ≡ missing_head start }
 {
@@ -56,15 +56,12 @@ fn number(line: &[u8], start: Cursor, c: Cursor) -> Head
     requires { Coded line.now start.at 0x11 1 c.at }
     ensures { Heads line.now start.at result }
 {
-    let x = c.int(line);
-    let Number::Is(f) = x else {
+    let Ok(f) = c.int(line) else {
         return missing(start);
     };
-    let n = f.value;
-    let next = f.next;
     Head {
-        form: Form::Int(n),
-        next: next,
+        form: Form::Int(f.value),
+        next: f.next,
     }
 }
 
@@ -73,21 +70,15 @@ fn construct(line: &[u8], start: Cursor, c: Cursor) -> Head
     requires { Coded line.now start.at 0x19 1 c.at }
     ensures { Heads line.now start.at result }
 {
-    let x = c.byte(line);
-    let Number::Is(f) = x else {
+    let Ok(f) = c.byte(line) else {
         return missing(start);
     };
-    let t = f.value;
-    let second = f.next;
-    let y = second.byte(line);
-    let Number::Is(g) = y else {
+    let Ok(g) = f.next.byte(line) else {
         return missing(start);
     };
-    let k = g.value;
-    let next = g.next;
     Head {
-        form: Form::Construct(t, k),
-        next: next,
+        form: Form::Construct(f.value, g.value),
+        next: g.next,
     }
 }
 
@@ -97,8 +88,7 @@ fn one_operand(line: &[u8], start: Cursor, c: Cursor, code: u32) -> Head
     requires other_code { OtherCode code }
     ensures { Heads line.now start.at result }
 {
-    let x = c.byte(line);
-    let Number::Is(f) = x else {
+    let Ok(f) = c.byte(line) else {
         return missing(start);
     };
     let b = f.value;
@@ -114,18 +104,14 @@ fn one_operand(line: &[u8], start: Cursor, c: Cursor, code: u32) -> Head
         EXPR_FIT => Form::Fit(b),
         _ => return missing(start),
     };
-    Head {
-        form: form,
-        next: next,
-    }
+    Head { form, next }
 }
 
 // The head of an expression.
 pub fn head_at(line: &[u8], c: Cursor) -> Head
     ensures { Heads line.now c.at result }
 {
-    let x = c.byte(line);
-    let Number::Is(f) = x else {
+    let Ok(f) = c.byte(line) else {
         return missing(c);
     };
     let code = f.value;
@@ -134,45 +120,28 @@ pub fn head_at(line: &[u8], c: Cursor) -> Head
         EXPR_INT => number(line, c, next),
         EXPR_LET => Head {
             form: Form::Let,
-            next: next,
+            next,
         },
         EXPR_IF => Head {
             form: Form::If,
-            next: next,
+            next,
         },
         EXPR_CONSTRUCT => construct(line, c, next),
         EXPR_ADJUST => Head {
             form: Form::Adjust,
-            next: next,
+            next,
         },
         _ => one_operand(line, c, next, code),
     }
 }
 
-// A variable and the cursor behind it.
-#[derive(Clone, Copy)]
-pub enum VariableAt {
-    Is(u32, Cursor),
-    Other,
-}
-
-// Whether the expression at a place is a variable, which needs no more than two bytes.
-pub fn variable_at(line: &[u8], c: Cursor) -> VariableAt
+// The variable at a place, where the expression there is one, and the cursor behind it; no more than two bytes are read.
+pub fn variable_at(line: &[u8], c: Cursor) -> Option<Found>
     ensures { VariableRead line.now c.at result }
 {
-    let x = c.byte(line);
-    let Number::Is(f) = x else {
-        return VariableAt::Other;
-    };
+    let f = c.byte(line).ok()?;
     if f.value != EXPR_VARIABLE {
-        return VariableAt::Other;
+        return None;
     }
-    let second = f.next;
-    let y = second.byte(line);
-    let Number::Is(g) = y else {
-        return VariableAt::Other;
-    };
-    let v = g.value;
-    let next = g.next;
-    VariableAt::Is(v, next)
+    f.next.byte(line).ok()
 }

@@ -22,12 +22,7 @@ pub struct Place {
 pub fn moved(p: Place, next: Cursor) -> Place
     ensures { result ≡ moved_to p next }
 {
-    Place {
-        at: next,
-        levels: p.levels,
-        line: p.line,
-        variables: p.variables,
-    }
+    Place { at: next, ..p }
 }
 
 // The same with so many variables more.
@@ -37,9 +32,8 @@ pub fn widened(p: Place, next: Cursor, n: u32) -> Place
 {
     Place {
         at: next,
-        levels: p.levels,
-        line: p.line,
         variables: p.variables + n,
+        ..p
     }
 }
 
@@ -51,8 +45,7 @@ pub fn inside(p: Place, next: Cursor) -> Place
     Place {
         at: next,
         levels: p.levels - 1,
-        line: p.line,
-        variables: p.variables,
+        ..p
     }
 }
 

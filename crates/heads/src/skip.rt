@@ -12,7 +12,7 @@ use index::INDEX_WORDS;
 use index::functions::arity;
 use index::types::{constructors, fields};
 use language::limits::{NESTING_MOST, SIZE_VARIABLES_MOST, TYPES_MOST};
-use text::{Cursor, Step};
+use text::Cursor;
 
 // How many expressions end an expression of a form.
 pub fn parts(index: &[u32; INDEX_WORDS], form: Form) -> u32
@@ -35,26 +35,19 @@ pub fn parts(index: &[u32; INDEX_WORDS], form: Form) -> u32
 pub fn behind_size(line: &[u8], c: Cursor) -> Cursor
     ensures { Over size_bytes (WithinSize size_variables_most nesting_most) line.now c.at result }
 {
-    let x = c.size(line, SIZE_VARIABLES_MOST, NESTING_MOST);
-    match x {
-        Step::Next(part) => part,
-        Step::Stop(_) => c,
-    }
+    c.size(line, SIZE_VARIABLES_MOST, NESTING_MOST).unwrap_or(c)
 }
 
 // The cursor behind the return type of a case.
 pub fn behind_result(line: &[u8], c: Cursor) -> Cursor
     ensures { Over result_bytes (WithinResult types_most size_variables_most) line.now c.at result }
 {
-    let x = c.result(line, TYPES_MOST as u32, SIZE_VARIABLES_MOST);
-    match x {
-        Step::Next(branches) => branches,
-        Step::Stop(_) => c,
-    }
+    c.result(line, TYPES_MOST as u32, SIZE_VARIABLES_MOST)
+        .unwrap_or(c)
 }
 
 // An expression with so many levels left.
-#[cycle(skip_skip_several)]
+#[cycle(skipping)]
 pub fn skip(line: &[u8], index: &[u32; INDEX_WORDS], c: Cursor, levels: u32) -> Cursor
     ensures { Skips line.now (types_of index.now) (functions_of index.now) c levels result }
 {
@@ -77,7 +70,7 @@ pub fn skip(line: &[u8], index: &[u32; INDEX_WORDS], c: Cursor, levels: u32) -> 
 }
 
 // So many expressions, one after the other.
-#[cycle(skip_skip_several)]
+#[cycle(skipping)]
 fn skip_several(line: &[u8], index: &[u32; INDEX_WORDS], c: Cursor, levels: u32, n: u32) -> Cursor
     ensures { SkipsAll line.now (types_of index.now) (functions_of index.now) c levels n result }
 {

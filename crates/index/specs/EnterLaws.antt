@@ -1,4 +1,6 @@
 -- Reading into a table, step by step: one word, so many entries, and a count before them.
+use Rattle.language.specs.declared.refusals.Refusal.{Refusal}
+use Rattle.std.specs.Prelude.{Ok, Err}
 use Rattle.std.specs.Prelude.{ℕ, suc, ◌+◌, ◌*◌, ◌-◌, ◌≤◌, ◌<◌, ◌≡◌, refl, take, drop, set}
 use mathlib.Core.List.{List, [], ◌∷◌, ◌++◌, append-nil, append_assoc}
 use Rattle.std.proofs.Common.{sym, ◌∙◌, mul-le-mul_left, arith}
@@ -11,11 +13,7 @@ use Rattle.language.specs.Layout.{padded}
 use Rattle.language.specs.Parser.{Read, got, bad, Parser, and_then, many, count, counted}
 use Rattle.text.specs.declared.Cursor.{Cursor}
 use Rattle.text.specs.declared.Found.{Found}
-use Rattle.text.specs.declared.Number.{Number}
-use Rattle.text.specs.declared.Number.TheVariants.{Is, Refused}
-use Rattle.text.specs.declared.Step.{Step}
-use Rattle.text.specs.declared.Step.TheVariants.{Next, Stop}
-use Rattle.text.specs.Bytes.{bytes_from, IsPlace, forget, map_read, step_of, ReadsNumber, Passes, Below}
+use Rattle.text.specs.Bytes.{Number, Step, bytes_from, IsPlace, forget, map_read, step_of, ReadsNumber, Passes, Below}
 use Rattle.text.specs.ReadLaws.{read-then, read-stops}
 use Rattle.text.specs.StepLaws.{ends-within, moved_none, number-got, number-bad, number-moved, pass-got, pass-bad, pass-moved, pass-none, pass-here, pass-then-pass, pass-stops-pass, read-then-pass, read-stops-pass, forget-then}
 use Rattle.theory.specs.Padding.{padded-length}
@@ -55,11 +53,11 @@ map-forgot word (got b cs) e = cc
 map-forgot word (bad n) e = bad-is-not-got e
 
 module _ {A : Type 0} (word : A → ℕ) {line : List ℕ} {at to : ℕ} {x : Number} (y : Read A) (v : ReadsNumber line at x (map_read word y)) where
-  pub word-refused : {n : ℕ} {s : Step} {table : List ℕ} → x ≡ Refused n → s ≡ step_of x → Enters (λ a. word a ∷ []) line at to table s table y
+  pub word-refused : {n : Refusal} {s : Step} {table : List ℕ} → x ≡ Err n → s ≡ step_of x → Enters (λ a. word a ∷ []) line at to table s table y
   unfolding forget
   word-refused e d = let none = map-bad word y (number-bad v e) in stops-entering (λ a. word a ∷ []) none (pass-none e d (ap forget none))
 
-  pub word-entered : {f : Found} {table table' : List ℕ} → x ≡ Is f → table' ≡ set table to f.value → Enters (λ a. word a ∷ []) line at to table (Next f.next) table' y
+  pub word-entered : {f : Found} {table table' : List ℕ} → x ≡ Ok f → table' ≡ set table to f.value → Enters (λ a. word a ∷ []) line at to table (Ok f.next) table' y
   word-entered {f} e w = record {
     passes = pass-here (number-moved v e) (map-forgot word y (number-got v e));
     enters = λ n before h tb len room. next_word f.value n before w tb len (omega arith) ∙ ap (λ u. padded n (before ++ (u ∷ []))) (map-value word y (number-got v e) h);
@@ -67,7 +65,7 @@ module _ {A : Type 0} (word : A → ℕ) {line : List ℕ} {at to : ℕ} {x : Nu
 
 -- ---- so many entries of w words
 module _ {A : Type 0} (p : Parser A) (entry : A → List ℕ) (w : ℕ) (wide : (a : A) → length (entry a) ≡ w) where
-  many-none : {line table : List ℕ} {to : ℕ} {c : Cursor} → IsPlace line c.at → Enters (spell_all entry) line c.at to table (Next c) table (many p 0 (bytes_from line c.at))
+  many-none : {line table : List ℕ} {to : ℕ} {c : Cursor} → IsPlace line c.at → Enters (spell_all entry) line c.at to table (Ok c) table (many p 0 (bytes_from line c.at))
   unfolding many forget spell_all
   many-none {line} {table} {to} {c} h = record {
     passes = pass-here (moved_none h) refl;
@@ -75,11 +73,11 @@ module _ {A : Type 0} (p : Parser A) (entry : A → List ℕ) (w : ℕ) (wide : 
   }
 
   module _ {line table table₁ : List ℕ} {at to : ℕ} {x : Step} (u : Enters entry line at to table x table₁ (p (bytes_from line at))) where
-    many-stops : {k : ℕ} (m : ℕ) → x ≡ Stop k → Enters (spell_all entry) line at to table x table₁ (many p (suc m) (bytes_from line at))
+    many-stops : {k : Refusal} (m : ℕ) → x ≡ Err k → Enters (spell_all entry) line at to table x table₁ (many p (suc m) (bytes_from line at))
     unfolding many
     many-stops m e = stops-entering (spell_all entry) (many-bad p m _ (pass-bad u.passes e)) (pass-stops-pass _ (λ a bs. and_then (many p m bs) (λ (l : List A) cs. got (a ∷ l) cs)) u.passes e)
 
-    many-then : {c : Cursor} (m : ℕ) {r : Step} {table₂ : List ℕ} → x ≡ Next c → Enters (spell_all entry) line c.at (to + w) table₁ r table₂ (many p m (bytes_from line c.at)) → Enters (spell_all entry) line at to table r table₂ (many p (suc m) (bytes_from line at))
+    many-then : {c : Cursor} (m : ℕ) {r : Step} {table₂ : List ℕ} → x ≡ Ok c → Enters (spell_all entry) line c.at (to + w) table₁ r table₂ (many p m (bytes_from line c.at)) → Enters (spell_all entry) line at to table r table₂ (many p (suc m) (bytes_from line at))
     unfolding many spell_all
     many-then {c} m {r} {table₂} e v = record {
       passes = pass-then-pass _ (λ a bs. and_then (many p m bs) (λ (l : List A) cs. got (a ∷ l) cs)) u.passes e (λ a. rw (forget-then (λ (l : List A). a ∷ l) (many p m (bytes_from line c.at))) v.passes);
@@ -104,25 +102,25 @@ pub leads-start : {A : Type 0} {p : Parser A} {entry : A → List ℕ} {line tab
 leads-start all same h = record { within = h; on = λ u. rw (← all, ← same) u }
 
 module _ {A : Type 0} {p : Parser A} {entry : A → List ℕ} (w : ℕ) (wide : (a : A) → length (entry a) ≡ w) {line table : List ℕ} {n at to m at' to' : ℕ} {table' : List ℕ} (v : Leads p entry line n at to table m at' to' table') where
-  pub leads-end : {c : Cursor} → c.at ≡ at' → m ≡ 0 → Enters (spell_all entry) line at to table (Next c) table' (many p n (bytes_from line at))
+  pub leads-end : {c : Cursor} → c.at ≡ at' → m ≡ 0 → Enters (spell_all entry) line at to table (Ok c) table' (many p n (bytes_from line at))
   leads-end {c} same none = v.on (rw (← same, none) (many-none p entry w wide {line = line} {table = table'} {to = to'} {c = c} (rw same v.within)))
 
   module _ {x : Step} {table'' : List ℕ} (u : Enters entry line at' to' table' x table'' (p (bytes_from line at'))) where
-    pub leads-stop : {j : ℕ} → 0 < m → x ≡ Stop j → Enters (spell_all entry) line at to table x table'' (many p n (bytes_from line at))
+    pub leads-stop : {j : Refusal} → 0 < m → x ≡ Err j → Enters (spell_all entry) line at to table x table'' (many p n (bytes_from line at))
     leads-stop some e =
         let one : m ≡ suc (m - 1) = omega arith in
         v.on (rw one (many-stops p entry w wide u (m - 1) e))
 
-    pub leads-on : {k : ℕ} {c : Cursor} {to'' : ℕ} → m ≡ suc k → to'' ≡ to' + w → x ≡ Next c → Leads p entry line n at to table k c.at to'' table''
+    pub leads-on : {k : ℕ} {c : Cursor} {to'' : ℕ} → m ≡ suc k → to'' ≡ to' + w → x ≡ Ok c → Leads p entry line n at to table k c.at to'' table''
     leads-on {k} some same e = record { within = ends-within (pass-moved u.passes e); on = λ s. v.on (rw some (many-then p entry w wide u k e (rw same at s))) }
 
 -- ---- a count, and as many behind it
 module _ {A : Type 0} (least most : ℕ) (p : Parser A) {line : List ℕ} {at : ℕ} {x : Number} (v : ReadsNumber line at x (count least most (bytes_from line at)) × Below byte_range x) where
-  pub count-refused : (words : List A → List ℕ) {to n : ℕ} {s : Step} {table : List ℕ} → x ≡ Refused n → s ≡ step_of x → Enters words line at to table s table (counted least most p (bytes_from line at))
+  pub count-refused : (words : List A → List ℕ) {to : ℕ} {n : Refusal} {s : Step} {table : List ℕ} → x ≡ Err n → s ≡ step_of x → Enters words line at to table s table (counted least most p (bytes_from line at))
   unfolding counted
   count-refused words e d = stops-entering words (read-stops (many p) v.0 e) (read-stops-pass (many p) v.0 e d)
 
-  module _ {f : Found} (e : x ≡ Is f) where
+  module _ {f : Found} (e : x ≡ Ok f) where
     pub counted_is : counted least most p (bytes_from line at) ≡ many p f.value (bytes_from line f.next.at)
     unfolding counted
     counted_is = read-then (many p) v.0 e
@@ -139,7 +137,7 @@ abbrev pub counted_entry : {A : Type 0} → ℕ → (A → List ℕ) → List A 
 counted_entry k entry l = length l ∷ padded k (spell_all entry l)
 
 module _ {A : Type 0} (least most : ℕ) (p : Parser A) (entry : A → List ℕ) (w k : ℕ) (wide : (a : A) → length (entry a) ≡ w) (fits : w * most ≤ k) where
-  pub counted-entered : {line : List ℕ} {at to : ℕ} {x : Number} {f : Found} {table table₁ table₂ : List ℕ} {r : Step} → ReadsNumber line at x (count least most (bytes_from line at)) × Below byte_range x → x ≡ Is f → table₁ ≡ set table to f.value →
+  pub counted-entered : {line : List ℕ} {at to : ℕ} {x : Number} {f : Found} {table table₁ table₂ : List ℕ} {r : Step} → ReadsNumber line at x (count least most (bytes_from line at)) × Below byte_range x → x ≡ Ok f → table₁ ≡ set table to f.value →
       Enters (spell_all entry) line f.next.at (to + 1) table₁ r table₂ (many p f.value (bytes_from line f.next.at)) → Enters (counted_entry k entry) line at to table r table₂ (counted least most p (bytes_from line at))
   counted-entered {line} {at} {to} {f = f} {table} {table₂ = table₂} v e wrote u = record { passes = counted-passes least most p v e u.passes; enters = enters }
     where

@@ -7,8 +7,7 @@ use Rattle.language.specs.Layout.{padded, tag_step}
 use Rattle.language.specs.Scope.{named_count}
 use Rattle.language.specs.Parser.{Read, got, Parser, counted}
 use Rattle.language.specs.ReadExpr.{field}
-use Rattle.text.specs.Bytes.{Passes, forget, field_word, plain_word}
-use Rattle.text.specs.declared.Step.{Step}
+use Rattle.text.specs.Bytes.{Step, Passes, forget, field_word, plain_word}
 use Rattle.index.specs.Tables.{constructor_words, type_words, function_words}
 
 -- from a place of the line on, into the table behind its words so far, which end at the place `to`

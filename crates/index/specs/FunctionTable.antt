@@ -1,4 +1,5 @@
 -- The table of functions: parameters and places read are one entry more, and what the table says of each function's parameters.
+use Rattle.std.specs.Prelude.{Ok}
 use Rattle.std.specs.Prelude.{ℕ, zero, suc, ◌+◌, ◌*◌, ◌≤◌, ◌<◌, List, [], ◌∷◌, ◌++◌, map, ◌≡◌, refl, length, get_or, set, replicate}
 use Rattle.std.proofs.Common.{append_assoc, append-nil, sym, ap, ◌∙◌, add-zero, arith, length-append, get_or-append-add}
 use Rattle.std.proofs.Math.ListN.{get_or-append}
@@ -10,9 +11,7 @@ use Rattle.language.specs.Parser.{got, counted}
 use Rattle.language.specs.ReadExpr.{plain}
 use Rattle.language.specs.Within.{WithinFunctions, wf_nil, wf_cons}
 use Rattle.text.specs.declared.Cursor.{Cursor}
-use Rattle.text.specs.declared.Step.{Step}
-use Rattle.text.specs.declared.Step.TheVariants.{Next}
-use Rattle.text.specs.Bytes.{bytes_from, plain_word}
+use Rattle.text.specs.Bytes.{Step, bytes_from, plain_word}
 use Rattle.text.specs.StepLaws.{pass-got}
 use Rattle.index.specs.Tables.{function_words, function_entry, function_table}
 use Rattle.index.specs.Lined.{Lined}
@@ -127,7 +126,7 @@ pub record ParametersRead (types : ℕ) (Fs : List (Lined Function)) (f : ℕ) (
   pub tells : TellsParameters functions f list
 
 pub parameters-read : {line functions functions' : List ℕ} {at f : ℕ} {r : Step} {c : Cursor} (types : ℕ) (Fs : List (Lined Function)) → Enters parameters_entry line at (function_words * f) functions r functions' (counted 0 parameters_most (plain types) (bytes_from line at)) →
-    length Fs ≡ f → f < functions_most → functions ≡ function_table Fs → r ≡ Next c → ParametersRead types Fs f (bytes_from line at) (bytes_from line c.at) functions'
+    length Fs ≡ f → f < functions_most → functions ≡ function_table Fs → r ≡ Ok c → ParametersRead types Fs f (bytes_from line at) (bytes_from line c.at) functions'
 parameters-read {f} types Fs v len few tb e =
     let n = functions_most * function_words in
     let g = pass-got v.passes e in

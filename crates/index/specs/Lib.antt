@@ -8,7 +8,6 @@ pub mod Entries
 pub mod Enters
 pub mod ParserLaws
 pub mod EnterLaws
-pub mod ClearLaws
 pub mod CountLaws
 pub mod FreeLaws
 pub mod TypeEntry

@@ -1,4 +1,5 @@
 -- A type read into its entry: a constructor's words, and all of the type's.
+use Rattle.std.specs.Prelude.{Ok}
 use Rattle.std.specs.Prelude.{ℕ, ◌+◌, ◌*◌, ◌≤◌, ◌<◌, ◌≡◌, length, get_or, set}
 use mathlib.Core.List.{List, [], ◌∷◌, ◌++◌, append-nil, append_assoc, map}
 use Rattle.std.proofs.Math.Path.{sym, ap}
@@ -12,10 +13,7 @@ use Rattle.language.specs.Syntax.{Constructor, owns}
 use Rattle.language.specs.Parser.{got, many, count}
 use Rattle.language.specs.ReadExpr.{field}
 use Rattle.text.specs.declared.Found.{Found}
-use Rattle.text.specs.declared.Number.{Number}
-use Rattle.text.specs.declared.Number.TheVariants.{Is}
-use Rattle.text.specs.declared.Step.{Step}
-use Rattle.text.specs.Bytes.{bytes_from, field_word, ReadsNumber, Below}
+use Rattle.text.specs.Bytes.{Number, Step, bytes_from, field_word, ReadsNumber, Below}
 use Rattle.index.specs.Tables.{constructor_words, constructor_entry, type_entry}
 use Rattle.theory.specs.Padding.{padded-length}
 use Rattle.index.specs.Padded.{padded-at, padded-set, padded-within}
@@ -51,7 +49,7 @@ module _ (n : ℕ) (before ws : List ℕ) where
       let size : length before + 2 + i ≡ length (before ++ (0 ∷ 0 ∷ [])) + i = omega (arith, length-append before (0 ∷ 0 ∷ [])) in
       padded-at n ((before ++ (0 ∷ 0 ∷ [])) ++ ws) (length before + 2 + i) room ∙ ap (λ m. get_or ((before ++ (0 ∷ 0 ∷ [])) ++ ws) m 0) size ∙ get_or-append-add (before ++ (0 ∷ 0 ∷ [])) ws i 0
 
-pub constructor-entered : {line table table₁ table₂ table₃ : List ℕ} {at to own : ℕ} (t : ℕ) {x : Number} {f : Found} {y : Step} → ReadsNumber line at x (count 0 fields_most (bytes_from line at)) × Below byte_range x → x ≡ Is f →
+pub constructor-entered : {line table table₁ table₂ table₃ : List ℕ} {at to own : ℕ} (t : ℕ) {x : Number} {f : Found} {y : Step} → ReadsNumber line at x (count 0 fields_most (bytes_from line at)) × Below byte_range x → x ≡ Ok f →
     Enters (spell_all field_words) line f.next.at (to + 2) table y table₁ (many (field t) f.value (bytes_from line f.next.at)) → own ≡ how_many is_own table₁ (to + 2) f.value →
     table₂ ≡ set table₁ to f.value → table₃ ≡ set table₂ (to + 1) own → Enters constructor_entry line at to table y table₃ (constructor_behind t (bytes_from line at))
 unfolding constructor_entry
@@ -73,7 +71,7 @@ constructor-entered {line} {table} {table₁} {table₂} {table₃} {at} {to} {o
         ∙ ap (padded n) (sym (append_assoc before (length fs ∷ owns fs ∷ []) ws)) ∙ sym (padded-within n (before ++ (length fs ∷ owns fs ∷ [])) fields_most ws (omega arith)) ∙ ap (padded n) (append_assoc before (length fs ∷ owns fs ∷ []) (padded fields_most ws))
 
 -- ---- a type: its constructors counted, and their entries
-pub type-entered : {line table table₁ table₂ : List ℕ} {at to : ℕ} (t : ℕ) {x : Number} {f : Found} {r : Step} → ReadsNumber line at x (count 1 constructors_most (bytes_from line at)) × Below byte_range x → x ≡ Is f → table₁ ≡ set table to f.value →
+pub type-entered : {line table table₁ table₂ : List ℕ} {at to : ℕ} (t : ℕ) {x : Number} {f : Found} {r : Step} → ReadsNumber line at x (count 1 constructors_most (bytes_from line at)) × Below byte_range x → x ≡ Ok f → table₁ ≡ set table to f.value →
     Enters (spell_all constructor_entry) line f.next.at (to + 1) table₁ r table₂ (many (constructor_behind t) f.value (bytes_from line f.next.at)) → Enters type_entry line at to table r table₂ (type_behind t (bytes_from line at))
 unfolding type_entry
 type-entered t v e wrote u = counted-entered 1 constructors_most (constructor_behind t) constructor_entry constructor_words (constructors_most * constructor_words) constructor-wide (omega arith) v e wrote u

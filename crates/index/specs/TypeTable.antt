@@ -1,9 +1,12 @@
 -- The table of types: a type read is one entry more, and what the table says of each type.
+use Rattle.language.specs.declared.refusals.Refusal.{Refusal}
+use Rattle.language.specs.RefusalNumbers.{number_of}
+use Rattle.std.specs.Prelude.{Ok, Err}
 use Rattle.std.specs.Prelude.{ℕ, zero, suc, ◌+◌, ◌*◌, ◌≤◌, ◌<◌, List, [], ◌∷◌, ◌++◌, Bool, ◌≡◌, refl, length, get_or, replicate}
 use Rattle.std.proofs.Common.{sym, ap, ◌∙◌, add-zero, arith, length-append}
 use Rattle.std.proofs.lemmas.List.{get_or_at}
 use Rattle.language.specs.Limits.{types_most, constructors_most, fields_most}
-use Rattle.language.specs.Syntax.{TypeDef, owns, self_free, File}
+use Rattle.language.specs.Syntax.{TypeDef, self_free, File}
 use Rattle.language.specs.Format.{spell_all}
 use Rattle.language.specs.Layout.{padded}
 use Rattle.language.specs.Parser.{got, bad, count, counted}
@@ -11,9 +14,7 @@ use Rattle.language.specs.ReadExpr.{field}
 use Rattle.language.specs.Reader.{type_def}
 use Rattle.language.specs.Within.{All, all_nil, all_cons, WithinConstructor, WithinType, WithinTypes, wt_nil, wt_cons}
 use Rattle.text.specs.declared.Cursor.{Cursor}
-use Rattle.text.specs.declared.Step.{Step}
-use Rattle.text.specs.declared.Step.TheVariants.{Next, Stop}
-use Rattle.text.specs.Bytes.{bytes_from}
+use Rattle.text.specs.Bytes.{Step, bytes_from}
 use Rattle.text.specs.StepLaws.{pass-got, pass-bad}
 use Rattle.index.specs.Tables.{constructor_words, type_words, constructor_entry, type_entry, type_table}
 use Rattle.theory.specs.Padding.{padded-length}
@@ -117,10 +118,10 @@ module _ {line types types' : List ℕ} {at t : ℕ} {r : Step} (P : File) (size
   type-def-is : type_def P (bytes_from line at) ≡ type_behind t (bytes_from line at)
   type-def-is = type-def-behind P (bytes_from line at) ∙ ap (λ n. type_behind n (bytes_from line at)) size
 
-  pub type-read : {c : Cursor} → t < types_most → types ≡ type_table P.types → r ≡ Next c → TypeRead P (bytes_from line at) (bytes_from line c.at) types'
+  pub type-read : {c : Cursor} → t < types_most → types ≡ type_table P.types → r ≡ Ok c → TypeRead P (bytes_from line at) (bytes_from line c.at) types'
   type-read few tb e =
       let g = pass-got v.passes e in
       record { def = g.value; read = type-def-is ∙ g.is; few = read-few t _ g.is; table = type-added P.types v size few tb g.is }
 
-  pub type-refused : {n : ℕ} → r ≡ Stop n → type_def P (bytes_from line at) ≡ bad n
+  pub type-refused : {n : Refusal} → r ≡ Err n → type_def P (bytes_from line at) ≡ bad (number_of n)
   type-refused e = type-def-is ∙ pass-bad v.passes e

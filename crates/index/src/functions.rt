@@ -73,11 +73,9 @@ pub fn named(index: &[u32; INDEX_WORDS], f: u32) -> u32
 {
     let n = arity(index, f);
     let mut sum: u32 = 0;
-    let mut i: u32 = 0;
-    while i < n {
+    for i in 0..n {
         let word = parameter_word(index, f, i);
         sum += one_if(TYPE_STEP <= word);
-        i += 1;
     }
     sum
 }

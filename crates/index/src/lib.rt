@@ -96,20 +96,14 @@ pub struct Counts {
 pub fn word_at(row: &[u32], i: usize) -> u32
     ensures { result ≡ get_or row.now i 0 }
 {
-    if i < row.len() {
-        return row[i];
-    }
-    0
+    row.get(i).copied().unwrap_or(0)
 }
 
 // A byte of a row; 0 beyond it.
 pub fn byte_at(row: &[u8], i: usize) -> u32
     ensures { (result ≡ get_or row.now i 0) × (result < byte_range) }
 {
-    if i < row.len() {
-        return row[i] as u32;
-    }
-    0
+    u32::from(row.get(i).copied().unwrap_or(0))
 }
 
 // Writes a word of a row; beyond it nothing.
@@ -125,21 +119,14 @@ pub fn put(row: &mut [u32], i: usize, word: u32)
 pub fn clear(row: &mut [u32])
     ensures { row.new ≡ replicate (length row.old) 0 }
 {
-    let mut i = 0;
-    while i < row.len() {
-        row[i] = 0;
-        i += 1;
-    }
+    row.fill(0);
 }
 
 // 1 where the test holds, else 0.
 pub fn one_if(holds: bool) -> u32
     ensures { (result ≡ bit holds) × (result ≤ 1) }
 {
-    if holds {
-        return 1;
-    }
-    0
+    u32::from(holds)
 }
 
 // Word i of the section of so many words from a place on; 0 beyond it.

@@ -62,12 +62,10 @@ pub fn self_free(index: &[u32; INDEX_WORDS], t: u32) -> bool
     ensures { SelfFree (types_of index.now) t result }
 {
     let n = constructors(index, t);
-    let mut c: u32 = 0;
-    while c < n {
+    for c in 0..n {
         if own_fields(index, t, c) == 0 {
             return true;
         }
-        c += 1;
     }
     false
 }

@@ -14,8 +14,7 @@ use index::{
 };
 
 // Writes the counts.
-pub fn put_counts(index: &mut [u32], n: Counts)
-    requires { length index.old ≡ index_words }
+pub fn put_counts(index: &mut [u32; INDEX_WORDS], n: Counts)
     ensures { CountsPut n index.old index.new }
 {
     put(index, TYPE_COUNT, n.types);
@@ -34,8 +33,7 @@ fn frame_into(frames: &mut [u32], to: usize, place: u32, size: u32)
 }
 
 // Writes the entry of frame i, from 0: where it starts, and how many characters it has. Beyond the section nothing.
-pub fn put_frame(index: &mut [u32], i: u32, place: u32, size: u32)
-    requires { length index.old ≡ index_words }
+pub fn put_frame(index: &mut [u32; INDEX_WORDS], i: u32, place: u32, size: u32)
     ensures { (frames_of index.new ≡ set (set (frames_of index.old) (frame_words * i) place) (frame_words * i + 1) size) × Outside frames_from frame_table_words index.old index.new }
 {
     let to = FRAME_WORDS * (i as usize);
@@ -54,8 +52,14 @@ fn places_into(functions: &mut [u32], to: usize, a: u32, b: u32, c: u32, d: u32)
 }
 
 // Writes where the parts of function f start: its result, its conditions, its measure and its body.
-pub fn put_places(index: &mut [u32], f: u32, res: u32, conditions: u32, measure: u32, body: u32)
-    requires { length index.old ≡ index_words }
+pub fn put_places(
+    index: &mut [u32; INDEX_WORDS],
+    f: u32,
+    res: u32,
+    conditions: u32,
+    measure: u32,
+    body: u32,
+)
     ensures { (functions_of index.new ≡ set (set (set (set (functions_of index.old) (function_words * f + head_words) res) (function_words * f + head_words + 1) conditions) (function_words * f + head_words + 2) measure) (function_words * f + head_words + 3) body) × Outside functions_from function_table_words index.old index.new }
 {
     let to = FUNCTION_WORDS * (f as usize) + HEAD_WORDS;
@@ -80,8 +84,7 @@ fn channel_into(channels: &mut [u32], to: usize, word: u32, initial: u32, update
 }
 
 // Writes the entry of channel c.
-pub fn put_channel(index: &mut [u32], c: u32, word: u32, initial: u32, update: u32)
-    requires { length index.old ≡ index_words }
+pub fn put_channel(index: &mut [u32; INDEX_WORDS], c: u32, word: u32, initial: u32, update: u32)
     ensures { (channels_of index.new ≡ set (set (set (channels_of index.old) (channel_words * c) word) (channel_words * c + 1) initial) (channel_words * c + 2) update) × Outside channels_from channel_table_words index.old index.new }
 {
     let to = CHANNEL_WORDS * (c as usize);

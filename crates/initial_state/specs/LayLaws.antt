@@ -1,11 +1,12 @@
 -- The initial values one after the other: what is left leads to the state, turn by turn.
-use Rattle.std.specs.Prelude.{ℕ, suc, ◌+◌, ◌*◌, ◌≤◌, ◌<◌, List, [], ◌∷◌, ◌++◌, true, ◌≡◌, refl, length, get_or, drop, set, replicate}
+use Rattle.std.specs.Prelude.{Ok, Err, ℕ, suc, ◌+◌, ◌*◌, ◌≤◌, ◌<◌, List, [], ◌∷◌, ◌++◌, true, ◌≡◌, refl, length, get_or, drop, set, replicate}
 use Rattle.std.proofs.Math.Option.{some}
 use Rattle.std.proofs.Common.{sym, ◌∙◌, subst, subst₂, arith, length-append, length-set, take_at, drop_at, drop-cons, drop-set-lt}
 use Rattle.std.proofs.Math.Path.{ap}
 use Rattle.std.proofs.Math.ListN.{take, length-take, drop_of_length-le, get_elem? as look}
 use Rattle.std.proofs.lemmas.List.{length-replicate, replicate-append-replicate, drop-set-add}
 use Rattle.std.proofs.Math.Seq.{take-set-lt}
+use Rattle.language.specs.declared.refusals.Refusal.{Refusal}
 use Rattle.language.specs.Limits.{channels_most, header_words, cell_words}
 use Rattle.language.specs.Syntax.{Expr, ebool, File, initial_values}
 use Rattle.language.specs.Format.{spell_all}
@@ -27,8 +28,7 @@ use Rattle.state_words.specs.WriteLaws.{drop_of_take}
 use Rattle.state_words.specs.Holds.{Holds}
 use Rattle.state_words.specs.HoldLaws.{holds-header}
 use Rattle.new_cells.specs.declared.Value.{Value}
-use Rattle.new_cells.specs.declared.Value.TheVariants.{Is, Refused}
-use Rattle.new_cells.specs.Steps.{Board as BoardHas, Lies, Agrees}
+use Rattle.new_cells.specs.Steps.{Evaluated, Board as BoardHas, Lies, Agrees}
 use Rattle.ends.specs.Initials.{initial-known, initials-long}
 use Rattle.evaluation_steps.specs.KeepLaws.{Moved, moved_by}
 use Rattle.evaluation_steps.specs.ArgumentLaws.{Valued, valued, not-valued}
@@ -112,11 +112,8 @@ module _ (text index ends : List ℕ) (n calls : ℕ) (words slots : List ℕ) w
     };
   }
 
-  pub laying-board : {words₁ slots₁ : List ℕ} {used c : ℕ} → BoardHas words 0 → Laying text index ends n calls words slots words₁ slots₁ used c → BoardHas words₁ used
-  laying-board board g = record { fits = omega (arith, g.fits, g.long); small = omega (arith, board.small, g.long) }
-
   module _ {words₁ slots₁ : List ℕ} {used c : ℕ} (g : Laying text index ends n calls words slots words₁ slots₁ used c) where
-    module _ (less : c < n) {row : List ℕ} {at : Cursor} (start : at.at ≡ initial_at (channels_of index) c) {x : Value} {words₂ slots₂ : List ℕ} (v : EvalsChannel text index ends row c at.at used calls words₁ slots₁ x words₂ slots₂) where
+    module _ (less : c < n) {row : List ℕ} {at : Cursor} (start : at.at ≡ initial_at (channels_of index) c) {x : Evaluated} {words₂ slots₂ : List ℕ} (v : EvalsChannel text index ends row c at.at used calls words₁ slots₁ x words₂ slots₂) where
       module _ {P : File} {cells : ℕ} {s : State} (st : AtStart text index ends n words P cells) (begins : Begins P (board_lent cells slots calls) (initial_values P) [] [] s) where
         k : LaidTo words words₁ used c P cells (board_lent cells slots calls) s
         k = g.says st begins
@@ -152,39 +149,39 @@ module _ (text index ends : List ℕ) (n calls : ℕ) (words slots : List ℕ) w
         answer : Agrees P words₂ x (value next.at next.heap)
         answer = subst (Agrees P words₂ x) (ap (λ i. eval P (run P cells calls) cells no_channels initial [] i k.heap) g.slots_long ∙ next.gives) (v.says known)
 
-      pub laying_refused : {m : ℕ} → x ≡ Refused m → LaysInitials text index ends n calls words slots used words₂ slots₂
-      laying_refused d = record { says = λ st begins. absurd (value-refused (not-valued (answer st begins) d)); long = v.long ∙ g.slots_long }
+      pub laying_refused : {m : Refusal} → x ≡ Err m → LaysInitials text index ends n calls words slots used words₂ slots₂
+      laying_refused d = record { says = λ st begins. absurd (value-refused (not-valued (answer st begins) d).is); long = v.long ∙ g.slots_long }
 
-      module _ {cell more : ℕ} (d : x ≡ Is cell more) where
-        moved : Moved words₁ used words₂ more
+      module _ {y : Value} (d : x ≡ Ok y) where
+        moved : Moved words₁ used words₂ y.used
         moved = moved_by v.kept d
 
-        pub laying-more : {words₃ : List ℕ} → words₃ ≡ set words₂ (1 + c) cell → Laying text index ends n calls words slots words₃ slots₂ more (c + 1)
+        pub laying-more : {words₃ : List ℕ} → words₃ ≡ set words₂ (1 + c) y.cell → Laying text index ends n calls words slots words₃ slots₂ y.used (c + 1)
         laying-more {words₃} put = record {
-          long = ap length put ∙ length-set words₂ (1 + c) cell ∙ moved.long ∙ g.long;
+          long = ap length put ∙ length-set words₂ (1 + c) y.cell ∙ moved.long ∙ g.long;
           fits = omega (arith, moved.fits, g.long);
           slots_long = v.long ∙ g.slots_long;
           says = λ {P} {cells} {s} st begins.
               let z = k st begins in
-              let u : Valued P words₂ more cell (value (next st begins).at (next st begins).heap) = valued (answer st begins) d in
-              let where-is : (next st begins).at ≡ cell = (let e = u.is in cc) in
+              let u : Valued P words₂ y.used y.cell (value (next st begins).at (next st begins).heap) = valued (answer st begins) d in
+              let where-is : (next st begins).at ≡ y.cell = (let e = u.is in cc) in
               let which : (next st begins).heap ≡ u.heap = (let e = u.is in cc) in
               let one : suc c ≡ c + 1 = omega arith in
               let few : c < channels_most = omega (arith, in-time st begins, initials-long st.indexed, st.indexed.within.few_inputs, st.indexed.within.few_nodes) in
-              let behind : drop (state_length more) words₂ ≡ drop (state_length more) words = moved.high ∙ drop_more (state_length used) (state_length more) words₁ words (omega (arith, moved.more)) z.beyond in
+              let behind : drop (state_length y.used) words₂ ≡ drop (state_length y.used) words = moved.high ∙ drop_more (state_length used) (state_length y.used) words₁ words (omega (arith, moved.more)) z.beyond in
               record {
                 heap = u.heap;
-                roots = z.roots ++ (cell ∷ []);
-                count = length-append z.roots (cell ∷ []) ∙ ap (λ i. i + 1) z.count;
+                roots = z.roots ++ (y.cell ∷ []);
+                count = length-append z.roots (y.cell ∷ []) ∙ ap (λ i. i + 1) z.count;
                 lies = record {
-                  board = ap length put ∙ length-set words₂ (1 + c) cell ∙ moved.long ∙ z.lies.board;
-                  held = rw put (holds-header (1 + c) cell (omega (arith, few)) u.held);
+                  board = ap length put ∙ length-set words₂ (1 + c) y.cell ∙ moved.long ∙ z.lies.board;
+                  held = rw put (holds-header (1 + c) y.cell (omega (arith, few)) u.held);
                   writable = u.writable;
                 };
-                rest = subst (λ i. Begins P (board_lent cells slots calls) (drop i (initial_values P)) u.heap (z.roots ++ (cell ∷ [])) s) one
+                rest = subst (λ i. Begins P (board_lent cells slots calls) (drop i (initial_values P)) u.heap (z.roots ++ (y.cell ∷ [])) s) one
                     (subst₂ (λ l h. Begins P (board_lent cells slots calls) (drop (suc c) (initial_values P)) h (z.roots ++ (l ∷ [])) s) where-is which (next st begins).rest);
-                channels = ap (λ y. take channels_most (drop 1 y)) put ∙ channel-put words₂ z.roots c cell (channels-kept words₁ words₂ used moved.low ∙ z.channels) z.count few;
-                beyond = ap (drop (state_length more)) put ∙ drop-set-lt (state_length more) words₂ (1 + c) cell (omega (arith, few)) ∙ behind;
+                channels = ap (λ y. take channels_most (drop 1 y)) put ∙ channel-put words₂ z.roots c y.cell (channels-kept words₁ words₂ used moved.low ∙ z.channels) z.count few;
+                beyond = ap (drop (state_length y.used)) put ∙ drop-set-lt (state_length y.used) words₂ (1 + c) y.cell (omega (arith, few)) ∙ behind;
               };
         }
 

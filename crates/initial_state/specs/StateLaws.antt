@@ -12,16 +12,10 @@ use Rattle.index.specs.Indexed.{Indexed}
 use Rattle.state_words.specs.Holds.{Holds}
 use Rattle.state_words.specs.HoldLaws.{holds-header}
 use Rattle.state_words.specs.StateLaws.{HoldsState, held-words}
-use Rattle.new_cells.specs.Steps.{Board as BoardHas}
 use Rattle.ends.specs.Told.{TellsInitials}
 use Rattle.ends.specs.Initials.{initials-long}
 use Rattle.initial_state.specs.Promises.{LaysState, AtStart, LaysInitials}
 use Rattle.initial_state.specs.LayLaws.{zeros_of, zeros-back}
-
-pub cleared-board : {words words₀ : List ℕ} → words₀ ≡ replicate (length words) 0 → BoardHas words 0 → BoardHas words₀ 0
-cleared-board {words} {words₀} cleared b =
-    let long : length words₀ ≡ length words = ap length cleared ∙ length-replicate (length words) 0 in
-    record { fits = omega (arith, b.fits, long); small = omega (arith, b.small, long) }
 
 module _ {text index ends : List ℕ} (t : TellsInitials text index ends) (words : List ℕ) {words₀ : List ℕ} (cleared : words₀ ≡ replicate (length words) 0) {n : Counts} (are : n ≡ counts_in index) where
   at-start : {P : File} {cells : ℕ} → Indexed text index P → length words ≡ state_length cells → AtStart text index ends (n.inputs + n.nodes) words₀ P cells

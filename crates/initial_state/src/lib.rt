@@ -9,7 +9,6 @@ use evaluator::channels::channel_value;
 use index::channels::initial_start;
 use index::{INDEX_WORDS, clear, frame_counts};
 use language::limits::{CHANNELS_MOST, TEXT_MOST};
-use new_cells::Value;
 use state_words::{put_channel_cell, put_used_cells};
 
 // Lays the initial values of the first n channels and names their cells in the header; how many cells are used then.
@@ -28,18 +27,15 @@ fn lay_initial_values(
     // An initial value names no channel.
     let channels = [0u32; CHANNELS_MOST];
     let mut used: u32 = 0;
-    let mut c: u32 = 0;
-    while c < n {
+    for c in 0..n {
         let at = initial_start(index, c);
-        let x = channel_value(
+        let Ok(value) = channel_value(
             text, index, ends, &channels, state, slots, c, at, used, calls,
-        );
-        let Value::Is(cell, more) = x else {
+        ) else {
             return used;
         };
-        put_channel_cell(state, c, cell);
-        used = more;
-        c += 1;
+        put_channel_cell(state, c, value.cell);
+        used = value.used;
     }
     used
 }

@@ -1,4 +1,6 @@
 -- A constructor laid, return by return: its tag, its fields, and then its cell.
+use Rattle.language.specs.declared.refusals.Refusal.{Refusal}
+use Rattle.std.specs.Prelude.{Ok, Err, Some, None}
 use Rattle.std.specs.Prelude.{ℕ, ◌+◌, ◌-◌, ◌*◌, ◌/◌, ◌%◌, ◌≤◌, ◌<◌, List, [], ◌∷◌, ◌++◌, ◌≡◌, take, drop}
 use Rattle.std.proofs.Common.{append-nil, sym, ap, ◌∙◌, arith}
 use Rattle.std.proofs.Math.ListN.{length, length-append}
@@ -14,24 +16,20 @@ use Rattle.language.specs.Line.{value_trees, value_behind, value_at}
 use Rattle.language.specs.Machine.{new_cell, build, build_fields}
 use Rattle.text.specs.declared.Cursor.{Cursor}
 use Rattle.text.specs.declared.Found.{Found}
-use Rattle.text.specs.declared.Number.{Number}
-use Rattle.text.specs.declared.Number.TheVariants.{Is, Refused}
-use Rattle.text.specs.Bytes.{bytes_from, Moved, stopped}
+use Rattle.text.specs.Bytes.{Number, bytes_from, Moved, stopped}
 use Rattle.text.specs.StepLaws.{number-got, number-bad, number-moved, moved_on}
 use Rattle.index.specs.ParserLaws.{bad-is-not-got, got-value, got-left}
 use Rattle.state_words.specs.Holds.{Holds, Written}
 use Rattle.state_words.specs.HoldLaws.{written-above, holds_pushed, con-written}
 use Rattle.input_cells.specs.declared.Laid.{Laid}
-use Rattle.input_cells.specs.declared.Laying.{Laying}
-use Rattle.input_cells.specs.declared.Laying.TheVariants.{Done, Full}
-use Rattle.input_cells.specs.Lays.{Kept, ConstructorPut, con_put, con_full, LaidAs, laid_as, full_as, Grows, grows, full, step_to, TagAt, Lays}
+use Rattle.input_cells.specs.Lays.{Laying, Kept, ConstructorPut, con_put, con_full, LaidAs, laid_as, full_as, Grows, grows, full, step_to, TagAt, Lays}
 use Rattle.input_cells.specs.CellLaws.{kept-none, kept-written, kept_then, high-then, full-is-not-done}
 use Rattle.input_cells.specs.LayLaws.{con-read}
 use Rattle.input_cells.specs.FieldsLaidLaws.{FieldsLaid, PartLaid, next-tree, fields-over, full-more}
 
 -- ---- a constructor from its fields
 -- what was read is a constructor with this tag, and its fields behind it
-by-fields : {B : Type 0} {line : List ℕ} {at : ℕ} {r : Number} {f : Found} → TagAt line at r → r ≡ Is f → (P : File) (m : ℕ) {w : Tree} {rest : List ℕ} → value_behind P (value_at m P) con_form (bytes_from line at) ≡ got w rest →
+by-fields : {B : Type 0} {line : List ℕ} {at : ℕ} {r : Number} {f : Found} → TagAt line at r → r ≡ Ok f → (P : File) (m : ℕ) {w : Tree} {rest : List ℕ} → value_behind P (value_at m P) con_form (bytes_from line at) ≡ got w rest →
     ((t c : ℕ) (ws : Trees) → t < length P.types → c < length (constructors_of P t) → f.value ≡ tag_step * (t + 1) + c → w ≡ vcon t c ws →
     value_trees (value_at m P) (length (fields_of P t c)) (bytes_from line f.next.at) ≡ got ws rest → B) → B
 by-fields {line} {at} v e P m q k =
@@ -39,7 +37,7 @@ by-fields {line} {at} v e P m q k =
     let same = sym (number-got v.read e) ∙ d.tag in
     k d.t d.c d.ws d.low d.known (got-value same) d.whole (ap (value_trees (value_at m P) (length (fields_of P d.t d.c))) (got-left same) ∙ d.fields)
 
-pub con-missing : {line index : List ℕ} {at cells used n : ℕ} {words : List ℕ} {r : Number} → TagAt line at r → r ≡ Refused n → Lays line index at cells used words Full words (λ n P. value_behind P (value_at n P) con_form)
+pub con-missing : {line index : List ℕ} {at cells used : ℕ} {words : List ℕ} {r : Number} {n : Refusal} → TagAt line at r → r ≡ Err n → Lays line index at cells used words None words (λ n P. value_behind P (value_at n P) con_form)
 con-missing {line} {at} {cells} {used} {words} v e = record {
   says = λ text P x h hs m q. let d = con-read P (value_at m P) (bytes_from line at) q in bad-is-not-got (sym (number-bad v.read e) ∙ d.tag);
   on = stopped;
@@ -49,9 +47,9 @@ con-missing {line} {at} {cells} {used} {words} v e = record {
 }
 
 -- ---- a field that has no room
-pub con-over : {line index : List ℕ} {at cells used n j top owned : ℕ} {words₀ words waiting words' : List ℕ} {next : Cursor} {r : Number} {f : Found} {y : Laying} → TagAt line at r → r ≡ Is f →
-    FieldsLaid line index cells used words₀ f.value n f.next j next top owned words waiting → j < n → Lays line index next.at cells top words y words' (λ n P. value_at n P) → y ≡ Full →
-    Lays line index at cells used words₀ Full words' (λ n P. value_behind P (value_at n P) con_form)
+pub con-over : {line index : List ℕ} {at cells used n j top owned : ℕ} {words₀ words waiting words' : List ℕ} {next : Cursor} {r : Number} {f : Found} {y : Laying} → TagAt line at r → r ≡ Ok f →
+    FieldsLaid line index cells used words₀ f.value n f.next j next top owned words waiting → j < n → Lays line index next.at cells top words y words' (λ n P. value_at n P) → y ≡ None →
+    Lays line index at cells used words₀ None words' (λ n P. value_behind P (value_at n P) con_form)
 con-over {line} {cells} v e w less u is-full = record {
   says = λ text P x h hs m q. by-fields v e P m q (λ t c ws low known tag whole read.
       let part = w.says text P x h hs t c low known tag m read in
@@ -89,7 +87,7 @@ all_laid {P} {line} {t} {c} {n} {ws} {rest} {h} {m} {j} {next} {top} {owned} {wo
       ends = ended.1;
     }
 
-module _ {line index : List ℕ} {at cells used n j top owned : ℕ} {words₀ words waiting : List ℕ} {next : Cursor} {r : Number} {f : Found} (room : state_length cells ≤ length words₀) (v : TagAt line at r) (e : r ≡ Is f)
+module _ {line index : List ℕ} {at cells used n j top owned : ℕ} {words₀ words waiting : List ℕ} {next : Cursor} {r : Number} {f : Found} (room : state_length cells ≤ length words₀) (v : TagAt line at r) (e : r ≡ Ok f)
     (w : FieldsLaid line index cells used words₀ f.value n f.next j next top owned words waiting) (low : j ≤ n) (high : n ≤ j) where
   con-as : (P : File) (t c : ℕ) {ws : Trees} {rest words' : List ℕ} {h : List Cell} {y : Laying} → f.value ≡ tag_step * (t + 1) + c → AllLaid P line t c ws rest h n next top owned words waiting →
       ConstructorPut cells top f.value (owned + 1) waiting n next words y words' → LaidAs P line cells h (vcon t c ws) rest words' y
@@ -112,7 +110,7 @@ module _ {line index : List ℕ} {at cells used n j top owned : ℕ} {words₀ w
   con-kept (con_put less is) = kept-written less (con-cell less is)
   con-kept (con_full le) = kept-none cells top words
 
-  con-high : {words' : List ℕ} {y : Laying} {b : Laid} → ConstructorPut cells top f.value (owned + 1) waiting n next words y words' → y ≡ Done b → drop (state_length b.used) words' ≡ drop (state_length b.used) words₀
+  con-high : {words' : List ℕ} {y : Laying} {b : Laid} → ConstructorPut cells top f.value (owned + 1) waiting n next words y words' → y ≡ Some b → drop (state_length b.used) words' ≡ drop (state_length b.used) words₀
   con-high {words'} {b = b} (con_put less is) q = let same : record { used = top + 1; size = owned + 1; next = next } ≡ b = cc in rw (← same) (high-then top (top + 1) words₀ words words' (omega arith) w.untouched (written-above (con-cell less is)))
   con-high (con_full le) q = full-is-not-done q
 

@@ -1,4 +1,5 @@
 -- The fields of a constructor laid one after the other: what is left of them gives the whole.
+use Rattle.std.specs.Prelude.{Ok, Some, None}
 use Prim.Native.Nat.{ℕ, suc, ◌+◌, ◌-◌, ◌*◌, ◌/◌, ◌%◌, ◌≤◌, ◌<◌}
 use mathlib.Core.List.{List, [], ◌∷◌, ◌++◌}
 use Rattle.std.specs.Prelude.{Bool, true, false, ◌≡◌, refl, set, eqb}
@@ -22,10 +23,7 @@ use Rattle.theory.specs.Heaps.{grown-length}
 use Rattle.theory.specs.Builds.{fields-build}
 use Rattle.text.specs.declared.Cursor.{Cursor}
 use Rattle.text.specs.declared.Found.{Found}
-use Rattle.text.specs.declared.Number.{Number}
-use Rattle.text.specs.declared.Number.TheVariants.{Is}
-use Rattle.text.specs.declared.Step.TheVariants.{Next}
-use Rattle.text.specs.Bytes.{bytes_from, Moved, field_word}
+use Rattle.text.specs.Bytes.{Number, bytes_from, Moved, field_word}
 use Rattle.text.specs.StepLaws.{number-moved, ends-within, moved_none, moved_on}
 use Rattle.index.specs.Sections.{types_of}
 use Rattle.index.specs.Indexed.{Indexed, field_at}
@@ -35,11 +33,9 @@ use Rattle.state_words.specs.ReadLaws.{constructor-counted}
 use Rattle.state_words.specs.Holds.{Holds}
 use Rattle.type_rows.specs.ToldLaws.{field_told, told-fields}
 use Rattle.input_cells.specs.declared.Laid.{Laid}
-use Rattle.input_cells.specs.declared.Laying.{Laying}
-use Rattle.input_cells.specs.declared.Laying.TheVariants.{Done, Full}
 use Rattle.input_line.specs.Judges.{own_part}
 use Rattle.input_line.specs.SizedLaws.{field_adds}
-use Rattle.input_cells.specs.Lays.{Kept, LaidAs, laid_as, full_as, Grows, grows, TagAt, Lays}
+use Rattle.input_cells.specs.Lays.{Laying, Kept, LaidAs, laid_as, full_as, Grows, grows, TagAt, Lays}
 use Rattle.input_cells.specs.CellLaws.{kept-none, kept_then, high-then}
 use Rattle.input_line.specs.ReadParts.{then-got}
 
@@ -101,7 +97,7 @@ pub record PartLaid (P : File) (line : List ℕ) (t c n : ℕ) (ws : Trees) (res
   pub sizes : own_tree_sum P ws (fields_of P t c) ≡ owned + own_tree_sum P left (drop j (fields_of P t c))
 
 pub record FieldsLaid (line index : List ℕ) (cells used : ℕ) (words₀ : List ℕ) (tag n : ℕ) (first : Cursor) (j : ℕ) (next : Cursor) (top owned : ℕ) (words waiting : List ℕ) : Type 0 where
-  pub on : Moved line first.at (Next next)
+  pub on : Moved line first.at (Ok next)
   pub kept : Kept cells used words₀ words
   pub untouched : drop (state_length top) words ≡ drop (state_length top) words₀
   pub low : used ≤ top
@@ -114,7 +110,7 @@ pub record FieldsLaid (line index : List ℕ) (cells used : ℕ) (words₀ : Lis
 small-constructor : {text index : List ℕ} {P : File} → Indexed text index P → (t c : ℕ) → t < length P.types → c < length (constructors_of P t) → c < tag_step
 small-constructor x t c low known = omega (arith, (x.each_type t low).tells.few)
 
-pub fields-begun : {line index : List ℕ} {at cells used n : ℕ} {words waiting : List ℕ} {r : Number} {f : Found} → TagAt line at r → r ≡ Is f → used ≤ cells → (n ≡ field_count (types_of index) f.value) × (n < byte_range) → length waiting ≡ fields_most →
+pub fields-begun : {line index : List ℕ} {at cells used n : ℕ} {words waiting : List ℕ} {r : Number} {f : Found} → TagAt line at r → r ≡ Ok f → used ≤ cells → (n ≡ field_count (types_of index) f.value) × (n < byte_range) → length waiting ≡ fields_most →
     FieldsLaid line index cells used words f.value n f.next 0 f.next used 0 words waiting
 fields-begun {line} {index} {at} {cells} {used} {n} {words} {waiting} {r} {f} v e room counted wide = record {
   on = moved_none (ends-within (number-moved v.read e));
@@ -141,7 +137,7 @@ fields-begun {line} {index} {at} {cells} {used} {n} {words} {waiting} {r} {f} v 
 }
 
 -- ---- one field
-pub grows-done : {cells used : ℕ} {b : Laid} → Grows cells used (Done b) → (used < b.used) × ((b.used ≤ cells) × (b.size + used ≤ b.used))
+pub grows-done : {cells used : ℕ} {b : Laid} → Grows cells used (Some b) → (used < b.used) × ((b.used ≤ cells) × (b.size + used ≤ b.used))
 grows-done (grows more most size) = (more, (most, size))
 
 pub record DoneAs (P : File) (line : List ℕ) (h : List Cell) (v : Tree) (rest words' : List ℕ) (b : Laid) : Type 0 where
@@ -149,11 +145,11 @@ pub record DoneAs (P : File) (line : List ℕ) (h : List Cell) (v : Tree) (rest 
   pub sized : b.size ≡ tree_size P v
   pub ends : bytes_from line b.next.at ≡ rest
 
-pub done-as : {P : File} {line : List ℕ} {cells : ℕ} {h : List Cell} {v : Tree} {rest words' : List ℕ} {y : Laying} {b : Laid} → y ≡ Done b → LaidAs P line cells h v rest words' y → DoneAs P line h v rest words' b
+pub done-as : {P : File} {line : List ℕ} {cells : ℕ} {h : List Cell} {v : Tree} {rest words' : List ℕ} {y : Laying} {b : Laid} → y ≡ Some b → LaidAs P line cells h v rest words' y → DoneAs P line h v rest words' b
 done-as {b} e (laid_as {b = a} holds size ends) = let same : a ≡ b = cc in rw (← same) (record { holds = holds; sized = size; ends = ends })
 done-as e (full_as more) = absurd (let z : ◌≡◌ {A = ℕ} 0 1 = cc in omega arith)
 
-pub full-more : {P : File} {line : List ℕ} {cells : ℕ} {h : List Cell} {v : Tree} {rest words' : List ℕ} {y : Laying} → y ≡ Full → LaidAs P line cells h v rest words' y → cells < length (build P v h).heap
+pub full-more : {P : File} {line : List ℕ} {cells : ℕ} {h : List Cell} {v : Tree} {rest words' : List ℕ} {y : Laying} → y ≡ None → LaidAs P line cells h v rest words' y → cells < length (build P v h).heap
 full-more e (laid_as holds size ends) = absurd (let z : ◌≡◌ {A = ℕ} 0 1 = cc in omega arith)
 full-more e (full_as more) = more
 
@@ -163,14 +159,14 @@ module _ {line index : List ℕ} {cells used : ℕ} {words₀ : List ℕ} {tag n
   pub next-tree : (P : File) {t c m : ℕ} {ws : Trees} {rest : List ℕ} {h : List Cell} (q : PartLaid P line t c n ws rest h m j next top owned words waiting) → FirstTree (value_at m P) (n - suc j) (bytes_from line next.at) q.left rest
   next-tree P {m} q = let one : n - j ≡ suc (n - suc j) = omega arith in first-tree (value_at m P) (n - suc j) (bytes_from line next.at) (rw one at q.read)
 
-  pub top-grows : {b : Laid} → y ≡ Done b → (top < b.used) × ((b.used ≤ cells) × (b.size + top ≤ b.used))
+  pub top-grows : {b : Laid} → y ≡ Some b → (top < b.used) × ((b.used ≤ cells) × (b.size + top ≤ b.used))
   top-grows e = grows-done (rw e at u.grown)
 
   -- no more sizes than cells
-  pub own-most : {kind part word : ℕ} {b : Laid} → y ≡ Done b → kind ≡ word → part ≡ own_part kind b.size → owned + part ≤ cells
+  pub own-most : {kind part word : ℕ} {b : Laid} → y ≡ Some b → kind ≡ word → part ≡ own_part kind b.size → owned + part ≤ cells
   own-most {kind} {b = b} e told is-part = omega (arith, v.small, is-part, part-most kind b.size, (top-grows e).1.0, (top-grows e).1.1)
 
-  pub fields-fuller : {t kind part : ℕ} {waiting' : List ℕ} {b : Laid} → y ≡ Done b → waiting' ≡ set waiting j (b.used - 1) → t ≡ tag / tag_step - 1 → {c : ℕ} → c ≡ tag % tag_step → kind ≡ field_at (types_of index) t c j → part ≡ own_part kind b.size →
+  pub fields-fuller : {t kind part : ℕ} {waiting' : List ℕ} {b : Laid} → y ≡ Some b → waiting' ≡ set waiting j (b.used - 1) → t ≡ tag / tag_step - 1 → {c : ℕ} → c ≡ tag % tag_step → kind ≡ field_at (types_of index) t c j → part ≡ own_part kind b.size →
       FieldsLaid line index cells used words₀ tag n first (j + 1) b.next b.used (owned + part) words' waiting'
   unfolding build_fields
   fields-fuller {t} {kind} {part} {waiting'} {b} e put type {c} constructor told is-part = record {

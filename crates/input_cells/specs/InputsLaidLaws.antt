@@ -1,4 +1,6 @@
 -- The values of a line laid one after the other, and the line as a whole, return by return.
+use Rattle.std.specs.Prelude.{Result as Outcome, Ok, Err, Some, None, ok_or}
+use Rattle.language.specs.declared.refusals.Refusal.{Refusal}
 use Prim.Native.Nat.{ℕ, suc, ◌+◌, ◌-◌, ◌≤◌, ◌<◌}
 use mathlib.Core.List.{List, [], ◌∷◌, ◌++◌}
 use Rattle.std.specs.Prelude.{Bool, false, ◌≡◌, refl, set, eqb}
@@ -25,12 +27,8 @@ use Rattle.theory.specs.Lists.{none-is-not-some, false-is-not-true, drop_more}
 use Rattle.theory.specs.HeldChannels.{input_types}
 use Rattle.text.specs.declared.Cursor.{Cursor}
 use Rattle.text.specs.declared.Found.{Found}
-use Rattle.text.specs.declared.Number.{Number}
-use Rattle.text.specs.declared.Number.TheVariants.{Is, Refused}
-use Rattle.text.specs.declared.Step.TheVariants.{Next}
-use Rattle.text_lines.specs.declared.LineEnd.{LineEnd}
-use Rattle.text_lines.specs.declared.LineEnd.TheVariants.{At, Bad}
-use Rattle.text.specs.Bytes.{bytes_of, bytes_from, bytes_left, Moved, ReadsNumber, Below}
+use Rattle.text_lines.specs.Lines.{LineEnd}
+use Rattle.text.specs.Bytes.{Number, bytes_of, bytes_from, bytes_left, Moved, ReadsNumber, Below}
 use Rattle.text_lines.specs.Lines.{is_some, line_end}
 use Rattle.text.specs.Places.{bytes-start}
 use Rattle.text.specs.StepLaws.{number-bad, number-moved, ends-within, moved_none, moved_on}
@@ -40,13 +38,9 @@ use Rattle.index.specs.declared.Counts.{Counts}
 use Rattle.index.specs.ParserLaws.{many-begins, many-bad, bad-is-not-got, got-value}
 use Rattle.state_words.specs.Holds.{Holds}
 use Rattle.input_cells.specs.declared.Laid.{Laid}
-use Rattle.input_cells.specs.declared.Laying.{Laying}
-use Rattle.input_cells.specs.declared.Laying.TheVariants.{Done, Full}
-use Rattle.input_cells.specs.declared.Inputs.{Inputs}
-use Rattle.input_cells.specs.declared.Inputs.TheVariants.{Used, Full as FullAt}
 use Rattle.input_line.specs.InputLaws.{inputs-counted, no_bytes, bytes-are}
 use Rattle.input_line.specs.LineLaws.{line-bad, line-longer, line_read}
-use Rattle.input_cells.specs.Lays.{Kept, Lays, put_all, put_full, within, beyond, ValuesLaid, InputsLaid}
+use Rattle.input_cells.specs.Lays.{Laying, Inputs, Kept, Lays, put_all, put_full, within, beyond, ValuesLaid, InputsLaid}
 use Rattle.input_cells.specs.CellLaws.{kept-none, kept_then, high-then}
 use Rattle.input_cells.specs.FieldsLaidLaws.{last-cell, done-as, full-more, grows-done}
 
@@ -75,7 +69,7 @@ pub record PartPut (P : File) (line : List ℕ) (cells n : ℕ) (vs : List Tree)
   pub same : put_inputs P cells 0 vs h [] ≡ put_inputs P cells i left heap (take i roots)
 
 pub record InputsTo (line index : List ℕ) (cells used : ℕ) (words₀ roots₀ : List ℕ) (n : ℕ) (first : Cursor) (i : ℕ) (next : Cursor) (top : ℕ) (words roots : List ℕ) : Type 0 where
-  pub on : Moved line first.at (Next next)
+  pub on : Moved line first.at (Ok next)
   pub kept : Kept cells used words₀ words
   pub untouched : drop (state_length top) words ≡ drop (state_length top) words₀
   pub low : used ≤ top
@@ -90,10 +84,10 @@ module _ {line index : List ℕ} {cells used n i top : ℕ} {words₀ roots₀ w
   next-value : (P : File) {m : ℕ} {vs : List Tree} {rest : List ℕ} {h : List Cell} (q : PartPut P line cells n vs rest h m i next top words roots) → FirstValue (value_at m P) (n - suc i) (bytes_from line next.at) q.left rest
   next-value P {m} q = let one : n - i ≡ suc (n - suc i) = omega arith in first-value (value_at m P) (n - suc i) (bytes_from line next.at) (rw one at q.read)
 
-  pub input-grows : {b : Laid} → y ≡ Done b → (top < b.used) × ((b.used ≤ cells) × (b.size + top ≤ b.used))
+  pub input-grows : {b : Laid} → y ≡ Some b → (top < b.used) × ((b.used ≤ cells) × (b.size + top ≤ b.used))
   input-grows e = grows-done (rw e at u.grown)
 
-  pub inputs-next : {b : Laid} {roots' : List ℕ} → y ≡ Done b → roots' ≡ set roots i (b.used - 1) → InputsTo line index cells used words₀ roots₀ n first (i + 1) b.next b.used words' roots'
+  pub inputs-next : {b : Laid} {roots' : List ℕ} → y ≡ Some b → roots' ≡ set roots i (b.used - 1) → InputsTo line index cells used words₀ roots₀ n first (i + 1) b.next b.used words' roots'
   unfolding put_inputs need
   inputs-next {b} {roots'} e put =
       let on : i + 1 ≡ suc i = omega arith in
@@ -134,7 +128,12 @@ module _ {line index : List ℕ} {cells used n i top : ℕ} {words₀ roots₀ w
       q.same ∙ ap (λ (l : List Tree). put_inputs P cells i l q.heap (take i roots)) w.whole
       ∙ ap (λ t. need t heap_spent (channel_frame P i) (put_inputs P cells (suc i) w.others made.heap (take i roots ++ (made.location ∷ [])))) (lt-leb (length made.heap) cells more)
 
-full-is-not-used : {B : Type 0} {c n : ℕ} → FullAt c ≡ Used n → B
+-- the input of a value that has no room is the one handed on
+pub input-full : {o : Laying} {e i : ℕ} → ◌≡◌ {A = Outcome Laid ℕ} (Err e) (ok_or o i) → o ≡ None → e ≡ i
+input-full {o = Some b} q n = cc
+input-full {o = None} q n = cc
+
+full-is-not-used : {B : Type 0} {c n : ℕ} → Err c ≡ Ok n → B
 full-is-not-used e = absurd (let z : ◌≡◌ {A = ℕ} 0 1 = cc in omega arith)
 
 -- ---- the bytes of a line
@@ -153,12 +152,12 @@ values-read P k cs {vs} e = kind (eqb k kind_input_line) e
     kind false q = none-is-not-some q
 
 -- what stands behind the kind of the line
-values-are : {line text index : List ℕ} {x : Number} {f : Found} {counts : Counts} {P : File} → ReadsNumber line 0 x (byte (bytes_from line 0)) × Below byte_range x → x ≡ Is f → counts ≡ counts_in index → Indexed text index P →
+values-are : {line text index : List ℕ} {x : Number} {f : Found} {counts : Counts} {P : File} → ReadsNumber line 0 x (byte (bytes_from line 0)) × Below byte_range x → x ≡ Ok f → counts ≡ counts_in index → Indexed text index P →
     {vs : List Tree} → input_trees P (bytes_of line) ≡ some vs → many (value_at (bytes_left line f.next.at) P) counts.inputs (bytes_from line f.next.at) ≡ got vs []
 values-are {line} {f = f} {P = P} v e told i q = rw (inputs-counted i told) (values-read P f.value (bytes_from line f.next.at) (rw (bytes-are line v e) at q))
 
 module _ {line index : List ℕ} {cells used : ℕ} {words₀ roots₀ : List ℕ} {x : Number} (room : used ≤ cells) (v : ReadsNumber line 0 x (byte (bytes_from line 0)) × Below byte_range x) where
-  pub values-none : {n : ℕ} → x ≡ Refused n → ValuesLaid line index cells used words₀ roots₀ (Used used) words₀ roots₀
+  pub values-none : {n : Refusal} → x ≡ Err n → ValuesLaid line index cells used words₀ roots₀ (Ok used) words₀ roots₀
   unfolding input_trees
   values-none e = record {
     says = λ text P i h hs wide q. none-is-not-some (ap (input_trees P) (sym (no_bytes (bytes_of line) (ap byte (sym (bytes-start line)) ∙ number-bad v.0 e))) ∙ q);
@@ -167,7 +166,7 @@ module _ {line index : List ℕ} {cells used : ℕ} {words₀ roots₀ : List �
     grown = within {n = used} (omega arith) room;
   }
 
-  module _ {f : Found} (e : x ≡ Is f) where
+  module _ {f : Found} (e : x ≡ Ok f) where
     pub values-start : {n : ℕ} → InputsTo line index cells used words₀ roots₀ n f.next 0 f.next used words₀ roots₀
     values-start {n} = record {
       on = moved_none (ends-within (number-moved v.0 e));
@@ -182,7 +181,7 @@ module _ {line index : List ℕ} {cells used : ℕ} {words₀ roots₀ : List �
 
     module _ {counts : Counts} (told : counts ≡ counts_in index) where
       pub values-stop : {i top : ℕ} {next : Cursor} {words roots words' : List ℕ} {y : Laying} → InputsTo line index cells used words₀ roots₀ counts.inputs f.next i next top words roots → i < counts.inputs →
-          Lays line index next.at cells top words y words' (λ n P. value_at n P) → y ≡ Full → ValuesLaid line index cells used words₀ roots₀ (FullAt i) words' roots
+          Lays line index next.at cells top words y words' (λ n P. value_at n P) → y ≡ None → ValuesLaid line index cells used words₀ roots₀ (Err i) words' roots
       values-stop {i} w less u is-full = record {
         says = λ text P x h hs wide q.
             let count : counts.inputs ≤ length roots₀ = rw (inputs-counted x told) wide in
@@ -194,7 +193,7 @@ module _ {line index : List ℕ} {cells used : ℕ} {words₀ roots₀ : List �
       }
 
       pub values-laid : {i top : ℕ} {next : Cursor} {words roots : List ℕ} → InputsTo line index cells used words₀ roots₀ counts.inputs f.next i next top words roots → i ≤ counts.inputs → counts.inputs ≤ i →
-          ValuesLaid line index cells used words₀ roots₀ (Used top) words roots
+          ValuesLaid line index cells used words₀ roots₀ (Ok top) words roots
       unfolding many put_inputs
       values-laid {i} {top} {next} {words} {roots} w low high = record {
         says = λ text P x h hs wide {vs} q.
@@ -226,7 +225,7 @@ allowed-values : {text index : List ℕ} {P : File} → Indexed text index P →
 unfolding is_some
 allowed-values {text} {index} {P} x line {vs} e = cases (line_end line 0) refl
   where
-    one_line : (end : ℕ) → line_end line 0 ≡ At end → (b : Bool) → eqb (length line - end) 1 ≡ b → input_trees P (bytes_of (take (length line - 1) line)) ≡ some vs
+    one_line : (end : ℕ) → line_end line 0 ≡ Some end → (b : Bool) → eqb (length line - end) 1 ≡ b → input_trees P (bytes_of (take (length line - 1) line)) ≡ some vs
     one_line end q true h =
         let one = eqb-true (length line - end) 1 h in
         let place : length line - 1 ≡ end = omega arith in
@@ -234,14 +233,10 @@ allowed-values {text} {index} {P} x line {vs} e = cases (line_end line 0) refl
     one_line end q false h = false-is-not-true ((line-longer line index refl q (eqb-false (length line - end) 1 h)).says text P x ∙ ap is_some e)
 
     cases : (y : LineEnd) → line_end line 0 ≡ y → input_trees P (bytes_of (take (length line - 1) line)) ≡ some vs
-    cases (At end) q = one_line end q (eqb (length line - end) 1) refl
-    cases Bad q = false-is-not-true ((line-bad line index refl q).says text P x ∙ ap is_some e)
+    cases (Some end) q = one_line end q (eqb (length line - end) 1) refl
+    cases None q = false-is-not-true ((line-bad line index refl q).says text P x ∙ ap is_some e)
 
--- a line without its last character
-pub but_last : (line : List ℕ) → length line - 1 ≡ length (take (length line - 1) line)
-but_last line = sym (length-take-le (length line - 1) line (omega arith))
-
-pub inputs-none : {line index : List ℕ} {cells used : ℕ} {words roots : List ℕ} → used ≤ cells → length line ≡ 0 → InputsLaid line index cells used words roots (Used used) words roots
+pub inputs-none : {line index : List ℕ} {cells used : ℕ} {words roots : List ℕ} → used ≤ cells → length line ≡ 0 → InputsLaid line index cells used words roots (Ok used) words roots
 unfolding input_trees bytes_of
 inputs-none {line} {index} {cells} {used} {words} room empty = record {
   says = λ text P x h hs {vs} e. none-is-not-some (nothing P line empty (allowed-values x line e));

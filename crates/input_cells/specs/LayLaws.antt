@@ -1,4 +1,6 @@
 -- A value laid by its form, and the tag behind the code of a constructor, return by return.
+use Rattle.std.specs.Prelude.{Ok, Err, None}
+use Rattle.language.specs.declared.refusals.Refusal.{Refusal}
 use Prim.Native.Nat.{ℕ, zero, suc, ◌+◌, ◌*◌, ◌<◌}
 use mathlib.Core.List.{List}
 use Rattle.std.proofs.Math.Option.{some}
@@ -15,17 +17,13 @@ use Rattle.language.specs.ReadExpr.{Form, bool_form, con_form, forms}
 use Rattle.language.specs.Line.{value_trees, value_behind, value_at}
 use Rattle.theory.specs.Places.{look_at}
 use Rattle.text.specs.declared.Found.{Found}
-use Rattle.text.specs.declared.Number.{Number}
-use Rattle.text.specs.declared.Number.TheVariants.{Is, Refused}
-use Rattle.text.specs.Bytes.{bytes_from, stopped, ReadsNumber, Below}
+use Rattle.text.specs.Bytes.{Number, bytes_from, stopped, ReadsNumber, Below}
 use Rattle.text.specs.Codes.{code_place}
 use Rattle.text.specs.CodeLaws.{code-then, code-stops}
 use Rattle.text.specs.ReadLaws.{read-then}
 use Rattle.text.specs.StepLaws.{number-got, number-other, number-moved, moved_on, moved-left, read-stops-read, read-then-read}
 use Rattle.index.specs.ParserLaws.{bad-is-not-got, got-value, got-left}
-use Rattle.input_cells.specs.declared.Laying.{Laying}
-use Rattle.input_cells.specs.declared.Laying.TheVariants.{Full}
-use Rattle.input_cells.specs.Lays.{full, tag_read, LeafLaid, TagAt, Lays}
+use Rattle.input_cells.specs.Lays.{Laying, full, tag_read, LeafLaid, TagAt, Lays}
 use Rattle.input_line.specs.ReadParts.{then-got, index-got, byte-shorter}
 use Rattle.input_line.specs.ValueLaws.{form_at, bool_place, int_place, construct_place, other-form, form-less}
 use Rattle.input_cells.specs.CellLaws.{kept-none, full-is-not-done}
@@ -63,7 +61,7 @@ con-read P inner bs e =
     }
 
 -- ---- the tag as it is read
-no_found : {B : Type 0} {x : Number} {n : ℕ} {f : Found} → x ≡ Refused n → x ≡ Is f → B
+no_found : {B : Type 0} {x : Number} {n : Refusal} {f : Found} → x ≡ Err n → x ≡ Ok f → B
 no_found p q = absurd (let z : ◌≡◌ {A = ℕ} 0 1 = cc in omega arith)
 
 module _ (line : List ℕ) (at : ℕ) {x : Number} (v : ReadsNumber line at x (byte (bytes_from line at)) × Below byte_range x) where
@@ -71,16 +69,16 @@ module _ (line : List ℕ) (at : ℕ) {x : Number} (v : ReadsNumber line at x (b
   abbrev second : ℕ → Parser ℕ
   second t bs = and_then (byte bs) (λ c ds. got (tag_step * (t + 1) + c) ds)
 
-  pub tag-none : {n : ℕ} → x ≡ Refused n → TagAt line at x
+  pub tag-none : {n : Refusal} → x ≡ Err n → TagAt line at x
   unfolding tag_read
   tag-none e = record { read = read-stops-read second v.0 e; high = λ q. no_found e q; fewer = λ q. no_found e q }
 
-  module _ {f : Found} (e : x ≡ Is f) {y : Number} (w : ReadsNumber line f.next.at y (byte (bytes_from line f.next.at)) × Below byte_range y) where
-    pub tag-half : {n : ℕ} → y ≡ Refused n → TagAt line at y
+  module _ {f : Found} (e : x ≡ Ok f) {y : Number} (w : ReadsNumber line f.next.at y (byte (bytes_from line f.next.at)) × Below byte_range y) where
+    pub tag-half : {n : Refusal} → y ≡ Err n → TagAt line at y
     unfolding tag_read
     tag-half q = record { read = read-then-read second v.0 e (read-stops-read (λ c ds. got (tag_step * (f.value + 1) + c) ds) w.0 q); high = λ p. no_found q p; fewer = λ p. no_found q p }
 
-    pub tag-whole : {g : Found} {tag : ℕ} → y ≡ Is g → tag ≡ tag_step * (f.value + 1) + g.value → TagAt line at (Is (record { value = tag; next = g.next }))
+    pub tag-whole : {g : Found} {tag : ℕ} → y ≡ Ok g → tag ≡ tag_step * (f.value + 1) + g.value → TagAt line at (Ok (record { value = tag; next = g.next }))
     unfolding tag_read
     tag-whole {g} {tag} q is = record {
       read = read-then-read second v.0 e (number-other w.0 q (read-then (λ c ds. got (tag_step * (f.value + 1) + c) ds) w.0 q ∙ ap (λ n. got n (bytes_from line g.next.at)) (sym is)));
@@ -90,7 +88,7 @@ module _ (line : List ℕ) (at : ℕ) {x : Number} (v : ReadsNumber line at x (b
 
 -- ---- a value by its form
 module _ (line index : List ℕ) (at : ℕ) {x : Number} (v : ReadsNumber line at x (code_place expr_first (length forms) (bytes_from line at)) × Below byte_range x) where
-  pub value-missing : {n cells used : ℕ} {words : List ℕ} → x ≡ Refused n → Lays line index at cells used words Full words (λ n P. value_at n P)
+  pub value-missing : {n : Refusal} {cells used : ℕ} {words : List ℕ} → x ≡ Err n → Lays line index at cells used words None words (λ n P. value_at n P)
   unfolding value_at
   value-missing {n} {cells} {used} {words} e = record { says = λ text P i h hs m q. never P m q; on = stopped; kept = kept-none cells used words; high = λ q. full-is-not-done q; grown = full }
     where
@@ -98,7 +96,7 @@ module _ (line index : List ℕ) (at : ℕ) {x : Number} (v : ReadsNumber line a
       never P zero q = bad-is-not-got q
       never P (suc m) q = bad-is-not-got (sym (code-stops expr_first forms (value_behind P (value_at m P)) v.0 e) ∙ q)
 
-  module _ {f : Found} (e : x ≡ Is f) where
+  module _ {f : Found} (e : x ≡ Ok f) where
     module _ (F : Form) (form : form_at f.value ≡ F) where
       -- a value that was read was read behind its code
       behind-code : {B : Type 0} (P : File) (n : ℕ) {w : Tree} {rest : List ℕ} → value_at n P (bytes_from line at) ≡ got w rest → ((m : ℕ) → value_behind P (value_at m P) F (bytes_from line f.next.at) ≡ got w rest → B) → B
@@ -124,7 +122,7 @@ module _ (line index : List ℕ) (at : ℕ) {x : Number} (v : ReadsNumber line a
         grown = u.grown;
       }
 
-    pub value-unknown : {cells used : ℕ} {words : List ℕ} → ((f.value ≡ bool_place) → ⊥) → ((f.value ≡ int_place) → ⊥) → ((f.value ≡ construct_place) → ⊥) → Lays line index at cells used words Full words (λ n P. value_at n P)
+    pub value-unknown : {cells used : ℕ} {words : List ℕ} → ((f.value ≡ bool_place) → ⊥) → ((f.value ≡ int_place) → ⊥) → ((f.value ≡ construct_place) → ⊥) → Lays line index at cells used words None words (λ n P. value_at n P)
     value-unknown {cells} {used} {words} not_bool not_int not-con = record {
       says = λ text P i h hs n q. behind-code (form_at f.value) refl P n q (λ m p. bad-is-not-got (sym (other-form P (value_at m P) (bytes_from line f.next.at) f.value (form-less line at v e) not_bool not_int not-con) ∙ p));
       on = stopped;

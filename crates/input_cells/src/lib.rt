@@ -13,11 +13,12 @@ use index::{INDEX_WORDS, frame_counts, put};
 use input_line::{BOOL, CONSTRUCT, INT, NO_SIZE, own_part};
 use language::codes::{BOOL_FIRST, BOOLS, EXPR_FIRST, EXPR_FORMS};
 use language::limits::{CHANNELS_MOST, FIELDS_MOST};
+use language::refusals::Refusal;
 use state_words::tags::{
     BOOL_TAG, INT_TAG, constructor_tag, field_count, tag_constructor, tag_type,
 };
 use state_words::{put_constructor, put_leaf};
-use text::{Cursor, Found, Number};
+use text::{Cursor, Found};
 
 // A value laid: how many cells are used then, of which its own is the last; its size; and the cursor behind it.
 #[derive(Clone, Copy)]
@@ -27,32 +28,26 @@ struct Laid {
     pub next: Cursor,
 }
 
-#[derive(Clone, Copy)]
-enum Laying {
-    Done(Laid),
-    Full,
-}
-
-// All values laid, with so many cells used then; or the input whose cells are not all there.
-#[derive(Clone, Copy)]
-pub enum Inputs {
-    Used(u32),
-    Full(u32),
-}
-
 // Writes the next cell, of a Bool or an Int.
-fn lay_leaf(state: &mut [u32], cells: u32, used: u32, tag: u32, value: u32, next: Cursor) -> Laying
+fn lay_leaf(
+    state: &mut [u32],
+    cells: u32,
+    used: u32,
+    tag: u32,
+    value: u32,
+    next: Cursor,
+) -> Option<Laid>
     requires { state_length cells ≤ length state.old }
     ensures { LeafPut cells used tag value next state.old result state.new }
 {
     if cells <= used {
-        return Laying::Full;
+        return None;
     }
     put_leaf(state, used, tag, value);
-    Laying::Done(Laid {
+    Some(Laid {
         used: used + 1,
         size: NO_SIZE,
-        next: next,
+        next,
     })
 }
 
@@ -66,71 +61,55 @@ fn lay_constructor(
     fields: &[u32],
     n: u32,
     next: Cursor,
-) -> Laying
+) -> Option<Laid>
     requires cells_in_bounds { state_length cells ≤ length state.old }
     requires own_le_top { own ≤ top }
     ensures { ConstructorPut cells top tag (own + 1) fields.now n next state.old result state.new }
 {
     if cells <= top {
-        return Laying::Full;
+        return None;
     }
     let size = own + 1;
     put_constructor(state, top, tag, size, fields, n);
-    Laying::Done(Laid {
+    Some(Laid {
         used: top + 1,
-        size: size,
-        next: next,
+        size,
+        next,
     })
 }
 
 // A Bool behind its code.
-fn lay_bool(line: &[u8], state: &mut [u32], c: Cursor, cells: u32, used: u32) -> Laying
+fn lay_bool(line: &[u8], state: &mut [u32], c: Cursor, cells: u32, used: u32) -> Option<Laid>
     requires { state_length cells ≤ length state.old }
     ensures { LeafLaid line.now c.at bool_form cells used state.old result state.new }
 {
-    let x = c.code(line, BOOL_FIRST, BOOLS);
-    let Number::Is(f) = x else {
-        return Laying::Full;
-    };
-    let next = f.next;
-    lay_leaf(state, cells, used, BOOL_TAG, f.value, next)
+    let f = c.code(line, BOOL_FIRST, BOOLS).ok()?;
+    lay_leaf(state, cells, used, BOOL_TAG, f.value, f.next)
 }
 
 // An Int behind its code.
-fn lay_int(line: &[u8], state: &mut [u32], c: Cursor, cells: u32, used: u32) -> Laying
+fn lay_int(line: &[u8], state: &mut [u32], c: Cursor, cells: u32, used: u32) -> Option<Laid>
     requires { state_length cells ≤ length state.old }
     ensures { LeafLaid line.now c.at int_form cells used state.old result state.new }
 {
-    let x = c.int(line);
-    let Number::Is(f) = x else {
-        return Laying::Full;
-    };
-    let next = f.next;
-    lay_leaf(state, cells, used, INT_TAG, f.value, next)
+    let f = c.int(line).ok()?;
+    lay_leaf(state, cells, used, INT_TAG, f.value, f.next)
 }
 
 // The type and the constructor behind the code of a constructor, as a tag.
-fn tag_at(line: &[u8], c: Cursor) -> Number
+fn tag_at(line: &[u8], c: Cursor) -> Result<Found, Refusal>
     ensures { TagAt line.now c.at result }
 {
-    let x = c.byte(line);
-    let Number::Is(f) = x else {
-        return x;
-    };
-    let second = f.next;
-    let y = second.byte(line);
-    let Number::Is(g) = y else {
-        return y;
-    };
-    let next = g.next;
-    Number::Is(Found {
+    let f = c.byte(line)?;
+    let g = f.next.byte(line)?;
+    Ok(Found {
         value: constructor_tag(f.value, g.value),
-        next: next,
+        next: g.next,
     })
 }
 
 // Lays a value: its fields before it.
-#[cycle(lay_lay_fields)]
+#[cycle(laying)]
 fn lay(
     line: &[u8],
     index: &[u32; INDEX_WORDS],
@@ -138,27 +117,22 @@ fn lay(
     c: Cursor,
     cells: u32,
     used: u32,
-) -> Laying
+) -> Option<Laid>
     requires cells_in_bounds { state_length cells ≤ length state.old }
     requires used_le_cells { used ≤ cells }
     ensures { Lays line.now index.now c.at cells used state.old result state.new (λ n P. value_at n P) }
 {
-    let x = c.code(line, EXPR_FIRST, EXPR_FORMS);
-    let Number::Is(f) = x else {
-        return Laying::Full;
-    };
-    let form = f.value;
-    let next = f.next;
-    match form {
-        BOOL => lay_bool(line, state, next, cells, used),
-        INT => lay_int(line, state, next, cells, used),
-        CONSTRUCT => lay_fields(line, index, state, next, cells, used),
-        _ => Laying::Full,
+    let f = c.code(line, EXPR_FIRST, EXPR_FORMS).ok()?;
+    match f.value {
+        BOOL => lay_bool(line, state, f.next, cells, used),
+        INT => lay_int(line, state, f.next, cells, used),
+        CONSTRUCT => lay_fields(line, index, state, f.next, cells, used),
+        _ => None,
     }
 }
 
 // Lays a constructor behind its code: first its fields, whose cells wait in an array, then its own cell.
-#[cycle(lay_lay_fields)]
+#[cycle(laying)]
 fn lay_fields(
     line: &[u8],
     index: &[u32; INDEX_WORDS],
@@ -166,15 +140,12 @@ fn lay_fields(
     c: Cursor,
     cells: u32,
     used: u32,
-) -> Laying
+) -> Option<Laid>
     requires cells_in_bounds { state_length cells ≤ length state.old }
     requires used_le_cells { used ≤ cells }
     ensures { Lays line.now index.now c.at cells used state.old result state.new (λ n P. value_behind P (value_at n P) con_form) }
 {
-    let x = tag_at(line, c);
-    let Number::Is(f) = x else {
-        return Laying::Full;
-    };
+    let f = tag_at(line, c).ok()?;
     let tag = f.value;
     let n = field_count(index, tag);
     let t = tag_type(tag);
@@ -183,22 +154,18 @@ fn lay_fields(
     let mut next = f.next;
     let mut top = used;
     let mut own: u32 = 0;
-    let mut j: u32 = 0;
-    while j < n {
-        let y = lay(line, index, state, next, cells, top);
-        let Laying::Done(b) = y else {
-            return Laying::Full;
-        };
+    for j in 0..n {
+        let b = lay(line, index, state, next, cells, top)?;
         next = b.next;
         top = b.used;
         put(&mut waiting, j as usize, top - 1);
         own += own_part(field_word(index, t, constructor, j), b.size);
-        j += 1;
     }
     lay_constructor(state, cells, top, tag, own, &waiting, n, next)
 }
 
-// Lays a value for each input, behind the kind of a line, and puts their cells in a row.
+// Lays a value for each input, behind the kind of a line, and puts their cells in a row. Answers how many cells are used then, or the
+// input whose cells are not all there.
 fn lay_inputs(
     line: &[u8],
     index: &[u32; INDEX_WORDS],
@@ -206,35 +173,29 @@ fn lay_inputs(
     roots: &mut [u32],
     cells: u32,
     used: u32,
-) -> Inputs
+) -> Result<u32, u32>
     requires cells_in_bounds { state_length cells ≤ length state.old }
     requires used_le_cells { used ≤ cells }
     ensures { ValuesLaid line.now index.now cells used state.old roots.old result state.new roots.new }
 {
-    let x = Cursor { at: 0 }.byte(line);
-    let Number::Is(f) = x else {
-        return Inputs::Used(used);
+    let Ok(f) = Cursor { at: 0 }.byte(line) else {
+        return Ok(used);
     };
     let counts = frame_counts(index);
     let n = counts.inputs;
     let mut next = f.next;
     let mut top = used;
-    let mut i: u32 = 0;
-    while i < n {
-        let y = lay(line, index, state, next, cells, top);
-        let Laying::Done(b) = y else {
-            return Inputs::Full(i);
-        };
+    for i in 0..n {
+        let b = lay(line, index, state, next, cells, top).ok_or(i)?;
         next = b.next;
         top = b.used;
         put(roots, i as usize, top - 1);
-        i += 1;
     }
-    Inputs::Used(top)
+    Ok(top)
 }
 
-// Lays the values of an allowed line, and puts the cell of each input's among the channels' first; 20 where one's cells are not all
-// there.
+// Lays the values of an allowed line, and puts the cell of each input's among the channels' first. Answers how many cells are used then,
+// or the input whose cells are not all there.
 pub fn put_inputs(
     line: &[u8],
     index: &[u32; INDEX_WORDS],
@@ -242,14 +203,14 @@ pub fn put_inputs(
     roots: &mut [u32; CHANNELS_MOST],
     cells: u32,
     used: u32,
-) -> Inputs
+) -> Result<u32, u32>
     requires cells_in_bounds { state_length cells ≤ length state.old }
     requires used_le_cells { used ≤ cells }
     ensures { InputsLaid line.now index.now cells used state.old roots.old result state.new roots.new }
 {
     let size = line.len();
     if size == 0 {
-        return Inputs::Used(used);
+        return Ok(used);
     }
     lay_inputs(&line[..size - 1], index, state, roots, cells, used)
 }

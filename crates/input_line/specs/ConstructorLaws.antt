@@ -1,4 +1,8 @@
 -- A constructor behind its code, up to its fields, return by return.
+use Rattle.language.specs.declared.refusals.Refusal.{Refusal}
+use Rattle.language.specs.RefusalNumbers.{number_of}
+use Rattle.std.specs.Prelude.{Ok, Err, Option as Maybe, Some, None}
+use Rattle.std.specs.Result.{result_ok}
 use Rattle.std.specs.Prelude.{ℕ, ◌+◌, ◌-◌, ◌*◌, ◌/◌, ◌%◌, ◌≤◌, ◌<◌, List, Bool, length, get_or, ltb, eqb}
 use Rattle.std.proofs.Math.Bool.{true, false}
 use Rattle.std.proofs.Math.Path.{◌≡◌, refl, sym, ap}
@@ -17,9 +21,7 @@ use Rattle.language.specs.ReadExpr.{con_form}
 use Rattle.language.specs.Line.{value_trees, value_behind}
 use Rattle.theory.specs.Lists.{both-never}
 use Rattle.text.specs.declared.Found.{Found}
-use Rattle.text.specs.declared.Number.{Number}
-use Rattle.text.specs.declared.Number.TheVariants.{Is, Refused}
-use Rattle.text.specs.Bytes.{bytes_from, stopped, ReadsNumber, Below, declared_word}
+use Rattle.text.specs.Bytes.{Number, bytes_from, stopped, ReadsNumber, Below, declared_word}
 use Rattle.text.specs.StepLaws.{number-got, number-bad, number-moved, moved_on, moved-left}
 use Rattle.index.specs.Tables.{type_words}
 use Rattle.index.specs.Sections.{types_of}
@@ -67,7 +69,7 @@ no-size-unfit P (tnamed u k) (asks_named low small) e t c ws =
 -- ---- the returns
 con-wrong : {line index : List ℕ} {at word : ℕ} →
     ((text : List ℕ) (P : File) → Indexed text index P → (τ : Ty) → Asked (length P.types) τ → word ≡ declared_word τ → (inner : Parser Tree) → sized P τ (value_behind P inner con_form (bytes_from line at)) ≡ bad bad_input_line) →
-    ConstructorAt line index at word (Refused bad_input_line)
+    ConstructorAt line index at word None
 con-wrong wrong = record {
   wrong = λ e. wrong;
   found = λ e. absurd (let z : ◌≡◌ {A = ℕ} 0 1 = cc in omega arith);
@@ -76,18 +78,18 @@ con-wrong wrong = record {
   fewer = λ e. absurd (let z : ◌≡◌ {A = ℕ} 0 1 = cc in omega arith);
 }
 
-pub con-plain : (line index : List ℕ) (at word : ℕ) → word < tag_step → ConstructorAt line index at word (Refused bad_input_line)
+pub con-plain : (line index : List ℕ) (at word : ℕ) → word < tag_step → ConstructorAt line index at word None
 con-plain line index at word low = con-wrong (λ text P x τ a is inner. never-fits P τ inner (plain-unfit P τ (rw is at low)) (bytes_from line at))
 
-pub con-no-size : (line index : List ℕ) (at word : ℕ) {size : ℕ} → size ≡ word % tag_step → size ≡ 0 → ConstructorAt line index at word (Refused bad_input_line)
+pub con-no-size : (line index : List ℕ) (at word : ℕ) {size : ℕ} → size ≡ word % tag_step → size ≡ 0 → ConstructorAt line index at word None
 con-no-size line index at word e z = con-wrong (λ text P x τ a is inner. never-fits P τ inner (no-size-unfit P τ a (ap (λ n. n % tag_step) (sym is) ∙ sym e ∙ z)) (bytes_from line at))
 
 module _ (line index : List ℕ) (at word : ℕ) {x : Number} (v : ReadsNumber line at x (byte (bytes_from line at)) × Below byte_range x) where
-  pub con-no-type : {n : ℕ} → x ≡ Refused n → ConstructorAt line index at word (Refused bad_input_line)
+  pub con-no-type : {n : Refusal} → x ≡ Err n → ConstructorAt line index at word None
   unfolding value_behind index_read and_then
-  con-no-type {n} e = con-wrong (λ text P i τ a is inner. bad-sized P τ {n = n} (rw (number-bad v.0 e)))
+  con-no-type {n} e = con-wrong (λ text P i τ a is inner. bad-sized P τ {n = number_of n} (rw (number-bad v.0 e)))
 
-  module _ {f : Found} (e : x ≡ Is f) where
+  module _ {f : Found} (e : x ≡ Ok f) where
     -- the type is read, if the file has it
     behind-byte : (P : File) (inner : Parser Tree) → value_behind P inner con_form (bytes_from line at)
         ≡ and_then (must (ltb f.value (length P.types)) bad_index (return f.value) (bytes_from line f.next.at)) (behind_type P tbool inner)
@@ -107,7 +109,7 @@ module _ (line index : List ℕ) (at word : ℕ) {x : Number} (v : ReadsNumber l
       by-named text P named tint a is inner = absurd (omega arith)
       by-named text P named (tnamed u k) (asks_named low small) is inner = named u k low small is inner
 
-      pub con-other-type : ((f.value ≡ t) → ⊥) → ConstructorAt line index at word (Refused bad_input_line)
+      pub con-other-type : ((f.value ≡ t) → ⊥) → ConstructorAt line index at word None
       unfolding must and_then
       con-other-type ne = con-wrong (λ text P i. by-named text P (λ u k low small is inner. ap (sized P (tnamed u k)) (behind-byte P inner) ∙ cases P u k inner (λ q. ne (q ∙ sym (type_is u k small is))) (ltb f.value (length P.types))))
         where
@@ -126,13 +128,13 @@ module _ (line index : List ℕ) (at word : ℕ) {x : Number} (v : ReadsNumber l
         unfolding must and_then
         behind-type {P} i u low is inner = behind-byte P inner ∙ rw (same ∙ is, lt-ltb u (length P.types) low, ← (count-is i u low is))
 
-        pub con-none : {n : ℕ} → y ≡ Refused n → ConstructorAt line index at word (Refused bad_input_line)
+        pub con-none : {n : Refusal} → y ≡ Err n → ConstructorAt line index at word None
         unfolding and_then
-        con-none {n} none = con-wrong (λ text P i. by-named text P (λ u k low small is inner. bad-sized P (tnamed u k) {n = n} (behind-type i u low (type_is u k small is) inner ∙ rw (number-bad w.0 none))))
+        con-none {n} none = con-wrong (λ text P i. by-named text P (λ u k low small is inner. bad-sized P (tnamed u k) {n = number_of n} (behind-type i u low (type_is u k small is) inner ∙ rw (number-bad w.0 none))))
 
-        pub con-found : {g : Found} → {size : ℕ} → size ≡ word % tag_step → ((size ≡ 0) → ⊥) → y ≡ Is g → ConstructorAt line index at word y
+        pub con-found : {g : Found} → {size : ℕ} → size ≡ word % tag_step → ((size ≡ 0) → ⊥) → y ≡ Ok g → ConstructorAt line index at word (Some g)
         unfolding and_then
-        con-found {g} {size} sized-as some there = rw there (record {
+        con-found {g} {size} sized-as some there = record {
           wrong = λ r. absurd (let z : ◌≡◌ {A = ℕ} 0 1 = cc in omega arith);
           found = λ {f = h} r text P i u k low small is.
               let here : g ≡ h = cc in
@@ -144,4 +146,12 @@ module _ (line index : List ℕ) (at word : ℕ) {x : Number} (v : ReadsNumber l
           named = λ r. (high, omega (arith, some));
           on = moved_on (number-moved v.0 e) (number-moved w.0 there);
           fewer = λ {f = h} r. let here : g ≡ h = cc in rw (← here) (lt_of_le_of_lt (moved-left (number-moved w.0 there)) (omega (arith, byte-shorter (bytes_from line at) (number-got v.0 e))));
-        })
+        }
+
+        -- the constructor read is the answer
+        pub con-answer : {size : ℕ} → size ≡ word % tag_step → ((size ≡ 0) → ⊥) → (o : Maybe Found) → o ≡ result_ok y → ConstructorAt line index at word o
+        con-answer sized-as some o q = answers y refl q
+          where
+            answers : (z : Number) → y ≡ z → o ≡ result_ok z → ConstructorAt line index at word o
+            answers (Ok g) is q = rw q (con-found sized-as some is)
+            answers (Err n) is q = rw q (con-none is)

@@ -1,4 +1,6 @@
 -- The values of a line one after the other, and the bytes of a line, return by return.
+use Rattle.language.specs.declared.refusals.Refusal.{Refusal}
+use Rattle.std.specs.Prelude.{Ok, Err, Option as Maybe, Some, None}
 use Rattle.std.specs.Prelude.{ℕ, suc, ◌+◌, ◌-◌, ◌≤◌, ◌<◌, Bool, not, ◌≡◌, length, get_or, drop, ltb}
 use mathlib.Core.List.{List, [], ◌∷◌}
 use Rattle.std.proofs.Math.Bool.{true, false}
@@ -24,17 +26,14 @@ use Rattle.theory.specs.Places.{look_at, look-mapped}
 use Rattle.theory.specs.HeldChannels.{input_types}
 use Rattle.text.specs.declared.Cursor.{Cursor}
 use Rattle.text.specs.declared.Found.{Found}
-use Rattle.text.specs.declared.Number.{Number}
-use Rattle.text.specs.declared.Number.TheVariants.{Is, Refused}
-use Rattle.text.specs.declared.Step.TheVariants.{Next}
-use Rattle.text.specs.Bytes.{bytes_of, bytes_from, bytes_left, given, Moved, ReadsNumber, Below, declared_word}
+use Rattle.text.specs.Bytes.{Number, bytes_of, bytes_from, bytes_left, given, Moved, ReadsNumber, Below, declared_word}
 use Rattle.text.specs.Places.{bytes-start}
 use Rattle.text_lines.specs.Lines.{is_some}
 use Rattle.text.specs.StepLaws.{number-got, number-bad, number-moved, ends-within, moved_none, moved_on, moved-left}
 use Rattle.index.specs.Sections.{counts_in, channels_of}
 use Rattle.index.specs.Indexed.{Indexed, declared_at}
 use Rattle.index.specs.declared.Counts.{Counts}
-use Rattle.input_line.specs.Judges.{sized, Asked, asks_bool, asks_int, asks_named, Judges, InputsJudged}
+use Rattle.input_line.specs.Judges.{as_number, sized, Asked, asks_bool, asks_int, asks_named, Judges, InputsJudged}
 
 -- ---- so many values, each of its type, and no byte more
 abbrev all_fit : File → List Ty → Read (List Tree) → Bool
@@ -95,14 +94,14 @@ input-asked {text} {index} {P} x i less =
 
 -- ---- the loop: from the first value on, those left decide
 pub record InputsLeft (line index : List ℕ) (n : ℕ) (first : Cursor) (i : ℕ) (next : Cursor) : Type 0 where
-  pub on : Moved line first.at (Next next)
+  pub on : Moved line first.at (Ok next)
   pub says : (text : List ℕ) (P : File) → Indexed text index P → n ≡ length P.inputs → (m : ℕ) → bytes_left line first.at ≤ m →
       all_fit P (input_types P) (many (value_at m P) n (bytes_from line first.at)) ≡ all_fit P (drop i (input_types P)) (many (value_at m P) (n - i) (bytes_from line next.at))
 
-module _ {line index : List ℕ} {n i word : ℕ} {first next : Cursor} {y : Number} (v : InputsLeft line index n first i next) (less : i < n) (told : word ≡ declared_at (channels_of index) i)
+module _ {line index : List ℕ} {n i word : ℕ} {first next : Cursor} {y : Maybe Found} (v : InputsLeft line index n first i next) (less : i < n) (told : word ≡ declared_at (channels_of index) i)
     (u : Judges line index next.at word y (λ n P. value_at n P)) where
   next-input : (text : List ℕ) (P : File) → Indexed text index P → n ≡ length P.inputs → (m : ℕ) → bytes_left line first.at ≤ m →
-      all_fit P (input_types P) (many (value_at m P) n (bytes_from line first.at)) ≡ fit_then (given line y) (λ cs. all_fit P (drop (suc i) (input_types P)) (many (value_at m P) (n - suc i) cs))
+      all_fit P (input_types P) (many (value_at m P) n (bytes_from line first.at)) ≡ fit_then (given line (as_number y)) (λ cs. all_fit P (drop (suc i) (input_types P)) (many (value_at m P) (n - suc i) cs))
   next-input text P x count m enough =
       let a = input-asked x i (omega arith) in
       let there : i < length (input_types P) = omega (arith, length-map P.inputs (λ (a : Input). a.declared)) in
@@ -111,7 +110,7 @@ module _ {line index : List ℕ} {n i word : ℕ} {first next : Cursor} {y : Num
       v.says text P x count m enough ∙ rw (drop-cons (input_types P) i tbool there, one) (fit-step P (get_or (input_types P) i tbool) (drop (suc i) (input_types P)) (value_at m P) (n - suc i) (bytes_from line next.at))
       ∙ ap (λ z. fit_then z (λ cs. all_fit P (drop (suc i) (input_types P)) (many (value_at m P) (n - suc i) cs))) (sym read)
 
-  pub inputs_on : {g : Found} → y ≡ Is g → InputsLeft line index n first (i + 1) g.next
+  pub inputs_on : {g : Found} → y ≡ Some g → InputsLeft line index n first (i + 1) g.next
   unfolding given fit_then
   inputs_on e = record { on = moved_on v.on (rw e at u.on); says = λ text P x count m enough. rw add-one (rw e at (next-input text P x count m enough)) }
 
@@ -126,15 +125,15 @@ unfolding byte
 first_byte [] e = absurd (let z : ◌≡◌ {A = ℕ} 0 1 = cc in omega arith)
 first_byte {b} {cs} (a ∷ bs) e = let head : a ≡ b = cc in let tail : bs ≡ cs = cc in rw (head, tail)
 
-pub bytes-are : (line : List ℕ) {x : Number} {f : Found} → ReadsNumber line 0 x (byte (bytes_from line 0)) × Below byte_range x → x ≡ Is f → bytes_of line ≡ f.value ∷ bytes_from line f.next.at
+pub bytes-are : (line : List ℕ) {x : Number} {f : Found} → ReadsNumber line 0 x (byte (bytes_from line 0)) × Below byte_range x → x ≡ Ok f → bytes_of line ≡ f.value ∷ bytes_from line f.next.at
 bytes-are line v e = sym (bytes-start line) ∙ first_byte (bytes_from line 0) (number-got v.0 e)
 
 module _ (line index : List ℕ) {x : Number} (v : ReadsNumber line 0 x (byte (bytes_from line 0)) × Below byte_range x) where
-  pub inputs-empty : {n : ℕ} → x ≡ Refused n → InputsJudged line index false
+  pub inputs-empty : {n : Refusal} → x ≡ Err n → InputsJudged line index false
   unfolding input_trees chain is_some
   inputs-empty e = record { says = λ text P i. let none-there : bytes_of line ≡ [] = sym (bytes-start line) ∙ no_bytes (bytes_from line 0) (number-bad v.0 e) in rw none-there }
 
-  module _ {f : Found} (e : x ≡ Is f) where
+  module _ {f : Found} (e : x ≡ Ok f) where
     pub inputs-other : ((f.value ≡ kind_input_line) → ⊥) → InputsJudged line index false
     unfolding input_trees chain when is_some
     inputs-other ne = record { says = λ text P i. rw (bytes-are line v e, ne_eqb f.value kind_input_line ne) }
@@ -152,8 +151,8 @@ module _ (line index : List ℕ) {x : Number} (v : ReadsNumber line 0 x (byte (b
       unfolding input_trees chain when
       values-are text P i = rw (bytes-are line v e, eq-eqb f.value kind_input_line kind, i.counted.input_count, told)
 
-      pub inputs-stop : {i word q : ℕ} {next : Cursor} {y : Number} → InputsLeft line index counts.inputs f.next i next → i < counts.inputs → word ≡ declared_at (channels_of index) i →
-          Judges line index next.at word y (λ n P. value_at n P) → y ≡ Refused q → InputsJudged line index false
+      pub inputs-stop : {i word : ℕ} {next : Cursor} {y : Maybe Found} → InputsLeft line index counts.inputs f.next i next → i < counts.inputs → word ≡ declared_at (channels_of index) i →
+          Judges line index next.at word y (λ n P. value_at n P) → y ≡ None → InputsJudged line index false
       unfolding given fit_then
       inputs-stop w less said u refused = record { says = λ text P i. sym (values-are text P i ∙ rw refused at (next-input w less said u text P i (inputs-counted i told) (bytes_left line f.next.at) (le_refl _))) }
 

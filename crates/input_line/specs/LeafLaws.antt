@@ -1,4 +1,6 @@
 -- A Bool and an Int behind their codes, return by return; and the other forms, which no value has.
+use Rattle.language.specs.declared.refusals.Refusal.{Refusal}
+use Rattle.std.specs.Prelude.{Ok, Err, Some, None}
 use Rattle.std.specs.Prelude.{ℕ, ◌<◌, List, Bool, ◌≡◌, length, get_or}
 use Rattle.std.proofs.Math.Bool.{false}
 use Rattle.std.proofs.Math.Path.{refl, sym}
@@ -20,12 +22,8 @@ use Rattle.theory.specs.Exact.{Starts}
 use Rattle.theory.specs.ExactLeaves.{int-exact}
 use Rattle.theory.specs.Places.{look_at}
 use Rattle.text.specs.declared.Found.{Found}
-use Rattle.text.specs.declared.Number.{Number}
-use Rattle.text.specs.declared.Number.TheVariants.{Is, Refused}
 use Rattle.text.specs.declared.Cursor.{Cursor}
-use Rattle.text.specs.declared.Step.{Step}
-use Rattle.text.specs.declared.Step.TheVariants.{Next, Stop}
-use Rattle.text.specs.Bytes.{bytes_from, given, forget, stopped, ReadsNumber, Passes, Below, below, no_number, declared_word}
+use Rattle.text.specs.Bytes.{Number, Step, bytes_from, given, forget, stopped, ReadsNumber, Passes, Below, below, no_number, declared_word}
 use Rattle.text.specs.Places.{from-small}
 use Rattle.text.specs.Codes.{code_place}
 use Rattle.text.specs.CodeLaws.{code-then, code-stops, code_below}
@@ -69,7 +67,7 @@ int_small line at e = int-least (int-exact.forth.reads (bytes_from line at) (fro
 
 module _ (line : List ℕ) (at word : ℕ) where
   -- ---- a Bool
-  pub bool-unwanted : ((word ≡ field_bool) → ⊥) → LeafJudged line at word bool_form (Refused bad_input_line)
+  pub bool-unwanted : ((word ≡ field_bool) → ⊥) → LeafJudged line at word bool_form None
   unfolding value_behind given
   bool-unwanted ne = record {
     says = λ P inner τ is. sym (never-sized P τ (code bool_first bools (bytes_from line at)) (λ b bs. got (vleaf (kbool b)) bs) (bool-sized P τ (λ e. ne (is ∙ e))));
@@ -78,7 +76,7 @@ module _ (line : List ℕ) (at word : ℕ) where
   }
 
   module _ {x : Number} (v : ReadsNumber line at x (code_place bool_first (length bools) (bytes_from line at)) × Below byte_range x) where
-    pub bool-none : {n : ℕ} → x ≡ Refused n → LeafJudged line at word bool_form (Refused bad_input_line)
+    pub bool-none : {n : Refusal} → x ≡ Err n → LeafJudged line at word bool_form None
     unfolding value_behind given
     bool-none e = record {
       says = λ P inner τ is. sym (bad-sized P τ (code-stops bool_first bools (λ b bs. got (vleaf (kbool b)) bs) v.0 e));
@@ -86,7 +84,7 @@ module _ (line : List ℕ) (at word : ℕ) where
       none = no_number;
     }
 
-    pub bool-read : {f : Found} → word ≡ field_bool → x ≡ Is f → LeafJudged line at word bool_form (Is (record { value = 0; next = f.next }))
+    pub bool-read : {f : Found} → word ≡ field_bool → x ≡ Ok f → LeafJudged line at word bool_form (Some (record { value = 0; next = f.next }))
     unfolding value_behind given sized fits constant_fits tree_size choose
     bool-read {f} is-bool e = record {
       says = λ P inner τ is.
@@ -98,7 +96,7 @@ module _ (line : List ℕ) (at word : ℕ) where
     }
 
   -- ---- an Int
-  pub int-unwanted : ((word ≡ field_int) → ⊥) → LeafJudged line at word int_form (Refused bad_input_line)
+  pub int-unwanted : ((word ≡ field_int) → ⊥) → LeafJudged line at word int_form None
   unfolding value_behind given
   int-unwanted ne = record {
     says = λ P inner τ is. sym (never-sized P τ (int (bytes_from line at)) (λ n bs. got (vleaf (kint n)) bs) (int-sized P τ (λ e. ne (is ∙ e))));
@@ -107,7 +105,7 @@ module _ (line : List ℕ) (at word : ℕ) where
   }
 
   module _ {x : Step} (v : Passes line at x (forget (int (bytes_from line at)))) where
-    pub int-none : {n : ℕ} → x ≡ Stop n → LeafJudged line at word int_form (Refused bad_input_line)
+    pub int-none : {n : Refusal} → x ≡ Err n → LeafJudged line at word int_form None
     unfolding value_behind given and_then
     int-none e = record {
       says = λ P inner τ is. sym (bad-sized P τ (ap (λ y. and_then y (λ n bs. got (vleaf (kint n)) bs)) (pass-bad {y = int (bytes_from line at)} v e)));
@@ -115,7 +113,7 @@ module _ (line : List ℕ) (at word : ℕ) where
       none = no_number;
     }
 
-    pub int-read : {c : Cursor} → word ≡ field_int → x ≡ Next c → LeafJudged line at word int_form (Is (record { value = 0; next = c }))
+    pub int-read : {c : Cursor} → word ≡ field_int → x ≡ Ok c → LeafJudged line at word int_form (Some (record { value = 0; next = c }))
     unfolding value_behind given and_then sized fits constant_fits tree_size choose
     int-read {c} is-int e = record {
       says = λ P inner τ is.

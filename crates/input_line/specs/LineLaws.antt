@@ -1,4 +1,5 @@
 -- A text as one line with its LF, and nothing behind it, return by return.
+use Rattle.std.specs.Prelude.{Some, None}
 use Prim.Native.Nat.{ℕ, suc, ◌+◌, ◌-◌, ◌<◌}
 use mathlib.Core.List.{List, [], ◌∷◌}
 use Rattle.std.specs.Prelude.{Bool, eqb}
@@ -16,8 +17,7 @@ use Rattle.language.specs.Heap.{Tree}
 use Rattle.language.specs.Text.{Lines, lines_of, longer, line_bytes}
 use Rattle.language.specs.Line.{input_trees, trees_fit, one_line_of, line_trees}
 use Rattle.theory.specs.HeldChannels.{input_types}
-use Rattle.text_lines.specs.declared.LineEnd.{LineEnd}
-use Rattle.text_lines.specs.declared.LineEnd.TheVariants.{At, Bad}
+use Rattle.text_lines.specs.Lines.{LineEnd}
 use Rattle.text.specs.Bytes.{bytes_of}
 use Rattle.text_lines.specs.Lines.{is_some, first_line, line_end}
 use Rattle.text_lines.specs.LinesEnd.{behind, first-line-ended, first-line-last}
@@ -58,7 +58,7 @@ lines-read : (P : File) (line : List ℕ) {ls : Lines} → lines_of line ≡ ls 
 unfolding line_trees
 lines-read P line e = rw e
 
-module _ (line : List ℕ) {x : LineEnd} {end : ℕ} (v : x ≡ line_end line 0) (q : x ≡ At end) where
+module _ (line : List ℕ) {x : LineEnd} {end : ℕ} (v : x ≡ line_end line 0) (q : x ≡ Some end) where
   pub line-room : end < length line
   line-room = (line-ended line 0 v q).less
 
@@ -78,17 +78,17 @@ module _ (line : List ℕ) {x : LineEnd} {end : ℕ} (v : x ≡ line_end line 0)
       lines-read P line lines_are ∙ rw (none-there, h.spelled, part-is, line-bytes-read (first_line line) h.frame h.spelled)
 
 module _ (line index : List ℕ) {x : LineEnd} (v : x ≡ line_end line 0) where
-  pub line-bad : x ≡ Bad → LineJudged line index false
+  pub line-bad : x ≡ None → LineJudged line index false
   unfolding line_end line_trees both choose is_some chain one_line_of
   line-bad q = record { says = λ text P i. go P (ltb (length (first_line line)) (length line)) (line_bytes (first_line line)) refl refl (sym v ∙ q) }
     where
-      go : (P : File) (a : Bool) (o : Option (List ℕ)) → ltb (length (first_line line)) (length line) ≡ a → line_bytes (first_line line) ≡ o → choose (both a (is_some o)) (At (0 + length (first_line line))) Bad ≡ Bad → false ≡ is_some (line_trees P line)
+      go : (P : File) (a : Bool) (o : Option (List ℕ)) → ltb (length (first_line line)) (length line) ≡ a → line_bytes (first_line line) ≡ o → choose (both a (is_some o)) (Some (0 + length (first_line line))) None ≡ None → false ≡ is_some (line_trees P line)
       go P true (some bs) p o e = absurd (let z : ◌≡◌ {A = ℕ} 0 1 = cc in omega arith)
       go P true none p o e = sym (ap is_some (lines-read P line (first-line-ended line (ltb-true (length (first_line line)) (length line) p))
           ∙ first-decides (first_line line) (lines_of (behind line)).ended (lines_of (behind line)).rest (trees_of P) (rw o)))
       go P false o p q e = sym (ap is_some (lines-read P line (first-line-last line (ltb-false (length (first_line line)) (length line) p))))
 
-  module _ {end : ℕ} (q : x ≡ At end) where
+  module _ {end : ℕ} (q : x ≡ Some end) where
     pub line-longer : ((length line - end ≡ 1) → ⊥) → LineJudged line index false
     unfolding line_trees chain is_some
     line-longer more = let h = line-ended line 0 v q in

@@ -14,10 +14,9 @@ use language::codes::{
     BOOL_FIRST, BOOLS, EXPR_BOOL, EXPR_CONSTRUCT, EXPR_FIRST, EXPR_FORMS, EXPR_INT, FIELD_BOOL,
     FIELD_INT, KIND_INPUT_LINE,
 };
-use language::refusals::BAD_INPUT_LINE;
 use state_words::tags::{CONSTRUCTOR_TAGS, tag_type, word_size};
-use text::{Cursor, Found, Number, Step};
-use text_lines::{LineEnd, line_end};
+use text::{Cursor, Found};
+use text_lines::line_end;
 
 // The forms of a value, counted from the first code of an expression.
 pub const BOOL: u32 = EXPR_BOOL - EXPR_FIRST;
@@ -29,66 +28,50 @@ pub const CONSTRUCT: u32 = EXPR_CONSTRUCT - EXPR_FIRST;
 // The size of a Bool or an Int.
 pub const NO_SIZE: u32 = 0;
 
-// What stands behind the code of a Bool, where a Bool is wanted: its size, or 19.
-fn bool_behind(line: &[u8], c: Cursor, word: u32) -> Number
+// What stands behind the code of a Bool, where a Bool is wanted: its size.
+fn bool_behind(line: &[u8], c: Cursor, word: u32) -> Option<Found>
     ensures { LeafJudged line.now c.at word bool_form result }
 {
     if word != FIELD_BOOL {
-        return Number::Refused(BAD_INPUT_LINE);
+        return None;
     }
-    let x = c.code(line, BOOL_FIRST, BOOLS);
-    let Number::Is(f) = x else {
-        return Number::Refused(BAD_INPUT_LINE);
-    };
-    let next = f.next;
-    Number::Is(Found {
+    let f = c.code(line, BOOL_FIRST, BOOLS).ok()?;
+    Some(Found {
         value: NO_SIZE,
-        next: next,
+        next: f.next,
     })
 }
 
 // The same of an Int.
-fn int_behind(line: &[u8], c: Cursor, word: u32) -> Number
+fn int_behind(line: &[u8], c: Cursor, word: u32) -> Option<Found>
     ensures { LeafJudged line.now c.at word int_form result }
 {
     if word != FIELD_INT {
-        return Number::Refused(BAD_INPUT_LINE);
+        return None;
     }
-    let x = c.past_int(line);
-    let Step::Next(next) = x else {
-        return Number::Refused(BAD_INPUT_LINE);
-    };
-    Number::Is(Found {
+    let next = c.past_int(line).ok()?;
+    Some(Found {
         value: NO_SIZE,
-        next: next,
+        next,
     })
 }
 
-// The constructor behind its code, where one of its type and of some size is wanted; 19 where another is there.
-fn constructor_at(line: &[u8], index: &[u32; INDEX_WORDS], c: Cursor, word: u32) -> Number
+// The constructor behind its code, where one of its type and of some size is wanted.
+fn constructor_at(line: &[u8], index: &[u32; INDEX_WORDS], c: Cursor, word: u32) -> Option<Found>
     ensures { ConstructorAt line.now index.now c.at word result }
 {
     if word < CONSTRUCTOR_TAGS {
-        return Number::Refused(BAD_INPUT_LINE);
+        return None;
     }
     if word_size(word) == 0 {
-        return Number::Refused(BAD_INPUT_LINE);
+        return None;
     }
-    let x = c.byte(line);
-    let Number::Is(f) = x else {
-        return Number::Refused(BAD_INPUT_LINE);
-    };
+    let f = c.byte(line).ok()?;
     let t = tag_type(word);
     if f.value != t {
-        return Number::Refused(BAD_INPUT_LINE);
+        return None;
     }
-    let second = f.next;
-    let count = constructors(index, t);
-    let y = second.index(line, count);
-    let Number::Is(_) = y else {
-        return Number::Refused(BAD_INPUT_LINE);
-    };
-    y
+    f.next.index(line, constructors(index, t)).ok()
 }
 
 // The word of the type that a field has: its own type's is the constructor's, less the size found so far.
@@ -96,78 +79,55 @@ fn wanted(kind: u32, word: u32, size: u32) -> u32
     requires { size ≤ word }
     ensures { result ≡ wanted_word kind word size }
 {
-    if kind == OWN_FIELD {
-        return word - size;
-    }
-    kind
+    if kind == OWN_FIELD { word - size } else { kind }
 }
 
 // What a field of some size adds to its constructor's.
 pub fn own_part(kind: u32, size: u32) -> u32
     ensures { result ≡ own_part kind size }
 {
-    if kind == OWN_FIELD {
-        return size;
-    }
-    0
+    if kind == OWN_FIELD { size } else { 0 }
 }
 
-// A value of the type that a word stands for: its size and the place behind it, or 19.
-#[cycle(construct_value)]
-fn value(line: &[u8], index: &[u32; INDEX_WORDS], c: Cursor, word: u32) -> Number
+// A value of the type that a word stands for: its size and the place behind it.
+#[cycle(value)]
+fn value(line: &[u8], index: &[u32; INDEX_WORDS], c: Cursor, word: u32) -> Option<Found>
     ensures { Judges line.now index.now c.at word result (λ n P. value_at n P) }
 {
-    let x = c.code(line, EXPR_FIRST, EXPR_FORMS);
-    let Number::Is(f) = x else {
-        return Number::Refused(BAD_INPUT_LINE);
-    };
-    let form = f.value;
-    let next = f.next;
-    match form {
-        BOOL => bool_behind(line, next, word),
-        INT => int_behind(line, next, word),
-        CONSTRUCT => construct(line, index, next, word),
-        _ => Number::Refused(BAD_INPUT_LINE),
+    let f = c.code(line, EXPR_FIRST, EXPR_FORMS).ok()?;
+    match f.value {
+        BOOL => bool_behind(line, f.next, word),
+        INT => int_behind(line, f.next, word),
+        CONSTRUCT => construct(line, index, f.next, word),
+        _ => None,
     }
 }
 
 // What stands behind the code of a constructor: each field is of its type, those of the type itself within what is left of its size.
-#[cycle(construct_value)]
-fn construct(line: &[u8], index: &[u32; INDEX_WORDS], c: Cursor, word: u32) -> Number
+#[cycle(value)]
+fn construct(line: &[u8], index: &[u32; INDEX_WORDS], c: Cursor, word: u32) -> Option<Found>
     ensures { Judges line.now index.now c.at word result (λ n P. value_behind P (value_at n P) con_form) }
 {
-    let x = constructor_at(line, index, c, word);
-    let Number::Is(f) = x else {
-        return Number::Refused(BAD_INPUT_LINE);
-    };
+    let f = constructor_at(line, index, c, word)?;
     let t = tag_type(word);
     let constructor = f.value;
     let n = fields(index, t, constructor);
     let mut next = f.next;
     let mut size: u32 = 1;
-    let mut j: u32 = 0;
-    while j < n {
+    for j in 0..n {
         let kind = field_word(index, t, constructor, j);
-        let y = value(line, index, next, wanted(kind, word, size));
-        let Number::Is(g) = y else {
-            return Number::Refused(BAD_INPUT_LINE);
-        };
+        let g = value(line, index, next, wanted(kind, word, size))?;
         next = g.next;
         size += own_part(kind, g.value);
-        j += 1;
     }
-    Number::Is(Found {
-        value: size,
-        next: next,
-    })
+    Some(Found { value: size, next })
 }
 
 // Whether the bytes of a line are its kind and a value for each input, of its declared type, and no more.
 fn inputs_fit(line: &[u8], index: &[u32; INDEX_WORDS]) -> bool
     ensures { InputsJudged line.now index.now result }
 {
-    let x = Cursor { at: 0 }.byte(line);
-    let Number::Is(f) = x else {
+    let Ok(f) = Cursor { at: 0 }.byte(line) else {
         return false;
     };
     if f.value != KIND_INPUT_LINE {
@@ -176,14 +136,11 @@ fn inputs_fit(line: &[u8], index: &[u32; INDEX_WORDS]) -> bool
     let counts = frame_counts(index);
     let n = counts.inputs;
     let mut next = f.next;
-    let mut i: u32 = 0;
-    while i < n {
-        let y = value(line, index, next, declared_word(index, i));
-        let Number::Is(g) = y else {
+    for i in 0..n {
+        let Some(g) = value(line, index, next, declared_word(index, i)) else {
             return false;
         };
         next = g.next;
-        i += 1;
     }
     !next.more(line)
 }
@@ -192,8 +149,7 @@ fn inputs_fit(line: &[u8], index: &[u32; INDEX_WORDS]) -> bool
 pub fn allowed_line(line: &[u8], index: &[u32; INDEX_WORDS]) -> bool
     ensures { LineJudged line.now index.now result }
 {
-    let x = line_end(line, 0);
-    let LineEnd::At(end) = x else {
+    let Some(end) = line_end(line, 0) else {
         return false;
     };
     if line.len() - end != 1 {

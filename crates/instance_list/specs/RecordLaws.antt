@@ -1,12 +1,13 @@
 -- Sizes read and compared one by one; records looked up one after the other.
-use Rattle.std.specs.Prelude.{ℕ, zero, suc, ◌+◌, ◌*◌, ◌≤◌, ◌<◌, Bool, true, false, ◌≡◌, refl, length, get_or, set, eqb}
+use Rattle.std.specs.Prelude.{ℕ, zero, suc, ◌+◌, ◌*◌, ◌≤◌, ◌<◌, Bool, true, false, ◌≡◌, refl, length, get_or, eqb}
 use mathlib.Core.List.{List, [], ◌∷◌, map}
+use lib.Pointwise.{pointwise}
 use Rattle.std.proofs.Math.Option.{some}
 use Rattle.std.proofs.Math.Path.{sym, ap}
-use Rattle.std.proofs.Common.{◌∙◌, add-one, arith, length-set, get_or-set_same, get_or-set_other, get_or-drop, ext_get_or}
+use Rattle.std.proofs.Common.{◌∙◌, add-one, arith, get_or-drop, ext_get_or}
 use Rattle.std.proofs.Math.ListN.{drop}
 use Rattle.std.proofs.Math.Seq.{drop-cons, drop-length}
-use borrow.Author.Tests.{eqb-true, eqb-false, eq-eqb, ne_eqb, le-leb, lt-leb}
+use borrow.Author.Tests.{le-leb, lt-leb}
 use Rattle.language.specs.Limits.{parameters_most, instances_most}
 use Rattle.language.specs.Result.{both, choose}
 use Rattle.language.specs.Sizes.{same_sizes}
@@ -23,16 +24,6 @@ pub record ReadBefore (words : List ℕ) (from j : ℕ) (sizes : List ℕ) : Typ
   pub says : (k : ℕ) → k < j → get_or sizes k 0 ≡ get_or words (from + k) 0
 
 module _ {words : List ℕ} {from : ℕ} where
-  pub read-start : {sizes : List ℕ} → length sizes ≡ parameters_most → ReadBefore words from 0 sizes
-  read-start e = record { long = e; says = λ k h. absurd (omega arith) }
-
-  pub read-on : {sizes : List ℕ} {j w : ℕ} → ReadBefore words from j sizes → j < parameters_most → w ≡ get_or words (from + j) 0 → ReadBefore words from (j + 1) (set sizes j w)
-  read-on {sizes} {j} {w} v h e = record { long = length-set sizes j w ∙ v.long; says = λ k less. go k less (eqb k j) refl }
-    where
-      go : (k : ℕ) → k < j + 1 → (b : Bool) → eqb k j ≡ b → get_or (set sizes j w) k 0 ≡ get_or words (from + k) 0
-      go k less true t = let same : k ≡ j = eqb-true k j t in rw same (get_or-set_same sizes j w 0 (omega (arith, v.long)) ∙ e)
-      go k less false t = let other : k ≡ j → ⊥ = eqb-false k j t in get_or-set_other sizes j k w 0 other ∙ v.says k (omega arith)
-
   pub read-end : {sizes : List ℕ} {j : ℕ} → ReadBefore words from j sizes → parameters_most ≤ j → sizes ≡ sizes_from words from
   read-end {sizes} v ge =
       ext_get_or 0 sizes (sizes_from words from) (v.long ∙ sym (padded-length parameters_most (drop from words)))
@@ -49,38 +40,13 @@ pub record-here : (words : List ℕ) (i : ℕ) {sizes : List ℕ} {function envi
 unfolding record_at choose
 record-here words i h f s e p t = rw (lt-leb _ _ h) (λ k. record { function = f k; sizes = s k; environment = e k; heap = p k; stack = t k })
 
--- ---- two rows of sizes: from i on they are the same exactly where all are
-pub record Compares (a b : List ℕ) (i : ℕ) : Type 0 where
-  pub first_long : length a ≡ parameters_most
-  pub second_long : length b ≡ parameters_most
-  pub low : i ≤ parameters_most
-  pub rest : same_sizes a b ≡ same_sizes (drop i a) (drop i b)
-
-module _ {a b : List ℕ} where
-  pub compare-start : length a ≡ parameters_most → length b ≡ parameters_most → Compares a b 0
-  compare-start p q = record { first_long = p; second_long = q; low = omega arith; rest = refl }
-
-  module _ {i : ℕ} (v : Compares a b i) where
-    pub compare-other : i < parameters_most → (get_or a i 0 ≡ get_or b i 0 → ⊥) → false ≡ same_sizes a b
-    unfolding same_sizes both
-    compare-other h n = sym (v.rest ∙ rw (drop-cons a i 0 (omega (arith, v.first_long)), drop-cons b i 0 (omega (arith, v.second_long)), ne_eqb _ _ n))
-
-    pub compare-on : i < parameters_most → get_or a i 0 ≡ get_or b i 0 → Compares a b (i + 1)
-    unfolding same_sizes both
-    compare-on h e = record {
-      first_long = v.first_long;
-      second_long = v.second_long;
-      low = omega arith;
-      rest = v.rest ∙ rw (add-one, drop-cons a i 0 (omega (arith, v.first_long)), drop-cons b i 0 (omega (arith, v.second_long)), eq-eqb _ _ e);
-    }
-
-    pub compare-end : parameters_most ≤ i → true ≡ same_sizes a b
-    unfolding same_sizes
-    compare-end ge =
-        let at : i ≡ parameters_most = omega (arith, v.low) in
-        let x : drop i a ≡ [] = ap (λ n. drop n a) (at ∙ sym v.first_long) ∙ drop-length a in
-        let y : drop i b ≡ [] = ap (λ n. drop n b) (at ∙ sym v.second_long) ∙ drop-length b in
-        sym (v.rest ∙ rw (x, y))
+-- ---- two rows of sizes
+pub sizes-tested : (a b : List ℕ) → pointwise eqb a b ≡ same_sizes a b
+unfolding same_sizes both
+sizes-tested [] [] = refl
+sizes-tested [] (y ∷ b) = refl
+sizes-tested (x ∷ a) [] = refl
+sizes-tested (x ∷ a) (y ∷ b) = ap (both (eqb x y)) (sizes-tested a b)
 
 -- ---- looking up: what is found from i on
 abbrev pub From : List Instance → Instance → ℕ → Type 0

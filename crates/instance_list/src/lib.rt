@@ -3,7 +3,6 @@
 #![tactic(auto)]
 
 ghost use Rattle.std.specs.Prelude.{◌≡◌, ◌^◌, ◌<◌, length, set, replicate};
-ghost use Rattle.language.specs.Sizes.{same_sizes};
 ghost use Rattle.instance_list.specs.Records.{none, records_words, used_in, sizes_from, record_at, filled, same_key, FindsPlace};
 
 use index::{put, word_at};
@@ -60,10 +59,8 @@ fn sizes_at(words: &[u32], from: usize) -> [u32; PARAMETERS_MOST]
     ensures { result ≡ sizes_from words.now from }
 {
     let mut sizes = [0u32; PARAMETERS_MOST];
-    let mut j: usize = 0;
-    while j < PARAMETERS_MOST {
+    for j in 0..PARAMETERS_MOST {
         sizes[j] = word_at(words, from + j);
-        j += 1;
     }
     sizes
 }
@@ -83,11 +80,11 @@ fn record_at(words: &[u32], i: usize) -> Instance
     let heap = word_at(words, numbers + HEAP_WORD);
     let stack = word_at(words, numbers + STACK_WORD);
     Instance {
-        function: function,
-        sizes: sizes,
-        environment: environment,
-        heap: heap,
-        stack: stack,
+        function,
+        sizes,
+        environment,
+        heap,
+        stack,
     }
 }
 
@@ -104,12 +101,7 @@ pub fn add(list: &mut [Instance], used: usize, r: Instance)
 pub fn clear(list: &mut [Instance])
     ensures { list.new ≡ replicate (length list.old) none }
 {
-    let mut i = 0;
-    while i < list.len() {
-        let r = empty();
-        list[i] = r;
-        i += 1;
-    }
+    list.fill(empty());
 }
 
 // The list as the words keep it, and empty records behind those in use.
@@ -118,51 +110,27 @@ pub fn fill(words: &[u32], list: &mut [Instance])
 {
     clear(list);
     let used = used_in(words);
-    let mut i = 0;
-    while i < used {
+    for i in 0..used {
         let r = record_at(words, i);
         add(list, i, r);
-        i += 1;
     }
-}
-
-// Whether two rows of sizes are the same.
-fn same_sizes(a: [u32; PARAMETERS_MOST], b: [u32; PARAMETERS_MOST]) -> bool
-    ensures { result ≡ same_sizes a b }
-{
-    let mut j: usize = 0;
-    while j < PARAMETERS_MOST {
-        if a[j] != b[j] {
-            return false;
-        }
-        j += 1;
-    }
-    true
 }
 
 // Whether two records are of one function at the same sizes.
 fn same(r: Instance, key: Instance) -> bool
     ensures { result ≡ same_key r key }
 {
-    if r.function != key.function {
-        return false;
-    }
-    let a = r.sizes;
-    let b = key.sizes;
-    same_sizes(a, b)
+    r.function == key.function && r.sizes == key.sizes
 }
 
-// The place of the first record that has the key's function and sizes, or the length.
+// The place of the first record that has the key's function and sizes, or the length: a number, since the C interface answers one.
 pub fn find(list: &[Instance], key: Instance) -> usize
     ensures { FindsPlace list.now key result }
 {
-    let mut i = 0;
-    while i < list.len() {
-        let r = list[i];
-        if same(r, key) {
-            break;
+    for (i, r) in list.iter().enumerate() {
+        if same(*r, key) {
+            return i;
         }
-        i += 1;
     }
-    i
+    list.len()
 }

@@ -1,5 +1,5 @@
 -- Looking an instance up: comparing sizes, comparing a record, one record after the other, the record that a hint names first.
-use Rattle.std.specs.Prelude.{ℕ, zero, suc, ◌+◌, ◌-◌, ◌*◌, ◌≤◌, ◌<◌, Bool, true, false, ◌≡◌, refl, length, get_or, take, drop, eqb}
+use Rattle.std.specs.Prelude.{ℕ, zero, suc, ◌+◌, ◌-◌, ◌*◌, ◌≤◌, ◌<◌, Bool, true, false, ◌≡◌, refl, length, get_or, take, drop, eqb, Some, None}
 use mathlib.Core.List.{List, [], ◌∷◌, Memᴰ as In}
 use Rattle.std.proofs.Math.Option.{some}
 use Rattle.std.proofs.Math.Path.{sym, ap}
@@ -21,7 +21,6 @@ use Rattle.theory.specs.InstanceList.{key-stands}
 use Rattle.theory.specs.Padding.{padded-length, padded-front}
 use Rattle.index.specs.Padded.{padded-at}
 use Rattle.estimate.specs.declared.Estimate.{Estimate as Held}
-use Rattle.instances.specs.declared.Search.TheVariants.{Found, Absent}
 use Rattle.instances.specs.Listed.{instance_words_count, numbers_from, Listed, SizesAre, SameArity, Agrees, found, absent, Finds}
 use Rattle.instances.specs.Matches.{Compared, all_same, one_other, no_instance, at, Matches, Numbers}
 use Rattle.instances.specs.ListLaws.{function-word, size_word, number_word}
@@ -75,10 +74,6 @@ module _ {words : List ℕ} {i : ℕ} {sizes : List ℕ} (L : List Instance) (ks
       false_of _ (λ t. other (size-here j less ∙ ap (λ (l : List ℕ). get_or (padded parameters_most l) j 0) (same-sizes (at L i).sizes ks t) ∙ sym (size-asked j less)))
 
 module _ {words : List ℕ} {i f : ℕ} {sizes : List ℕ} where
-  -- a record of the list is within its words
-  pub beyond-words : length words < instance_words_count * i + instance_words_count → Matches words i f sizes false
-  beyond-words short = record { says = λ L ks v h s a. absurd (omega (arith, v.room)) }
-
   pub other-function : (get_or words (instance_words_count * i) 0 ≡ f → ⊥) → Matches words i f sizes false
   unfolding both
   other-function other = record { says = λ L ks v h s a. rw (ne_eqb (at L i).function f (λ e. other (function-word L v i h ∙ e))) }
@@ -111,7 +106,7 @@ unfolding find
 find-later f ks q L e = rw (e, find)
 
 -- the record at a place is the instance that is found
-found_at : {f : ℕ} {ks : List ℕ} (L : List Instance) (i : ℕ) → i < length L → both (eqb (at L i).function f) (same_sizes (at L i).sizes ks) ≡ true → find L f ks ≡ some (at L i).numbers → Agrees L f ks (Found i)
+found_at : {f : ℕ} {ks : List ℕ} (L : List Instance) (i : ℕ) → i < length L → both (eqb (at L i).function f) (same_sizes (at L i).sizes ks) ≡ true → find L f ks ≡ some (at L i).numbers → Agrees L f ks (Some i)
 found_at {f} {ks} L i h e is = found (look_at L i no_instance h) (eqb-true (at L i).function f (both_left _ _ e)) (same-sizes (at L i).sizes ks (both_right _ _ e)) is
 
 module _ {words : List ℕ} {used f : ℕ} {sizes : List ℕ} where
@@ -119,7 +114,7 @@ module _ {words : List ℕ} {used f : ℕ} {sizes : List ℕ} where
   passed_start = record { says = λ L ks v u s a. refl }
 
   module _ {i : ℕ} (p : Passed words used f sizes i) where
-    pub passed-found : {r : Bool} → i < used → Matches words i f sizes r → r ≡ true → Finds words used f sizes (Found i)
+    pub passed-found : {r : Bool} → i < used → Matches words i f sizes r → r ≡ true → Finds words used f sizes (Some i)
     passed-found less m e = record {
       says = λ L ks v u d s a.
           let h : i < length L = omega (arith, u) in
@@ -134,7 +129,7 @@ module _ {words : List ℕ} {used f : ℕ} {sizes : List ℕ} where
           p.says L ks v u s a ∙ ap (λ M. find M f ks) (drop-cons L i no_instance h) ∙ find-later f ks (at L i) (drop (suc i) L) (sym (m.says L ks v h s (all_get_d a i no_instance h)) ∙ e) ∙ rw add-one;
     }
 
-    pub passed-end : used ≤ i → Finds words used f sizes Absent
+    pub passed-end : used ≤ i → Finds words used f sizes None
     unfolding find
     passed-end le = record {
       says = λ L ks v u d s a. absent (p.says L ks v u s a ∙ ap (λ M. find M f ks) (drop_of_length-le L {i = i} (omega (arith, u))));
@@ -156,7 +151,7 @@ find-only f ks (q ∷ L) (distinct_cons new d) (suc i) h e = let less : i < leng
     go rest less true t = absurd (new (rw (key-asked f ks q t ∙ sym (key-asked f ks (at L i) e)) (key-stands (at-stands L i less))))
     go rest less false t = find-later f ks q L t ∙ rest
 
-pub hint-found : {words sizes : List ℕ} {used f k : ℕ} {r : Bool} → 0 < k → k ≤ used → Matches words (k - 1) f sizes r → r ≡ true → Finds words used f sizes (Found (k - 1))
+pub hint-found : {words sizes : List ℕ} {used f k : ℕ} {r : Bool} → 0 < k → k ≤ used → Matches words (k - 1) f sizes r → r ≡ true → Finds words used f sizes (Some (k - 1))
 hint-found {f} {k} some-hint low m e = record {
   says = λ L ks v u d s a.
       let h : k - 1 < length L = omega (arith, u) in

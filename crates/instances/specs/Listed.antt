@@ -1,5 +1,5 @@
 -- The list of instances in words, and what the functions on it promise.
-use Rattle.std.specs.Prelude.{ℕ, suc, ◌+◌, ◌*◌, ◌≤◌, ◌<◌, List, [], ◌∷◌, ◌++◌, ◌≡◌, length, get_or, take, drop, set}
+use Rattle.std.specs.Prelude.{ℕ, suc, ◌+◌, ◌*◌, ◌≤◌, ◌<◌, List, [], ◌∷◌, ◌++◌, ◌≡◌, length, get_or, take, drop, set, Some, None, Option as Maybe}
 use Rattle.std.proofs.Math.Option.{none, some}
 use Rattle.std.proofs.Math.ListN.{get_elem? as look}
 use Rattle.std.proofs.lemmas.List.Edits.{sets}
@@ -13,8 +13,6 @@ use Rattle.theory.specs.Different.{Distinct}
 use Rattle.theory.specs.Instances.{keys_of}
 use Rattle.estimate.specs.declared.Estimate.{Estimate as Held}
 use Rattle.estimate.specs.Stands.{Stands}
-use Rattle.instances.specs.declared.Search.{Search}
-use Rattle.instances.specs.declared.Search.TheVariants.{Found, Absent}
 
 -- ---- a record: the function, its sizes (unused 0), environment, heap and stack
 abbrev pub instance_words_count : ℕ
@@ -59,9 +57,13 @@ abbrev pub SameArity : ℕ → List ℕ → Instance → Type 0
 SameArity f ks r = r.function ≡ f → length r.sizes ≡ length ks
 
 -- ---- looking up
+-- the number of the record that is the instance, if one is
+abbrev pub Search : Type 0
+Search = Maybe ℕ
+
 pub data Agrees (L : List Instance) (f : ℕ) (ks : List ℕ) : Search → Type 0 where
-  found : {i : ℕ} {r : Instance} → look L i ≡ some r → r.function ≡ f → r.sizes ≡ ks → find L f ks ≡ some r.numbers → Agrees L f ks (Found i)
-  absent : find L f ks ≡ none → Agrees L f ks Absent
+  found : {i : ℕ} {r : Instance} → look L i ≡ some r → r.function ≡ f → r.sizes ≡ ks → find L f ks ≡ some r.numbers → Agrees L f ks (Some i)
+  absent : find L f ks ≡ none → Agrees L f ks None
 
 -- in a list where no instance stands twice, so that it does not matter which record is looked at first
 pub record Finds (words : List ℕ) (used f : ℕ) (sizes : List ℕ) (r : Search) : Type 0 where

@@ -24,12 +24,6 @@ use Rattle.instances.specs.Matches.{no_instance}
 use Rattle.instances.specs.ListLaws.{key-wide, flat-length, listed_start, listed-parts}
 
 -- ---- words stored from a place on
-pub numbers-stored : {first second third : List ℕ} (words : List ℕ) (from : ℕ) (x : Held) → first ≡ set words from x.env → second ≡ set first (from + 1) x.heap → third ≡ set second (from + 2) x.stack → third ≡ sets words from (number_words x)
-numbers-stored words from x p q o =
-    let one : from + 1 ≡ suc from = omega arith in
-    let two : from + 2 ≡ suc (suc from) = omega arith in
-    rw (o, q, p, one, two)
-
 -- the sizes before j are stored
 pub record Stored (list₀ : List ℕ) (from : ℕ) (sizes : List ℕ) (j : ℕ) (list : List ℕ) : Type 0 where
   pub low : j ≤ parameters_most
@@ -125,9 +119,6 @@ flat-around A q B rest =
     ∙ ap (λ (l : List ℕ). flat A ++ l) (append_assoc (k ++ n) (flat B) rest ∙ append_assoc k n (flat B ++ rest)) ∙ sym (append_assoc (flat A) k (n ++ (flat B ++ rest)))
 
 module _ (words : List ℕ) (i : ℕ) (x : Held) where
-  pub finished-not : length words < instance_words_count * i + instance_words_count → Finishes words i x words
-  finished-not h = record { writes = writes-none (omega arith); says = λ L r n v e s. absurd (let less = look-less L i e in omega (arith, v.room)) }
-
   finished-listed : {words' : List ℕ} → words' ≡ sets words (instance_words_count * i + numbers_from) (number_words x) → (L : List Instance) (r : Instance) (n : Exact) → Listed words L → look L i ≡ some r → Stands x n →
       Listed words' (set L i (record { function = r.function; sizes = r.sizes; numbers = n }))
   finished-listed {words'} e L r n v l s =
@@ -148,9 +139,6 @@ module _ (words : List ℕ) (i : ℕ) (x : Held) where
   finished h e = record { writes = writes-made (instance_words_count * i + numbers_from) (number_words x) e (omega arith); says = λ L r n v l s. finished-listed e L r n v l s }
 
 -- ---- what is kept beside the list
-pub not_noted : {memo : List ℕ} {used word : ℕ} → instances_most ≤ used → Notes memo used word memo
-not_noted full = record { kept = λ i less. refl; here = λ room. absurd (omega arith) }
-
 pub noted : {first second : List ℕ} (memo : List ℕ) {place : ℕ} (hint : ℕ) {used word : ℕ} → length memo ≡ hint_words + instances_most → place < hint_words → first ≡ set memo place hint → second ≡ set first (hint_words + used) word → Notes memo used word second
 unfolding result_word
 noted {first} {second} memo {place} hint {used} {word} long low p q = record {

@@ -9,7 +9,7 @@ ghost use Rattle.instances.specs.Listed.{hint_words, result_word, Finds, Notes, 
 ghost use Rattle.instances.specs.Matches.{Compared, Matches, Numbers};
 
 use estimate::{Estimate, nothing};
-use index::{byte_at, clear as clear_words, put, word_at};
+use index::{byte_at, put, word_at};
 use language::limits::{INSTANCES_MOST, PARAMETERS_MOST};
 
 // Where the numbers of a record start, behind the function and its sizes; the environment is the first of them.
@@ -32,24 +32,15 @@ pub const MEMO_WORDS: usize = HINT_WORDS + INSTANCES_MOST;
 // Odd, so that instances that differ in one size only have different places.
 const HINT_FACTOR: usize = 149;
 
-// The number of the record that is the instance.
-#[derive(Clone, Copy)]
-pub enum Search {
-    Found(u32),
-    Absent,
-}
-
 // Whether the words from a place on are these sizes; the list has them.
 fn same_sizes(list: &[u32], from: usize, sizes: &[u8]) -> bool
     requires { from + parameters_most ≤ length list.now }
     ensures { Compared list.now from sizes.now result }
 {
-    let mut j: usize = 0;
-    while j < PARAMETERS_MOST {
+    for j in 0..PARAMETERS_MOST {
         if list[from + j] != byte_at(sizes, j) {
             return false;
         }
-        j += 1;
     }
     true
 }
@@ -76,52 +67,42 @@ pub fn numbers(list: &[u32], i: u32) -> Estimate
     let env = word_at(list, at);
     let heap = word_at(list, at + HEAP_WORD);
     let stack = word_at(list, at + STACK_WORD);
-    Estimate {
-        env: env,
-        heap: heap,
-        stack: stack,
-    }
+    Estimate { env, heap, stack }
 }
 
 // Where the hint of an instance stands.
 fn hint_place(f: u32, sizes: &[u8]) -> usize
     ensures { result < hint_words }
 {
-    let mut h: usize = (f as usize) % HINT_WORDS;
-    let mut j: usize = 0;
-    while j < PARAMETERS_MOST {
+    let mut h = f as usize % HINT_WORDS;
+    for j in 0..PARAMETERS_MOST {
         h = (h * HINT_FACTOR + byte_at(sizes, j) as usize) % HINT_WORDS;
-        j += 1;
     }
     h
 }
 
 // The first of the records in use that is the instance of f at these sizes.
-fn walk(list: &[u32], used: u32, f: u32, sizes: &[u8]) -> Search
+fn walk(list: &[u32], used: u32, f: u32, sizes: &[u8]) -> Option<u32>
     ensures { Finds list.now used f sizes.now result }
 {
-    let mut i: u32 = 0;
-    while i < used {
+    for i in 0..used {
         if is_instance(list, i, f, sizes) {
-            return Search::Found(i);
+            return Some(i);
         }
-        i += 1;
     }
-    Search::Absent
+    None
 }
 
 // The record in use that is the instance of f at these sizes: the one that the hint names is tried before the walk through all of
 // them.
-pub fn find(list: &[u32], memo: &[u32; MEMO_WORDS], used: u32, f: u32, sizes: &[u8]) -> Search
+pub fn find(list: &[u32], memo: &[u32; MEMO_WORDS], used: u32, f: u32, sizes: &[u8]) -> Option<u32>
     ensures { Finds list.now used f sizes.now result }
 {
     let k = memo[hint_place(f, sizes)];
-    if 0 < k {
-        if k <= used {
-            let hinted = k - 1;
-            if is_instance(list, hinted, f, sizes) {
-                return Search::Found(hinted);
-            }
+    if 0 < k && k <= used {
+        let hinted = k - 1;
+        if is_instance(list, hinted, f, sizes) {
+            return Some(hinted);
         }
     }
     walk(list, used, f, sizes)
@@ -132,11 +113,9 @@ fn put_sizes(list: &mut [u32], from: usize, sizes: &[u8])
     requires { from < 2 ^ 62 }
     ensures { list.new ≡ sets list.old from (padded parameters_most sizes.now) }
 {
-    let mut j: usize = 0;
-    while j < PARAMETERS_MOST {
+    for j in 0..PARAMETERS_MOST {
         let size = byte_at(sizes, j);
         put(list, from + j, size);
-        j += 1;
     }
 }
 
@@ -181,8 +160,7 @@ pub fn add(
     }
     put(list, at, f);
     put_sizes(list, at + 1, sizes);
-    let none = nothing();
-    put_numbers(list, at + NUMBERS_FROM, none);
+    put_numbers(list, at + NUMBERS_FROM, nothing());
 }
 
 // The word of the result type of record i.
@@ -203,9 +181,9 @@ pub fn finish(list: &mut [u32], i: u32, x: Estimate)
     put_numbers(list, at + NUMBERS_FROM, x);
 }
 
-// Every word 0.
+// Every word 0: `index::clear` under the name of the list, kept for the crates above.
 pub fn clear(list: &mut [u32])
     ensures { list.new ≡ replicate (length list.old) 0 }
 {
-    clear_words(list);
+    list.fill(0);
 }

@@ -1,4 +1,6 @@
 -- The inputs laid and the nodes updated, return by return.
+use Rattle.std.specs.Prelude.{Ok, Err}
+use Rattle.language.specs.declared.refusals.Refusal.TheVariants.{HeapSpent}
 use Rattle.std.specs.Prelude.{ℕ, suc, ◌+◌, ◌-◌, ◌≤◌, ◌<◌, true, ◌≡◌, refl, length, get_or, drop}
 use mathlib.Core.List.{List, [], ◌∷◌, ◌++◌}
 use Rattle.std.proofs.Math.Option.{some}
@@ -33,15 +35,11 @@ use Rattle.state_words.specs.StateLaws.{HoldsState, loaded-held, loaded-writable
 use Rattle.state_check.specs.LoadLaws.{channel-count}
 use Rattle.theory.specs.StateWords.{state-loaded}
 use Rattle.theory.specs.HeapValues.{env-length}
-use Rattle.input_cells.specs.declared.Inputs.{Inputs}
-use Rattle.input_cells.specs.declared.Inputs.TheVariants.{Used as FedUsed, Full}
-use Rattle.input_cells.specs.Lays.{InputsLaid, PutAs, put_all, put_full, within, Within as FedWithin}
-use Rattle.new_cells.specs.Steps.{Board as BoardHas, not_grown}
+use Rattle.input_cells.specs.Lays.{Inputs, InputsLaid, PutAs, put_all, put_full, within, Within as FedWithin}
+use Rattle.new_cells.specs.Steps.{Board as BoardHas, by_number, not_grown}
 use Rattle.evaluation_steps.specs.KeepLaws.{Moved, kept_then, channel-kept}
-use Rattle.iteration.specs.declared.nodes.Updated.{Updated}
-use Rattle.iteration.specs.declared.nodes.Updated.TheVariants.{Refused}
-use Rattle.iteration.specs.Promises.{NodeStage, not_updated, UpdatesNodes}
-use Rattle.iteration.specs.Whole.{Begun, ChannelsTaken, Given, FeedsAndUpdates, full_at}
+use Rattle.iteration.specs.Promises.{Updated, NodeStage, not_updated, UpdatesNodes}
+use Rattle.iteration.specs.Whole.{Begun, ChannelsTaken, Given, FeedsAndUpdates}
 
 -- ---- a constructor of the file has few fields
 few-parts : {text index : List ℕ} {P : File} (t c : ℕ) {fs : Constructor} → Indexed text index P → look (constructors_of P t) c ≡ some fs → (length fs ≤ fields_most) × (c < tag_step)
@@ -116,22 +114,22 @@ record WasFed (P : File) (row row₁ words₁ : List ℕ) (o : Result State) (n 
   held : Holds words₁ n state.heap
   roots : row₁ ≡ state.roots ++ drop (length state.roots) row
 
-was-fed : {P : File} {row row₁ words₁ : List ℕ} {o : Result State} {x : Inputs} {n : ℕ} → PutAs P row row₁ words₁ o x → x ≡ FedUsed n → WasFed P row row₁ words₁ o n
+was-fed : {P : File} {row row₁ words₁ : List ℕ} {o : Result State} {x : Inputs} {n : ℕ} → PutAs P row row₁ words₁ o x → x ≡ Ok n → WasFed P row row₁ words₁ o n
 was-fed {P} {row} {row₁} {words₁} {o} {x} {n} p d = go (subst (PutAs P row row₁ words₁ o) d p)
   where
-    go : {o : Result State} → PutAs P row row₁ words₁ o (FedUsed n) → WasFed P row row₁ words₁ o n
+    go : {o : Result State} → PutAs P row row₁ words₁ o (Ok n) → WasFed P row row₁ words₁ o n
     go (put_all {s} held put) = record { state = s; is = refl; held = held; roots = put }
 
-was-full : {P : File} {row row₁ words₁ : List ℕ} {o : Result State} {x : Inputs} {c : ℕ} → PutAs P row row₁ words₁ o x → x ≡ Full c → o ≡ no heap_spent (channel_frame P c)
+was-full : {P : File} {row row₁ words₁ : List ℕ} {o : Result State} {x : Inputs} {c : ℕ} → PutAs P row row₁ words₁ o x → x ≡ Err c → o ≡ no heap_spent (channel_frame P c)
 was-full {P} {row} {row₁} {words₁} {o} {x} {c} p d = go (subst (PutAs P row row₁ words₁ o) d p)
   where
-    go : {o : Result State} → PutAs P row row₁ words₁ o (Full c) → o ≡ no heap_spent (channel_frame P c)
+    go : {o : Result State} → PutAs P row row₁ words₁ o (Err c) → o ≡ no heap_spent (channel_frame P c)
     go put_full = refl
 
-was-within : {cells used n : ℕ} {x : Inputs} → FedWithin cells used x → x ≡ FedUsed n → (used ≤ n) × (n ≤ cells)
+was-within : {cells used n : ℕ} {x : Inputs} → FedWithin cells used x → x ≡ Ok n → (used ≤ n) × (n ≤ cells)
 was-within {cells} {used} {n} w d = go (subst (FedWithin cells used) d w)
   where
-    go : FedWithin cells used (FedUsed n) → (used ≤ n) × (n ≤ cells)
+    go : FedWithin cells used (Ok n) → (used ≤ n) × (n ≤ cells)
     go (within le few) = (le, few)
 
 module _ (text index ends readings line : List ℕ) (cells calls : ℕ) (row words slots : List ℕ) (b : Begun index words cells) {used : ℕ} (u : used ≡ used_in words) {x : Inputs} {words₁ row₁ : List ℕ} (v : InputsLaid line index cells used words row x words₁ row₁) where
@@ -158,17 +156,15 @@ module _ (text index ends readings line : List ℕ) (cells calls : ℕ) (row wor
     put_as : PutAs P row row₁ words₁ (put_inputs P cells 0 vs s.heap []) x
     put_as = v.says text P g.indexed s.heap heap g.allowed
 
-  pub fed-full : {c : ℕ} {r : Updated} → x ≡ Full c → r ≡ full_at x → FeedsAndUpdates text index ends readings line cells calls row words slots r row₁ words₁ slots
+  pub fed-full : {c : ℕ} {r : Updated} → x ≡ Err c → r ≡ Err (record { refusal = HeapSpent; channel = c }) → FeedsAndUpdates text index ends readings line cells calls row words slots r row₁ words₁ slots
   unfolding bind
-  fed-full {c} {r} d q =
-      let told : r ≡ Refused heap_spent c = q ∙ ap full_at d in
-      rw told (record {
-        says = λ {P} {s} {vs} g taken. rw (was-full (put_as g) d) not_updated;
-        kept = record { long = v.kept.long; low = ap (λ n. take (state_length n) words₁) (sym u) ∙ v.kept.below ∙ ap (λ n. take (state_length n) words) u; grown = not_grown };
-        long = refl;
-      })
+  fed-full {c} {r} d q = rw q (record {
+    says = λ {P} {s} {vs} g taken. rw (was-full (put_as g) d) (not_updated by_number);
+    kept = record { long = v.kept.long; low = ap (λ n. take (state_length n) words₁) (sym u) ∙ v.kept.below ∙ ap (λ n. take (state_length n) words) u; grown = not_grown };
+    long = refl;
+  })
 
-  module _ {n : ℕ} (d : x ≡ FedUsed n) where
+  module _ {n : ℕ} (d : x ≡ Ok n) where
     cells-within : (used ≤ n) × (n ≤ cells)
     cells-within = was-within v.grown d
 

@@ -1,11 +1,12 @@
 -- A node's update, return by return.
-use Rattle.std.specs.Prelude.{ℕ, ◌+◌, ◌*◌, ◌%◌, ◌≤◌, ◌<◌, List, [], ◌≡◌, refl, length}
+use Rattle.std.specs.Prelude.{ℕ, ◌+◌, ◌*◌, ◌%◌, ◌≤◌, ◌<◌, List, [], ◌≡◌, refl, length, Ok, Err}
 use Rattle.std.proofs.Math.Option.{some}
 use Rattle.std.proofs.Common.{sym, ap, ◌∙◌, subst₂, arith}
 use Rattle.std.proofs.Math.Path.{subst}
 use Rattle.std.proofs.Math.ListN.{get_elem? as look}
 use borrow.Author.Tests.{lt-ltb, le-ltb, le-leb, lt-leb}
-use Rattle.language.specs.Refusals.{value_too_large}
+use Rattle.language.specs.declared.refusals.Refusal.{Refusal}
+use Rattle.language.specs.declared.refusals.Refusal.TheVariants.{ValueTooLarge}
 use Rattle.language.specs.Result.{choose}
 use Rattle.language.specs.Syntax.{Ty, tbool, tint, tnamed, Node, File}
 use Rattle.language.specs.Sizes.{size_of_type}
@@ -22,8 +23,7 @@ use Rattle.index.specs.Sections.{channels_of}
 use Rattle.index.specs.Indexed.{declared_at, update_at}
 use Rattle.state_words.specs.Holds.{Reads}
 use Rattle.new_cells.specs.declared.Value.{Value}
-use Rattle.new_cells.specs.declared.Value.TheVariants.{Is, Refused}
-use Rattle.new_cells.specs.Steps.{Agrees, is_value, is_refused, not_grown, Kept}
+use Rattle.new_cells.specs.Steps.{Evaluated, by_number, Agrees, is_value, is_refused, not_grown, Kept}
 use Rattle.evaluator.specs.ChannelValues.{OfChannel, EvalsChannel}
 use Rattle.evaluation_steps.specs.ArgumentLaws.{valued, not-valued}
 use Rattle.iteration.specs.Promises.{size_in_word, NodeStage, node_value, UpdatesNode}
@@ -44,7 +44,7 @@ unfolding size_in_word choose
 word-is-named word le e = rw (le-ltb word tag_step le) e
 
 -- ---- the evaluation of an update
-module _ (text index ends row : List ℕ) (c used calls : ℕ) (words slots : List ℕ) {at : Cursor} (e : at.at ≡ update_at (channels_of index) c) {x : Value} {words' slots' : List ℕ} (v : EvalsChannel text index ends row c at.at used calls words slots x words' slots') where
+module _ (text index ends row : List ℕ) (c used calls : ℕ) (words slots : List ℕ) {at : Cursor} (e : at.at ≡ update_at (channels_of index) c) {x : Evaluated} {words' slots' : List ℕ} (v : EvalsChannel text index ends row c at.at used calls words slots x words' slots') where
   module _ {P : File} {cells : ℕ} {last now : List ℕ} {h : List Cell} (m : ℕ) (n : Node) (st : NodeStage text index ends row words used P cells last now h) (its : c ≡ length P.inputs + m) (there : look P.nodes m ≡ some n) where
     abbrev UpdateAt : ℕ → ℕ → Type 0
     UpdateAt i j = OfChannel text index ends row words used P cells i j (channel_total P) (record { now = now; last = last }) h n.update
@@ -74,33 +74,33 @@ module _ (text index ends row : List ℕ) (c used calls : ℕ) (words slots : Li
     most : size_in_word (declared_at (channels_of index) c) ≡ size_of_type n.declared
     most = ap size_in_word declared ∙ declared-sized n.declared (node-within st.indexed.within m there).declared
 
-  pub node-refused : {k : ℕ} → x ≡ Refused k → UpdatesNode text index ends row c used calls words slots x words' slots'
+  pub node-refused : {k : Refusal} {r : Evaluated} → x ≡ Err k → r ≡ Err k → UpdatesNode text index ends row c used calls words slots r words' slots'
   unfolding node_value bind_out
-  node-refused d = record {
+  node-refused d q = rw q (record {
     says = λ {P} {cells} {last} {now} m n st at there.
         let k = not-valued (answer m n st at there) d in
-        rw (d, k) is_refused;
-    kept = v.kept;
+        rw k.is (is_refused k.numbered);
+    kept = subst (Kept words words' used) d v.kept;
     long = v.long;
-  }
+  })
 
-  module _ {cell more : ℕ} (d : x ≡ Is cell more) {bound size : ℕ} (b : bound ≡ size_in_word (declared_at (channels_of index) c)) (s : Reads words' more (λ h. size_in (cell_at h cell)) size) where
-    pub node-large : {r : Value} → bound < size → r ≡ Refused value_too_large → UpdatesNode text index ends row c used calls words slots r words' slots'
+  module _ {y : Value} (d : x ≡ Ok y) {bound size : ℕ} (b : bound ≡ size_in_word (declared_at (channels_of index) c)) (s : Reads words' y.used (λ h. size_in (cell_at h y.cell)) size) where
+    pub node-large : {r : Evaluated} → bound < size → r ≡ Err ValueTooLarge → UpdatesNode text index ends row c used calls words slots r words' slots'
     unfolding node_value bind_out needs
     node-large large q = rw q (record {
       says = λ {P} {cells} {last} {now} m n st at there.
           let u = valued (answer m n st at there) d in
-          rw (u.is, lt-leb (size_in (cell_at u.heap cell)) (size_of_type n.declared) (omega (arith, large, b, most m n st at there, s.says u.heap u.held))) is_refused;
+          rw (u.is, lt-leb (size_in (cell_at u.heap y.cell)) (size_of_type n.declared) (omega (arith, large, b, most m n st at there, s.says u.heap u.held))) (is_refused by_number);
       kept = record { long = v.kept.long; low = v.kept.low; grown = not_grown };
       long = v.long;
     })
 
-    pub node_done : {r : Value} → size ≤ bound → r ≡ Is cell more → UpdatesNode text index ends row c used calls words slots r words' slots'
+    pub node_done : {r : Evaluated} → size ≤ bound → r ≡ Ok y → UpdatesNode text index ends row c used calls words slots r words' slots'
     unfolding node_value bind_out needs
     node_done {r} small q = rw q (record {
       says = λ {P} {cells} {last} {now} m n st at there.
           let u = valued (answer m n st at there) d in
-          rw (u.is, le-leb (size_in (cell_at u.heap cell)) (size_of_type n.declared) (omega (arith, small, b, most m n st at there, s.says u.heap u.held))) (is_value u.held u.writable);
+          rw (u.is, le-leb (size_in (cell_at u.heap y.cell)) (size_of_type n.declared) (omega (arith, small, b, most m n st at there, s.says u.heap u.held))) (is_value u.held u.writable);
       kept = subst (Kept words words' used) d v.kept;
       long = v.long;
     })

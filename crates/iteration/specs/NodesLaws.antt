@@ -1,5 +1,5 @@
 -- The nodes one after the other: what is left decides the whole, turn by turn.
-use Rattle.std.specs.Prelude.{ℕ, suc, ◌+◌, ◌-◌, ◌^◌, ◌≤◌, ◌<◌, Bool, true, false, ◌≡◌, leb}
+use Rattle.std.specs.Prelude.{ℕ, suc, ◌+◌, ◌-◌, ◌^◌, ◌≤◌, ◌<◌, Bool, true, false, ◌≡◌, leb, Option, Some, None, Result as Outcome, Ok, Err, MatchResult, IsErrAnd}
 use mathlib.Core.List.{List, [], ◌∷◌, ◌++◌}
 use Rattle.std.proofs.Math.Path.{refl, sym, ap, subst}
 use Rattle.std.proofs.Common.{◌∙◌, get_or-set_same, get_or-set_other}
@@ -23,18 +23,33 @@ use Rattle.index.specs.declared.Counts.{Counts}
 use Rattle.index.specs.Sections.{counts_in}
 use Rattle.channel_sets.specs.Sets.{word_bits}
 use Rattle.node_order.specs.Lowest.{LowestBelow}
+use Rattle.node_order.specs.LowestLaws.{lowest-less}
 use Rattle.node_order.specs.Rows.{ready_in}
 use Rattle.node_order.specs.Files.{FewChannels, Gathered, DoneIs}
 use Rattle.node_order.specs.NextLaws.{next-found, next-none, done_none, done_more}
 use Rattle.new_cells.specs.declared.Value.{Value}
-use Rattle.new_cells.specs.declared.Value.TheVariants.{Is, Refused as RefusedValue}
-use Rattle.new_cells.specs.Steps.{Board as BoardHas, Agrees, Kept, has_grown}
+use Rattle.language.specs.declared.refusals.Refusal.{Refusal}
+use Rattle.new_cells.specs.Steps.{Evaluated, Board as BoardHas, Agrees, Kept, has_grown}
 use Rattle.evaluation_steps.specs.KeepLaws.{Moved, moved_by, kept_then, channel-kept}
 use Rattle.evaluation_steps.specs.ArgumentLaws.{valued, not-valued}
 use Rattle.evaluator.specs.ChannelValues.{board_lent}
-use Rattle.iteration.specs.declared.nodes.Updated.{Updated}
-use Rattle.iteration.specs.declared.nodes.Updated.TheVariants.{Used, Refused}
-use Rattle.iteration.specs.Promises.{handed_on, NodeStage, node_value, UpdatesNode, are_updated, not_updated, UpdatesNodes}
+use Rattle.iteration.specs.Promises.{Updated, NodeStage, node_value, UpdatesNode, are_updated, not_updated, UpdatesNodes}
+
+-- ---- what a call answered whose refusal was mapped
+module _ {A E D : Type 0} (x : Outcome A E) {y : Outcome A D} (Q : E → D → Type 0) (m : MatchResult x (λ v. y ≡ Ok v) (λ e. IsErrAnd y (Q e))) where
+  pub mapped-ok : {v : A} → y ≡ Ok v → x ≡ Ok v
+  mapped-ok {v} p = go x m
+    where
+      go : (z : Outcome A E) → MatchResult z (λ v. y ≡ Ok v) (λ e. IsErrAnd y (Q e)) → z ≡ Ok v
+      go (Ok a) q = let same : ◌≡◌ {A = Outcome A D} (Ok a) (Ok v) = sym q ∙ p in cc
+      go (Err e) q = absurd (subst (λ (z : Outcome A D). IsErrAnd z (Q e)) p q)
+
+  pub mapped-err : {d : D} → y ≡ Err d → (e : E) × (x ≡ Err e) × Q e d
+  mapped-err {d} p = go x m
+    where
+      go : (z : Outcome A E) → MatchResult z (λ v. y ≡ Ok v) (λ e. IsErrAnd y (Q e)) → (e : E) × (z ≡ Err e) × Q e d
+      go (Ok a) q = absurd (let same : ◌≡◌ {A = Outcome A D} (Ok a) (Err d) = sym q ∙ p in cc)
+      go (Err e) q = (e, refl, subst (λ (z : Outcome A D). IsErrAnd z (Q e)) p q)
 
 -- ---- one node of the definition, by its value
 node-first : (P : File) (b : Board) (last : List ℕ) (i : ℕ) (is : List ℕ) (h : List Cell) (now : List ℕ) →
@@ -115,7 +130,7 @@ module _ (text index ends readings : List ℕ) (used calls : ℕ) (row words slo
   module _ {row₁ words₁ slots₁ : List ℕ} {used₁ set₁ k : ℕ} (g : Updating text index ends readings used calls row words slots row₁ words₁ slots₁ used₁ set₁ k) where
     -- no node is left
     ended : {r : Updated} → ((P : File) (cells : ℕ) (last now : List ℕ) (h : List Cell) (st : NodeStage text index ends row words used P cells last now h) (a : Gathered P readings) (long : length now ≡ channel_total P) →
-        order_from (node_readings P) (length P.nodes - k) (g.says st a long).done ≡ []) → r ≡ Used used₁ → UpdatesNodes text index ends readings used calls row words slots r row₁ words₁ slots₁
+        order_from (node_readings P) (length P.nodes - k) (g.says st a long).done ≡ []) → r ≡ Ok used₁ → UpdatesNodes text index ends readings used calls row words slots r row₁ words₁ slots₁
     unfolding update_nodes
     ended {r} none q = rw q (record {
       says = λ {P} {cells} {last} {now} {h} st a long.
@@ -126,31 +141,38 @@ module _ (text index ends readings : List ℕ) (used calls : ℕ) (row words slo
       long = g.slots_long;
     })
 
-    pub updating-all : {r : Updated} → n.nodes ≤ k → r ≡ Used used₁ → UpdatesNodes text index ends readings used calls row words slots r row₁ words₁ slots₁
+    pub updating-all : {r : Updated} → n.nodes ≤ k → r ≡ Ok used₁ → UpdatesNodes text index ends readings used calls row words slots r row₁ words₁ slots₁
     unfolding order_from
     updating-all all q = ended (λ P cells last now h st a long. let none : length P.nodes - k ≡ 0 = omega (arith, all, nodes-are st) in ap (λ m. order_from (node_readings P) m (g.says st a long).done) none) q
 
-    module _ {i : ℕ} (f : LowestBelow (λ j. ready_in set₁ (n.inputs + j) (get_or readings j 0)) n.nodes i) where
+    module _ {x : Option ℕ} (f : LowestBelow (λ j. ready_in set₁ (n.inputs + j) (get_or readings j 0)) n.nodes x) where
       lowest-node : {P : File} {cells : ℕ} {last now : List ℕ} {h : List Cell} → NodeStage text index ends row words used P cells last now h →
-          LowestBelow (λ j. ready_in set₁ (length P.inputs + j) (get_or readings j 0)) (length P.nodes) i
-      lowest-node {P} st = subst (λ m. LowestBelow (λ j. ready_in set₁ (m + j) (get_or readings j 0)) (length P.nodes) i) (inputs_are st) (subst (λ m. LowestBelow (λ j. ready_in set₁ (n.inputs + j) (get_or readings j 0)) m i) (nodes-are st) f)
+          LowestBelow (λ j. ready_in set₁ (length P.inputs + j) (get_or readings j 0)) (length P.nodes) x
+      lowest-node {P} st = subst (λ m. LowestBelow (λ j. ready_in set₁ (m + j) (get_or readings j 0)) (length P.nodes) x) (inputs_are st) (subst (λ m. LowestBelow (λ j. ready_in set₁ (n.inputs + j) (get_or readings j 0)) m x) (nodes-are st) f)
 
-      pub updating-stopped : {r : Updated} → n.nodes ≤ i → r ≡ Used used₁ → UpdatesNodes text index ends readings used calls row words slots r row₁ words₁ slots₁
-      updating-stopped none q = ended (λ P cells last now h st a long. next-none st.indexed.within a (g.says st a long).set_is (length P.nodes - k) (lowest-node st) (omega (arith, none, nodes-are st))) q
+      pub updating-stopped : {r : Updated} → x ≡ None → r ≡ Ok used₁ → UpdatesNodes text index ends readings used calls row words slots r row₁ words₁ slots₁
+      updating-stopped none q = ended (λ P cells last now h st a long. next-none st.indexed.within a (g.says st a long).set_is (length P.nodes - k) (rw none at (lowest-node st))) q
 
-      module _ (turn : k < n.nodes) (node : i < n.nodes) {c : ℕ} (at : c ≡ n.inputs + i) {x : Value} {words₂ slots₂ : List ℕ} (v : UpdatesNode text index ends row₁ c used₁ calls words₁ slots₁ x words₂ slots₂) where
+      lowest-is : {i : ℕ} {P : File} {cells : ℕ} {last now : List ℕ} {h : List Cell} → x ≡ Some i → NodeStage text index ends row words used P cells last now h →
+          LowestBelow (λ j. ready_in set₁ (length P.inputs + j) (get_or readings j 0)) (length P.nodes) (Some i)
+      lowest-is node st = rw node at (lowest-node st)
+
+      pub next-below : {i : ℕ} → x ≡ Some i → i < n.nodes
+      next-below d = lowest-less (rw d at f)
+
+      module _ (turn : k < n.nodes) {i : ℕ} (node : x ≡ Some i) {c : ℕ} (at : c ≡ n.inputs + i) {y : Evaluated} {words₂ slots₂ : List ℕ} (v : UpdatesNode text index ends row₁ c used₁ calls words₁ slots₁ y words₂ slots₂) where
         module _ {P : File} {cells : ℕ} {last now : List ℕ} {h : List Cell} (st : NodeStage text index ends row words used P cells last now h) (a : Gathered P readings) (long : length now ≡ channel_total P) where
           l : LeftNodes text index ends words₁ row₁ calls slots set₁ k used₁ P cells last now h
           l = g.says st a long
 
           in-nodes : i < length P.nodes
-          in-nodes = omega (arith, node, nodes-are st)
+          in-nodes = omega (arith, next-below node, nodes-are st)
 
           its : c ≡ node_channel P i
           its = at ∙ ap (λ m. m + i) (inputs_are st)
 
-          answer : Agrees P words₂ x (node_value P (board_lent cells slots calls) last l.now₁ (node_at_of P i) l.heap)
-          answer = subst (λ s. Agrees P words₂ x (node_value P (record { cells = cells; slots = s; calls = calls }) last l.now₁ (node_at_of P i) l.heap)) g.slots_long
+          answer : Agrees P words₂ y (node_value P (board_lent cells slots calls) last l.now₁ (node_at_of P i) l.heap)
+          answer = subst (λ s. Agrees P words₂ y (node_value P (record { cells = cells; slots = s; calls = calls }) last l.now₁ (node_at_of P i) l.heap)) g.slots_long
               (v.says i (node_at_of P i) l.stage its (look_at P.nodes i no_node in-nodes))
 
           abbrev left : List ℕ
@@ -160,48 +182,47 @@ module _ (text index ends readings : List ℕ) (used calls : ℕ) (row words slo
               channel_value (channel_frame P c) (node_value P (board_lent cells slots calls) last l.now₁ (node_at_of P i) l.heap) (λ m j. update_nodes P (board_lent cells slots calls) last left j (set l.now₁ c m))
           opened =
               let count : length P.nodes - k ≡ suc (length P.nodes - (k + 1)) = omega (arith, turn, nodes-are st) in
-              l.is ∙ ap (λ (z : List ℕ). update_nodes P (board_lent cells slots calls) last z l.heap l.now₁) (ap (λ m. order_from (node_readings P) m l.done) count ∙ next-found st.indexed.within a l.set_is (length P.nodes - (k + 1)) (lowest-node st) in-nodes) ∙
+              l.is ∙ ap (λ (z : List ℕ). update_nodes P (board_lent cells slots calls) last z l.heap l.now₁) (ap (λ m. order_from (node_readings P) m l.done) count ∙ next-found st.indexed.within a l.set_is (length P.nodes - (k + 1)) (lowest-is node st)) ∙
               node-first P (board_lent cells slots calls) last i left l.heap l.now₁ ∙
               ap (λ d. channel_value (channel_frame P d) (node_value P (board_lent cells slots calls) last l.now₁ (node_at_of P i) l.heap) (λ m j. update_nodes P (board_lent cells slots calls) last left j (set l.now₁ d m))) (sym its)
 
-        pub updating-more : {cell more one set₂ : ℕ} {row₂ : List ℕ} → x ≡ Is cell more → length row₁ ≡ channels_most → row₂ ≡ set row₁ c cell → one ≡ 2 ^ c → set₂ ≡ bit_or set₁ one →
-            Updating text index ends readings used calls row words slots row₂ words₂ slots₂ more set₂ (k + 1)
+        pub updating-more : {z : Value} {one set₂ : ℕ} {row₂ : List ℕ} → y ≡ Ok z → length row₁ ≡ channels_most → row₂ ≡ set row₁ c z.cell → one ≡ 2 ^ c → set₂ ≡ bit_or set₁ one →
+            Updating text index ends readings used calls row words slots row₂ words₂ slots₂ z.used set₂ (k + 1)
         unfolding channel_value
-        updating-more {cell} {more} {one} {set₂} {row₂} d wide w o u = record {
+        updating-more {z} {one} {set₂} {row₂} d wide w o b = record {
           moved = moved_by (kept_then g.moved v.kept) d;
           slots_long = v.long ∙ g.slots_long;
           says = λ {P} {cells} {last} {now} {h} st a long.
               let p = l st a long in
-              let y = valued (answer st a long) d in
+              let u = valued (answer st a long) d in
               let m = moved_by v.kept d in
               let within = st.indexed.within in
               let inside : c < channel_total P = omega (arith, its st a long, in-nodes st a long) in
               record {
                 done = p.done ++ (i ∷ []);
-                set_is = subst (DoneIs (length P.inputs) (length P.nodes) (p.done ++ (i ∷ []))) (ap (λ z. bit_or set₁ (2 ^ z)) (sym (its st a long)) ∙ ap (bit_or set₁) (sym o) ∙ sym u)
+                set_is = subst (DoneIs (length P.inputs) (length P.nodes) (p.done ++ (i ∷ []))) (ap (λ b. bit_or set₁ (2 ^ b)) (sym (its st a long)) ∙ ap (bit_or set₁) (sym o) ∙ sym b)
                     (done_more i (omega (arith, within.few_inputs, within.few_nodes)) (in-nodes st a long) p.set_is);
-                now₁ = set p.now₁ c cell;
-                heap = y.heap;
+                now₁ = set p.now₁ c z.cell;
+                heap = u.heap;
                 stage = record {
                   indexed = st.indexed;
                   told = st.told;
-                  standing = λ j less. ap (λ (z : List ℕ). get_or z j 0) w ∙
-                      row-set row₁ p.now₁ c cell (channel_total P) (omega (arith, wide, inside, within.few_inputs, within.few_nodes)) (omega (arith, inside, p.long)) p.stage.standing j less;
+                  standing = λ j less. ap (λ (r : List ℕ). get_or r j 0) w ∙
+                      row-set row₁ p.now₁ c z.cell (channel_total P) (omega (arith, wide, inside, within.few_inputs, within.few_nodes)) (omega (arith, inside, p.long)) p.stage.standing j less;
                   before = λ j less. channel-kept m j (omega (arith, less, within.few_inputs, within.few_nodes)) ∙ p.stage.before j less;
-                  lies = record { board = m.long ∙ p.stage.lies.board; held = y.held; writable = y.writable };
+                  lies = record { board = m.long ∙ p.stage.lies.board; held = u.held; writable = u.writable };
                 };
-                long = length-set p.now₁ c cell ∙ p.long;
-                is = opened st a long ∙ ap (λ (z : Out). channel_value (channel_frame P c) z (λ j q. update_nodes P (board_lent cells slots calls) last (left st a long) q (set p.now₁ c j))) y.is;
+                long = length-set p.now₁ c z.cell ∙ p.long;
+                is = opened st a long ∙ ap (λ (e : Out). channel_value (channel_frame P c) e (λ j q. update_nodes P (board_lent cells slots calls) last (left st a long) q (set p.now₁ c j))) u.is;
               };
         }
 
-        pub updating-refused : {m : ℕ} {r : Updated} → x ≡ RefusedValue m → r ≡ handed_on x c → UpdatesNodes text index ends readings used calls row words slots r row₁ words₂ slots₂
+        pub updating-refused : {m : Refusal} {r : Updated} → y ≡ Err m → r ≡ Err (record { refusal = m; channel = c }) → UpdatesNodes text index ends readings used calls row words slots r row₁ words₂ slots₂
         unfolding channel_value
-        updating-refused {m} {r} d q =
-            let told : r ≡ Refused m c = q ∙ ap (λ (z : Value). handed_on z c) d in
-            rw told (record {
-              says = λ {P} {cells} {last} {now} {h} st a long.
-                  rw (opened st a long ∙ ap (λ (z : Out). channel_value (channel_frame P c) z (λ j q. update_nodes P (board_lent cells slots calls) last (left st a long) q (set (l st a long).now₁ c j))) (not-valued (answer st a long) d)) not_updated;
-              kept = subst (Kept words words₂ used) d (kept_then g.moved v.kept);
-              long = v.long ∙ g.slots_long;
-            })
+        updating-refused {m} {r} d q = rw q (record {
+          says = λ {P} {cells} {last} {now} {h} st a long.
+              let u = not-valued (answer st a long) d in
+              rw (opened st a long ∙ ap (λ (z : Out). channel_value (channel_frame P c) z (λ j q. update_nodes P (board_lent cells slots calls) last (left st a long) q (set (l st a long).now₁ c j))) u.is) (not_updated u.numbered);
+          kept = subst (Kept words words₂ used) d (kept_then g.moved v.kept);
+          long = v.long ∙ g.slots_long;
+        })

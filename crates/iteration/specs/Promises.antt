@@ -1,9 +1,9 @@
 -- What updating the nodes promises: for every file that the index tells, on a heap that lies in the words, with the channels' cells in a
 -- row as they stand, and in the words as they stood before the line.
-use Rattle.std.specs.Prelude.{ℕ, ◌+◌, ◌%◌, ◌<◌, List, [], ◌≡◌, length, get_or, ltb, leb}
+use Rattle.std.specs.Prelude.{ℕ, ◌+◌, ◌%◌, ◌<◌, List, [], ◌≡◌, length, get_or, ltb, leb, Result as Outcome, Ok, Err}
 use Rattle.std.proofs.Math.Option.{some}
 use Rattle.std.proofs.Math.ListN.{get_elem? as look}
-use Rattle.language.specs.Refusals.{no_refusal, value_too_large}
+use Rattle.language.specs.Refusals.{value_too_large}
 use Rattle.language.specs.Result.{Result, ok, no, choose}
 use Rattle.language.specs.Syntax.{Node, File, channel_frame}
 use Rattle.language.specs.Sizes.{size_of_type}
@@ -20,21 +20,18 @@ use Rattle.index.specs.Indexed.{Indexed}
 use Rattle.state_words.specs.Words.{channel_at}
 use Rattle.state_words.specs.Holds.{Holds}
 use Rattle.ends.specs.Ended.{UpdatesTold}
-use Rattle.new_cells.specs.declared.Value.{Value}
-use Rattle.new_cells.specs.declared.Value.TheVariants.{Is, Refused as RefusedValue}
-use Rattle.new_cells.specs.Steps.{Lies, Agrees, Kept}
+use Rattle.new_cells.specs.Steps.{Evaluated, Numbered, Lies, Agrees, Kept}
 use Rattle.evaluator.specs.ChannelValues.{board_lent}
 use Rattle.node_order.specs.Files.{Gathered}
-use Rattle.iteration.specs.declared.nodes.Updated.{Updated}
-use Rattle.iteration.specs.declared.nodes.Updated.TheVariants.{Used, Refused}
+use Rattle.iteration.specs.declared.nodes.RefusalIn.{RefusalIn}
 
 -- the size in the word of a declared type
 unfoldable pub size_in_word : ℕ → ℕ
 size_in_word word = choose (ltb word tag_step) 0 (word % tag_step)
 
-abbrev pub handed_on : Value → ℕ → Updated
-handed_on (Is l used) c = Refused no_refusal c
-handed_on (RefusedValue n) c = Refused n c
+-- how many cells are used once all nodes are updated, or a refusal and the channel where it was met
+abbrev pub Updated : Type 0
+Updated = Outcome ℕ RefusalIn
 
 -- the file, the heap, and the channels' cells: as they stand, and as they stood
 pub record NodeStage (text index ends row words : List ℕ) (used : ℕ) (P : File) (cells : ℕ) (last now : List ℕ) (h : List Cell) : Type 0 where
@@ -49,7 +46,7 @@ unfoldable pub node_value : File → Board → List ℕ → List ℕ → Node �
 node_value P b last now n h = bind_out (eval P (run P b.cells b.calls) b.cells (record { now = now; last = last }) n.update [] b.slots h)
     (λ l g. needs (leb (size_in (cell_at g l)) (size_of_type n.declared)) value_too_large (value l g))
 
-pub record UpdatesNode (text index ends row : List ℕ) (c used calls : ℕ) (words slots : List ℕ) (r : Value) (words' slots' : List ℕ) : Type 0 where
+pub record UpdatesNode (text index ends row : List ℕ) (c used calls : ℕ) (words slots : List ℕ) (r : Evaluated) (words' slots' : List ℕ) : Type 0 where
   pub says : {P : File} {cells : ℕ} {last now : List ℕ} {h : List Cell} (m : ℕ) (n : Node) → NodeStage text index ends row words used P cells last now h → c ≡ length P.inputs + m → look P.nodes m ≡ some n →
       Agrees P words' r (node_value P (board_lent cells slots calls) last now n h)
   pub kept : Kept words words' used r
@@ -62,12 +59,12 @@ pub record RowIs (row roots : List ℕ) (n : ℕ) : Type 0 where
   pub long : length roots ≡ n
 
 pub data AgreesNodes (P : File) (words' row' : List ℕ) : Updated → Result State → Type 0 where
-  are_updated : {s : State} {used : ℕ} → Holds words' used s.heap → All (Writable P) s.heap → RowIs row' s.roots (channel_total P) → AgreesNodes P words' row' (Used used) (ok s)
-  not_updated : {n c : ℕ} → AgreesNodes P words' row' (Refused n c) (no n (channel_frame P c))
+  are_updated : {s : State} {used : ℕ} → Holds words' used s.heap → All (Writable P) s.heap → RowIs row' s.roots (channel_total P) → AgreesNodes P words' row' (Ok used) (ok s)
+  not_updated : {e : RefusalIn} {m : ℕ} → Numbered e.refusal m → AgreesNodes P words' row' (Err e) (no m (channel_frame P e.channel))
 
-abbrev pub as_value : Updated → Value
-as_value (Used used) = Is 0 used
-as_value (Refused n c) = RefusedValue n
+abbrev pub as_value : Updated → Evaluated
+as_value (Ok used) = Ok (record { cell = 0; used = used })
+as_value (Err e) = Err e.refusal
 
 pub record UpdatesNodes (text index ends readings : List ℕ) (used calls : ℕ) (row words slots : List ℕ) (r : Updated) (row' words' slots' : List ℕ) : Type 0 where
   pub says : {P : File} {cells : ℕ} {last now : List ℕ} {h : List Cell} → NodeStage text index ends row words used P cells last now h → Gathered P readings → length now ≡ channel_total P →

@@ -1,10 +1,10 @@
 -- What a whole iteration promises: on a valid state and an allowed line of a file of right plain types, the definition's result; on any
 -- words it keeps their number.
-use Rattle.std.specs.Prelude.{ℕ, ◌+◌, ◌≤◌, ◌<◌, List, [], ◌++◌, ◌≡◌, length, get_or, drop, replicate}
+use Rattle.std.specs.Prelude.{ℕ, ◌≤◌, ◌<◌, List, [], ◌++◌, ◌≡◌, length, get_or, drop, replicate, Ok, Err}
 use Rattle.std.proofs.Math.Option.{some}
 use Rattle.std.proofs.lemmas.List.Edits.{sets}
 use Rattle.language.specs.Limits.{channels_most, cells_most}
-use Rattle.language.specs.Refusals.{no_refusal, heap_spent}
+use Rattle.language.specs.RefusalNumbers.{number_of}
 use Rattle.language.specs.Result.{Result, ok, no, bind}
 use Rattle.language.specs.Syntax.{File, channel_frame}
 use Rattle.language.specs.Heap.{Tree}
@@ -16,15 +16,12 @@ use Rattle.language.specs.PlainTyping.{WellPlain}
 use Rattle.language.specs.Machine.{written, put_inputs, update_nodes, iterate_state}
 use Rattle.index.specs.Indexed.{Indexed}
 use Rattle.state_words.specs.Words.{used_in, channel_at, row_of}
-use Rattle.input_cells.specs.declared.Inputs.{Inputs}
-use Rattle.input_cells.specs.declared.Inputs.TheVariants.{Used as FedUsed, Full}
 use Rattle.new_cells.specs.Steps.{Kept}
 use Rattle.ends.specs.Ended.{UpdatesTold}
 use Rattle.evaluator.specs.ChannelValues.{board_lent}
 use Rattle.node_order.specs.Files.{FewChannels, Gathered}
-use Rattle.iteration.specs.declared.nodes.Updated.{Updated}
-use Rattle.iteration.specs.declared.nodes.Updated.TheVariants.{Used, Refused}
-use Rattle.iteration.specs.Promises.{AgreesNodes, as_value}
+use Rattle.iteration.specs.declared.nodes.RefusalIn.{RefusalIn}
+use Rattle.iteration.specs.Promises.{Updated, AgreesNodes, as_value}
 
 -- ---- what may be rested on: a board's words, with so many cells used, and few channels
 pub record Begun (index words : List ℕ) (cells : ℕ) : Type 0 where
@@ -39,10 +36,6 @@ pub record ChannelsTaken (words row' : List ℕ) : Type 0 where
 
 pub record ChannelsPut (row : List ℕ) (n : ℕ) (words words' : List ℕ) : Type 0 where
   pub is : words' ≡ sets words 1 (row_of (λ k. get_or row k 0) n)
-
-abbrev pub full_at : Inputs → Updated
-full_at (FedUsed used) = Refused no_refusal 0
-full_at (Full c) = Refused heap_spent c
 
 -- ---- a valid state and an allowed line of a file that the index tells, the ends of its expressions and the readings of its nodes
 pub record Given (text index ends readings line : List ℕ) (cells : ℕ) (words : List ℕ) (P : File) (s : State) (vs : List Tree) : Type 0 where
@@ -60,8 +53,8 @@ pub record FeedsAndUpdates (text index ends readings line : List ℕ) (cells cal
   pub long : length slots' ≡ length slots
 
 pub data AgreesIteration (P : File) (cells : ℕ) (words words' : List ℕ) : Updated → Result State → Type 0 where
-  is_done : {after : State} {used : ℕ} → words' ≡ written cells after words → AgreesIteration P cells words words' (Used used) (ok after)
-  is_refused : {n c : ℕ} → words' ≡ words → AgreesIteration P cells words words' (Refused n c) (no n (channel_frame P c))
+  is_done : {after : State} {used : ℕ} → words' ≡ written cells after words → AgreesIteration P cells words words' (Ok used) (ok after)
+  is_refused : {e : RefusalIn} → words' ≡ words → AgreesIteration P cells words words' (Err e) (no (number_of e.refusal) (channel_frame P e.channel))
 
 pub record IteratesState (text index ends readings line : List ℕ) (cells calls : ℕ) (words scratch slots : List ℕ) (r : Updated) (words' scratch' slots' : List ℕ) : Type 0 where
   pub says : {P : File} {s : State} {vs : List Tree} → Given text index ends readings line cells words P s vs → scratch ≡ replicate (length scratch) 0 → AgreesIteration P cells words words' r (iterate_state P (board_lent cells slots calls) s vs)

@@ -1,4 +1,12 @@
 -- The channels' cells taken and put, a refusal that leaves the state as it was, and the slide.
+use Rattle.std.specs.Prelude.{Ok, Err}
+use Rattle.language.specs.declared.refusals.Refusal.{Refusal}
+use Rattle.language.specs.RefusalNumbers.{number_of}
+use Rattle.language.specs.Refusals.{heap_spent}
+use Rattle.language.specs.Line.{trees_fit}
+use Rattle.theory.specs.HeldChannels.{input_types}
+use Rattle.theory.specs.IterationAgrees.{refused-iff-rules, iteration-numbered}
+use Rattle.new_cells.specs.Steps.{Numbered, by_number}
 use Prim.Native.Nat.{ℕ, zero, suc, ◌+◌, ◌-◌, ◌*◌, ◌≤◌, ◌<◌}
 use mathlib.Core.List.{List, [], ◌∷◌, ◌++◌}
 use Rattle.std.specs.Prelude.{true, ◌≡◌, refl, length, get_or, drop, set, eqb}
@@ -23,7 +31,7 @@ use Rattle.theory.specs.HeapValues.{env-length}
 use Rattle.theory.specs.Reaches.{Linked}
 use Rattle.theory.specs.CellWords.{Writable}
 use Rattle.theory.specs.IterationSteps.{full-linked}
-use Rattle.theory.specs.LineExact.{line-forth-exact}
+use Rattle.theory.specs.LineExact.{line-forth-exact, inputs-count}
 use Rattle.theory.specs.StateWords.{state-loaded}
 use Rattle.index.specs.declared.Counts.{Counts}
 use Rattle.index.specs.Sections.{counts_in}
@@ -39,9 +47,8 @@ use Rattle.state_check.specs.LoadLaws.{channel-count}
 use Rattle.sliding.specs.Sliding.{Unslid, Collects}
 use Rattle.evaluation_steps.specs.KeepLaws.{Moved, moved_by}
 use Rattle.evaluator.specs.ChannelValues.{board_lent}
-use Rattle.iteration.specs.declared.nodes.Updated.{Updated}
-use Rattle.iteration.specs.declared.nodes.Updated.TheVariants.{Used, Refused}
-use Rattle.iteration.specs.Promises.{RowIs, AgreesNodes, are_updated, not_updated, as_value}
+use Rattle.iteration.specs.declared.nodes.RefusalIn.{RefusalIn}
+use Rattle.iteration.specs.Promises.{Updated, RowIs, AgreesNodes, are_updated, not_updated, as_value}
 use Rattle.iteration.specs.Whole.{Begun, ChannelsTaken, ChannelsPut, Given, FeedsAndUpdates, is_done, is_refused, IteratesState}
 
 -- ---- taken
@@ -105,17 +112,27 @@ record IsFull (P : File) (words' row' : List ℕ) (top : ℕ) (o : Result State)
   writable : All (Writable P) full.heap
   row : RowIs row' full.roots (channel_total P)
 
-is-full : {P : File} {words' row' : List ℕ} {x : Updated} {o : Result State} {top : ℕ} → AgreesNodes P words' row' x o → x ≡ Used top → IsFull P words' row' top o
+is-full : {P : File} {words' row' : List ℕ} {x : Updated} {o : Result State} {top : ℕ} → AgreesNodes P words' row' x o → x ≡ Ok top → IsFull P words' row' top o
 is-full {P} {words'} {row'} {x} {o} {top} a d = go (subst (λ z. AgreesNodes P words' row' z o) d a)
   where
-    go : {o : Result State} → AgreesNodes P words' row' (Used top) o → IsFull P words' row' top o
+    go : {o : Result State} → AgreesNodes P words' row' (Ok top) o → IsFull P words' row' top o
     go (are_updated {s} held writable row) = record { full = s; is = refl; held = held; writable = writable; row = row }
 
-not_full : {P : File} {words' row' : List ℕ} {x : Updated} {o : Result State} {n c : ℕ} → AgreesNodes P words' row' x o → x ≡ Refused n c → o ≡ no n (channel_frame P c)
-not_full {P} {words'} {row'} {x} {o} {n} {c} a d = go (subst (λ z. AgreesNodes P words' row' z o) d a)
+-- a refusal, by the number that the definition gives it
+record NotFull (P : File) (e : RefusalIn) (o : Result State) : Type 0 where
+  number : ℕ
+  is : o ≡ no number (channel_frame P e.channel)
+  numbered : Numbered e.refusal number
+
+not_full : {P : File} {words' row' : List ℕ} {x : Updated} {o : Result State} {e : RefusalIn} → AgreesNodes P words' row' x o → x ≡ Err e → NotFull P e o
+not_full {P} {words'} {row'} {x} {o} {e} a d = go (subst (λ z. AgreesNodes P words' row' z o) d a)
   where
-    go : {o : Result State} → AgreesNodes P words' row' (Refused n c) o → o ≡ no n (channel_frame P c)
-    go not_updated = refl
+    go : {o : Result State} → AgreesNodes P words' row' (Err e) o → NotFull P e o
+    go (not_updated {m = m} n) = record { number = m; is = refl; numbered = n }
+
+-- a refusal of a valid state and an allowed line is one of 20 to 23
+its-number : {e : Refusal} {m : ℕ} → Numbered e m → heap_spent ≤ m → m ≡ number_of e
+its-number by_number least = refl
 
 -- ---- words of the header
 holds-sets : {used : ℕ} {h : List Cell} (row words : List ℕ) (i : ℕ) → i + length row ≤ header_words → Holds words used h → Holds (sets words i row) used h
@@ -164,11 +181,26 @@ module _ (text index ends readings line : List ℕ) (cells calls : ℕ) (words s
   nothing-behind : (words₂ : List ℕ) → length words₂ ≡ length words → drop (state_length cells) words₂ ≡ []
   nothing-behind words₂ long = ap (λ n. drop n words₂) (sym b.board ∙ sym long) ∙ drop-length words₂
 
-  pub iterates-refused : {used n c : ℕ} {words₂ : List ℕ} → used ≡ used_in words → x ≡ Refused n c → words₂ ≡ cleared words₁ used cells → IteratesState text index ends readings line cells calls words scratch slots x words₂ scratch slots₁
-  unfolding bind
-  iterates-refused {used} {n} {c} {words₂} u d w =
+  module _ {e : RefusalIn} (d : x ≡ Err e) {P : File} {s : State} {vs : List Tree} (g : Given text index ends readings line cells words P s vs) where
+    refused : NotFull P e (fed_and_updated P cells (length slots) calls s vs)
+    refused = not_full (f.says g taken) d
+
+    stops : iterate_state P (board_lent cells slots calls) s vs ≡ no refused.number (channel_frame P e.channel)
+    unfolding bind
+    stops = whole_is P cells (length slots) calls s vs ∙ ap (λ (o : Result State). bind o (λ r. ok (slide r))) refused.is
+
+    fit : trees_fit P vs (input_types P) ≡ true
+    fit = (line-forth-exact P line vs g.allowed).1
+
+    named : refused.number ≡ number_of e.refusal
+    named =
+        let met = (refused-iff-rules g.plain (board_lent cells slots calls) (state-loaded g.indexed.within g.loaded).typed vs fit refused.number (channel_frame P e.channel)).0 stops in
+        its-number refused.numbered (iteration-numbered vs (omega (arith, inputs-count P vs fit)) met).least
+
+  pub iterates-refused : {used : ℕ} {e : RefusalIn} {words₂ : List ℕ} → used ≡ used_in words → x ≡ Err e → words₂ ≡ cleared words₁ used cells → IteratesState text index ends readings line cells calls words scratch slots x words₂ scratch slots₁
+  iterates-refused {used} {e} {words₂} u d w =
       subst (λ r. IteratesState text index ends readings line cells calls words scratch slots r words₂ scratch slots₁) (sym d) (record {
-        says = λ {P} {s} {vs} g zero. rw (whole_is P cells (length slots) calls s vs, not_full (f.says g taken) d) (is_refused (w ∙ cleared-restores words words₁ used cells (omega (arith, u, b.used)) (omega (arith, b.board))
+        says = λ {P} {s} {vs} g zero. rw (stops d g ∙ ap (λ m. no m (channel_frame P e.channel)) (named d g)) (is_refused (w ∙ cleared-restores words words₁ used cells (omega (arith, u, b.used)) (omega (arith, b.board))
             (ap (λ m. all_zero (take (cell_words * (cells - m)) (drop (state_length m) words))) (u ∙ (held g).used) ∙ (held g).beyond)
             (ap (λ m. take (state_length m) words₁) u ∙ f.kept.low ∙ ap (λ m. take (state_length m) words) (sym u))
             (nothing-behind words₁ f.kept.long ∙ sym (nothing-behind words refl))));
@@ -176,7 +208,7 @@ module _ (text index ends readings line : List ℕ) (cells calls : ℕ) (words s
         long = f.long;
       })
 
-  module _ {top : ℕ} (d : x ≡ Used top) where
+  module _ {top : ℕ} (d : x ≡ Ok top) where
     pub full-moved : Moved words (used_in words) words₁ top
     full-moved = moved_by f.kept (ap as_value d)
 
@@ -258,7 +290,7 @@ module _ (text index ends readings line : List ℕ) (cells calls : ℕ) (words s
           beyond = beyond;
         }
 
-      pub iterates-done : {words₃ scratch₃ : List ℕ} → Collects index n top words₂ scratch words₃ scratch₃ → IteratesState text index ends readings line cells calls words scratch slots (Used top) words₃ scratch₃ slots₁
+      pub iterates-done : {words₃ scratch₃ : List ℕ} → Collects index n top words₂ scratch words₃ scratch₃ → IteratesState text index ends readings line cells calls words scratch slots (Ok top) words₃ scratch₃ slots₁
       unfolding bind written
       iterates-done {words₃} {scratch₃} c = record {
         says = λ {P} {s} {vs} g zero. rw (whole_is P cells (length slots) calls s vs, (last g).is) (is_done (c.says cells (last g).full.heap (unslid g) zero ∙

@@ -4,13 +4,13 @@
 pub mod nodes;
 
 ghost use Rattle.std.specs.Prelude.{◌≡◌, ◌≤◌, length};
-ghost use Rattle.iteration.specs.Whole.{ChannelsTaken, ChannelsPut, FeedsAndUpdates, Begun, IteratesState, full_at};
+ghost use Rattle.iteration.specs.Whole.{ChannelsTaken, ChannelsPut, FeedsAndUpdates, Begun, IteratesState};
 
 use index::{INDEX_WORDS, frame_counts, put, word_at};
-use input_cells::{Inputs, put_inputs};
+use input_cells::put_inputs;
 use language::limits::{CHANNELS_MOST, NODES_MOST, TEXT_MOST};
-use language::refusals::{HEAP_SPENT, NO_REFUSAL};
-use nodes::{Updated, update_nodes};
+use language::refusals::Refusal;
+use nodes::{RefusalIn, update_nodes};
 use sliding::collect;
 use state_words::{channel_cell, clear_cells, put_channel_cell, used_cells};
 
@@ -18,10 +18,8 @@ use state_words::{channel_cell, clear_cells, put_channel_cell, used_cells};
 fn take_channels(state: &[u32], channels: &mut [u32; CHANNELS_MOST])
     ensures { ChannelsTaken state.now channels.new }
 {
-    let mut c: u32 = 0;
-    while c < (CHANNELS_MOST as u32) {
+    for c in 0..CHANNELS_MOST as u32 {
         put(channels, c as usize, channel_cell(state, c));
-        c += 1;
     }
 }
 
@@ -29,24 +27,12 @@ fn take_channels(state: &[u32], channels: &mut [u32; CHANNELS_MOST])
 fn put_channels(state: &mut [u32], channels: &[u32; CHANNELS_MOST], n: u32)
     ensures { ChannelsPut channels.now n state.old state.new }
 {
-    let mut c: u32 = 0;
-    while c < n {
+    for c in 0..n {
         put_channel_cell(state, c, word_at(channels, c as usize));
-        c += 1;
     }
 }
 
-// 20, at the input whose cells are not all there.
-fn full_at(x: Inputs) -> Updated
-    ensures { result ≡ full_at x }
-{
-    match x {
-        Inputs::Used(_) => Updated::Refused(NO_REFUSAL, 0),
-        Inputs::Full(c) => Updated::Refused(HEAP_SPENT, c),
-    }
-}
-
-// The inputs' values laid, and all nodes updated.
+// The inputs' values laid, and all nodes updated; 20 at the first input whose cells are not all there.
 fn update(
     text: &[u8],
     index: &[u32; INDEX_WORDS],
@@ -58,15 +44,15 @@ fn update(
     line: &[u8],
     cells: u32,
     calls: u32,
-) -> Updated
+) -> Result<u32, RefusalIn>
     requires { Begun index.now state.old cells }
     ensures { FeedsAndUpdates text.now index.now ends.now readings.now line.now cells calls channels.old state.old slots.old result channels.new state.new slots.new }
 {
     let used = used_cells(state);
-    let x = put_inputs(line, index, state, channels, cells, used);
-    let Inputs::Used(fed) = x else {
-        return full_at(x);
-    };
+    let fed = put_inputs(line, index, state, channels, cells, used).map_err(|channel| RefusalIn {
+        refusal: Refusal::HeapSpent,
+        channel,
+    })?;
     update_nodes(
         text, index, ends, readings, channels, state, slots, fed, calls,
     )
@@ -84,7 +70,7 @@ pub fn iterate_state(
     line: &[u8],
     cells: u32,
     calls: u32,
-) -> Updated
+) -> Result<u32, RefusalIn>
     requires begun { Begun index.now state.old cells }
     requires cells_in_bounds { cells ≤ length scratch.old }
     ensures { IteratesState text.now index.now ends.now readings.now line.now cells calls state.old scratch.old slots.old result state.new scratch.new slots.new }
@@ -92,7 +78,7 @@ pub fn iterate_state(
     let mut channels = [0u32; CHANNELS_MOST];
     take_channels(state, &mut channels);
     let used = used_cells(state);
-    let x = update(
+    let updated = update(
         text,
         index,
         ends,
@@ -104,13 +90,13 @@ pub fn iterate_state(
         cells,
         calls,
     );
-    let Updated::Used(top) = x else {
+    let Ok(top) = updated else {
         clear_cells(state, used, cells);
-        return x;
+        return updated;
     };
     let counts = frame_counts(index);
     let n = counts.inputs + counts.nodes;
     put_channels(state, &channels, n);
     collect(index, state, scratch, n, top);
-    x
+    updated
 }

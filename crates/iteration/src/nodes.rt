@@ -4,24 +4,24 @@ ghost use Rattle.new_cells.specs.Steps.{Board};
 ghost use Rattle.index.specs.Sections.{channels_of};
 ghost use Rattle.index.specs.Indexed.{declared_at};
 ghost use Rattle.node_order.specs.Files.{FewChannels};
-ghost use Rattle.iteration.specs.Promises.{size_in_word, UpdatesNode, UpdatesNodes, handed_on};
+ghost use Rattle.iteration.specs.Promises.{size_in_word, UpdatesNode, UpdatesNodes};
 
 use channel_sets::{first, single};
 use evaluator::channels::channel_value;
 use index::channels::{declared_word, update_start};
 use index::{INDEX_WORDS, frame_counts, put};
 use language::limits::{CHANNELS_MOST, NODES_MOST, TEXT_MOST};
-use language::refusals::{NO_REFUSAL, VALUE_TOO_LARGE};
+use language::refusals::Refusal;
 use new_cells::Value;
 use node_order::next_node;
 use state_words::reads::size;
 use state_words::tags::{CONSTRUCTOR_TAGS, word_size};
 
-// How many cells are used once all nodes are updated; or a refusal, and the channel where it was met.
+// A refusal, and the channel where it was met.
 #[derive(Clone, Copy)]
-pub enum Updated {
-    Used(u32),
-    Refused(u32, u32),
+pub struct RefusalIn {
+    pub refusal: Refusal,
+    pub channel: u32,
 }
 
 // The size in the declared type of channel c; 0 of a Bool or an Int.
@@ -35,16 +35,6 @@ fn declared_size(index: &[u32; INDEX_WORDS], c: u32) -> u32
     word_size(word)
 }
 
-// A refusal handed on, with the channel where it was met.
-fn refused_at(x: Value, c: u32) -> Updated
-    ensures { result ≡ handed_on x c }
-{
-    match x {
-        Value::Is(_, _) => Updated::Refused(NO_REFUSAL, c),
-        Value::Refused(n) => Updated::Refused(n, c),
-    }
-}
-
 // The update of channel c; 23 where its value is above the declared size.
 fn update_node(
     text: &[u8],
@@ -56,24 +46,21 @@ fn update_node(
     c: u32,
     used: u32,
     calls: u32,
-) -> Value
+) -> Result<Value, Refusal>
     requires { Board state.old used }
     ensures { UpdatesNode text.now index.now ends.now channels.now c used calls state.old slots.old result state.new slots.new }
 {
     let at = update_start(index, c);
-    let x = channel_value(
+    let value = channel_value(
         text, index, ends, channels, state, slots, c, at, used, calls,
-    );
-    let Value::Is(cell, more) = x else {
-        return x;
-    };
-    if declared_size(index, c) < size(state, more, cell) {
-        return Value::Refused(VALUE_TOO_LARGE);
+    )?;
+    if declared_size(index, c) < size(state, value.used, value.cell) {
+        return Err(Refusal::ValueTooLarge);
     }
-    x
+    Ok(value)
 }
 
-// All of them: again and again the lowest-numbered node not yet done whose readings of nodes are all done.
+// All of them: again and again the lowest-numbered node not yet done whose readings of nodes are all done. How many cells are used then.
 pub fn update_nodes(
     text: &[u8],
     index: &[u32; INDEX_WORDS],
@@ -84,7 +71,7 @@ pub fn update_nodes(
     slots: &mut [u32],
     used: u32,
     calls: u32,
-) -> Updated
+) -> Result<u32, RefusalIn>
     requires board { Board state.old used }
     requires few_channels { FewChannels index.now }
     ensures { UpdatesNodes text.now index.now ends.now readings.now used calls channels.old state.old slots.old result channels.new state.new slots.new }
@@ -94,21 +81,18 @@ pub fn update_nodes(
     let nodes = counts.nodes;
     let mut done = first(inputs);
     let mut top = used;
-    let mut k: u32 = 0;
-    while k < nodes {
-        let i = next_node(readings, done, inputs, nodes);
-        if nodes <= i {
-            return Updated::Used(top);
-        }
-        let c = inputs + i;
-        let x = update_node(text, index, ends, channels, state, slots, c, top, calls);
-        let Value::Is(cell, more) = x else {
-            return refused_at(x, c);
+    for _ in 0..nodes {
+        let Some(i) = next_node(readings, done, inputs, nodes) else {
+            return Ok(top);
         };
-        put(channels, c as usize, cell);
-        top = more;
-        done = done | single(c);
-        k += 1;
+        let channel = inputs + i;
+        let value = update_node(
+            text, index, ends, channels, state, slots, channel, top, calls,
+        )
+        .map_err(|refusal| RefusalIn { refusal, channel })?;
+        put(channels, channel as usize, value.cell);
+        top = value.used;
+        done |= single(channel);
     }
-    Updated::Used(top)
+    Ok(top)
 }

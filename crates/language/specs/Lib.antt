@@ -1,8 +1,12 @@
 pub mod Limits
 pub mod Refusals
+pub mod RefusalNumbers
 pub mod Codes
 pub mod Constants
 pub mod Result
+pub mod HandedOn
+pub mod Told
+pub mod Oks
 pub mod Syntax
 pub mod Format
 pub mod Scope

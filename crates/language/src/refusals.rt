@@ -1,82 +1,81 @@
 ghost use Rattle.std.specs.Prelude.{◌≡◌};
 ghost use Rattle.language.specs.Constants.{refusal_numbers};
+ghost use Rattle.language.specs.RefusalNumbers.{number_of};
 
-// The numbers of refusals, document 01, "By place". Each is tied by a proof to that of specs/Refusals.antt.
+// The refusals of document 01, "By place", and of document 02. The number of each is tied by a proof to that of specs/Refusals.antt.
 // "An answer is a number (0 where all is well), a frame (from 1; 0 where none is named)"
 pub const NO_REFUSAL: u32 = 0;
 
 pub const NO_FRAME: u32 = 0;
 
-// "over 16,384 characters"
-pub const TEXT_TOO_LONG: u32 = 1;
+// Why something is refused.
+#[derive(Clone, Copy, Debug, PartialEq, Eq)]
+pub enum Refusal {
+    // what no rule names: met only by cells and bytes that no file and no valid state has
+    Unnamed = 0,
+    // "over 16,384 characters"
+    TextTooLong = 1,
+    // "a line empty, odd, not hexadecimal, or without LF"
+    BadLine = 2,
+    // "kind unknown, out of order or one too many; no node"
+    BadFrame = 3,
+    // "bytes end early or go on"
+    BadLength = 4,
+    // "code outside its set"
+    BadCode = 5,
+    // "index names nothing allowed there"
+    BadIndex = 6,
+    // "a count, k, scope or nesting over its limit or below its least"
+    OutsideLimits = 7,
+    // "type without a self-free constructor"
+    NoBaseConstructor = 8,
+    // "plain types disagree; initial value of another form"
+    TypesDisagree = 9,
+    // "a type's size outside 1 to 64"
+    SizeOutside = 10,
+    // "sizes disagree, or adj lowers"
+    SizesDisagree = 11,
+    // "a condition fails"
+    ConditionFails = 12,
+    // "the measure doesn't fall"
+    MeasureNotLess = 13,
+    // "a 1,025th instance"
+    TooManyInstances = 14,
+    // "heap, environment, stack needed above the board's"
+    HeapShort = 15,
+    EnvironmentShort = 16,
+    StackShort = 17,
+    // "board over its maximum, a buffer too short, or state not as above for this file"
+    NotLent = 18,
+    // "input line wrong"
+    BadInputLine = 19,
+    // "heap, environment, stack spent"
+    HeapSpent = 20,
+    EnvironmentSpent = 21,
+    StackSpent = 22,
+    // "value too large"
+    ValueTooLarge = 23,
+    // Document 02, R-1: "lent buffer shorter than the strict text"
+    BufferShort = 24,
+    // Document 02, R-3: "some node reads itself through `13`, directly or by others"
+    SelfReading = 25,
+}
 
-// "a line empty, odd, not hexadecimal, or without LF"
-pub const BAD_LINE: u32 = 2;
+impl Refusal {
+    // Its number.
+    pub fn number(self) -> u32
+        ensures { result ≡ number_of self }
+    {
+        self as u32
+    }
+}
 
-// "kind unknown, out of order or one too many; no node"
-pub const BAD_FRAME: u32 = 3;
-
-// "bytes end early or go on"
-pub const BAD_LENGTH: u32 = 4;
-
-// "code outside its set"
-pub const BAD_CODE: u32 = 5;
-
-// "index names nothing allowed there"
-pub const BAD_INDEX: u32 = 6;
-
-// "a count, k, scope or nesting over its limit or below its least"
-pub const OUTSIDE_LIMITS: u32 = 7;
-
-// "type without a self-free constructor"
-pub const NO_BASE_CONSTRUCTOR: u32 = 8;
-
-// "plain types disagree; initial value of another form"
-pub const TYPES_DISAGREE: u32 = 9;
-
-// "a type's size outside 1 to 64"
-pub const SIZE_OUTSIDE: u32 = 10;
-
-// "sizes disagree, or adj lowers"
-pub const SIZES_DISAGREE: u32 = 11;
-
-// "a condition fails"
-pub const CONDITION_FAILS: u32 = 12;
-
-// "the measure doesn't fall"
-pub const MEASURE_NOT_LESS: u32 = 13;
-
-// "a 1,025th instance"
-pub const TOO_MANY_INSTANCES: u32 = 14;
-
-// "heap, environment, stack needed above the board's"
-pub const HEAP_SHORT: u32 = 15;
-
-pub const ENVIRONMENT_SHORT: u32 = 16;
-
-pub const STACK_SHORT: u32 = 17;
-
-// "board over its maximum, a buffer too short, or state not as above for this file"
-pub const NOT_LENT: u32 = 18;
-
-// "input line wrong"
-pub const BAD_INPUT_LINE: u32 = 19;
-
-// "heap, environment, stack spent"
-pub const HEAP_SPENT: u32 = 20;
-
-pub const ENVIRONMENT_SPENT: u32 = 21;
-
-pub const STACK_SPENT: u32 = 22;
-
-// "value too large"
-pub const VALUE_TOO_LARGE: u32 = 23;
-
-// Document 02, R-1: "lent buffer shorter than the strict text"
-pub const BUFFER_SHORT: u32 = 24;
-
-// Document 02, R-3: "some node reads itself through `13`, directly or by others"
-pub const SELF_READING: u32 = 25;
+// A refusal, and the frame that it names: from 1, or NO_FRAME.
+#[derive(Clone, Copy, Debug, PartialEq, Eq)]
+pub struct RefusalAt {
+    pub refusal: Refusal,
+    pub frame: u32,
+}
 
 #[derive(Clone, Copy)]
 pub struct RefusalNumbers {
@@ -116,30 +115,30 @@ pub fn refusal_numbers() -> RefusalNumbers
     RefusalNumbers {
         no_refusal: NO_REFUSAL,
         no_frame: NO_FRAME,
-        text_too_long: TEXT_TOO_LONG,
-        bad_line: BAD_LINE,
-        bad_frame: BAD_FRAME,
-        bad_length: BAD_LENGTH,
-        bad_code: BAD_CODE,
-        bad_index: BAD_INDEX,
-        outside_limits: OUTSIDE_LIMITS,
-        no_base_constructor: NO_BASE_CONSTRUCTOR,
-        types_disagree: TYPES_DISAGREE,
-        size_outside: SIZE_OUTSIDE,
-        sizes_disagree: SIZES_DISAGREE,
-        condition_fails: CONDITION_FAILS,
-        measure_not_less: MEASURE_NOT_LESS,
-        too_many_instances: TOO_MANY_INSTANCES,
-        heap_short: HEAP_SHORT,
-        environment_short: ENVIRONMENT_SHORT,
-        stack_short: STACK_SHORT,
-        not_lent: NOT_LENT,
-        bad_input_line: BAD_INPUT_LINE,
-        heap_spent: HEAP_SPENT,
-        environment_spent: ENVIRONMENT_SPENT,
-        stack_spent: STACK_SPENT,
-        value_too_large: VALUE_TOO_LARGE,
-        buffer_short: BUFFER_SHORT,
-        self_reading: SELF_READING,
+        text_too_long: Refusal::TextTooLong.number(),
+        bad_line: Refusal::BadLine.number(),
+        bad_frame: Refusal::BadFrame.number(),
+        bad_length: Refusal::BadLength.number(),
+        bad_code: Refusal::BadCode.number(),
+        bad_index: Refusal::BadIndex.number(),
+        outside_limits: Refusal::OutsideLimits.number(),
+        no_base_constructor: Refusal::NoBaseConstructor.number(),
+        types_disagree: Refusal::TypesDisagree.number(),
+        size_outside: Refusal::SizeOutside.number(),
+        sizes_disagree: Refusal::SizesDisagree.number(),
+        condition_fails: Refusal::ConditionFails.number(),
+        measure_not_less: Refusal::MeasureNotLess.number(),
+        too_many_instances: Refusal::TooManyInstances.number(),
+        heap_short: Refusal::HeapShort.number(),
+        environment_short: Refusal::EnvironmentShort.number(),
+        stack_short: Refusal::StackShort.number(),
+        not_lent: Refusal::NotLent.number(),
+        bad_input_line: Refusal::BadInputLine.number(),
+        heap_spent: Refusal::HeapSpent.number(),
+        environment_spent: Refusal::EnvironmentSpent.number(),
+        stack_spent: Refusal::StackSpent.number(),
+        value_too_large: Refusal::ValueTooLarge.number(),
+        buffer_short: Refusal::BufferShort.number(),
+        self_reading: Refusal::SelfReading.number(),
     }
 }

@@ -9,8 +9,7 @@ use Rattle.language.specs.Format.{bit}
 use Rattle.language.specs.Heap.{kbool, Cell, leaf, cell_at, fields_in}
 use Rattle.language.specs.Slide.{mem, reached_from, reached}
 use Rattle.theory.specs.Members.{mem-append}
-use Rattle.index.specs.Sections.{types_of}
-use Rattle.state_words.specs.Words.{channel_at, tag_at, field_at, row_of, field_count}
+use Rattle.state_words.specs.Words.{channel_at, row_of}
 use Rattle.state_words.specs.ReadLaws.{fields-held}
 use Rattle.marking.specs.Marks.{Marks, Touched, Visited, passed_by, named_marked, Marking, MarkedFrom, MarksReached}
 
@@ -36,9 +35,6 @@ touched-on f {j} {x} {marks₀} {marks} {marks'} t q e = rw add-one (record {
   at = λ l less. ap (λ (m : List ℕ). get_or m l 0) e ∙ one_more (mem l (row_of f j)) l x marks (get_or marks₀ l 0) (omega (arith, t.long)) (t.at l less)
       ∙ ap (λ b. choose b 1 (get_or marks₀ l 0)) (ap (λ y. one_of (mem l (row_of f j)) (one_of (eqb l y) false)) q ∙ sym (mem-append l (row_of f j) (f j ∷ [])));
 })
-
-pub touched-end : (f : ℕ → ℕ) {j n : ℕ} {marks₀ marks : List ℕ} → j ≤ n → n ≤ j → Touched (row_of f j) marks₀ marks → Touched (row_of f n) marks₀ marks
-touched-end f {j} {n} {marks₀} {marks} low high t = let same : j ≡ n = omega arith in subst (λ k. Touched (row_of f k) marks₀ marks) same t
 
 -- ---- marks of a list
 mark-added : (a b : Bool) → choose a 1 (bit b) ≡ bit (one_of a b)
@@ -89,9 +85,6 @@ pub marked-on : {index words marks₀ marks marks' : List ℕ} {used : ℕ} (i :
 marked-on zero more le m v = absurd (omega arith)
 marked-on (suc i) more le m v = let one : suc i - 1 ≡ i = omega arith in rw one (next-marked i le m (rw one at v))
 
-pub marked-end : {index words marks₀ marks : List ℕ} {used i : ℕ} → i ≤ 0 → MarkedFrom index words used marks₀ i marks → MarkedFrom index words used marks₀ 0 marks
-marked-end {index} {words} {marks₀} {marks} {used} {i} low m = let none : i ≡ 0 = omega arith in subst (λ k. MarkedFrom index words used marks₀ k marks) none m
-
 -- ---- the whole
 no-marks : (used : ℕ) → Marks (replicate used 0) []
 unfolding mem
@@ -116,7 +109,3 @@ unmarked {m} q e = eqb-true m 0 (not-false (eqb m 0) (sym q ∙ e))
 
 pub has-mark : {m : ℕ} {r : Bool} → r ≡ not (eqb m 0) → r ≡ true → m ≡ 0 → ⊥
 has-mark {m} q e = eqb-false m 0 (not-true (eqb m 0) (sym q ∙ e))
-
-pub visited-fields : {index words marks marks' : List ℕ} {cell tag n : ℕ} {r : Bool} → r ≡ not (eqb (get_or marks cell 0) 0) → r ≡ true → tag ≡ tag_at words cell → n ≡ field_count (types_of index) tag →
-    Touched (row_of (field_at words cell) n) marks marks' → Visited index words cell marks marks'
-visited-fields {index} {words} {marks} {marks'} {cell} q e p c t = named_marked (has-mark q e) (subst (λ k. Touched (row_of (field_at words cell) k) marks marks') (c ∙ ap (field_count (types_of index)) p) t)

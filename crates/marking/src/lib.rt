@@ -26,11 +26,9 @@ pub fn is_marked(marks: &[u32], cell: u32) -> bool
 fn mark_fields(state: &[u32], marks: &mut [u32], cell: u32, n: u32)
     ensures { Touched (row_of (field_at state.now cell) n) marks.old marks.new }
 {
-    let mut j: u32 = 0;
-    while j < n {
+    for j in 0..n {
         let l = cell_field(state, cell, j);
         mark(marks, l);
-        j += 1;
     }
 }
 
@@ -38,11 +36,9 @@ fn mark_fields(state: &[u32], marks: &mut [u32], cell: u32, n: u32)
 fn mark_channels(state: &[u32], marks: &mut [u32], n: u32)
     ensures { Touched (row_of (channel_at state.now) n) marks.old marks.new }
 {
-    let mut c: u32 = 0;
-    while c < n {
+    for c in 0..n {
         let l = channel_cell(state, c);
         mark(marks, l);
-        c += 1;
     }
 }
 
@@ -61,9 +57,7 @@ fn visit(index: &[u32; INDEX_WORDS], state: &[u32], marks: &mut [u32], cell: u32
 fn visit_all(index: &[u32; INDEX_WORDS], state: &[u32], marks: &mut [u32], used: u32)
     ensures { MarkedFrom index.now state.now used marks.old 0 marks.new }
 {
-    let mut i = used;
-    while 0 < i {
-        i -= 1;
+    for i in (0..used).rev() {
         visit(index, state, marks, i);
     }
 }

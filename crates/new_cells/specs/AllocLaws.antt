@@ -4,10 +4,13 @@
 --   none_left, heap-spent   no cell left on the board: 20
 --   row_written, cell-made   the next cell written
 --   bool-made, int-made   a Bool's and an Int's words
-use Rattle.std.specs.Prelude.{ℕ, ◌+◌, ◌≤◌, ◌<◌, List, [], ◌∷◌, ◌++◌, ◌≡◌, refl, length}
+use Rattle.std.specs.Prelude.{ℕ, ◌+◌, ◌≤◌, ◌<◌, List, [], ◌∷◌, ◌++◌, ◌≡◌, refl, length, Ok, Err}
 use Rattle.std.proofs.Common.{sym, subst, ◌∙◌, arith, lt-ltb, le-ltb}
 use Rattle.std.proofs.Math.Path.{ap}
 use Rattle.std.proofs.lemmas.List.Edits.{sets}
+use Rattle.language.specs.declared.refusals.Refusal.{Refusal}
+use Rattle.language.specs.declared.refusals.Refusal.TheVariants.{HeapSpent}
+use Rattle.language.specs.RefusalNumbers.{number_of}
 use Rattle.language.specs.Limits.{fields_most, int_range}
 use Rattle.language.specs.Refusals.{heap_spent}
 use Rattle.language.specs.Syntax.{File}
@@ -19,23 +22,21 @@ use Rattle.theory.specs.Padding.{padded-length}
 use Rattle.theory.specs.CellWords.{bool_writable, int_writable}
 use Rattle.state_words.specs.Holds.{Written}
 use Rattle.state_words.specs.HoldLaws.{holds_pushed, written-long, written_below, written-above}
-use Rattle.new_cells.specs.Steps.{Lies, Agrees, is_value, is_refused, has_grown, not_grown, Kept, Gives}
+use Rattle.new_cells.specs.Steps.{Evaluated, by_number, Lies, Agrees, is_value, is_refused, has_grown, not_grown, Kept, Gives}
 use Rattle.new_cells.specs.Asked.{Allocates, MakesBool, MakesInt}
-use Rattle.new_cells.specs.declared.Value.{Value}
-use Rattle.new_cells.specs.declared.Value.TheVariants.{Is, Refused}
 
 module _ {words words' : List ℕ} {used : ℕ} where
-  pub gives-asked : {r : Value} {asked other : File → ℕ → List Cell → Out → Type 0} → ((P : File) (cells : ℕ) (h : List Cell) (o : Out) → Lies P cells words used h → asked P cells h o → other P cells h o) →
+  pub gives-asked : {r : Evaluated} {asked other : File → ℕ → List Cell → Out → Type 0} → ((P : File) (cells : ℕ) (h : List Cell) (o : Out) → Lies P cells words used h → asked P cells h o → other P cells h o) →
       Gives words used other r words' → Gives words used asked r words'
   gives-asked turn g = record { says = λ {P} {cells} {h} {o} v a. g.says v (turn P cells h o v a); kept = g.kept }
 
 -- ---- nothing written
 module _ {words : List ℕ} {used : ℕ} where
-  pub kept-refused : {n : ℕ} → Kept words words used (Refused n)
+  pub kept-refused : {n : Refusal} → Kept words words used (Err n)
   kept-refused = record { long = refl; low = refl; grown = not_grown }
 
-  pub gives-refused : {n : ℕ} {asked : File → ℕ → List Cell → Out → Type 0} → ((P : File) (cells : ℕ) (h : List Cell) (o : Out) → Lies P cells words used h → asked P cells h o → o ≡ refused n) → Gives words used asked (Refused n) words
-  gives-refused {n} turn = record { says = λ {P} {cells} {h} {o} v a. subst (Agrees P words (Refused n)) (sym (turn P cells h o v a)) is_refused; kept = kept-refused }
+  pub gives-refused : {n : Refusal} {asked : File → ℕ → List Cell → Out → Type 0} → ((P : File) (cells : ℕ) (h : List Cell) (o : Out) → Lies P cells words used h → asked P cells h o → o ≡ refused (number_of n)) → Gives words used asked (Err n) words
+  gives-refused {n} turn = record { says = λ {P} {cells} {h} {o} v a. subst (Agrees P words (Err n)) (sym (turn P cells h o v a)) (is_refused by_number); kept = kept-refused }
 
   -- no cell is left, as the test on the length says
   module _ {end : ℕ} (told : end ≡ state_length (used + 1)) (less : length words < end) where
@@ -43,7 +44,7 @@ module _ {words : List ℕ} {used : ℕ} where
     unfolding alloc needs
     none_left {cells} {h} v c = rw (le-ltb (length h) cells (omega (arith, v.board, v.held.count)))
 
-    pub heap-spent : {row : List ℕ} → Gives words used (Allocates row) (Refused heap_spent) words
+    pub heap-spent : {row : List ℕ} → Gives words used (Allocates row) (Err HeapSpent) words
     heap-spent = gives-refused (λ P cells h o v a. a.is ∙ none_left v a.cell)
 
   -- ---- one cell written
@@ -52,12 +53,12 @@ module _ {words : List ℕ} {used : ℕ} where
     unfolding alloc needs
     cell-value {cells} {h} v c = rw (lt-ltb (length h) cells (omega (arith, v.board, v.held.count, p.room))) (ap (λ n. value n (h ++ (c ∷ []))) (sym v.held.count))
 
-    pub cell-made : Gives words used (Allocates row) (Is used (used + 1)) words'
+    pub cell-made : Gives words used (Allocates row) (Ok (record { cell = used; used = used + 1 })) words'
     cell-made = record {
       says = λ {P} {cells} {h} v a.
           let written : Written words used (words_of a.cell) words' = subst (λ (x : List ℕ). Written words used x words') (sym a.spelled) p in
-          subst (Agrees P words' (Is used (used + 1))) (sym (a.is ∙ cell-value v a.cell)) (is_value (holds_pushed a.cell v.held written) (all_snoc v.writable a.writable));
-      kept = record { long = written-long p; low = written_below p; grown = has_grown {used' = used + 1} (omega arith) p.room (written-above p) };
+          subst (Agrees P words' (Ok (record { cell = used; used = used + 1 }))) (sym (a.is ∙ cell-value v a.cell)) (is_value (holds_pushed a.cell v.held written) (all_snoc v.writable a.writable));
+      kept = record { long = written-long p; low = written_below p; grown = has_grown (omega arith) p.room (written-above p) };
     }
 
 -- as put_leaf and put_constructor write it
@@ -65,7 +66,7 @@ pub row_written : {words words' : List ℕ} {used : ℕ} {end : ℕ} (tag v : �
 row_written tag v ls told room e = record { wide = omega (arith, padded-length fields_most ls); room = omega arith; is = e }
 
 -- ---- constants
-module _ {words words' : List ℕ} {used : ℕ} {r : Value} where
+module _ {words words' : List ℕ} {used : ℕ} {r : Evaluated} where
   pub bool-made : {word : ℕ} → Gives words used (Allocates (bool_tag ∷ word ∷ padded fields_most [])) r words' → Gives words used (MakesBool word) r words'
   unfolding words_of cell_tag cell_value fields_in
   bool-made g = gives-asked (λ P cells h o v a. record { cell = leaf (kbool a.truth); spelled = ap (λ w. bool_tag ∷ w ∷ padded fields_most []) a.spelled; writable = bool_writable; is = a.is }) g

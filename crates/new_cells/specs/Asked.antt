@@ -1,5 +1,5 @@
 -- What is asked of the functions that make a cell, by the definitions of the evaluator: what each form's rule allocates.
-use Rattle.std.specs.Prelude.{ℕ, ◌+◌, ◌≤◌, ◌<◌, List, Bool, ◌≡◌, length, get_or, ltb, leb}
+use Rattle.std.specs.Prelude.{ℕ, ◌+◌, ◌<◌, List, Bool, ◌≡◌, length, get_or, ltb, leb, Option, Some, None, IfSome}
 use Rattle.language.specs.Limits.{size_most}
 use Rattle.language.specs.Refusals.{value_too_large}
 use Rattle.language.specs.Result.{both, choose}
@@ -68,9 +68,15 @@ added sum fint s = sum
 added sum own s = choose (ltb (sum + s) size_most) (sum + s) size_most
 added sum (other t k) s = choose (leb s k) sum size_most
 
-pub record Adds (words : List ℕ) (used sum word l r : ℕ) : Type 0 where
-  pub says : {t : ℕ} {f : Field} {h : List Cell} → WithinField t f → field_word f ≡ word → Holds words used h → r ≡ added sum f (size_in (cell_at h l))
-  pub most : r ≤ size_most
+-- a sum, or the largest size where there is none
+abbrev pub size_told : Option ℕ → ℕ
+size_told (Some s) = s
+size_told None = size_most
 
-pub record Sums (index words : List ℕ) (used : ℕ) (values : List ℕ) (t c n r : ℕ) : Type 0 where
-  pub says : {P : File} {ls : List ℕ} {h : List Cell} → Applied index values t c n P ls → Holds words used h → r ≡ summed h (fields_of P t c) ls 0
+pub record Adds (words : List ℕ) (used sum word l : ℕ) (r : Option ℕ) : Type 0 where
+  pub says : {t : ℕ} {f : Field} {h : List Cell} → WithinField t f → field_word f ≡ word → Holds words used h → size_told r ≡ added sum f (size_in (cell_at h l))
+  pub low : IfSome r (λ s. s < size_most)
+
+pub record Sums (index words : List ℕ) (used : ℕ) (values : List ℕ) (t c n : ℕ) (r : Option ℕ) : Type 0 where
+  pub says : {P : File} {ls : List ℕ} {h : List Cell} → Applied index values t c n P ls → Holds words used h → size_told r ≡ summed h (fields_of P t c) ls 0
+  pub low : IfSome r (λ s. s < size_most)

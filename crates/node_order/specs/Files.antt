@@ -1,7 +1,6 @@
 -- Readings of a file's nodes, the frame of the lowest that reads itself, and which nodes are done, as a set of channels.
-use Rattle.std.specs.Prelude.{ℕ, ◌+◌, ◌^◌, ◌≤◌, ◌<◌, List, true, ◌≡◌, length, get_or}
+use Rattle.std.specs.Prelude.{ℕ, ◌+◌, ◌^◌, ◌≤◌, ◌<◌, List, true, Option, Some, None, ◌≡◌, length, get_or}
 use Rattle.language.specs.Limits.{channels_most}
-use Rattle.language.specs.Refusals.{no_frame}
 use Rattle.language.specs.Syntax.{File, node_at_of, node_channel, channel_frame}
 use Rattle.language.specs.Slide.{mem}
 use Rattle.language.specs.Order.{readings, Acyclic, LowestSelfReader}
@@ -17,12 +16,12 @@ pub record Gathered (P : File) (row : List ℕ) : Type 0 where
 pub record FewChannels (index : List ℕ) : Type 0 where
   pub few : (counts_in index).inputs + (counts_in index).nodes ≤ channels_most
 
--- 0 where no node reads itself, else the frame of the lowest that does
-pub data OrderFrame (P : File) : ℕ → Type 0 where
-  no-frame : Acyclic P → OrderFrame P no_frame
-  frame_of : {i frame : ℕ} → LowestSelfReader P i → frame ≡ channel_frame P (node_channel P i) → OrderFrame P frame
+-- the frame of the lowest node that reads itself, where one does
+pub data OrderFrame (P : File) : Option ℕ → Type 0 where
+  no-frame : Acyclic P → OrderFrame P None
+  frame_of : {i frame : ℕ} → LowestSelfReader P i → frame ≡ channel_frame P (node_channel P i) → OrderFrame P (Some frame)
 
-pub record JudgesOrder (index row : List ℕ) (r : ℕ) : Type 0 where
+pub record JudgesOrder (index row : List ℕ) (r : Option ℕ) : Type 0 where
   pub says : {text : List ℕ} {P : File} → Indexed text index P → Gathered P row → OrderFrame P r
 
 -- the set has the inputs and the nodes done

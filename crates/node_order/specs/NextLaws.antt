@@ -2,7 +2,7 @@
 use Prim.Native.Nat.{ℕ, zero, suc, ◌+◌, ◌-◌, ◌^◌, ◌≤◌, ◌<◌}
 use mathlib.Core.List.{List, [], ◌∷◌, ◌++◌}
 use Rattle.std.proofs.Math.Bool.{true}
-use Rattle.std.specs.Prelude.{not, ◌≡◌, length, get_or, ltb}
+use Rattle.std.specs.Prelude.{not, Option, Some, None, ◌≡◌, length, get_or, ltb}
 use Rattle.std.proofs.Math.Path.{refl, ap}
 use Rattle.std.proofs.Common.{sym, ◌∙◌, subst, arith, ltb-true, ltb-false, eq-eqb, ne_eqb}
 use Rattle.std.proofs.Math.Dec.{eqb}
@@ -72,18 +72,18 @@ module _ {P : File} (within : Within P) {row done : List ℕ} {set : ℕ} (g : G
   ready-same i less = (λ k. both (not (d.at_node i less k)) ((ap (λ (x : ℕ). eqb (bit_or set x) set) (g.each i less) ∙
       all_done few-channels d (readings (node_at_of P i).update) (readings-channels within i less) ∙ ap (λ js. all_mem js done) (sym (read-by P i))) k))
 
-  next : {r : ℕ} → LowestBelow (λ i. ready_in set (length P.inputs + i) (get_or row i 0)) (length P.nodes) r → LowestBelow (ready (node_readings P) done) (length (node_readings P)) r
+  next : {r : Option ℕ} → LowestBelow (λ i. ready_in set (length P.inputs + i) (get_or row i 0)) (length P.nodes) r → LowestBelow (ready (node_readings P) done) (length (node_readings P)) r
   next {r} l = subst (λ n. LowestBelow (ready (node_readings P) done) n r) (sym (readings-length P)) (lowest-same ready-same l)
 
-  pub next-found : {r : ℕ} (m : ℕ) → LowestBelow (λ i. ready_in set (length P.inputs + i) (get_or row i 0)) (length P.nodes) r → r < length P.nodes →
+  pub next-found : {r : ℕ} (m : ℕ) → LowestBelow (λ i. ready_in set (length P.inputs + i) (get_or row i 0)) (length P.nodes) (Some r) →
       order_from (node_readings P) (suc m) done ≡ r ∷ order_from (node_readings P) m (done ++ (r ∷ []))
   unfolding order_from and_then
-  next-found m l less = ap (λ o. and_then o (λ i. order_from (node_readings P) m (done ++ (i ∷ [])))) (lowest-found (next l) (omega (arith, less, readings-length P)))
+  next-found m l = ap (λ o. and_then o (λ i. order_from (node_readings P) m (done ++ (i ∷ [])))) (lowest-found (next l))
 
-  pub next-none : {r : ℕ} (m : ℕ) → LowestBelow (λ i. ready_in set (length P.inputs + i) (get_or row i 0)) (length P.nodes) r → length P.nodes ≤ r → order_from (node_readings P) m done ≡ []
+  pub next-none : (m : ℕ) → LowestBelow (λ i. ready_in set (length P.inputs + i) (get_or row i 0)) (length P.nodes) None → order_from (node_readings P) m done ≡ []
   unfolding order_from and_then
-  next-none zero l le = refl
-  next-none (suc m) l le = ap (λ o. and_then o (λ i. order_from (node_readings P) m (done ++ (i ∷ [])))) (lowest-absent (next l) (omega (arith, le, readings-length P)))
+  next-none zero l = refl
+  next-none (suc m) l = ap (λ o. and_then o (λ i. order_from (node_readings P) m (done ++ (i ∷ [])))) (lowest-absent (next l))
 
 -- ---- the set as nodes are done
 pub done_none : (inputs nodes : ℕ) → inputs < word_bits → DoneIs inputs nodes [] (2 ^ inputs - 1)

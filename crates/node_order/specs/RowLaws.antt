@@ -1,12 +1,11 @@
 -- Rows of readings: read on through one node after the other they hold what each node reads directly or by others.
-use Rattle.std.specs.Prelude.{ℕ, suc, ◌+◌, ◌/◌, ◌%◌, ◌^◌, ◌≤◌, ◌<◌, List, Bool, false, not, ◌≡◌, refl, length, get_or, set}
+use Rattle.std.specs.Prelude.{ℕ, suc, ◌+◌, ◌/◌, ◌^◌, ◌≤◌, ◌<◌, List, Bool, false, not, Option, None, ◌≡◌, refl, length, get_or, set}
 use Rattle.std.proofs.Math.Bool.{true}
 use Rattle.std.proofs.Math.Path.{sym, ap}
-use Rattle.std.proofs.Common.{ap₂, ◌∙◌, subst, arith, length-set, get_or-set_same, get_or-set_other, eq-eqb, ne_eqb}
+use Rattle.std.proofs.Common.{ap₂, ◌∙◌, subst, arith, length-set, get_or-set_same, get_or-set_other}
 use Rattle.std.proofs.Math.ListN.{get_or-eq_default}
 use Rattle.std.proofs.Math.Dec.{eqb}
 use Rattle.std.specs.Int.Bits.{bit_or}
-use Rattle.language.specs.Limits.{nodes_most}
 use Rattle.language.specs.Result.{both, one_of, choose}
 use Rattle.language.specs.Slide.{mem}
 use Rattle.language.specs.Order.{read_by, read_through}
@@ -17,18 +16,18 @@ use Rattle.theory.specs.ReadThrough.{below_step, length-through, none_itself}
 use Rattle.channel_sets.specs.Sets.{in_set}
 use Rattle.channel_sets.specs.SetLaws.{in-union, in-empty, in-high}
 use Rattle.node_order.specs.Lowest.{Below, LowestBelow}
-use Rattle.node_order.specs.LowestLaws.{below_more, below-fewer, lowest-none, lowest-same}
-use Rattle.node_order.specs.Rows.{ready_in, self_in, joined_by, Table, Copied, Lower, ReadsLower, ReadOn, ReadThrough, SelfReader}
+use Rattle.node_order.specs.LowestLaws.{below_more, below-fewer, lowest-none, lowest-less, lowest-same}
+use Rattle.node_order.specs.Rows.{ready_in, self_in, joined_by, Table, Lower, ReadsLower, ReadOn, ReadThrough, SelfReader}
 
 -- ---- a node that is ready
-module _ (done c reads : ℕ) where
-  pub not-ready : done / 2 ^ c % 2 ≡ 1 → false ≡ ready_in done c reads
-  unfolding ready_in in_set both
-  not-ready e = sym (ap (λ b. both (not b) (eqb (bit_or done reads) done)) (eq-eqb (done / 2 ^ c % 2) 1 e))
+module _ (done c reads : ℕ) {there : Bool} (t : there ≡ in_set done c) where
+  pub not-ready : there ≡ true → not there ≡ ready_in done c reads
+  unfolding ready_in both
+  not-ready e = rw (← t, e)
 
-  pub ready-if : {own : ℕ} → own ≡ reads → (done / 2 ^ c % 2 ≡ 1 → ⊥) → eqb (bit_or done own) done ≡ ready_in done c reads
-  unfolding ready_in in_set both
-  ready-if e left = ap (λ (x : ℕ). eqb (bit_or done x) done) e ∙ sym (ap (λ b. both (not b) (eqb (bit_or done reads) done)) (ne_eqb (done / 2 ^ c % 2) 1 left))
+  pub ready-if : {own : ℕ} → own ≡ reads → there ≡ false → eqb (bit_or done own) done ≡ ready_in done c reads
+  unfolding ready_in both
+  ready-if o e = rw (← t, e, o)
 
 -- ---- a node's readings joined to another's
 module _ (c through own : ℕ) where
@@ -135,9 +134,10 @@ lower-all g le = record { says = (λ _. below-fewer g le, λ _. refl) }
 
 -- ---- the lowest node that reads itself
 module _ {row : List ℕ} {inputs nodes : ℕ} where
-  pub lower-self : ReadsLower row inputs nodes true → SelfReader row inputs nodes nodes
+  pub lower-self : ReadsLower row inputs nodes true → SelfReader row inputs nodes None
   unfolding mem
   lower-self l = record {
+    less = λ e. cc;
     says = λ R long few named t.
         let lower : (i j : ℕ) → mem j (read_by R i) ≡ true → j < i = λ i j e. below_or_not i (length R)
         (λ inside. below_or_not j i (λ less. less) (λ le. false-is-not-true (sym (in-high (inputs + i) (get_or row i 0) (inputs + j) ((l.says.0 refl).each i (omega (arith, inside, long))).is (omega (arith, le))) ∙ t.each i j inside (named i j e) ∙ e)))
@@ -145,11 +145,11 @@ module _ {row : List ℕ} {inputs nodes : ℕ} where
         lowest-none {i = nodes} (record { each = λ i less. none_itself R lower i }) (omega arith);
   }
 
-  pub through-self : {row₁ row₂ : List ℕ} {r : ℕ} → Copied row row₁ → ReadThrough inputs nodes row₁ row₂ → LowestBelow (self_in row₂ inputs) nodes r → SelfReader row inputs nodes r
-  through-self {row₁} {row₂} c s l = record {
+  pub through-self : {row₂ : List ℕ} {r : Option ℕ} → ReadThrough inputs nodes row row₂ → LowestBelow (self_in row₂ inputs) nodes r → SelfReader row inputs nodes r
+  through-self {row₂} s l = record {
+    less = λ e. lowest-less (rw e at l);
     says = λ R long few named t.
-        let copied : Table inputs row₁ R = record { each = λ i j in-i in-j. ap (λ (x : ℕ). in_set x (inputs + j)) (c.each i (omega (arith, in-i, long, few))) ∙ t.each i j in-i in-j } in
-        let whole = s.says R long copied in
+        let whole = s.says R long t in
         let size = length-through R (length R) in
         lowest-same (λ i less. whole.each i i (omega (arith, less, long, size)) (omega (arith, less, long, size))) l;
   }
@@ -162,7 +162,3 @@ pub filled_more : {f : ℕ → ℕ} {row row₁ : List ℕ} {i n v : ℕ} → Be
 filled_more {row = row} {i = i} {v = v} g less long e q = rw q (below_more
     (record { each = λ k low. record { is = get_or-set_other row i k v 0 (λ same. omega (arith, low, same)) ∙ (g.each k low).is } })
     (record { is = get_or-set_same row i v 0 (omega (arith, less, long)) ∙ e }))
-
--- ---- a copy
-pub copied_all : {row row₁ : List ℕ} {i : ℕ} → Below (Filled (λ k. get_or row k 0) row₁) i → nodes_most ≤ i → Copied row row₁
-copied_all g le = record { each = λ k less. (g.each k (omega (arith, less, le))).is }

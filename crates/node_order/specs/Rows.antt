@@ -1,5 +1,5 @@
 -- Readings as a row of sets of channels, one for each node; the first so many channels are inputs. What the functions on such rows promise.
-use Rattle.std.specs.Prelude.{ℕ, ◌+◌, ◌/◌, ◌^◌, ◌≤◌, ◌<◌, List, Bool, true, not, ◌≡◌, ◌↔◌, length, get_or, eqb}
+use Rattle.std.specs.Prelude.{ℕ, ◌+◌, ◌/◌, ◌^◌, ◌≤◌, ◌<◌, List, Bool, true, not, Option, Some, ◌≡◌, ◌↔◌, length, get_or, eqb}
 use Rattle.std.specs.Int.Bits.{bit_or}
 use Rattle.language.specs.Limits.{nodes_most}
 use Rattle.language.specs.Result.{both, choose}
@@ -21,9 +21,6 @@ self_in row inputs i = in_set (get_or row i 0) (inputs + i)
 pub record Table (inputs : ℕ) (row : List ℕ) (R : List (List ℕ)) : Type 0 where
   pub each : (i j : ℕ) → i < length R → j < length R → in_set (get_or row i 0) (inputs + j) ≡ mem j (read_by R i)
 
-pub record Copied (row row' : List ℕ) : Type 0 where
-  pub each : (i : ℕ) → i < nodes_most → get_or row' i 0 ≡ get_or row i 0
-
 -- node i reads only channels below its own
 pub record Lower (row : List ℕ) (inputs i : ℕ) : Type 0 where
   pub is : get_or row i 0 / 2 ^ (inputs + i) ≡ 0
@@ -44,5 +41,6 @@ pub record ReadThrough (inputs nodes : ℕ) (row row' : List ℕ) : Type 0 where
   pub says : (R : List (List ℕ)) → length R ≡ nodes → Table inputs row R → Table inputs row' (read_through (length R) R)
 
 -- the lowest node that reads itself, directly or by others
-pub record SelfReader (row : List ℕ) (inputs nodes r : ℕ) : Type 0 where
+pub record SelfReader (row : List ℕ) (inputs nodes : ℕ) (r : Option ℕ) : Type 0 where
+  pub less : {i : ℕ} → r ≡ Some i → i < nodes
   pub says : (R : List (List ℕ)) → length R ≡ nodes → nodes ≤ nodes_most → Named R → Table inputs row R → LowestBelow (λ i. below R (length R) i i) nodes r

@@ -6,38 +6,32 @@ ghost use Rattle.std.specs.Prelude.{◌≡◌, ◌+◌, ◌≤◌, ◌<◌, get_
 ghost use Rattle.channel_sets.specs.Sets.{word_bits};
 ghost use Rattle.node_order.specs.Lowest.{LowestBelow};
 ghost use Rattle.node_order.specs.Files.{FewChannels, JudgesOrder};
-ghost use Rattle.node_order.specs.Rows.{ready_in, self_in, joined_by, Copied, ReadsLower, ReadOn, ReadThrough, SelfReader};
+ghost use Rattle.node_order.specs.Rows.{ready_in, self_in, joined_by, ReadsLower, ReadOn, ReadThrough, SelfReader};
 
 use channel_sets::has;
 use heads::places::channel_line;
 use index::{INDEX_WORDS, frame_counts, put, word_at};
 use language::limits::NODES_MOST;
-use language::refusals::NO_FRAME;
 
 // Whether node i, channel c, is not done and all that it reads is.
 fn is_ready(readings: &[u32; NODES_MOST], done: u32, c: u32, i: u32) -> bool
     requires { c < word_bits }
     ensures { result ≡ ready_in done c (get_or readings.now i 0) }
 {
-    if (done >> c) % 2 == 1 {
-        return false;
-    }
-    done | word_at(readings, i as usize) == done
+    !has(done, c) && done | word_at(readings, i as usize) == done
 }
 
-// The lowest node not done whose readings are all done; the number of nodes where there is none.
-pub fn next_node(readings: &[u32; NODES_MOST], done: u32, inputs: u32, nodes: u32) -> u32
+// The lowest node not done whose readings are all done.
+pub fn next_node(readings: &[u32; NODES_MOST], done: u32, inputs: u32, nodes: u32) -> Option<u32>
     requires { inputs + nodes ≤ word_bits }
     ensures { LowestBelow (λ i. ready_in done (inputs + i) (get_or readings.now i 0)) nodes result }
 {
-    let mut i: u32 = 0;
-    while i < nodes {
+    for i in 0..nodes {
         if is_ready(readings, done, inputs + i, i) {
-            return i;
+            return Some(i);
         }
-        i += 1;
     }
-    nodes
+    None
 }
 
 // Whether every node reads only channels below its own.
@@ -45,12 +39,10 @@ fn reads_lower(readings: &[u32; NODES_MOST], inputs: u32, nodes: u32) -> bool
     requires { inputs + nodes ≤ word_bits }
     ensures { ReadsLower readings.now inputs nodes result }
 {
-    let mut i: u32 = 0;
-    while i < nodes {
+    for i in 0..nodes {
         if word_at(readings, i as usize) >> (inputs + i) != 0 {
             return false;
         }
-        i += 1;
     }
     true
 }
@@ -73,11 +65,9 @@ fn read_on(readings: &mut [u32; NODES_MOST], inputs: u32, nodes: u32, k: u32)
 {
     let c = inputs + k;
     let through = word_at(readings, k as usize);
-    let mut i: u32 = 0;
-    while i < nodes {
+    for i in 0..nodes {
         let own = word_at(readings, i as usize);
         put(readings, i as usize, joined(own, c, through));
-        i += 1;
     }
 }
 
@@ -86,65 +76,43 @@ fn read_through(readings: &mut [u32; NODES_MOST], inputs: u32, nodes: u32)
     requires { inputs + nodes ≤ word_bits }
     ensures { ReadThrough inputs nodes readings.old readings.new }
 {
-    let mut k: u32 = 0;
-    while k < nodes {
+    for k in 0..nodes {
         read_on(readings, inputs, nodes, k);
-        k += 1;
     }
 }
 
-// The lowest node that reads its own channel; the number of nodes where there is none.
-fn reads_itself(readings: &[u32; NODES_MOST], inputs: u32, nodes: u32) -> u32
+// The lowest node that reads its own channel.
+fn reads_itself(readings: &[u32; NODES_MOST], inputs: u32, nodes: u32) -> Option<u32>
     requires { inputs + nodes ≤ word_bits }
     ensures { LowestBelow (self_in readings.now inputs) nodes result }
 {
-    let mut node: u32 = 0;
-    while node < nodes {
+    for node in 0..nodes {
         if has(word_at(readings, node as usize), inputs + node) {
-            return node;
+            return Some(node);
         }
-        node += 1;
     }
-    nodes
+    None
 }
 
-// Copies the readings of all nodes.
-fn copy(readings: &[u32; NODES_MOST], to: &mut [u32; NODES_MOST])
-    ensures { Copied readings.now to.new }
-{
-    let mut i: usize = 0;
-    while i < NODES_MOST {
-        put(to, i, word_at(readings, i));
-        i += 1;
-    }
-}
-
-// The lowest node that reads itself, directly or by others; the number of nodes where there is none. Where every node reads only channels
-// below its own, none does.
-pub fn self_reader(readings: &[u32; NODES_MOST], inputs: u32, nodes: u32) -> u32
+// The lowest node that reads itself, directly or by others. Where every node reads only channels below its own, none does.
+pub fn self_reader(readings: &[u32; NODES_MOST], inputs: u32, nodes: u32) -> Option<u32>
     requires { inputs + nodes ≤ word_bits }
     ensures { SelfReader readings.now inputs nodes result }
 {
     if reads_lower(readings, inputs, nodes) {
-        return nodes;
+        return None;
     }
-    let mut through = [0u32; NODES_MOST];
-    copy(readings, &mut through);
+    let mut through = *readings;
     read_through(&mut through, inputs, nodes);
     reads_itself(&through, inputs, nodes)
 }
 
-// 0 where no node reads itself, directly or by others, else the frame of the lowest node that does, from 1.
-pub fn self_reading_frame(index: &[u32; INDEX_WORDS], readings: &[u32; NODES_MOST]) -> u32
+// The frame, from 1, of the lowest node that reads itself, directly or by others.
+pub fn self_reading_frame(index: &[u32; INDEX_WORDS], readings: &[u32; NODES_MOST]) -> Option<u32>
     requires { FewChannels index.now }
     ensures { JudgesOrder index.now readings.now result }
 {
     let counts = frame_counts(index);
-    let inputs = counts.inputs;
-    let nodes = counts.nodes;
-    let i = self_reader(readings, inputs, nodes);
-    if nodes <= i {
-        return NO_FRAME;
-    }
-    channel_line(index, inputs + i) + 1
+    let i = self_reader(readings, counts.inputs, counts.nodes)?;
+    Some(channel_line(index, counts.inputs + i) + 1)
 }

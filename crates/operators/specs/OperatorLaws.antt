@@ -1,9 +1,9 @@
 -- What the operators' codes stand for: a law for each return of the functions that compute on two constants; and from constants to
 -- the cells that hold them (numbers-operated, numbers-compared, truths-operated).
-use Rattle.std.specs.Prelude.{◌≡◌, ℕ, ◌+◌, ◌*◌, ◌%◌, ◌^◌, ◌<◌, ◌≤◌, Bool, true, false, not, ◌&&◌, ◌||◌, List, ◌==◌, ◌≢◌, nat_lt}
+use Rattle.std.specs.Prelude.{◌≡◌, ℕ, ◌+◌, ◌*◌, ◌%◌, ◌<◌, ◌≤◌, Bool, true, false, not, ◌&&◌, ◌||◌, List, ◌==◌, ◌≢◌, nat_lt}
 use Rattle.std.proofs.Math.Option.{some, some-injective}
-use Rattle.std.proofs.Math.Path.{refl, ap, subst⁻¹}
-use Rattle.std.proofs.Common.{sym, ◌∙◌, le_of_lt, lt_of_le_of_lt, mul-le-mul_left, mul-lt-mul_of_pos_right, arith, pow_pos, pow-add}
+use Rattle.std.proofs.Math.Path.{refl, ap}
+use Rattle.std.proofs.Common.{sym, ◌∙◌, arith}
 use Rattle.std.proofs.Math.ListN.{get_elem? as look}
 use Rattle.language.specs.Limits.{int_range, sign_bit}
 use Rattle.language.specs.Codes.{operator_plus, operator_minus, operator_equal, operator_less, operator_and, operator_or}
@@ -15,10 +15,9 @@ use Rattle.language.specs.Heap.{Constant, kbool, kint, Cell, leaf, truth, number
 use Rattle.language.specs.Evaluator.{Out, alloc}
 use Rattle.theory.specs.Lists.{look-less}
 use Rattle.state_words.specs.Holds.{Reads}
-use Rattle.new_cells.specs.Steps.{Lies, Gives}
+use Rattle.new_cells.specs.Steps.{Evaluated, Lies, Gives}
 use Rattle.new_cells.specs.Asked.{MakesBool, MakesInt, Computes, Decides, Operates}
 use Rattle.new_cells.specs.AllocLaws.{gives-asked}
-use Rattle.new_cells.specs.declared.Value.{Value}
 
 -- ---- an operator by its code
 op-of-code : (op : Op) → look ops (op_code op) ≡ some op
@@ -37,13 +36,10 @@ same_op {op} known e = some-injective _ _ (sym (op-of-code op) ∙ ap (look ops)
 computes : {o : ℕ} {x y r : Constant} (op : Op) → o ≡ op_code op → r ≡ apply_op op x y → Computes o x y r
 computes {x} {y} known is e = record { says = λ op q. e ∙ ap (λ z. apply_op z x y) (sym (same_op known (q ∙ is))) }
 
--- ---- the order of the signed, and a product's room
+-- ---- the order of the signed
 pub signed-less : (a b : ℕ) {x y : ℕ} → x ≡ (a + sign_bit) % int_range → y ≡ (b + sign_bit) % int_range → nat_lt x y ≡ signed_less a b
 unfolding signed_less
 signed-less a b p q = rw (p, q)
-
-pub product-fits : (k : ℕ) {a b : ℕ} → a < 2 ^ k → b < 2 ^ k → a * b < 2 ^ (k + k)
-product-fits k {a} {b} p q = subst⁻¹ (λ (n : ℕ). a * b < n) (pow-add 2 k k) (lt_of_le_of_lt (mul-le-mul_left a (le_of_lt q)) (mul-lt-mul_of_pos_right p (pow_pos k)))
 
 -- ---- sums, differences, products; comparisons
 module _ {o a b : ℕ} where
@@ -143,13 +139,13 @@ module _ {words : List ℕ} {used o l m : ℕ} where
     numbers-give {cells} {h} k v s = s.is ∙ ap (λ x. alloc cells h (leaf x))
         (sym (k.says s.op s.code ∙ rw (p.says h v.held, q.says h v.held) (on-numbers s.op (constant_in (cell_at h l)) (constant_in (cell_at h m)) (omega (arith, s.code)))))
 
-    pub numbers-operated : {words' : List ℕ} {out : Value} {r : ℕ} → Computes o (kint a) (kint b) (kint r) → Gives words used (MakesInt r) out words' → Gives words used (Operates o l m) out words'
+    pub numbers-operated : {words' : List ℕ} {out : Evaluated} {r : ℕ} → Computes o (kint a) (kint b) (kint r) → Gives words used (MakesInt r) out words' → Gives words used (Operates o l m) out words'
     numbers-operated k g = gives-asked (λ P cells h o v s. record { is = numbers-give k v s }) g
 
-    pub numbers-compared : {words' : List ℕ} {out : Value} {r : Bool} {w : ℕ} → Computes o (kint a) (kint b) (kbool r) → w ≡ bit r → Gives words used (MakesBool w) out words' → Gives words used (Operates o l m) out words'
+    pub numbers-compared : {words' : List ℕ} {out : Evaluated} {r : Bool} {w : ℕ} → Computes o (kint a) (kint b) (kbool r) → w ≡ bit r → Gives words used (MakesBool w) out words' → Gives words used (Operates o l m) out words'
     numbers-compared {r} k e g = gives-asked (λ P cells h o v s. record { truth = r; spelled = sym e; is = numbers-give k v s }) g
 
-  pub truths-operated : {words' : List ℕ} {out : Value} {a b r : Bool} {w : ℕ} → Reads words used (λ h. truth (constant_in (cell_at h l))) a → Reads words used (λ h. truth (constant_in (cell_at h m))) b → operator_and ≤ o →
+  pub truths-operated : {words' : List ℕ} {out : Evaluated} {a b r : Bool} {w : ℕ} → Reads words used (λ h. truth (constant_in (cell_at h l))) a → Reads words used (λ h. truth (constant_in (cell_at h m))) b → operator_and ≤ o →
       Computes o (kbool a) (kbool b) (kbool r) → w ≡ bit r → Gives words used (MakesBool w) out words' → Gives words used (Operates o l m) out words'
   truths-operated {r = r} p q high k e g = gives-asked (λ P cells h o v s. record {
     truth = r;

@@ -14,6 +14,7 @@ use language::codes::{
     OPERATOR_AND, OPERATOR_EQUAL, OPERATOR_LESS, OPERATOR_MINUS, OPERATOR_OR, OPERATOR_PLUS,
 };
 use language::limits::{INT_RANGE, SIGN_BIT};
+use language::refusals::Refusal;
 use new_cells::{Value, new_bool, new_int};
 use state_words::reads::{number, truth};
 
@@ -21,7 +22,7 @@ use state_words::reads::{number, truth};
 fn times(a: u32, b: u32) -> u32
     ensures { result ≡ (a * b) % int_range }
 {
-    (((a as u64) * (b as u64)) % INT_RANGE) as u32
+    (u64::from(a) * u64::from(b) % INT_RANGE) as u32
 }
 
 // Whether an Int is less than another, by their bits with the sign turned over.
@@ -31,7 +32,8 @@ fn less(a: u32, b: u32) -> bool
     std::num::wrapping_add_u32(a, SIGN_BIT) < std::num::wrapping_add_u32(b, SIGN_BIT)
 }
 
-// The sum, the difference or the product.
+// The sum, the difference or the product. An operator stays its code here and below: the clauses hold of any byte, so that an enum with a
+// variant for the other codes would be no plainer.
 fn arithmetic(o: u32, a: u32, b: u32) -> u32
     requires { o < operator_equal }
     ensures { Computes o (kint a) (kint b) (kint result) }
@@ -79,7 +81,7 @@ pub fn decides(o: u32, left: bool) -> bool
 }
 
 // The cell of what an operator gives of the constants in two cells.
-pub fn operate(state: &mut [u32], used: u32, o: u32, l: u32, m: u32) -> Value
+pub fn operate(state: &mut [u32], used: u32, o: u32, l: u32, m: u32) -> Result<Value, Refusal>
     requires { Board state.old used }
     ensures { Gives state.old used (Operates o l m) result state.new }
 {

@@ -3,23 +3,22 @@ use Rattle.std.specs.Prelude.{ℕ, List, ◌≡◌}
 use Rattle.std.proofs.Common.{ap, subst, ◌∙◌}
 use Rattle.language.specs.Result.{Result, ok, no}
 use Rattle.language.specs.Syntax.{File}
-use Rattle.reader.specs.declared.Reading.{Reading}
-use Rattle.reader.specs.Texts.{TextRead, done, fault}
+use Rattle.reader.specs.Texts.{Reading, TextRead, done, fault}
 use Rattle.answers.specs.declared.Board.{Board}
 use Rattle.answers.specs.declared.Answer.{Answer}
-use Rattle.answers.specs.Boards.{refusal_of, read_answer}
-use Rattle.checker.specs.Checks.{ChecksWords}
-use Rattle.startup.specs.Starts.{StartsWords}
+use Rattle.answers.specs.Boards.{refusal_of, answer_of}
 use Rattle.runtime.specs.Runs.{Iterates}
+use Rattle.startup.specs.Starts.{StartsWords}
+use Rattle.checker.specs.Checks.{ChecksWords}
 
 pub data Answers (r : Answer) : Result File → Type 0 where
   was_read : {P : File} → r ≡ refusal_of 0 0 → Answers r (ok P)
   was_refused : {m frame : ℕ} → r ≡ refusal_of m frame → Answers r (no m frame)
 
-pub text-answered : {text index : List ℕ} {x : Reading} {r : Answer} {file : Result File} → TextRead text x index file → r ≡ read_answer x → Answers r file
-unfolding read_answer
-text-answered (done e w) is = was_read (is ∙ ap read_answer e)
-text-answered (fault {m = m} {frame = k} e w) is = was_refused (is ∙ ap read_answer e)
+pub text-answered : {text index : List ℕ} {x : Reading} {r : Answer} {file : Result File} → TextRead text x index file → r ≡ answer_of x → Answers r file
+unfolding answer_of
+text-answered (done e w) is = was_read (is ∙ ap answer_of e)
+text-answered (fault e w) is = was_refused (is ∙ ap answer_of e)
 
 abbrev pub board : ℕ → ℕ → ℕ → Board
 board cells slots calls = record { cells = cells; slots = slots; calls = calls }

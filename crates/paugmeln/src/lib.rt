@@ -1,16 +1,16 @@
 // What a program calls: the proved calls under plain names. `paugmeln_c` exports them to C.
 #![tactic(auto)]
 
-ghost use Rattle.std.specs.Prelude.{◌≡◌, length};
+ghost use Rattle.std.specs.Prelude.{◌≡◌};
 ghost use Rattle.language.specs.Reader.{read_file};
-ghost use Rattle.checker.specs.Checks.{ChecksWords, Checks};
-ghost use Rattle.startup.specs.Starts.{StartsWords, Starts};
+ghost use Rattle.checker.specs.Checks.{Checks};
+ghost use Rattle.startup.specs.Starts.{Starts};
 ghost use Rattle.runtime.specs.Runs.{Iterates};
 ghost use Rattle.writer.specs.Writes.{Writes};
-ghost use Rattle.instance_list.specs.Records.{list_words, FindsPlace};
+ghost use Rattle.instance_list.specs.Records.{FindsPlace};
 ghost use Rattle.paugmeln.specs.Answers.{Answers, board};
 
-use answers::{Answer, Board, read_answer};
+use answers::{Answer, Board};
 use checker::check_words;
 use index::INDEX_WORDS;
 use instance_list::{Instance, LIST_WORDS, fill, find};
@@ -24,9 +24,9 @@ fn lent_board(cells: u32, slots: u32, calls: u32) -> Board
     ensures { result ≡ board cells slots calls }
 {
     Board {
-        cells: cells,
-        slots: slots,
-        calls: calls,
+        cells,
+        slots,
+        calls,
     }
 }
 
@@ -35,24 +35,7 @@ pub fn paugmeln_read(text: &[u8]) -> Answer
     ensures { Answers result (read_file text.now) }
 {
     let mut index = [0u32; INDEX_WORDS];
-    let x = read(text, &mut index);
-    read_answer(x)
-}
-
-// The check on the board of these numbers, which lends a list of so many records.
-fn check_lent(
-    text: &[u8],
-    cells: u32,
-    slots: u32,
-    calls: u32,
-    records: usize,
-    words: &mut [u32],
-) -> Answer
-    requires { length words.old ≡ list_words }
-    ensures { ChecksWords text.now (board cells slots calls) records result words.new }
-{
-    let b = lent_board(cells, slots, calls);
-    check_words(text, b, records, words)
+    Answer::from(read(text, &mut index))
 }
 
 // The checker's answer for a text on a board; the list ends with the instances, or empty.
@@ -65,30 +48,11 @@ pub fn paugmeln_check(
 ) -> Answer
     ensures { Checks text.now (board cells slots calls) list.old result list.new }
 {
-    let records = list.len();
     let mut words = [0u32; LIST_WORDS];
-    let r = check_lent(text, cells, slots, calls, records, &mut words);
+    let b = lent_board(cells, slots, calls);
+    let r = check_words(text, b, list.len(), &mut words);
     fill(&words, list);
     r
-}
-
-// The start on the board of these numbers, which lends a list of so many records.
-fn start_lent(
-    text: &[u8],
-    cells: u32,
-    slots: u32,
-    calls: u32,
-    records: usize,
-    words: &mut [u32],
-    state: &mut [u32],
-    scratch: &mut [u32],
-    environment: &mut [u32],
-) -> Answer
-    requires { length words.old ≡ list_words }
-    ensures { StartsWords text.now (board cells slots calls) records state.old scratch.old environment.old result words.new state.new scratch.new environment.new }
-{
-    let b = lent_board(cells, slots, calls);
-    start_words(text, b, records, words, state, scratch, environment)
 }
 
 // The start of a text on a board: the list as above; the state of the initial values, or unchanged; scratch and environment zero.
@@ -104,14 +68,11 @@ pub fn paugmeln_start(
 ) -> Answer
     ensures { Starts text.now (board cells slots calls) list.old state.old scratch.old environment.old result list.new state.new scratch.new environment.new }
 {
-    let records = list.len();
     let mut words = [0u32; LIST_WORDS];
-    let r = start_lent(
+    let r = start_words(
         text,
-        cells,
-        slots,
-        calls,
-        records,
+        lent_board(cells, slots, calls),
+        list.len(),
         &mut words,
         state,
         scratch,

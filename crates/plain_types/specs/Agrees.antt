@@ -1,6 +1,7 @@
 -- What a plain type of the code means, and when an answer of the code agrees with the definition's: a plain type, the cursor where the
 -- expression ends; or none.
 -- Laws of chain, when and both, one each.
+use Rattle.std.specs.Prelude.{Option as Maybe, Some, None}
 use Rattle.std.specs.Prelude.{ℕ, Bool, true, false, ◌≡◌, refl}
 use Rattle.std.proofs.Math.Option.{Option, none, some}
 use Rattle.std.proofs.Common.{sym, ap, ◌∙◌, subst, arith}
@@ -10,8 +11,10 @@ use Rattle.theory.specs.Lists.{none-is-not-some}
 use Rattle.plain_types.specs.declared.words.PlainType.{PlainType}
 use Rattle.plain_types.specs.declared.words.PlainType.TheVariants.{Bool as BoolIs, Int as IntIs, Named}
 use Rattle.plain_types.specs.declared.words.Typed.{Typed}
-use Rattle.plain_types.specs.declared.words.Typing.{Typing}
-use Rattle.plain_types.specs.declared.words.Typing.TheVariants.{Is, Wrong}
+
+-- what the code answers: a type and the cursor behind what has it, or none where types disagree
+abbrev pub Typing : Type 0
+Typing = Maybe Typed
 
 abbrev pub meaning : PlainType → Plain
 meaning BoolIs = pbool
@@ -19,8 +22,8 @@ meaning IntIs = pint
 meaning (Named t) = pnamed t
 
 pub data Agrees (r : Typing) (end : ℕ) : Option Plain → Type 0 where
-  is_some : {k : Typed} {τ : Plain} → r ≡ Is k → meaning k.of ≡ τ → k.next.at ≡ end → Agrees r end (some τ)
-  is_none : r ≡ Wrong → Agrees r end none
+  is_type : {k : Typed} {τ : Plain} → r ≡ Some k → meaning k.of ≡ τ → k.next.at ≡ end → Agrees r end (some τ)
+  is_none : r ≡ None → Agrees r end none
 
 -- ---- what an answer tells
 pub record TypeFound (k : Typed) (end : ℕ) (o : Option Plain) : Type 0 where
@@ -29,34 +32,34 @@ pub record TypeFound (k : Typed) (end : ℕ) (o : Option Plain) : Type 0 where
   pub kind : meaning k.of ≡ type
   pub place : k.next.at ≡ end
 
-wrong-is-not : {B : Type 0} {k : Typed} → Wrong ≡ Is k → B
+wrong-is-not : {B : Type 0} {k : Typed} → ◌≡◌ {A = Typing} None (Some k) → B
 wrong-is-not e = absurd (let z : ◌≡◌ {A = ℕ} 0 1 = cc in omega arith)
 
-is-once : {j k : Typed} → Is j ≡ Is k → j ≡ k
+is-once : {j k : Typed} → ◌≡◌ {A = Typing} (Some j) (Some k) → j ≡ k
 is-once e = cc
 
 some-once : {σ τ : Plain} → some σ ≡ some τ → σ ≡ τ
 some-once e = cc
 
 module _ {x : Typing} {end : ℕ} where
-  pub typed : {o : Option Plain} {k : Typed} → Agrees x end o → x ≡ Is k → TypeFound k end o
-  typed {k} (is_some {k = j} {τ} q w p) e =
+  pub typed : {o : Option Plain} {k : Typed} → Agrees x end o → x ≡ Some k → TypeFound k end o
+  typed {k} (is_type {k = j} {τ} q w p) e =
       let same : j ≡ k = is-once (sym q ∙ e) in
       record { type = τ; is = refl; kind = ap (λ (i : Typed). meaning i.of) (sym same) ∙ w; place = ap (λ (i : Typed). i.next.at) (sym same) ∙ p }
   typed (is_none q) e = wrong-is-not (sym q ∙ e)
 
-  pub untyped : {o : Option Plain} → Agrees x end o → x ≡ Wrong → o ≡ none
-  untyped (is_some q w p) e = wrong-is-not (sym e ∙ q)
+  pub untyped : {o : Option Plain} → Agrees x end o → x ≡ None → o ≡ none
+  untyped (is_type q w p) e = wrong-is-not (sym e ∙ q)
   untyped (is_none q) e = refl
 
   pub agrees-as : {o u : Option Plain} → o ≡ u → Agrees x end u → Agrees x end o
   agrees-as e a = subst (Agrees x end) (sym e) a
 
   -- an answer that is known
-  pub typed-is : {τ : Plain} {k : Typed} → Agrees x end (some τ) → x ≡ Is k → (meaning k.of ≡ τ) × (k.next.at ≡ end)
+  pub typed-is : {τ : Plain} {k : Typed} → Agrees x end (some τ) → x ≡ Some k → (meaning k.of ≡ τ) × (k.next.at ≡ end)
   typed-is {τ} a e = let t = typed a e in let same : τ ≡ t.type = some-once t.is in (t.kind ∙ sym same, t.place)
 
-  pub typed-there : {τ : Plain} → Agrees x end (some τ) → x ≡ Wrong → ⊥
+  pub typed-there : {τ : Plain} → Agrees x end (some τ) → x ≡ None → ⊥
   typed-there a e = none-is-not-some (sym (untyped a e))
 
 -- ---- tests
@@ -77,21 +80,21 @@ pub record Holds (k : Typed) (end : ℕ) (b : Bool) (τ : Plain) : Type 0 where
   pub place : k.next.at ≡ end
 
 module _ {x : Typing} {end : ℕ} (b : Bool) (τ : Plain) where
-  pub holds : {k : Typed} → Agrees x end (when b τ) → x ≡ Is k → Holds k end b τ
+  pub holds : {k : Typed} → Agrees x end (when b τ) → x ≡ Some k → Holds k end b τ
   holds a e =
       let t = typed a e in
       let w = when-some b τ t.is in
       record { is = w.0; kind = t.kind ∙ sym w.1; place = t.place }
 
-  pub fails : Agrees x end (when b τ) → x ≡ Wrong → b ≡ false
+  pub fails : Agrees x end (when b τ) → x ≡ None → b ≡ false
   fails a e = when-none b τ (untyped a e)
 
 -- ---- an answer made
-pub wrong : {end : ℕ} {o : Option Plain} → o ≡ none → Agrees Wrong end o
+pub wrong : {end : ℕ} {o : Option Plain} → o ≡ none → Agrees None end o
 wrong e = agrees-as e (is_none refl)
 
-pub answered : {r : Typing} {end : ℕ} {k : Typed} {τ : Plain} {o : Option Plain} → r ≡ Is k → meaning k.of ≡ τ → k.next.at ≡ end → o ≡ some τ → Agrees r end o
-answered q w p e = agrees-as e (is_some q w p)
+pub answered : {r : Typing} {end : ℕ} {k : Typed} {τ : Plain} {o : Option Plain} → r ≡ Some k → meaning k.of ≡ τ → k.next.at ≡ end → o ≡ some τ → Agrees r end o
+answered q w p e = agrees-as e (is_type q w p)
 
 -- ---- the definition's combinators where a part is known
 module _ {A B : Type 0} {o : Option A} (k : A → Option B) where

@@ -19,12 +19,11 @@ use Rattle.encoding.specs.Known.{Known}
 use Rattle.index.specs.Sections.{channels_of}
 use Rattle.index.specs.Indexed.{declared_at, line_count, Indexed}
 use Rattle.plain_types.specs.declared.words.PlainType.{PlainType}
-use Rattle.plain_types.specs.declared.words.Typing.{Typing}
 use Rattle.heads.specs.declared.places.Place.{Place}
 use Rattle.plain_types.specs.declared.series.Series.{Series}
 use Rattle.plain_types.specs.declared.series.BranchSeries.{BranchSeries}
 use Rattle.plain_types.specs.Words.{type_at, wanted_type}
-use Rattle.plain_types.specs.Agrees.{meaning, Agrees}
+use Rattle.plain_types.specs.Agrees.{Typing, meaning, Agrees}
 
 -- no sum overflows: each level binds fewer variables than a byte can count
 abbrev pub Room : ℕ → Place → Type 0

@@ -1,4 +1,5 @@
 -- Branches one after the other and cases, return by return.
+use Rattle.std.specs.Prelude.{Some, None}
 use Rattle.std.specs.Prelude.{ℕ, ◌+◌, ◌-◌, ◌*◌, ◌%◌, ◌<◌, ◌≡◌, refl, length, get_or, drop}
 use mathlib.Core.List.{List, [], ◌∷◌, ◌++◌, head-eq_of_cons-eq, tail-eq_of_cons-eq}
 use Rattle.std.proofs.Math.Option.{Option, some}
@@ -23,13 +24,11 @@ use Rattle.index.specs.Sections.{frames_of, types_of}
 use Rattle.index.specs.Indexed.{frame_part}
 use Rattle.plain_types.specs.declared.words.PlainType.{PlainType}
 use Rattle.plain_types.specs.declared.words.Typed.{Typed}
-use Rattle.plain_types.specs.declared.words.Typing.{Typing}
-use Rattle.plain_types.specs.declared.words.Typing.TheVariants.{Is, Wrong}
 use Rattle.plain_types.specs.declared.words.Want.TheVariants.{Fields}
 use Rattle.heads.specs.declared.places.Place.{Place}
 use Rattle.plain_types.specs.declared.series.BranchSeries.{BranchSeries}
 use Rattle.plain_types.specs.Words.{named_type, wanted_type, entered, ReadsResult}
-use Rattle.plain_types.specs.Agrees.{meaning, Agrees, typed-is, typed-there, agrees-as, wrong, answered, when_true, when_false, both_first, both-not}
+use Rattle.plain_types.specs.Agrees.{Typing, meaning, Agrees, typed-is, typed-there, agrees-as, wrong, answered, when_true, when_false, both_first, both-not}
 use Rattle.heads.specs.Places.{moved_to, wider_by}
 use Rattle.plain_types.specs.Asks.{Kept, Stage, Part, list-ends, AskCase, AskBranches, TypesWant, TypesCase, TypesBranches}
 use Rattle.plain_types.specs.WordLaws.{named-is}
@@ -71,7 +70,7 @@ dropped-first : {A : Type 0} (l : List A) (i : ℕ) (d : A) {x : A} {xs : List A
 dropped-first l i d e = let same = sym (drop-cons l i d (dropped-less l i e)) ∙ e in (head-eq_of_cons-eq same, rw (add-one i) (tail-eq_of_cons-eq same))
 
 module _ (text index scope : List ℕ) (p : Place) (s : BranchSeries) where
-  pub branches-all : {r : Typing} → s.count ≡ 0 → r ≡ Is (record { of = s.answer; next = p.at }) → TypesBranches text index scope p s r scope
+  pub branches-all : {r : Typing} → s.count ≡ 0 → r ≡ Some (record { of = s.answer; next = p.at }) → TypesBranches text index scope p s r scope
   branches-all z q = record {
     says = λ {P} {C} {S} {Γ} st ask.
         let n = no-branch ask.constructors ask.list ask.within (sym ask.counted ∙ z) in
@@ -122,7 +121,7 @@ module _ (text index scope : List ℕ) (p : Place) (s : BranchSeries) where
           both (is_plain ask.answer (plain_of P C b.branch (Γ ++ plain_fields s.of b.fields))) (plain_branches P C b.branches b.constructors s.of ask.answer Γ)
       all-branches = ap₂ (λ (bs : Exprs) (cs : List Constructor). plain_branches P C bs cs s.of ask.answer Γ) b.list b.those ∙ branches-more P C Γ b.branch b.branches b.fields b.constructors s.of ask.answer
 
-    pub branches-wrong : x ≡ Wrong → TypesBranches text index scope p s Wrong scope₂
+    pub branches-wrong : x ≡ None → TypesBranches text index scope p s None scope₂
     branches-wrong d = record {
       says = λ {P} {C} {S} {Γ} st ask.
           let m = b st ask in
@@ -131,7 +130,7 @@ module _ (text index scope : List ℕ) (p : Place) (s : BranchSeries) where
       kept = branch_kept;
     }
 
-    pub branches-next : {j : Typed} {r : Typing} {scope₃ : List ℕ} → x ≡ Is j → TypesBranches text index scope₂ (moved_to p j.next) (record { of = s.of; first = s.first + 1; count = s.count - 1; answer = s.answer }) r scope₃ →
+    pub branches-next : {j : Typed} {r : Typing} {scope₃ : List ℕ} → x ≡ Some j → TypesBranches text index scope₂ (moved_to p j.next) (record { of = s.of; first = s.first + 1; count = s.count - 1; answer = s.answer }) r scope₃ →
         TypesBranches text index scope p s r scope₃
     branches-next {j} d u = record {
       says = λ {P} {C} {S} {Γ} st ask.
@@ -164,14 +163,14 @@ module _ (text index scope : List ℕ) (p : Place) {t : ℕ} {subject : PlainTyp
     subject-type : meaning subject ≡ pnamed t
     subject-type = ap meaning is ∙ named-is t (omega (arith, case-less, st.indexed.within.few_types))
 
-  pub case-wrong : x ≡ Wrong → TypesCase text index scope p t Wrong scope₁
+  pub case-wrong : x ≡ None → TypesCase text index scope p t None scope₁
   case-wrong d = record {
     says = λ {P} {C} {S} {Γ} st ask. wrong (ask.is ∙ plain-case P C Γ t ask.first ask.result ask.branches
         ∙ when_false (plain_result ask.result) (both-not (plain_branches P C ask.branches (constructors_of P t) t (plain_result ask.result) Γ) (unmet v st ask.part (pnamed t) (subject-type st ask) d)));
     kept = v.kept;
   }
 
-  module _ {k : Typed} (d : x ≡ Is k) {line : List ℕ} (part : line ≡ frame_part text (frames_of index) p.line) {y : Typing} (w : ReadsResult line k.next y) where
+  module _ {k : Typed} (d : x ≡ Some k) {line : List ℕ} (part : line ≡ frame_part text (frames_of index) p.line) {y : Typing} (w : ReadsResult line k.next y) where
     result-read : {P : File} {C : List Plain} {S : Scope} {Γ : List Plain} {o : Option Plain} {end : ℕ} → Stage text index scope p.line p.variables P C S Γ → (ask : AskCase text p t P C S Γ o end) →
         Agrees y (past (line_at text p.line) k.next.at (length (result_bytes ask.result))) (some (plain_result ask.result))
     result-read st ask =
@@ -181,10 +180,10 @@ module _ (text index scope : List ℕ) (p : Place) {t : ℕ} {subject : PlainTyp
         (w.says (omega (arith, st.indexed.within.few_types, ap length st.known.types)) ask.few ask.within
         (subst (λ m. Spells result_bytes line m ask.result) (sym h.place) (subst (λ l. Spells result_bytes l ask.middle ask.result) (sym is) ask.spelled)))
 
-    pub case-none : y ≡ Wrong → TypesCase text index scope p t Wrong scope₁
+    pub case-none : y ≡ None → TypesCase text index scope p t None scope₁
     case-none e = record { says = λ st ask. absurd (typed-there (result-read st ask) e); kept = v.kept }
 
-    pub case-done : {j : Typed} {n : ℕ} {r : Typing} {scope₂ : List ℕ} → y ≡ Is j → (n ≡ get_or (types_of index) (type_words * t) 0 % byte_range) × (n < byte_range) →
+    pub case-done : {j : Typed} {n : ℕ} {r : Typing} {scope₂ : List ℕ} → y ≡ Some j → (n ≡ get_or (types_of index) (type_words * t) 0 % byte_range) × (n < byte_range) →
         TypesBranches text index scope₁ (moved_to p j.next) (record { of = t; first = 0; count = n; answer = j.of }) r scope₂ → TypesCase text index scope p t r scope₂
     case-done {j} {n} e c u = record {
       says = λ {P} {C} {S} {Γ} st ask.

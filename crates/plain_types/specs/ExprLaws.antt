@@ -1,4 +1,5 @@
 -- An expression by its form: what the function of the form promises of the parts, expr promises of the expression.
+use Rattle.std.specs.Prelude.{Some}
 use Rattle.std.specs.Prelude.{ℕ, suc, ◌-◌, ◌<◌, List, [], map, ◌≡◌, refl, length, get_or, take}
 use Rattle.std.proofs.Common.{sym, ap, ◌∙◌, subst, arith, get_or-take}
 use Rattle.language.specs.Syntax.{Plain, pbool, Expr, File}
@@ -21,11 +22,9 @@ use Rattle.index.specs.Sections.{frames_of, channels_of}
 use Rattle.index.specs.Indexed.{declared_at, frame_part}
 use Rattle.plain_types.specs.declared.words.PlainType.{PlainType}
 use Rattle.plain_types.specs.declared.words.PlainType.TheVariants.{Bool as BoolIs, Int as IntIs}
-use Rattle.plain_types.specs.declared.words.Typing.{Typing}
-use Rattle.plain_types.specs.declared.words.Typing.TheVariants.{Is}
 use Rattle.heads.specs.declared.places.Place.{Place}
 use Rattle.plain_types.specs.Words.{type_at}
-use Rattle.plain_types.specs.Agrees.{meaning, answered}
+use Rattle.plain_types.specs.Agrees.{Typing, meaning, answered}
 use Rattle.heads.specs.Places.{inside_of}
 use Rattle.plain_types.specs.Asks.{Stage, Part, part-ends, TypesExpr, TypesLet, TypesIf, TypesOp, TypesCall, TypesCon, TypesCase, TypesAdj, TypesFit}
 use Rattle.plain_types.specs.WordLaws.{plain_at}
@@ -54,7 +53,7 @@ module _ (text index scope : List ℕ) (p : Place) where
     expr-missing q = record { says = λ st ask. absurd (no-missing (heads-in st) ask.part.spelled q); kept = kept_same }
 
     -- ---- leaves
-    pub expr-bool : {b : ℕ} {r : Typing} → h.form ≡ BoolForm b → r ≡ Is (record { of = BoolIs; next = h.next }) → TypesExpr text index scope p r scope
+    pub expr-bool : {b : ℕ} {r : Typing} → h.form ≡ BoolForm b → r ≡ Some (record { of = BoolIs; next = h.next }) → TypesExpr text index scope p r scope
     expr-bool q e = record {
       says = λ {P} {C} {S} {Γ} st ask.
           let i = bool-head (heads-in st) ask.part.spelled ask.part.within q in
@@ -62,7 +61,7 @@ module _ (text index scope : List ℕ) (p : Place) where
       kept = kept_same;
     }
 
-    pub expr-int : {b : ℕ} {r : Typing} → h.form ≡ Int b → r ≡ Is (record { of = IntIs; next = h.next }) → TypesExpr text index scope p r scope
+    pub expr-int : {b : ℕ} {r : Typing} → h.form ≡ Int b → r ≡ Some (record { of = IntIs; next = h.next }) → TypesExpr text index scope p r scope
     expr-int {b} q e = record {
       says = λ {P} {C} {S} {Γ} st ask.
           let i = int-head (heads-in st) ask.part.spelled ask.part.within q in
@@ -70,7 +69,7 @@ module _ (text index scope : List ℕ) (p : Place) where
       kept = kept_same;
     }
 
-    pub expr-var : {v word : ℕ} {of : PlainType} {r : Typing} → h.form ≡ Variable v → word ≡ get_or scope v 0 → of ≡ type_at word → r ≡ Is (record { of = of; next = h.next }) → TypesExpr text index scope p r scope
+    pub expr-var : {v word : ℕ} {of : PlainType} {r : Typing} → h.form ≡ Variable v → word ≡ get_or scope v 0 → of ≡ type_at word → r ≡ Some (record { of = of; next = h.next }) → TypesExpr text index scope p r scope
     expr-var {v} q w k e = record {
       says = λ {P} {C} {S} {Γ} st ask.
           let i = var-head (heads-in st) ask.part.spelled ask.part.within q in
@@ -81,7 +80,7 @@ module _ (text index scope : List ℕ) (p : Place) where
       kept = kept_same;
     }
 
-    pub expr-channel : {c : ℕ} {x : ℕ → Expr} {r : Typing} → NamesChannel h.form c x → r ≡ Is (record { of = type_at (declared_at (channels_of index) c); next = h.next }) → TypesExpr text index scope p r scope
+    pub expr-channel : {c : ℕ} {x : ℕ → Expr} {r : Typing} → NamesChannel h.form c x → r ≡ Some (record { of = type_at (declared_at (channels_of index) c); next = h.next }) → TypesExpr text index scope p r scope
     expr-channel {c} q e = record {
       says = λ {P} {C} {S} {Γ} st ask.
           let i = channel-head (heads-in st) ask.part.spelled ask.part.within q in

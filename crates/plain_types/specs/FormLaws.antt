@@ -1,4 +1,7 @@
 -- The forms whose parts are single expressions, return by return: what the calls so far promise, the function promises.
+use Rattle.std.specs.Prelude.{Some, None}
+use Rattle.language.specs.declared.refusals.Refusal.{Refusal}
+use Rattle.std.specs.Prelude.{Ok, Err}
 use Rattle.std.specs.Prelude.{ℕ, ◌+◌, ◌≤◌, List, [], ◌∷◌, ◌++◌, true, false, ◌≡◌, refl, length, set}
 use Rattle.std.proofs.Math.Option.{Option, none}
 use Rattle.std.proofs.Common.{sym, ap, ap₂, ◌∙◌, subst, arith}
@@ -14,9 +17,7 @@ use Rattle.language.specs.PlainTypes.{same_plain, is_plain, is_named, operand_ty
 use Rattle.theory.specs.Lists.{both-never}
 use Rattle.theory.specs.PlainTypesAgree.{same-plain}
 use Rattle.text.specs.declared.Cursor.{Cursor}
-use Rattle.text.specs.declared.Step.{Step}
-use Rattle.text.specs.declared.Step.TheVariants.{Next, Stop}
-use Rattle.text.specs.Bytes.{bytes_from, forget, plain_word, Passes}
+use Rattle.text.specs.Bytes.{Step, bytes_from, forget, plain_word, Passes}
 use Rattle.text.specs.Places.{past}
 use Rattle.encoding.specs.Spells.{Spells}
 use Rattle.encoding.specs.FrameLines.{line_at}
@@ -26,11 +27,9 @@ use Rattle.index.specs.Indexed.{frame_part}
 use Rattle.plain_types.specs.declared.words.PlainType.{PlainType}
 use Rattle.plain_types.specs.declared.words.PlainType.TheVariants.{Bool as BoolIs}
 use Rattle.plain_types.specs.declared.words.Typed.{Typed}
-use Rattle.plain_types.specs.declared.words.Typing.{Typing}
-use Rattle.plain_types.specs.declared.words.Typing.TheVariants.{Is, Wrong}
 use Rattle.heads.specs.declared.places.Place.{Place}
 use Rattle.plain_types.specs.Words.{WordOf, operand_of, outcome_of}
-use Rattle.plain_types.specs.Agrees.{meaning, TypeFound, typed, untyped, agrees-as, Holds, holds, fails, wrong, answered, chain-some, chain-none, chain-never, when_true, when_false, both_first, both-not}
+use Rattle.plain_types.specs.Agrees.{Typing, meaning, TypeFound, typed, untyped, agrees-as, Holds, holds, fails, wrong, answered, chain-some, chain-none, chain-never, when_true, when_false, both_first, both-not}
 use Rattle.heads.specs.Places.{moved_to, wider_by}
 use Rattle.plain_types.specs.Asks.{Kept, Stage, Part, AskExpr, AskWant, AskOp, AskAdj, TypesExpr, TypesWant, TypesLet, TypesIf, TypesOp, TypesAdj, TypesFit}
 use Rattle.plain_types.specs.WordLaws.{operand-is, outcome-is}
@@ -61,33 +60,33 @@ module _ {text : List ℕ} {p : Place} {P : File} {C : List Plain} {S : Scope} {
 module _ {text index scope scope₁ : List ℕ} {p : Place} {x : Typing} where
   module _ (v : TypesExpr text index scope p x scope₁) {P : File} {C : List Plain} {S : Scope} {Γ : List Plain} {e : Expr} {end : ℕ}
       (st : Stage text index scope p.line p.variables P C S Γ) (q : Part (line_at text p.line) p.levels S p.at.at e end) where
-    pub found : {k : Typed} → x ≡ Is k → TypeFound k end (plain_of P C e Γ)
+    pub found : {k : Typed} → x ≡ Some k → TypeFound k end (plain_of P C e Γ)
     found d = typed (v.says st (ask-expr q)) d
 
-    pub missed : x ≡ Wrong → plain_of P C e Γ ≡ none
+    pub missed : x ≡ None → plain_of P C e Γ ≡ none
     missed d = untyped (v.says st (ask-expr q)) d
 
   module _ {kind : PlainType} (v : TypesWant text index scope p kind x scope₁) {P : File} {C : List Plain} {S : Scope} {Γ : List Plain} {e : Expr} {end : ℕ}
       (st : Stage text index scope p.line p.variables P C S Γ) (q : Part (line_at text p.line) p.levels S p.at.at e end) (τ : Plain) (w : meaning kind ≡ τ) where
-    pub met : {k : Typed} → x ≡ Is k → Holds k end (is_plain τ (plain_of P C e Γ)) τ
+    pub met : {k : Typed} → x ≡ Some k → Holds k end (is_plain τ (plain_of P C e Γ)) τ
     met d = holds (is_plain τ (plain_of P C e Γ)) τ (v.says st (ask-want τ w q)) d
 
-    pub unmet : x ≡ Wrong → is_plain τ (plain_of P C e Γ) ≡ false
+    pub unmet : x ≡ None → is_plain τ (plain_of P C e Γ) ≡ false
     unmet d = fails (is_plain τ (plain_of P C e Γ)) τ (v.says st (ask-want τ w q)) d
 
 module _ (text index scope : List ℕ) (p : Place) where
   -- ---- an expression of the type wanted
   module _ (kind : PlainType) {x : Typing} {scope₁ : List ℕ} (v : TypesExpr text index scope p x scope₁) where
-    pub want-wrong : x ≡ Wrong → TypesWant text index scope p kind Wrong scope₁
+    pub want-wrong : x ≡ None → TypesWant text index scope p kind None scope₁
     want-wrong d = record { says = λ st ask. wrong (ask.is ∙ when_false ask.type (none-wanted ask.type (missed v st ask.part d))); kept = v.kept }
 
-    pub want-other : {k : Typed} → x ≡ Is k → same_plain (meaning k.of) (meaning kind) ≡ false → TypesWant text index scope p kind Wrong scope₁
+    pub want-other : {k : Typed} → x ≡ Some k → same_plain (meaning k.of) (meaning kind) ≡ false → TypesWant text index scope p kind None scope₁
     want-other d s = record {
       says = λ st ask. let t = found v st ask.part d in wrong (ask.is ∙ when_false ask.type (not-wanted ask.type t.is (ap₂ same_plain (sym t.kind) (sym ask.wanted) ∙ s)));
       kept = v.kept;
     }
 
-    pub want-done : {k : Typed} → x ≡ Is k → same_plain (meaning k.of) (meaning kind) ≡ true → TypesWant text index scope p kind (Is k) scope₁
+    pub want-done : {k : Typed} → x ≡ Some k → same_plain (meaning k.of) (meaning kind) ≡ true → TypesWant text index scope p kind (Some k) scope₁
     want-done {k} d s = record {
       says = λ st ask. let t = found v st ask.part d in answered refl (same-plain (meaning k.of) (meaning kind) s ∙ ask.wanted) t.place (ask.is ∙ when_true ask.type (is-wanted ask.type t.is (ap₂ same_plain (sym t.kind) (sym ask.wanted) ∙ s)));
       kept = v.kept;
@@ -95,10 +94,10 @@ module _ (text index scope : List ℕ) (p : Place) where
 
   -- ---- `15`
   module _ {x : Typing} {scope₁ : List ℕ} (v : TypesExpr text index scope p x scope₁) where
-    pub let-wrong : x ≡ Wrong → TypesLet text index scope p Wrong scope₁
+    pub let-wrong : x ≡ None → TypesLet text index scope p None scope₁
     let-wrong d = record { says = λ {P} {C} {S} {Γ} st ask. wrong (ask.is ∙ plain-let P C Γ ask.first ask.second ∙ chain-none _ (missed v st ask.part d)); kept = v.kept }
 
-    module _ {k : Typed} (d : x ≡ Is k) {word : ℕ} (a : WordOf k.of word) {scope₂ : List ℕ} (put : scope₂ ≡ set scope₁ p.variables word) where
+    module _ {k : Typed} (d : x ≡ Some k) {word : ℕ} (a : WordOf k.of word) {scope₂ : List ℕ} (put : scope₂ ≡ set scope₁ p.variables word) where
       bound-kept : {scope₃ : List ℕ} → Kept (p.variables + 1) scope₂ scope₃ → Kept p.variables scope scope₃
       bound-kept u = kept_then v.kept (kept_then (rw put (kept_put p.variables scope₁ p.variables word (omega arith))) (kept-below p.variables (omega arith) u))
 
@@ -117,7 +116,7 @@ module _ (text index scope : List ℕ) (p : Place) where
 
       -- ---- `1C`, behind its first part
       module _ (is-named : is_named (meaning k.of) ≡ true) {y : Typing} {scope₃ : List ℕ} (u : TypesExpr text index scope₂ (wider_by 1 p k.next) y scope₃) where
-        pub fit_none : y ≡ Wrong → TypesFit text index scope p Wrong scope₃
+        pub fit_none : y ≡ None → TypesFit text index scope p None scope₃
         fit_none o = record {
           says = λ {P} {C} {S} {Γ} st ask.
               let t = found v st ask.part d in
@@ -126,7 +125,7 @@ module _ (text index scope : List ℕ) (p : Place) where
           kept = bound-kept u.kept;
         }
 
-        pub fit-done : {j : Typed} {r : Typing} {scope₄ : List ℕ} → y ≡ Is j → TypesWant text index scope₃ (moved_to p j.next) j.of r scope₄ → TypesFit text index scope p r scope₄
+        pub fit-done : {j : Typed} {r : Typing} {scope₄ : List ℕ} → y ≡ Some j → TypesWant text index scope₃ (moved_to p j.next) j.of r scope₄ → TypesFit text index scope p r scope₄
         fit-done {j} o w = record {
           says = λ {P} {C} {S} {Γ} st ask.
               let t = found v st ask.part d in
@@ -137,10 +136,10 @@ module _ (text index scope : List ℕ) (p : Place) where
           kept = kept_then (bound-kept u.kept) w.kept;
         }
 
-    pub fit-wrong : x ≡ Wrong → TypesFit text index scope p Wrong scope₁
+    pub fit-wrong : x ≡ None → TypesFit text index scope p None scope₁
     fit-wrong d = record { says = λ {P} {C} {S} {Γ} st ask. wrong (ask.is ∙ plain-fit P C Γ ask.size ask.first ask.second ask.third ∙ chain-none _ (missed v st ask.part d)); kept = v.kept }
 
-    pub fit-unnamed : {k : Typed} → x ≡ Is k → is_named (meaning k.of) ≡ false → TypesFit text index scope p Wrong scope₁
+    pub fit-unnamed : {k : Typed} → x ≡ Some k → is_named (meaning k.of) ≡ false → TypesFit text index scope p None scope₁
     fit-unnamed d h = record {
       says = λ {P} {C} {S} {Γ} st ask.
           let t = found v st ask.part d in
@@ -152,15 +151,15 @@ module _ (text index scope : List ℕ) (p : Place) where
 
   -- ---- `16`
   module _ {x : Typing} {scope₁ : List ℕ} (v : TypesWant text index scope p BoolIs x scope₁) where
-    pub if-wrong : x ≡ Wrong → TypesIf text index scope p Wrong scope₁
+    pub if-wrong : x ≡ None → TypesIf text index scope p None scope₁
     if-wrong d = record {
       says = λ {P} {C} {S} {Γ} st ask. wrong (ask.is ∙ plain-if P C Γ ask.first ask.second ask.third
           ∙ chain-never _ _ (λ τ. when_false τ (both-not (is_plain τ (plain_of P C ask.third Γ)) (unmet v st ask.part pbool refl d))));
       kept = v.kept;
     }
 
-    module _ {k : Typed} (d : x ≡ Is k) {y : Typing} {scope₂ : List ℕ} (u : TypesExpr text index scope₁ (moved_to p k.next) y scope₂) where
-      pub if_none : y ≡ Wrong → TypesIf text index scope p Wrong scope₂
+    module _ {k : Typed} (d : x ≡ Some k) {y : Typing} {scope₂ : List ℕ} (u : TypesExpr text index scope₁ (moved_to p k.next) y scope₂) where
+      pub if_none : y ≡ None → TypesIf text index scope p None scope₂
       if_none o = record {
         says = λ {P} {C} {S} {Γ} st ask.
             let h = met v st ask.part pbool refl d in
@@ -168,7 +167,7 @@ module _ (text index scope : List ℕ) (p : Place) where
         kept = kept_then v.kept u.kept;
       }
 
-      pub if-done : {j : Typed} {r : Typing} {scope₃ : List ℕ} → y ≡ Is j → TypesWant text index scope₂ (moved_to p j.next) j.of r scope₃ → TypesIf text index scope p r scope₃
+      pub if-done : {j : Typed} {r : Typing} {scope₃ : List ℕ} → y ≡ Some j → TypesWant text index scope₂ (moved_to p j.next) j.of r scope₃ → TypesIf text index scope p r scope₃
       if-done {j} o w = record {
         says = λ {P} {C} {S} {Γ} st ask.
             let h = met v st ask.part pbool refl d in
@@ -183,15 +182,15 @@ module _ (text index scope : List ℕ) (p : Place) where
     operand-kind : {P : File} {C : List Plain} {S : Scope} {Γ : List Plain} {o : Option Plain} {end : ℕ} (ask : AskOp text p code P C S Γ o end) → meaning kind ≡ operand_type ask.op
     operand-kind ask = ap meaning is ∙ ap (λ o. meaning (operand_of o)) (sym ask.coded) ∙ operand-is ask.op
 
-    pub op-wrong : x ≡ Wrong → TypesOp text index scope p code Wrong scope₁
+    pub op-wrong : x ≡ None → TypesOp text index scope p code None scope₁
     op-wrong d = record {
       says = λ {P} {C} {S} {Γ} st ask. wrong (ask.is ∙ plain_op P C Γ ask.op ask.first ask.second
           ∙ when_false (op_type ask.op) (both-not (is_plain (operand_type ask.op) (plain_of P C ask.second Γ)) (unmet v st ask.part (operand_type ask.op) (operand-kind ask) d)));
       kept = v.kept;
     }
 
-    module _ {k : Typed} (d : x ≡ Is k) {y : Typing} {scope₂ : List ℕ} (u : TypesWant text index scope₁ (moved_to p k.next) kind y scope₂) where
-      pub op-none : y ≡ Wrong → TypesOp text index scope p code Wrong scope₂
+    module _ {k : Typed} (d : x ≡ Some k) {y : Typing} {scope₂ : List ℕ} (u : TypesWant text index scope₁ (moved_to p k.next) kind y scope₂) where
+      pub op-none : y ≡ None → TypesOp text index scope p code None scope₂
       op-none e = record {
         says = λ {P} {C} {S} {Γ} st ask.
             let τ = operand_type ask.op in
@@ -201,7 +200,7 @@ module _ (text index scope : List ℕ) (p : Place) where
         kept = kept_then v.kept u.kept;
       }
 
-      pub op-done : {j : Typed} {given : PlainType} {r : Typing} → y ≡ Is j → given ≡ outcome_of code → r ≡ Is (record { of = given; next = j.next }) → TypesOp text index scope p code r scope₂
+      pub op-done : {j : Typed} {given : PlainType} {r : Typing} → y ≡ Some j → given ≡ outcome_of code → r ≡ Some (record { of = given; next = j.next }) → TypesOp text index scope p code r scope₂
       op-done e g q = record {
         says = λ {P} {C} {S} {Γ} st ask.
             let τ = operand_type ask.op in
@@ -215,22 +214,22 @@ module _ (text index scope : List ℕ) (p : Place) where
   -- ---- `1B`
   module _ {line : List ℕ} (part : line ≡ frame_part text (frames_of index) p.line) {z : Step} (a : Passes line p.at.at z (forget (size_at nesting_most size_variables_most (bytes_from line p.at.at)))) where
     size-behind : {P : File} {C : List Plain} {S : Scope} {Γ : List Plain} {o : Option Plain} {end : ℕ} → Stage text index scope p.line p.variables P C S Γ → (ask : AskAdj text p P C S Γ o end) →
-        z ≡ Next (record { at = past (line_at text p.line) p.at.at (length (size_bytes ask.size)) })
+        z ≡ Ok (record { at = past (line_at text p.line) p.at.at (length (size_bytes ask.size)) })
     size-behind st ask =
         let is : line ≡ line_at text p.line = part ∙ (st.indexed.each_frame p.line st.less).line in
-        subst (λ l. z ≡ Next (record { at = past l p.at.at (length (size_bytes ask.size)) })) is (size-passed ask.few ask.within (subst (λ l. Spells size_bytes l p.at.at ask.size) (sym is) ask.spelled) a)
+        subst (λ l. z ≡ Ok (record { at = past l p.at.at (length (size_bytes ask.size)) })) is (size-passed ask.few ask.within (subst (λ l. Spells size_bytes l p.at.at ask.size) (sym is) ask.spelled) a)
 
-    pub adj-stops : {m : ℕ} → z ≡ Stop m → TypesAdj text index scope p Wrong scope
+    pub adj-stops : {m : Refusal} → z ≡ Err m → TypesAdj text index scope p None scope
     adj-stops q = record { says = λ st ask. absurd (next-there (size-behind st ask) q); kept = kept_same }
 
-    module _ {c : Cursor} (q : z ≡ Next c) {x : Typing} {scope₁ : List ℕ} (v : TypesExpr text index scope (moved_to p c) x scope₁) where
-      pub adj-wrong : x ≡ Wrong → TypesAdj text index scope p Wrong scope₁
+    module _ {c : Cursor} (q : z ≡ Ok c) {x : Typing} {scope₁ : List ℕ} (v : TypesExpr text index scope (moved_to p c) x scope₁) where
+      pub adj-wrong : x ≡ None → TypesAdj text index scope p None scope₁
       adj-wrong d = record {
         says = λ {P} {C} {S} {Γ} st ask. wrong (ask.is ∙ plain-adj P C Γ ask.size ask.first ∙ chain-none _ (missed v st (part_at (next-at (size-behind st ask) q) ask.part) d));
         kept = v.kept;
       }
 
-      pub adj-unnamed : {k : Typed} → x ≡ Is k → is_named (meaning k.of) ≡ false → TypesAdj text index scope p Wrong scope₁
+      pub adj-unnamed : {k : Typed} → x ≡ Some k → is_named (meaning k.of) ≡ false → TypesAdj text index scope p None scope₁
       adj-unnamed d h = record {
         says = λ {P} {C} {S} {Γ} st ask.
             let t = found v st (part_at (next-at (size-behind st ask) q) ask.part) d in
@@ -238,7 +237,7 @@ module _ (text index scope : List ℕ) (p : Place) where
         kept = v.kept;
       }
 
-      pub adj-done : {k : Typed} → x ≡ Is k → is_named (meaning k.of) ≡ true → TypesAdj text index scope p (Is k) scope₁
+      pub adj-done : {k : Typed} → x ≡ Some k → is_named (meaning k.of) ≡ true → TypesAdj text index scope p (Some k) scope₁
       adj-done d h = record {
         says = λ {P} {C} {S} {Γ} st ask.
             let t = found v st (part_at (next-at (size-behind st ask) q) ask.part) d in

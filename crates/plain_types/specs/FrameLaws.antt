@@ -1,4 +1,5 @@
 -- The frames of functions, inputs and nodes, return by return.
+use Rattle.std.specs.Option.{is_some}
 use Prim.Native.Nat.{ℕ, zero, suc, ◌+◌, ◌-◌, ◌*◌, ◌%◌, ◌≤◌, ◌<◌}
 use mathlib.Core.List.{List, [], ◌∷◌, ◌++◌, map}
 use Rattle.std.specs.Prelude.{Bool, true, false, ◌≡◌, get_or}
@@ -29,45 +30,34 @@ use Rattle.encoding.specs.WithinParts.{function-within, node-within}
 use Rattle.index.specs.Sections.{frames_of, types_of, functions_of, channels_of}
 use Rattle.index.specs.Indexed.{body_at, declared_at, initial_at, update_at, frame_part, function_line, channel_line, line_count, Indexed}
 use Rattle.plain_types.specs.declared.words.PlainType.{PlainType}
-use Rattle.plain_types.specs.declared.words.Typed.{Typed}
-use Rattle.plain_types.specs.declared.words.Typing.{Typing}
-use Rattle.plain_types.specs.declared.words.Typing.TheVariants.{Is, Wrong}
 use Rattle.plain_types.specs.declared.words.Want.TheVariants.{Parameters}
 use Rattle.heads.specs.declared.places.Place.{Place}
 use Rattle.heads.specs.Places.{line_behind_types, function-line}
 use Rattle.plain_types.specs.Words.{type_at, wanted_type, entered, Returns}
-use Rattle.plain_types.specs.Agrees.{meaning, Agrees, is_some, is_none, holds, fails, both_first, both-not}
+use Rattle.plain_types.specs.Agrees.{Typing, meaning, Agrees, is_type, is_none, both_first, both-not}
 use Rattle.plain_types.specs.Asks.{Stage, Part, TypesWant}
 use Rattle.plain_types.specs.Initials.{TestsInitial}
-use Rattle.plain_types.specs.Verdicts.{fits, Outer, FunctionFits, ValueFits, InitialFits, NodeFits}
+use Rattle.plain_types.specs.Verdicts.{Outer, FunctionFits, ValueFits, InitialFits, NodeFits}
 use Rattle.plain_types.specs.WordLaws.{plain_at, declared-at, plain-fewer}
 use Rattle.plain_types.specs.EnterLaws.{word_at, entered-kept, entered-words}
 use Rattle.plain_types.specs.FormLaws.{ask-want}
 use Rattle.plain_types.specs.ListLaws.{parameters-small}
 
 -- ---- whether there is a type
-pub fits-is : {x : Typing} {k : Typed} → x ≡ Is k → true ≡ fits x
-unfolding fits
-fits-is e = rw e
-
-pub fits_not : {x : Typing} → x ≡ Wrong → false ≡ fits x
-unfolding fits
-fits_not e = rw e
-
 abbrev is_there : {A : Type 0} → Option A → Bool
 is_there none = false
 is_there (some a) = true
 
-fits-agrees : {x : Typing} {end : ℕ} {o : Option Plain} → Agrees x end o → fits x ≡ is_there o
-fits-agrees (is_some q w p) = sym (fits-is q)
-fits-agrees (is_none q) = sym (fits_not q)
+fits-agrees : {x : Typing} {end : ℕ} {o : Option Plain} → Agrees x end o → is_some x ≡ is_there o
+fits-agrees (is_type q w p) = rw q
+fits-agrees (is_none q) = rw q
 
 there-when : {A : Type 0} (b : Bool) (a : A) → is_there (when b a) ≡ b
 unfolding when
 there-when true a = refl
 there-when false a = refl
 
-fits-when : {x : Typing} {end : ℕ} (b : Bool) (τ : Plain) → Agrees x end (when b τ) → fits x ≡ b
+fits-when : {x : Typing} {end : ℕ} (b : Bool) (τ : Plain) → Agrees x end (when b τ) → is_some x ≡ b
 fits-when b τ a = fits-agrees a ∙ there-when b τ
 
 -- ---- the same part at places named otherwise
@@ -116,7 +106,7 @@ module _ (text index : List ℕ) (f : ℕ) {n : ℕ} (k : (n ≡ get_or (functio
           room = omega (arith, ap length enter, (entered-kept index (Parameters f) scope 0 n).long, room);
         }
 
-  pub function-fits : {r : Bool} → r ≡ fits x → FunctionFits text index f r
+  pub function-fits : {r : Bool} → r ≡ is_some x → FunctionFits text index f r
   unfolding plain_function
   function-fits q = record {
     says = λ {P} {F} h e.
@@ -126,7 +116,7 @@ module _ (text index : List ℕ) (f : ℕ) {n : ℕ} (k : (n ≡ get_or (functio
 
 -- ---- an expression outside all functions, of a channel's declared type
 pub value-fits : (text index : List ℕ) (p : Place) {c declared : ℕ} {kind : PlainType} {scope scope₁ : List ℕ} {x : Typing} {r : Bool} → declared ≡ declared_at (channels_of index) c → kind ≡ type_at declared →
-    TypesWant text index scope p kind x scope₁ → variables_most ≤ length scope → r ≡ fits x → ValueFits text index p c r
+    TypesWant text index scope p kind x scope₁ → variables_most ≤ length scope → r ≡ is_some x → ValueFits text index p c r
 value-fits text index p {scope} d w v room q = record {
   says = λ {P} {C} {S} {e} τ z o part t.
       let st : Stage text index scope p.line p.variables P C S [] = record {
@@ -220,19 +210,19 @@ module _ (text index : List ℕ) (i c : ℕ) where
         u.says (subst (λ ds. (t : ℕ) → t < length ds → TellsType (types_of index) t (get_or ds t [])) (sym (outer-types P 0)) (λ t there. (h.each_type t there).tells)) w
         (subst₂ (λ l a. Spells expr_bytes l a e) (sym is) (sym place) s)
 
-    pub initial-unfit : x ≡ Wrong → InitialFits text index i c false
+    pub initial-unfit : is_some x ≡ false → InitialFits text index i c false
     unfolding plain_initial
     initial-unfit d = record {
-      says = λ {P} {τ} {e} h q less ci wd w. sym (both-not (is_plain (plain_declared τ) (plain_of P [] e [])) (fails (is_initial e) pbool (tested h q less ci.initial w) d));
+      says = λ {P} {τ} {e} h q less ci wd w. sym (both-not (is_plain (plain_declared τ) (plain_of P [] e [])) (sym (fits-when (is_initial e) pbool (tested h q less ci.initial w)) ∙ d));
     }
 
-    pub initial-fits : {k : Typed} {r : Bool} → x ≡ Is k → ValueFits text index (record { at = at; levels = nesting_most; line = line; variables = 0 }) c r → InitialFits text index i c r
+    pub initial-fits : {r : Bool} → is_some x ≡ true → ValueFits text index (record { at = at; levels = nesting_most; line = line; variables = 0 }) c r → InitialFits text index i c r
     unfolding plain_initial
     initial-fits d v = record {
       says = λ {P} {τ} {e} h q less ci wd w.
           let part₁ = part-named text (channel-line number h q less) place (record { within = w; spelled = ci.initial; ends = refl }) in
           v.says (plain_declared τ) refl (outer-place [] 0 h (channel-less number h q less) (λ j there₁. absurd (omega (arith, there₁))) (omega arith)) part₁ (ap (λ a. meaning (type_at a)) ci.declared ∙ declared-at (omega (arith, h.within.few_types)) wd)
-          ∙ sym (both_first (holds (is_initial e) pbool (tested h q less ci.initial w) d).is);
+          ∙ sym (both_first (sym (fits-when (is_initial e) pbool (tested h q less ci.initial w)) ∙ d));
     }
 
   -- ---- a node

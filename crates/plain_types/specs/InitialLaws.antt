@@ -1,5 +1,8 @@
 -- Initial values, return by return: the forms that document 01 allows, and every other one.
-use Rattle.std.specs.Prelude.{ℕ, suc, ◌+◌, ◌-◌, ◌*◌, ◌%◌, ◌<◌, List, [], Bool, true, false, ◌≡◌, refl, length, get_or}
+use Rattle.std.specs.Prelude.{Some, None}
+use Rattle.language.specs.declared.refusals.Refusal.{Refusal}
+use Rattle.std.specs.Prelude.{Ok, Err}
+use Rattle.std.specs.Prelude.{ℕ, suc, ◌+◌, ◌-◌, ◌*◌, ◌%◌, ◌<◌, List, [], true, false, ◌≡◌, refl, length, get_or}
 use Rattle.std.proofs.Math.Option.{Option}
 use Rattle.std.proofs.Common.{sym, ◌∙◌, subst, arith}
 use Rattle.std.proofs.Math.Path.{ap}
@@ -12,9 +15,7 @@ use Rattle.language.specs.Within.{WithinExpr, WithinExprs, ws_nil, ws_cons}
 use Rattle.language.specs.ReadExpr.{size_at}
 use Rattle.language.specs.PlainTypes.{is_initial, are_initial}
 use Rattle.text.specs.declared.Cursor.{Cursor}
-use Rattle.text.specs.declared.Step.{Step}
-use Rattle.text.specs.declared.Step.TheVariants.{Next, Stop}
-use Rattle.text.specs.Bytes.{bytes_from, past, forget, Passes}
+use Rattle.text.specs.Bytes.{Step, bytes_from, past, forget, Passes}
 use Rattle.index.specs.Tables.{type_words, constructor_words}
 use Rattle.encoding.specs.Spells.{Spells}
 use Rattle.encoding.specs.ExprLists.{first-of-exprs}
@@ -25,12 +26,9 @@ use Rattle.heads.specs.declared.Form.TheVariants.{Bool as BoolForm, Int, Variabl
 use Rattle.heads.specs.declared.Head.{Head}
 use Rattle.heads.specs.Heads.{Heads}
 use Rattle.heads.specs.HeadForms.{no-missing, bool-head, int-head, var-head, channel-head, now_named, last_named, let-head, if-head, op-head, call-head, con-head, case-head, adj-head, fit-head}
-use Rattle.theory.specs.Lists.{false-is-not-true}
 use Rattle.plain_types.specs.declared.words.PlainType.TheVariants.{Bool as BoolIs}
 use Rattle.plain_types.specs.declared.words.Typed.{Typed}
-use Rattle.plain_types.specs.declared.words.Typing.{Typing}
-use Rattle.plain_types.specs.declared.words.Typing.TheVariants.{Is, Wrong}
-use Rattle.plain_types.specs.Agrees.{Agrees, agrees-as, holds, fails, wrong, answered, when_true, when_false, both_first, both-not}
+use Rattle.plain_types.specs.Agrees.{Typing, Agrees, agrees-as, holds, fails, wrong, answered, when_true, when_false, both_first, both-not}
 use Rattle.plain_types.specs.Initials.{TestsInitial, TestsInitials}
 use Rattle.plain_types.specs.EnterLaws.{no-level, less-deep, room-sizes}
 use Rattle.plain_types.specs.ReadLaws.{size-passed}
@@ -55,39 +53,23 @@ initial-cons : (e : Expr) (es : Exprs) → are_initial (econs e es) ≡ both (is
 unfolding are_initial
 initial-cons e es = refl
 
-abbrev pub never_initial : Form → Bool
-never_initial (BoolForm b) = false
-never_initial (Int n) = false
-never_initial (Variable v) = true
-never_initial (Now c) = true
-never_initial (Last c) = true
-never_initial Let = true
-never_initial If = true
-never_initial (Operator o) = true
-never_initial (Call f) = true
-never_initial (Construct t c) = false
-never_initial (Case t) = true
-never_initial Adjust = false
-never_initial (Fit k) = true
-never_initial Missing = true
-
 module _ {line : List ℕ} {at n : ℕ} {h : Head} {S : Scope} {e : Expr} (heads : Heads line at h) (s : Spells expr_bytes line at e) (w : WithinExpr n S e) where
-  not-initial : (f : Form) → never_initial f ≡ true → h.form ≡ f → is_initial e ≡ false
+  not-initial : (f : Form) → h.form ≡ f → ((b : ℕ) → f ≡ BoolForm b → ⊥) → ((i : ℕ) → f ≡ Int i → ⊥) → ((t c : ℕ) → f ≡ Construct t c → ⊥) → (f ≡ Adjust → ⊥) → is_initial e ≡ false
   unfolding is_initial
-  not-initial (BoolForm b) z q = false-is-not-true z
-  not-initial (Int i) z q = false-is-not-true z
-  not-initial (Variable v) z q = ap is_initial (var-head heads s w q).is
-  not-initial (Now c) z q = ap is_initial (channel-head heads s w (now_named q)).is
-  not-initial (Last c) z q = ap is_initial (channel-head heads s w (last_named q)).is
-  not-initial Let z q = ap is_initial (let-head heads s w q).is
-  not-initial If z q = ap is_initial (if-head heads s w q).is
-  not-initial (Operator o) z q = ap is_initial (op-head heads s w q).is
-  not-initial (Call f) z q = ap is_initial (call-head heads s w q).is
-  not-initial (Construct t c) z q = false-is-not-true z
-  not-initial (Case t) z q = ap is_initial (case-head heads s w q).is
-  not-initial Adjust z q = false-is-not-true z
-  not-initial (Fit k) z q = ap is_initial (fit-head heads s w q).is
-  not-initial Missing z q = absurd (no-missing heads s q)
+  not-initial (BoolForm b) q no_bool no_int no_con no_adj = absurd (no_bool b refl)
+  not-initial (Int i) q no_bool no_int no_con no_adj = absurd (no_int i refl)
+  not-initial (Variable v) q no_bool no_int no_con no_adj = ap is_initial (var-head heads s w q).is
+  not-initial (Now c) q no_bool no_int no_con no_adj = ap is_initial (channel-head heads s w (now_named q)).is
+  not-initial (Last c) q no_bool no_int no_con no_adj = ap is_initial (channel-head heads s w (last_named q)).is
+  not-initial Let q no_bool no_int no_con no_adj = ap is_initial (let-head heads s w q).is
+  not-initial If q no_bool no_int no_con no_adj = ap is_initial (if-head heads s w q).is
+  not-initial (Operator o) q no_bool no_int no_con no_adj = ap is_initial (op-head heads s w q).is
+  not-initial (Call f) q no_bool no_int no_con no_adj = ap is_initial (call-head heads s w q).is
+  not-initial (Construct t c) q no_bool no_int no_con no_adj = absurd (no_con t c refl)
+  not-initial (Case t) q no_bool no_int no_con no_adj = ap is_initial (case-head heads s w q).is
+  not-initial Adjust q no_bool no_int no_con no_adj = absurd (no_adj refl)
+  not-initial (Fit k) q no_bool no_int no_con no_adj = ap is_initial (fit-head heads s w q).is
+  not-initial Missing q no_bool no_int no_con no_adj = absurd (no-missing heads s q)
 
   bool-initial : {b : ℕ} → h.form ≡ BoolForm b → is_initial e ≡ true
   unfolding is_initial
@@ -102,14 +84,14 @@ module _ (line types : List ℕ) (c : Cursor) (levels : ℕ) where
   initial-cut z = record { says = λ {S} {e} told w s. absurd (no-level (subst (λ m. WithinExpr m S e) z w)) }
 
   module _ {h : Head} (heads : Heads line c.at h) where
-    pub initial-bool : {b : ℕ} {r : Typing} → h.form ≡ BoolForm b → r ≡ Is (record { of = BoolIs; next = h.next }) → TestsInitial line types c levels r
+    pub initial-bool : {b : ℕ} {r : Typing} → h.form ≡ BoolForm b → r ≡ Some (record { of = BoolIs; next = h.next }) → TestsInitial line types c levels r
     initial-bool q e = record { says = λ told w s. answered e refl (bool-head heads s w q).ends (when_true pbool (bool-initial heads s w q)) }
 
-    pub initial-int : {i : ℕ} {r : Typing} → h.form ≡ Int i → r ≡ Is (record { of = BoolIs; next = h.next }) → TestsInitial line types c levels r
+    pub initial-int : {i : ℕ} {r : Typing} → h.form ≡ Int i → r ≡ Some (record { of = BoolIs; next = h.next }) → TestsInitial line types c levels r
     initial-int q e = record { says = λ told w s. answered e refl (int-head heads s w q).ends (when_true pbool (int-initial heads s w q)) }
 
-    pub initial-other : (f : Form) → never_initial f ≡ true → h.form ≡ f → TestsInitial line types c levels Wrong
-    initial-other f z q = record { says = λ told w s. wrong (when_false pbool (not-initial heads s w f z q)) }
+    pub initial-other : ((b : ℕ) → h.form ≡ BoolForm b → ⊥) → ((i : ℕ) → h.form ≡ Int i → ⊥) → ((t k : ℕ) → h.form ≡ Construct t k → ⊥) → (h.form ≡ Adjust → ⊥) → TestsInitial line types c levels None
+    initial-other no_bool no_int no_con no_adj = record { says = λ told w s. wrong (when_false pbool (not-initial heads s w h.form refl no_bool no_int no_con no_adj)) }
 
     pub initial-made : {t k n : ℕ} {r : Typing} → h.form ≡ Construct t k → (n ≡ get_or types (type_words * t + 1 + constructor_words * k) 0 % byte_range) × (n < byte_range) → TestsInitials line types h.next (levels - 1) n r → TestsInitial line types c levels r
     initial-made {t} {k} {n} {r} q count u = record {
@@ -123,13 +105,13 @@ module _ (line types : List ℕ) (c : Cursor) (levels : ℕ) where
     }
 
     module _ (q : h.form ≡ Adjust) {z : Step} (a : Passes line h.next.at z (forget (size_at nesting_most size_variables_most (bytes_from line h.next.at)))) where
-      size-behind : {S : Scope} {e : Expr} (w : WithinExpr levels S e) (s : Spells expr_bytes line c.at e) → z ≡ Next (record { at = past line h.next.at (length (size_bytes (adj-head heads s w q).size)) })
+      size-behind : {S : Scope} {e : Expr} (w : WithinExpr levels S e) (s : Spells expr_bytes line c.at e) → z ≡ Ok (record { at = past line h.next.at (length (size_bytes (adj-head heads s w q).size)) })
       size-behind {S} w s = let i = adj-head heads s w q in size-passed (room-sizes S i.room) i.within i.spelled a
 
-      pub initial-stops : {m : ℕ} → z ≡ Stop m → TestsInitial line types c levels Wrong
+      pub initial-stops : {m : Refusal} → z ≡ Err m → TestsInitial line types c levels None
       initial-stops e = record { says = λ told w s. absurd (next-there (size-behind w s) e) }
 
-      pub initial-behind : {d : Cursor} {r : Typing} → z ≡ Next d → TestsInitial line types d (levels - 1) r → TestsInitial line types c levels r
+      pub initial-behind : {d : Cursor} {r : Typing} → z ≡ Ok d → TestsInitial line types d (levels - 1) r → TestsInitial line types c levels r
       initial-behind {d} {r} e u = record {
         says = λ {S} told w s.
             let i = adj-head heads s w q in
@@ -156,7 +138,7 @@ none_of ws_nil z = refl
 none_of (ws_cons w ws) z = absurd (omega (arith, z))
 
 module _ (line types : List ℕ) (c : Cursor) (levels : ℕ) {n : ℕ} where
-  pub initials-none : {r : Typing} → n ≡ 0 → r ≡ Is (record { of = BoolIs; next = c }) → TestsInitials line types c levels n r
+  pub initials-none : {r : Typing} → n ≡ 0 → r ≡ Some (record { of = BoolIs; next = c }) → TestsInitials line types c levels n r
   initials-none z e = record {
     says = λ told w s.
         let none = none_of w z in
@@ -164,7 +146,7 @@ module _ (line types : List ℕ) (c : Cursor) (levels : ℕ) {n : ℕ} where
   }
 
   module _ (some_left : n ≡ 0 → ⊥) {x : Typing} (u : TestsInitial line types c levels x) where
-    pub initials-wrong : x ≡ Wrong → TestsInitials line types c levels n Wrong
+    pub initials-wrong : x ≡ None → TestsInitials line types c levels n None
     initials-wrong d = record {
       says = λ {S} told w s.
           let m = more_of w some_left in
@@ -172,7 +154,7 @@ module _ (line types : List ℕ) (c : Cursor) (levels : ℕ) {n : ℕ} where
           wrong (when_false pbool (ap are_initial m.list ∙ initial-cons m.first m.others ∙ both-not (are_initial m.others) no));
     }
 
-    pub initials-more : {k : Typed} {r : Typing} → x ≡ Is k → TestsInitials line types k.next levels (n - 1) r → TestsInitials line types c levels n r
+    pub initials-more : {k : Typed} {r : Typing} → x ≡ Some k → TestsInitials line types k.next levels (n - 1) r → TestsInitials line types c levels n r
     initials-more {k} d v = record {
       says = λ {S} told w s.
           let m = more_of w some_left in

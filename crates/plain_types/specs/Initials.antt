@@ -10,8 +10,7 @@ use Rattle.text.specs.declared.Cursor.{Cursor}
 use Rattle.index.specs.Enters.{TellsType}
 use Rattle.text.specs.Places.{past}
 use Rattle.encoding.specs.Spells.{Spells}
-use Rattle.plain_types.specs.declared.words.Typing.{Typing}
-use Rattle.plain_types.specs.Agrees.{Agrees}
+use Rattle.plain_types.specs.Agrees.{Typing, Agrees}
 
 -- the section tells the types
 abbrev pub TellsTypes : List ℕ → List TypeDef → Type 0

@@ -1,19 +1,21 @@
 -- Every frame in file order: which test a frame's number has, the first that fails, and the definition's refusal by it.
 use Rattle.std.specs.Prelude.{ℕ, zero, suc, ◌+◌, ◌-◌, ◌≤◌, ◌<◌, List, [], ◌∷◌, ◌++◌, map, Bool, true, false, ◌≡◌, refl, length, get_or}
 use Rattle.std.proofs.Math.Option.{some}
+use Rattle.std.specs.Prelude.{Option, Some, None}
+use Rattle.std.specs.Option.{unwrap_or}
 use Rattle.std.proofs.Common.{sym, ap, ◌∙◌, subst, arith, length-append}
 use Rattle.std.proofs.lemmas.List.{length-map}
 use Rattle.std.proofs.Math.ListN.{get_or-eq_default, get_elem? as look}
 use Rattle.language.specs.Limits.{functions_most, channels_most}
-use Rattle.language.specs.Refusals.{types_disagree}
-use Rattle.language.specs.Result.{Result, ok, need_each}
+use Rattle.language.specs.Refusals.{no_frame, types_disagree}
+use Rattle.language.specs.Result.{Result, ok, no, need_each}
 use Rattle.language.specs.Syntax.{Function, Input, Node, File, function_frame}
 use Rattle.language.specs.PlainTyping.{WellPlain}
 use Rattle.language.specs.PlainTypes.{plain_function, plain_initial, plain_input, plain_node, plain_types}
 use Rattle.theory.specs.Lists.{false-is-not-true, look-get_d, look-append, look-past, look-map}
 use Rattle.theory.specs.Places.{below_or_not}
 use Rattle.theory.specs.Alls.{all-at}
-use Rattle.theory.specs.Tests.{first_refused, first-none, first-at, verdict, each-verdict}
+use Rattle.theory.specs.Tests.{first_refused, first-none, first-at, verdict, verdict-refused, each-verdict}
 use Rattle.theory.specs.PlainTypesAgree.{well-plain}
 use Rattle.encoding.specs.FrameLines.{line_at}
 use Rattle.index.specs.declared.Counts.{Counts}
@@ -21,7 +23,7 @@ use Rattle.encoding.specs.WithinParts.{node-within}
 use Rattle.index.specs.Sections.{channels_of, counts_in}
 use Rattle.index.specs.Indexed.{channel_line, NodeIndexed, Indexed, Counted}
 use Rattle.heads.specs.Places.{line_behind_types}
-use Rattle.plain_types.specs.Verdicts.{FunctionFits, InitialFits, NodeFits, frame_tests, refused_frame, FrameFits, JudgesAll}
+use Rattle.plain_types.specs.Verdicts.{FunctionFits, InitialFits, NodeFits, frame_tests, refused_frame, named_frame, FrameFits, JudgesAll}
 use Rattle.plain_types.specs.FrameLaws.{there}
 
 -- ---- the test of each frame
@@ -124,6 +126,19 @@ bodies_most = functions_most + channels_most
 tests-few : (P : File) {text index : List ℕ} → Indexed text index P → length (frame_tests P) ≤ bodies_most
 tests-few P h = let w = h.within in omega (arith, tests-count P, w.few_functions, w.few_inputs, w.few_nodes)
 
+-- ---- a frame by its number
+frame-named : (line n : ℕ) → line + 1 ≡ n → Some (line + 1) ≡ named_frame n
+frame-named line zero e = absurd (omega (arith, e))
+frame-named line (suc n) e = ap Some e
+
+named-number : (n : ℕ) {r : Option ℕ} → r ≡ named_frame n → unwrap_or r no_frame ≡ n
+named-number zero e = rw e
+named-number (suc n) e = rw e
+
+named-some : (n : ℕ) {frame : ℕ} → Some frame ≡ named_frame n → frame ≡ 0 → ⊥
+named-some zero e z = let f : ◌≡◌ {A = ℕ} 0 1 = cc in omega arith
+named-some (suc n) {frame} e z = let same : frame ≡ suc n = cc in omega (arith, same, z)
+
 -- the frames before i agree
 pub record AgreeBefore (text index : List ℕ) (i : ℕ) : Type 0 where
   pub says : {P : File} → Indexed text index P → (j : ℕ) → j < i → get_or (frame_tests P) j true ≡ true
@@ -138,18 +153,18 @@ module _ (text index : List ℕ) where
       says = λ {P} h j less. below_or_not j i (λ l. a.says h j l) (λ over. let same : i ≡ j = omega (arith, less, over) in subst (λ m. get_or (frame_tests P) m true ≡ true) same (sym (v.says h) ∙ z));
     }
 
-    pub judged-refused : {line : ℕ} → b ≡ false → line ≡ line_behind_types index i → JudgesAll text index (line + 1)
+    pub judged-refused : {line : ℕ} → b ≡ false → line ≡ line_behind_types index i → JudgesAll text index (Some (line + 1))
     judged-refused {line} z q = record {
       says = λ {P} h.
           let e : get_or (frame_tests P) i true ≡ false = sym (v.says h) ∙ z in
           let less : i < bodies_most = omega (arith, fails-less (frame_tests P) i e, tests-few P h) in
           let number : line + 1 ≡ function_frame P 0 + i = omega (arith, q, less, h.counted.type_count) in
-          number ∙ sym (first-at (function_frame P 0) (frame_tests P) i (a.says h) e);
+          frame-named _ _ (number ∙ sym (first-at (function_frame P 0) (frame_tests P) i (a.says h) e));
     }
 
-  pub judged-all : {i : ℕ} → bodies_most ≤ i → AgreeBefore text index i → JudgesAll text index 0
+  pub judged-all : {i : ℕ} → bodies_most ≤ i → AgreeBefore text index i → JudgesAll text index None
   judged-all over a = record {
-    says = λ {P} h. sym (first-none (function_frame P 0) (frame_tests P) (λ j less. a.says h j (omega (arith, less, over, tests-few P h))));
+    says = λ {P} h. ap named_frame (sym (first-none (function_frame P 0) (frame_tests P) (λ j less. a.says h j (omega (arith, less, over, tests-few P h)))));
   }
 
 -- ---- the definition's refusal is the verdict on that frame
@@ -160,11 +175,17 @@ refused-verdict P x =
     subst (λ m. need_each types_disagree m (frame_tests P) x ≡ verdict types_disagree (first_refused m (frame_tests P)) x) (sym same) (each-verdict types_disagree (length P.types) (frame_tests P) x)
 
 -- what the public function promises, as its caller uses it
-pub plain-types-verdict : {text index : List ℕ} {r : ℕ} {P : File} {A : Type 0} → JudgesAll text index r → Indexed text index P → (x : Result A) →
-    plain_types P x ≡ verdict types_disagree r x
-plain-types-verdict {P} v h x = refused-verdict P x ∙ ap (λ m. verdict types_disagree m x) (sym (v.says h))
+pub plain-types-verdict : {text index : List ℕ} {r : Option ℕ} {P : File} {A : Type 0} → JudgesAll text index r → Indexed text index P → (x : Result A) →
+    plain_types P x ≡ verdict types_disagree (unwrap_or r no_frame) x
+plain-types-verdict {P} v h x = refused-verdict P x ∙ ap (λ m. verdict types_disagree m x) (sym (named-number _ (v.says h)))
 
--- right plain types where no frame is named
-pub verdict-well : {text index : List ℕ} {r : ℕ} {P : File} → JudgesAll text index r → Indexed text index P → r ≡ 0 → WellPlain P
+-- where no frame is named it goes on, and plain types are right; else it is refused there
+pub plain-types-passes : {text index : List ℕ} {P : File} {A : Type 0} → JudgesAll text index None → Indexed text index P → (x : Result A) → plain_types P x ≡ x
 unfolding verdict
-verdict-well {P} v h none = well-plain P (ok P) (plain-types-verdict v h (ok P) ∙ ap (λ m. verdict types_disagree m (ok P)) none)
+plain-types-passes v h x = plain-types-verdict v h x
+
+pub plain-types-refused : {text index : List ℕ} {frame : ℕ} {P : File} {A : Type 0} → JudgesAll text index (Some frame) → Indexed text index P → (x : Result A) → plain_types P x ≡ no types_disagree frame
+plain-types-refused {frame} {P} v h x = plain-types-verdict v h x ∙ verdict-refused types_disagree frame x (named-some (refused_frame P) (v.says h))
+
+pub verdict-well : {text index : List ℕ} {P : File} → JudgesAll text index None → Indexed text index P → WellPlain P
+verdict-well {P} v h = well-plain P (ok P) (plain-types-passes v h (ok P))

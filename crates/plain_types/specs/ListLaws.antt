@@ -1,4 +1,5 @@
 -- Arguments and fields one after the other, calls and constructors, return by return.
+use Rattle.std.specs.Prelude.{Some, None}
 use Rattle.std.specs.Prelude.{ℕ, zero, suc, ◌+◌, ◌-◌, ◌*◌, ◌%◌, ◌≤◌, ◌<◌, List, [], ◌∷◌, map, true, ◌≡◌, refl, length, get_or}
 use Rattle.std.proofs.Math.Option.{Option, some}
 use Rattle.std.proofs.Common.{sym, ap₂, ◌∙◌, arith, zero-add, add-zero}
@@ -28,13 +29,11 @@ use Rattle.index.specs.Sections.{types_of, functions_of}
 use Rattle.index.specs.Indexed.{Indexed}
 use Rattle.plain_types.specs.declared.words.PlainType.{PlainType}
 use Rattle.plain_types.specs.declared.words.Typed.{Typed}
-use Rattle.plain_types.specs.declared.words.Typing.{Typing}
-use Rattle.plain_types.specs.declared.words.Typing.TheVariants.{Is, Wrong}
 use Rattle.plain_types.specs.declared.words.Want.TheVariants.{Parameters, Fields}
 use Rattle.heads.specs.declared.places.Place.{Place}
 use Rattle.plain_types.specs.declared.series.Series.{Series}
 use Rattle.plain_types.specs.Words.{named_type, type_at, own_or_other, wanted_type, Returns}
-use Rattle.plain_types.specs.Agrees.{meaning, agrees-as, wrong, answered, chain-some, when_true, when_false, both_first, both-not}
+use Rattle.plain_types.specs.Agrees.{Typing, meaning, agrees-as, wrong, answered, chain-some, when_true, when_false, both_first, both-not}
 use Rattle.heads.specs.Places.{moved_to}
 use Rattle.plain_types.specs.Asks.{Part, list-ends, AskSeveral, TypesWant, TypesCall, TypesCon, TypesSeveral}
 use Rattle.plain_types.specs.WordLaws.{plain_at, named-is, plain-fewer, field_plain, field-small}
@@ -89,17 +88,17 @@ more_of [] es w h = absurd (h refl)
 more_of (τ ∷ τs) (econs e es) (ws_cons w ws) h = record { type = τ; types = τs; expr = e; exprs = es; wants = refl; list = refl; within = w; others = ws }
 more_of {levels = levels} {S = S} (τ ∷ τs) enil w h = elim w [ ]
 
-record None (τs : List Plain) (es : Exprs) : Type 0 where
+record Nothing (τs : List Plain) (es : Exprs) : Type 0 where
   wants : τs ≡ []
   list : es ≡ enil
 
-none_of : {levels : ℕ} {S : Scope} (τs : List Plain) (es : Exprs) → WithinExprs levels S (length τs) es → length τs ≡ 0 → None τs es
+none_of : {levels : ℕ} {S : Scope} (τs : List Plain) (es : Exprs) → WithinExprs levels S (length τs) es → length τs ≡ 0 → Nothing τs es
 none_of [] enil ws_nil e = record { wants = refl; list = refl }
 none_of (τ ∷ τs) es w e = absurd (omega (arith, e))
 none_of {levels = levels} {S = S} [] (econs _ _) w e = elim w [ ]
 
 module _ (text index scope : List ℕ) (p : Place) (s : Series) where
-  pub several-none : {r : Typing} → s.count ≡ 0 → r ≡ Is (record { of = s.answer; next = p.at }) → TypesSeveral text index scope p s r scope
+  pub several-none : {r : Typing} → s.count ≡ 0 → r ≡ Some (record { of = s.answer; next = p.at }) → TypesSeveral text index scope p s r scope
   several-none z q = record {
     says = λ {P} {C} {S} {Γ} st ask.
         let n = none_of ask.wants ask.list ask.within (sym ask.counted ∙ z) in
@@ -125,7 +124,7 @@ module _ (text index scope : List ℕ) (p : Place) (s : Series) where
       all_fit : are_plain ask.wants (plains_of P C ask.list Γ) ≡ both (is_plain m.type (plain_of P C m.expr Γ)) (are_plain m.types (plains_of P C m.exprs Γ))
       all_fit = ap₂ (λ (τs : List Plain) (es : Exprs). are_plain τs (plains_of P C es Γ)) m.wants m.list ∙ are-more P C Γ m.type m.types m.expr m.exprs
 
-    pub several-wrong : x ≡ Wrong → TypesSeveral text index scope p s Wrong scope₁
+    pub several-wrong : x ≡ None → TypesSeveral text index scope p s None scope₁
     several-wrong d = record {
       says = λ {P} {C} {S} {Γ} st ask.
           let f = first_of ask in
@@ -133,7 +132,7 @@ module _ (text index scope : List ℕ) (p : Place) (s : Series) where
       kept = v.kept;
     }
 
-    pub several-more : {k : Typed} {r : Typing} {scope₂ : List ℕ} → x ≡ Is k → TypesSeveral text index scope₁ (moved_to p k.next) (record { of = s.of; first = s.first + 1; count = s.count - 1; answer = s.answer }) r scope₂ →
+    pub several-more : {k : Typed} {r : Typing} {scope₂ : List ℕ} → x ≡ Some k → TypesSeveral text index scope₁ (moved_to p k.next) (record { of = s.of; first = s.first + 1; count = s.count - 1; answer = s.answer }) r scope₂ →
         TypesSeveral text index scope p s r scope₂
     several-more {k} d u = record {
       says = λ {P} {C} {S} {Γ} {o} {end} st ask.

@@ -1,8 +1,8 @@
 -- A place that a function made is the place that the laws name.
+use Rattle.plain_types.specs.Agrees.{Typing}
 use Rattle.std.specs.Prelude.{ℕ, List, ◌≡◌}
 use Rattle.std.proofs.Common.{ap, subst}
 use Rattle.plain_types.specs.declared.words.PlainType.{PlainType}
-use Rattle.plain_types.specs.declared.words.Typing.{Typing}
 use Rattle.heads.specs.declared.places.Place.{Place}
 use Rattle.plain_types.specs.declared.series.Series.{Series}
 use Rattle.plain_types.specs.declared.series.BranchSeries.{BranchSeries}

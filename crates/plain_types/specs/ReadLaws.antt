@@ -1,4 +1,7 @@
 -- Reading a result type and a size that are spelled at a place, return by return; the line of a frame, and what a parameter or a field wants.
+use Rattle.std.specs.Prelude.{Some, None}
+use Rattle.language.specs.declared.refusals.Refusal.{Refusal}
+use Rattle.std.specs.Prelude.{Ok, Err}
 use Rattle.std.specs.Prelude.{ℕ, ◌+◌, ◌*◌, ◌≤◌, ◌<◌, List, [], ◌∷◌, ◌≡◌, refl, length, get_or}
 use Rattle.std.proofs.Math.Option.{some}
 use Rattle.std.proofs.Common.{sym, ◌∙◌, subst, subst₂, arith}
@@ -18,11 +21,7 @@ use Rattle.theory.specs.Lists.{look-less}
 use Rattle.theory.specs.ExactTypes.{size_exact}
 use Rattle.text.specs.declared.Cursor.{Cursor}
 use Rattle.text.specs.declared.Found.{Found}
-use Rattle.text.specs.declared.Number.{Number}
-use Rattle.text.specs.declared.Number.TheVariants.{Is as IsNumber, Refused}
-use Rattle.text.specs.declared.Step.{Step}
-use Rattle.text.specs.declared.Step.TheVariants.{Next, Stop}
-use Rattle.text.specs.Bytes.{bytes_from, past, bytes_left, byte_at, forget, ReadsNumber, Passes, Below}
+use Rattle.text.specs.Bytes.{Number, Step, bytes_from, past, bytes_left, byte_at, forget, ReadsNumber, Passes, Below}
 use Rattle.index.specs.Tables.{function_words}
 use Rattle.text.specs.Places.{past-past, left-past}
 use Rattle.encoding.specs.Spells.{Spells, spells-left}
@@ -36,11 +35,9 @@ use Rattle.index.specs.Sections.{frames_of, types_of, functions_of}
 use Rattle.index.specs.Indexed.{field_at, result_at, frame_part, function_line, Indexed}
 use Rattle.plain_types.specs.declared.words.PlainType.{PlainType}
 use Rattle.plain_types.specs.declared.words.Typed.{Typed}
-use Rattle.plain_types.specs.declared.words.Typing.{Typing}
-use Rattle.plain_types.specs.declared.words.Typing.TheVariants.{Is, Wrong}
 use Rattle.plain_types.specs.declared.words.Want.{Want}
 use Rattle.plain_types.specs.declared.words.Want.TheVariants.{Parameters, Fields}
-use Rattle.plain_types.specs.Agrees.{meaning, Agrees, answered, typed-is, typed-there}
+use Rattle.plain_types.specs.Agrees.{Typing, meaning, Agrees, answered, typed-is, typed-there}
 use Rattle.heads.specs.Places.{line_behind_types}
 use Rattle.plain_types.specs.Words.{named_type, type_at, own_or_other, wanted_type, ReadsResult, Returns}
 use Rattle.plain_types.specs.WordLaws.{named-is, own_is, other-is}
@@ -62,7 +59,7 @@ module _ (index : List ℕ) (want : Want) (j : ℕ) {t c word : ℕ} {r : PlainT
 -- ---- a size that is spelled is passed over
 module _ {line : List ℕ} {at vars : ℕ} {s : Size} {x : Step} (few : vars ≤ size_variables_most) (w : WithinSize vars nesting_most s) (spelled : Spells size_bytes line at s)
     (v : Passes line at x (forget (size_at nesting_most size_variables_most (bytes_from line at)))) where
-  pub size-passed : x ≡ Next (record { at = past line at (length (size_bytes s)) })
+  pub size-passed : x ≡ Ok (record { at = past line at (length (size_bytes s)) })
   size-passed = passed_over (size_exact size_variables_most) spelled (size-wider few w) x v
 
 -- ---- a result type
@@ -95,39 +92,39 @@ unfolding plain_result
 plain-named q = rw q
 
 module _ (line : List ℕ) (c : Cursor) {x : Number} (v : ReadsNumber line c.at x (byte (bytes_from line c.at)) × Below byte_range x) where
-  pub result-stops : {m : ℕ} → x ≡ Refused m → ReadsResult line c Wrong
+  pub result-stops : {m : Refusal} → x ≡ Err m → ReadsResult line c None
   result-stops q = record { says = λ {types} {vars} {ρ} small few w s. absurd (byte-there (omega (arith, spells-left s, some_result ρ)) v q) }
 
-  module _ {f : Found} (q : x ≡ IsNumber f) where
+  module _ {f : Found} (q : x ≡ Ok f) where
     coded : {ρ : ResultType} → Spells result_bytes line c.at ρ → ResultCoded line c.at ρ f.value
     coded {ρ} s = subst (ResultCoded line c.at ρ) (sym (byte-found (omega (arith, spells-left s, some_result ρ)) v q).0) (result-of-byte s)
 
     second : {ρ : ResultType} → Spells result_bytes line c.at ρ → f.next.at ≡ past line c.at 1
     second {ρ} s = (byte-found (omega (arith, spells-left s, some_result ρ)) v q).1
 
-    pub result-leaf : {of : PlainType} {r : Typing} → f.value < 2 → of ≡ type_at f.value → r ≡ Is (record { of = of; next = f.next }) → ReadsResult line c r
+    pub result-leaf : {of : PlainType} {r : Typing} → f.value < 2 → of ≡ type_at f.value → r ≡ Some (record { of = of; next = f.next }) → ReadsResult line c r
     result-leaf less e o = record { says = λ {types} {vars} {ρ} small few w s. let l = leaf-result (coded s) less in answered o (ap meaning e ∙ l.0) (second s ∙ ap (past line c.at) (sym l.1)) refl }
 
     module _ (more : 2 ≤ f.value) {y : Number} (u : ReadsNumber line f.next.at y (byte (bytes_from line f.next.at)) × Below byte_range y) where
       here : {ρ : ResultType} → Spells result_bytes line c.at ρ → 0 < bytes_left line f.next.at
       here s = omega (arith, ap (bytes_left line) (second s), left-past line c.at 1, spells-left s, named-long (named-result (coded s) more).is)
 
-      pub result-cut : {m : ℕ} → y ≡ Refused m → ReadsResult line c Wrong
+      pub result-cut : {m : Refusal} → y ≡ Err m → ReadsResult line c None
       result-cut p = record { says = λ small few w s. absurd (byte-there (here s) u p) }
 
-      module _ {g : Found} (p : y ≡ IsNumber g) {z : Step} (a : Passes line g.next.at z (forget (size_at nesting_most size_variables_most (bytes_from line g.next.at)))) where
+      module _ {g : Found} (p : y ≡ Ok g) {z : Step} (a : Passes line g.next.at z (forget (size_at nesting_most size_variables_most (bytes_from line g.next.at)))) where
         third : {ρ : ResultType} → Spells result_bytes line c.at ρ → g.next.at ≡ past line c.at 2
         third s = (byte-found (here s) u p).1 ∙ ap (λ (m : ℕ). past line m 1) (second s) ∙ past-past line c.at 1 1
 
-        behind : {types vars : ℕ} {ρ : ResultType} → vars ≤ size_variables_most → WithinResult types vars ρ → (s : Spells result_bytes line c.at ρ) → z ≡ Next (record { at = past line g.next.at (length (size_bytes (named-result (coded s) more).size)) })
+        behind : {types vars : ℕ} {ρ : ResultType} → vars ≤ size_variables_most → WithinResult types vars ρ → (s : Spells result_bytes line c.at ρ) → z ≡ Ok (record { at = past line g.next.at (length (size_bytes (named-result (coded s) more).size)) })
         behind {types} {vars} {ρ} few w s =
             let i = named-result (coded s) more in
             size-passed few (named-within (subst (WithinResult types vars) i.is w)).1 (subst (λ m. Spells size_bytes line m i.size) (sym (third s)) i.spelled) a
 
-        pub result-open : {m : ℕ} → z ≡ Stop m → ReadsResult line c Wrong
+        pub result-open : {m : Refusal} → z ≡ Err m → ReadsResult line c None
         result-open o = record { says = λ small few w s. absurd (next-there (behind few w s) o) }
 
-        pub result-named : {d : Cursor} {of : PlainType} {r : Typing} → z ≡ Next d → of ≡ named_type g.value → r ≡ Is (record { of = of; next = d }) → ReadsResult line c r
+        pub result-named : {d : Cursor} {of : PlainType} {r : Typing} → z ≡ Ok d → of ≡ named_type g.value → r ≡ Some (record { of = of; next = d }) → ReadsResult line c r
         result-named o e a₂ = record {
           says = λ {types} {vars} {ρ} small few w s.
               let i = named-result (coded s) more in
@@ -157,12 +154,12 @@ module _ (text index : List ℕ) (f : ℕ) {line : List ℕ} {i : ℕ} {c : Curs
       let r = function-within w f e in
       v.says (omega (arith, w.few_types)) (omega (arith, r.few_parameters, named-few F.parameters)) r.result (subst₂ (λ l at. Spells result_bytes l at F.result) (sym is) (sym place) (h.each_function f e).result)
 
-  pub returned-none : {r : PlainType} → x ≡ Wrong → Returns text index f r
+  pub returned-none : {r : PlainType} → x ≡ None → Returns text index f r
   returned-none q = record { says = λ h e. absurd (typed-there (read_result h e) q) }
 
-  pub returned-is : {k : Typed} → x ≡ Is k → Returns text index f k.of
+  pub returned-is : {k : Typed} → x ≡ Some k → Returns text index f k.of
   returned-is q = record { says = λ h e. (typed-is (read_result h e) q).0 }
 
 -- ---- a channel's type
-pub channel-is : {word declared : ℕ} {of : PlainType} {next : Cursor} → word ≡ declared → of ≡ type_at word → Is (record { of = of; next = next }) ≡ Is (record { of = type_at declared; next = next })
-channel-is {next} e q = ap (λ (x : PlainType). Is (record { of = x; next = next })) (q ∙ ap type_at e)
+pub channel-is : {word declared : ℕ} {of : PlainType} {next : Cursor} → word ≡ declared → of ≡ type_at word → ◌≡◌ {A = Typing} (Some (record { of = of; next = next })) (Some (record { of = type_at declared; next = next }))
+channel-is e q = rw (q ∙ ap type_at e)

@@ -1,5 +1,6 @@
 -- What the functions promise that check a frame, and the first frame whose plain types disagree.
-use Rattle.std.specs.Prelude.{ℕ, ◌+◌, ◌≤◌, ◌<◌, List, [], ◌++◌, map, Bool, true, false, ◌≡◌, length, get_or}
+use Rattle.std.specs.Prelude.{Option, Some, None}
+use Rattle.std.specs.Prelude.{ℕ, zero, suc, ◌+◌, ◌≤◌, ◌<◌, List, [], ◌++◌, map, Bool, true, ◌≡◌, length, get_or}
 use Rattle.std.proofs.Math.Option.{some}
 use Rattle.std.proofs.Math.ListN.{get_elem? as look}
 use Rattle.language.specs.Limits.{nesting_most}
@@ -12,17 +13,10 @@ use Rattle.encoding.specs.FrameLines.{line_at}
 use Rattle.encoding.specs.Known.{Known}
 use Rattle.index.specs.Sections.{channels_of}
 use Rattle.index.specs.Indexed.{declared_at, channel_line, line_count, ChannelIndexed, NodeIndexed, Indexed}
-use Rattle.plain_types.specs.declared.words.Typing.{Typing}
-use Rattle.plain_types.specs.declared.words.Typing.TheVariants.{Is, Wrong}
 use Rattle.heads.specs.declared.places.Place.{Place}
 use Rattle.plain_types.specs.Agrees.{meaning}
 use Rattle.plain_types.specs.Words.{type_at}
 use Rattle.plain_types.specs.Asks.{Part}
-
--- whether there is a type
-unfoldable pub fits : Typing → Bool
-fits (Is k) = true
-fits Wrong = false
 
 -- ---- a place of a file that was read, outside all functions: no variable is in scope
 pub record Outer (text index : List ℕ) (line : ℕ) (P : File) (C : List Plain) (S : Scope) : Type 0 where
@@ -58,9 +52,14 @@ frame_tests P = map (plain_function P) P.functions ++ (map (plain_input P) P.inp
 abbrev pub refused_frame : File → ℕ
 refused_frame P = first_refused (function_frame P 0) (frame_tests P)
 
+-- a frame, from 1; none for 0
+abbrev pub named_frame : ℕ → Option ℕ
+named_frame zero = None
+named_frame (suc n) = Some (suc n)
+
 module _ (text index : List ℕ) where
   pub record FrameFits (i : ℕ) (r : Bool) : Type 0 where
     pub says : {P : File} → Indexed text index P → r ≡ get_or (frame_tests P) i true
 
-  pub record JudgesAll (r : ℕ) : Type 0 where
-    pub says : {P : File} → Indexed text index P → r ≡ refused_frame P
+  pub record JudgesAll (r : Option ℕ) : Type 0 where
+    pub says : {P : File} → Indexed text index P → r ≡ named_frame (refused_frame P)

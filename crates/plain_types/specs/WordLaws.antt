@@ -1,9 +1,8 @@
 -- Plain types and their words: one word a type, the type of a word, by operators, of a constructor's fields, of a declared type.
-use Rattle.std.specs.Prelude.{ℕ, ◌+◌, ◌-◌, ◌*◌, ◌/◌, ◌≤◌, ◌<◌, Bool, true, false, ◌≡◌, refl, eqb}
-use Rattle.std.proofs.Common.{sym, ap, ◌∙◌, arith, eq-eqb, ne_eqb, eqb-true, lt-ltb, le-ltb}
-use Rattle.std.proofs.lemmas.Bool.{eqb-false}
+use Rattle.std.specs.Prelude.{ℕ, ◌+◌, ◌-◌, ◌*◌, ◌/◌, ◌≤◌, ◌<◌, true, false, ◌≡◌, refl}
+use Rattle.std.proofs.Common.{sym, ap, ◌∙◌, arith, eq-eqb, ne_eqb, lt-ltb, le-ltb}
 use Rattle.language.specs.Result.{choose}
-use Rattle.language.specs.Syntax.{Field, Plain, pbool, pint, pnamed, Ty, Op, oadd, osub, omul, oeq, olt, ole, oand, oor}
+use Rattle.language.specs.Syntax.{Field, Plain, pnamed, Ty, Op, oadd, osub, omul, oeq, olt, ole, oand, oor}
 use Rattle.language.specs.Format.{op_code}
 use Rattle.language.specs.Within.{WithinField, w_fbool, w_fint, w_own, w_other, WithinPlain, w_pbool, w_pint, w_pnamed, WithinDeclared, w_tbool, w_tint, w_tnamed}
 use Rattle.language.specs.Layout.{tag_step}
@@ -27,46 +26,34 @@ pub word-named : {x : PlainType} {t : ℕ} → x ≡ Named t → t < tag_step �
 unfolding plain_word
 word-named e p = rw e (record { is = refl; small = w_pnamed p })
 
--- ---- a word is of one type
-same_word : (σ τ : Plain) → plain_word σ ≡ plain_word τ → same_plain σ τ ≡ true
-unfolding plain_word same_plain
-same_word pbool pbool e = refl
-same_word pbool pint e = absurd (omega (arith, e))
-same_word pbool (pnamed u) e = absurd (omega (arith, e))
-same_word pint pbool e = absurd (omega (arith, e))
-same_word pint pint e = refl
-same_word pint (pnamed u) e = absurd (omega (arith, e))
-same_word (pnamed t) pbool e = absurd (omega (arith, e))
-same_word (pnamed t) pint e = absurd (omega (arith, e))
-same_word (pnamed t) (pnamed u) e = eq-eqb t u (omega (arith, e))
+-- ---- `==` of two types is the definition's test of what they mean
+same-itself : (x : PlainType) → same_plain (meaning x) (meaning x) ≡ true
+unfolding same_plain
+same-itself BoolIs = refl
+same-itself IntIs = refl
+same-itself (Named t) = eq-eqb t t refl
 
-other_word : (σ τ : Plain) → (plain_word σ ≡ plain_word τ → ⊥) → same_plain σ τ ≡ false
-unfolding plain_word same_plain
-other_word pbool pbool h = absurd (h refl)
-other_word pbool pint h = refl
-other_word pbool (pnamed u) h = refl
-other_word pint pbool h = refl
-other_word pint pint h = absurd (h refl)
-other_word pint (pnamed u) h = refl
-other_word (pnamed t) pbool h = refl
-other_word (pnamed t) pint h = refl
-other_word (pnamed t) (pnamed u) h = ne_eqb t u (λ e. h (ap (λ n. tag_step * (n + 1)) e))
+pub same-types : {x y : PlainType} → x ≡ y → same_plain (meaning x) (meaning y) ≡ true
+same-types {x} {y} e = rw e (same-itself y)
 
-pub words_same : {x y : PlainType} {a b : ℕ} → WordOf x a → WordOf y b → eqb a b ≡ same_plain (meaning x) (meaning y)
-words_same {x} {y} {a} {b} v w = tested (eqb a b) refl
-  where
-    tested : (r : Bool) → eqb a b ≡ r → r ≡ same_plain (meaning x) (meaning y)
-    tested true e = sym (same_word (meaning x) (meaning y) (sym v.is ∙ eqb-true a b e ∙ w.is))
-    tested false e = sym (other_word (meaning x) (meaning y) (λ z. eqb-false a b e (v.is ∙ z ∙ sym w.is)))
+pub other-types : (x y : PlainType) → (x ≡ y → ⊥) → same_plain (meaning x) (meaning y) ≡ false
+unfolding same_plain
+other-types BoolIs BoolIs h = absurd (h refl)
+other-types BoolIs IntIs h = refl
+other-types BoolIs (Named u) h = refl
+other-types IntIs BoolIs h = refl
+other-types IntIs IntIs h = absurd (h refl)
+other-types IntIs (Named u) h = refl
+other-types (Named t) BoolIs h = refl
+other-types (Named t) IntIs h = refl
+other-types (Named t) (Named u) h = ne_eqb t u (λ e. h (ap Named e))
 
 -- ---- whether a type is a named one
-pub bool_unnamed : {x : PlainType} → x ≡ BoolIs → false ≡ is_named (meaning x)
+pub other-unnamed : (x : PlainType) → ((t : ℕ) → x ≡ Named t → ⊥) → false ≡ is_named (meaning x)
 unfolding is_named
-bool_unnamed e = rw e
-
-pub int-unnamed : {x : PlainType} → x ≡ IntIs → false ≡ is_named (meaning x)
-unfolding is_named
-int-unnamed e = rw e
+other-unnamed BoolIs h = refl
+other-unnamed IntIs h = refl
+other-unnamed (Named t) h = absurd (h t refl)
 
 pub named-named : {x : PlainType} {t : ℕ} → x ≡ Named t → true ≡ is_named (meaning x)
 unfolding is_named

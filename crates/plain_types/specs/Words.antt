@@ -18,10 +18,9 @@ use Rattle.encoding.specs.Spells.{Spells}
 use Rattle.index.specs.Indexed.{field_at, Indexed}
 use Rattle.plain_types.specs.declared.words.PlainType.{PlainType}
 use Rattle.plain_types.specs.declared.words.PlainType.TheVariants.{Bool as BoolIs, Int as IntIs, Named}
-use Rattle.plain_types.specs.declared.words.Typing.{Typing}
 use Rattle.plain_types.specs.declared.words.Want.{Want}
 use Rattle.plain_types.specs.declared.words.Want.TheVariants.{Parameters, Fields}
-use Rattle.plain_types.specs.Agrees.{meaning, Agrees}
+use Rattle.plain_types.specs.Agrees.{Typing, meaning, Agrees}
 
 -- a named type, its number a byte
 abbrev pub named_type : ℕ → PlainType

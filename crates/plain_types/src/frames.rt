@@ -1,27 +1,16 @@
 // The frames of functions, inputs and nodes: whether the plain types of each agree.
-ghost use Rattle.std.specs.Prelude.{◌≡◌};
 ghost use Rattle.plain_types.specs.Asks.{Room};
-ghost use Rattle.plain_types.specs.Verdicts.{fits, ValueFits, FunctionFits, InitialFits, NodeFits, FrameFits};
+ghost use Rattle.plain_types.specs.Verdicts.{ValueFits, FunctionFits, InitialFits, NodeFits, FrameFits};
 
 use super::exprs::expect;
 use super::initials::initial;
-use super::words::{Typing, Want, enter, returned, type_of};
+use super::words::{PlainType, Want, enter, returned};
 use heads::places::{Place, SCOPE_WORDS, line_behind_types};
 use index::channels::{declared_word, initial_start, update_start};
 use index::frames::frame_line;
 use index::functions::{arity, body_start};
 use index::{INDEX_WORDS, frame_counts};
 use language::limits::NESTING_MOST;
-
-// Whether there is a type.
-fn is_typed(x: Typing) -> bool
-    ensures { result ≡ fits x }
-{
-    match x {
-        Typing::Is(_) => true,
-        Typing::Wrong => false,
-    }
-}
 
 // Whether the body of function f is of its result type.
 fn function_agrees(text: &[u8], index: &[u32; INDEX_WORDS], f: u32) -> bool
@@ -33,14 +22,13 @@ fn function_agrees(text: &[u8], index: &[u32; INDEX_WORDS], f: u32) -> bool
     let at = body_start(index, f);
     let line = line_behind_types(index, f);
     let p = Place {
-        at: at,
+        at,
         levels: NESTING_MOST,
-        line: line,
+        line,
         variables: n,
     };
     let result = returned(text, index, f);
-    let x = expect(text, index, &mut scope, p, result);
-    is_typed(x)
+    expect(text, index, &mut scope, p, result).is_some()
 }
 
 // Whether the expression at a place is of the declared type of channel c.
@@ -49,9 +37,8 @@ fn value_agrees(text: &[u8], index: &[u32; INDEX_WORDS], p: Place, c: u32) -> bo
     ensures { ValueFits text.now index.now p c result }
 {
     let mut scope = [0u32; SCOPE_WORDS];
-    let declared = type_of(declared_word(index, c));
-    let x = expect(text, index, &mut scope, p, declared);
-    is_typed(x)
+    let declared = PlainType::from(declared_word(index, c));
+    expect(text, index, &mut scope, p, declared).is_some()
 }
 
 // Whether the initial value of channel c, of frame i behind the types, is one and of the declared type.
@@ -61,35 +48,28 @@ fn initial_agrees(text: &[u8], index: &[u32; INDEX_WORDS], i: u32, c: u32) -> bo
     let at = initial_start(index, c);
     let line = line_behind_types(index, i);
     let part = frame_line(text, index, line);
-    let x = initial(part, index, at, NESTING_MOST);
-    let Typing::Is(_) = x else {
-        return false;
-    };
     let p = Place {
-        at: at,
+        at,
         levels: NESTING_MOST,
-        line: line,
+        line,
         variables: 0,
     };
-    value_agrees(text, index, p, c)
+    initial(part, index, at, NESTING_MOST).is_some() && value_agrees(text, index, p, c)
 }
 
 // Whether both expressions of a node, channel c, agree.
 fn node_agrees(text: &[u8], index: &[u32; INDEX_WORDS], i: u32, c: u32) -> bool
     ensures { NodeFits text.now index.now i c result }
 {
-    if !initial_agrees(text, index, i, c) {
-        return false;
-    }
     let at = update_start(index, c);
     let line = line_behind_types(index, i);
     let p = Place {
-        at: at,
+        at,
         levels: NESTING_MOST,
-        line: line,
+        line,
         variables: 0,
     };
-    value_agrees(text, index, p, c)
+    initial_agrees(text, index, i, c) && value_agrees(text, index, p, c)
 }
 
 // Whether frame i behind the types agrees; so where there is none.

@@ -1,9 +1,8 @@
 // Plain types, and their words in the index and in a scope: 0 Bool, 1 Int, else 256 × (t + 1), and in the index the size.
-ghost use Rattle.std.specs.Prelude.{◌≡◌};
-ghost use Rattle.language.specs.PlainTypes.{same_plain, is_named};
+ghost use Rattle.std.specs.Prelude.{Some, ◌≡◌};
+ghost use Rattle.language.specs.PlainTypes.{is_named};
 ghost use Rattle.index.specs.Sections.{channels_of};
 ghost use Rattle.index.specs.Indexed.{declared_at};
-ghost use Rattle.plain_types.specs.declared.words.Typing.TheVariants.{Is};
 ghost use Rattle.plain_types.specs.Agrees.{meaning};
 ghost use Rattle.plain_types.specs.Words.{named_type, type_at, WordOf, operand_of, outcome_of, wanted_type, entered, ReadsResult, Returns};
 
@@ -15,10 +14,10 @@ use index::types::{OWN_FIELD, field_word};
 use index::{INDEX_WORDS, put};
 use language::codes::{OPERATOR_AND, OPERATOR_EQUAL, TYPE_NAMED};
 use language::limits::{NESTING_MOST, SIZE_VARIABLES_MOST};
-use text::{Cursor, Number, Step, TYPE_STEP};
+use text::{Cursor, TYPE_STEP};
 
 // A plain type: Bool, Int, or the number of a named type.
-#[derive(Clone, Copy)]
+#[derive(Clone, Copy, PartialEq, Eq)]
 pub enum PlainType {
     Bool,
     Int,
@@ -32,12 +31,6 @@ pub struct Typed {
     pub next: Cursor,
 }
 
-#[derive(Clone, Copy)]
-pub enum Typing {
-    Is(Typed),
-    Wrong,
-}
-
 // What types a list of expressions is compared with: a function's parameters, a constructor's fields.
 #[derive(Clone, Copy)]
 pub enum Want {
@@ -45,11 +38,11 @@ pub enum Want {
     Fields(u32, u32),
 }
 
-// Such an answer.
-pub fn answer(of: PlainType, next: Cursor) -> Typing
-    ensures { result ≡ Is (record { of = of; next = next }) }
+// A type, and the cursor behind what has it.
+pub fn answer(of: PlainType, next: Cursor) -> Option<Typed>
+    ensures { result ≡ Some (record { of = of; next = next }) }
 {
-    Typing::Is(Typed { of: of, next: next })
+    Some(Typed { of, next })
 }
 
 // A named type, its number a byte.
@@ -60,45 +53,38 @@ pub fn named(t: u32) -> PlainType
 }
 
 // The type of a word, which may have a size.
-pub fn type_of(word: u32) -> PlainType
-    ensures { result ≡ type_at word }
-{
-    if word == 0 {
-        return PlainType::Bool;
+impl From<u32> for PlainType {
+    ghost from_gives = { λ word r. r ≡ type_at word };
+
+    fn from(word: u32) -> PlainType {
+        if word == 0 {
+            return PlainType::Bool;
+        }
+        if word < TYPE_STEP {
+            return PlainType::Int;
+        }
+        named(word / TYPE_STEP - 1)
     }
-    if word < TYPE_STEP {
-        return PlainType::Int;
-    }
-    named(word / TYPE_STEP - 1)
 }
 
 // The word of a type.
-pub fn word_of(x: PlainType) -> u32
-    ensures { WordOf x result }
-{
-    match x {
-        PlainType::Bool => 0,
-        PlainType::Int => 1,
-        PlainType::Named(t) => TYPE_STEP * (t as u32 + 1),
-    }
-}
+impl From<PlainType> for u32 {
+    ghost from_gives = { λ x r. WordOf x r };
 
-// Whether two types are the same.
-pub fn same(x: PlainType, y: PlainType) -> bool
-    ensures { result ≡ same_plain (meaning x) (meaning y) }
-{
-    word_of(x) == word_of(y)
+    fn from(x: PlainType) -> u32 {
+        match x {
+            PlainType::Bool => 0,
+            PlainType::Int => 1,
+            PlainType::Named(t) => TYPE_STEP * (u32::from(t) + 1),
+        }
+    }
 }
 
 // Whether a type is a named one.
 pub fn is_named(x: PlainType) -> bool
     ensures { result ≡ is_named (meaning x) }
 {
-    match x {
-        PlainType::Bool => false,
-        PlainType::Int => false,
-        PlainType::Named(_) => true,
-    }
+    matches!(x, PlainType::Named(_))
 }
 
 // The type of both operands of an operator, by its code.
@@ -126,13 +112,13 @@ pub fn wanted(index: &[u32; INDEX_WORDS], want: Want, j: u32) -> PlainType
     ensures { result ≡ wanted_type index.now want j }
 {
     match want {
-        Want::Parameters(f) => type_of(parameter_word(index, f, j)),
+        Want::Parameters(f) => PlainType::from(parameter_word(index, f, j)),
         Want::Fields(t, c) => {
             let word = field_word(index, t, c, j);
             if word == OWN_FIELD {
                 return named(t);
             }
-            type_of(word)
+            PlainType::from(word)
         }
     }
 }
@@ -147,38 +133,24 @@ pub fn enter(
 )
     ensures { scope.new ≡ entered index.now want scope.old to n }
 {
-    let mut i: u32 = 0;
-    while i < n {
+    for i in 0..n {
         let of = wanted(index, want, i);
-        put(scope, (to as usize) + (i as usize), word_of(of));
-        i += 1;
+        put(scope, (to as usize) + (i as usize), u32::from(of));
     }
 }
 
 // A result or return type without its size.
-pub fn result_type(line: &[u8], c: Cursor) -> Typing
+pub fn result_type(line: &[u8], c: Cursor) -> Option<Typed>
     ensures { ReadsResult line.now c result }
 {
-    let x = c.byte(line);
-    let Number::Is(f) = x else {
-        return Typing::Wrong;
-    };
+    let f = c.byte(line).ok()?;
     let form = f.value;
-    let d = f.next;
     if form < TYPE_NAMED {
-        return answer(type_of(form), d);
+        return answer(PlainType::from(form), f.next);
     }
-    let y = d.byte(line);
-    let Number::Is(g) = y else {
-        return Typing::Wrong;
-    };
-    let t = g.value;
-    let s = g.next;
-    let z = s.size(line, SIZE_VARIABLES_MOST, NESTING_MOST);
-    let Step::Next(next) = z else {
-        return Typing::Wrong;
-    };
-    answer(named(t), next)
+    let g = f.next.byte(line).ok()?;
+    let next = g.next.size(line, SIZE_VARIABLES_MOST, NESTING_MOST).ok()?;
+    answer(named(g.value), next)
 }
 
 // The result type of function f, read in its line.
@@ -187,17 +159,15 @@ pub fn returned(text: &[u8], index: &[u32; INDEX_WORDS], f: u32) -> PlainType
 {
     let i = line_behind_types(index, f);
     let line = frame_line(text, index, i);
-    let at = result_start(index, f);
-    let x = result_type(line, at);
-    let Typing::Is(k) = x else {
+    let Some(k) = result_type(line, result_start(index, f)) else {
         return PlainType::Bool;
     };
     k.of
 }
 
 // A channel: its declared type, the size left out.
-pub fn channel(index: &[u32; INDEX_WORDS], c: u32, next: Cursor) -> Typing
-    ensures { result ≡ Is (record { of = type_at (declared_at (channels_of index.now) c); next = next }) }
+pub fn channel(index: &[u32; INDEX_WORDS], c: u32, next: Cursor) -> Option<Typed>
+    ensures { result ≡ Some (record { of = type_at (declared_at (channels_of index.now) c); next = next }) }
 {
-    answer(type_of(declared_word(index, c)), next)
+    answer(PlainType::from(declared_word(index, c)), next)
 }

@@ -1,4 +1,7 @@
 -- Channel frames: what the reads of a declared type and of expressions promise, an input's frame and a node's promise.
+use Rattle.language.specs.RefusalNumbers.{number_of}
+use Rattle.language.specs.declared.refusals.Refusal.{Refusal}
+use Rattle.std.specs.Prelude.{Ok, Err}
 use Prim.Native.Nat.{ℕ, ◌+◌, ◌*◌, ◌≤◌, ◌<◌}
 use mathlib.Core.List.{List, [], ◌∷◌, ◌++◌, append-nil, append_assoc}
 use Rattle.std.specs.Prelude.{◌≡◌, true, get_or, set}
@@ -18,11 +21,7 @@ use Rattle.theory.specs.ExactTypes.{declared-exact}
 use Rattle.theory.specs.ExactExpr.{expr-exact}
 use Rattle.text.specs.declared.Cursor.{Cursor}
 use Rattle.text.specs.declared.Found.{Found}
-use Rattle.text.specs.declared.Number.{Number}
-use Rattle.text.specs.declared.Number.TheVariants.{Is, Refused}
-use Rattle.text.specs.declared.Step.{Step}
-use Rattle.text.specs.declared.Step.TheVariants.{Next, Stop}
-use Rattle.text.specs.Bytes.{bytes_from, past, IsPlace, map_read, forget, step_of, ReadsNumber, Passes, declared_word}
+use Rattle.text.specs.Bytes.{Number, Step, bytes_from, past, IsPlace, map_read, forget, step_of, ReadsNumber, Passes, declared_word}
 use Rattle.text.specs.Places.{place-most}
 use Rattle.text.specs.StepLaws.{ends-within, number-got, number-bad, number-moved, pass-got, pass-bad, pass-moved, pass-none, passes-behind, pass-stops-pass, forget-then}
 use Rattle.index.specs.Lined.{Lined, lined-length, lined-part, functions_in, inputs_in, nodes_in}
@@ -88,11 +87,6 @@ module _ {lines : ℕ → List ℕ} {index : List ℕ} {n : Counts} {P : File} (
   }
 
 -- ---- a declared type: the word and the place behind it
-forget-map : {A B : Type 0} (g : A → B) (y : Read A) → forget (map_read g y) ≡ forget y
-unfolding forget map_read
-forget-map g (got a bs) = refl
-forget-map g (bad n) = refl
-
 map-bad : {A B : Type 0} (g : A → B) (y : Read A) {n : ℕ} → map_read g y ≡ bad n → y ≡ bad n
 unfolding map_read
 map-bad g (got a bs) e = bad-is-not-got (sym e)
@@ -154,20 +148,20 @@ module _ (line index : List ℕ) (n : Counts) {start : Cursor} (here : start.at 
 
   -- ---- an input
   -- where the frame is refused, the index is as it was
-  input-stops : {r : Step} {k : ℕ} → r ≡ Stop k → ((lines : ℕ → List ℕ) (P : File) → Held lines index n P → Passes line (kind_end line) r (forget (input P (bytes_from line (kind_end line))))) → ReadsInput line index n r index
+  input-stops : {r : Step} {k : Refusal} → r ≡ Err k → ((lines : ℕ → List ℕ) (P : File) → Held lines index n P → Passes line (kind_end line) r (forget (input P (bytes_from line (kind_end line))))) → ReadsInput line index n r index
   input-stops e says = record {
     says = λ lines P held none few. says lines P held;
     enters = λ lines P held none few i rest h. bad-is-not-got (sym (pass-bad (says lines P held) e) ∙ h);
     outside = record { before = refl; behind = refl };
   }
 
-  pub input-no-type : {k : ℕ} {r : Step} → x ≡ Refused k → r ≡ step_of x → ReadsInput line index n r index
+  pub input-no-type : {k : Refusal} {r : Step} → x ≡ Err k → r ≡ step_of x → ReadsInput line index n r index
   unfolding input forget
   input-no-type {k} e d = input-stops (d ∙ ap step_of e) λ lines P held.
-      let none : declared (length P.types) (bytes_from line (kind_end line)) ≡ bad k = ap (λ t. declared t (bytes_from line (kind_end line))) held.counted.type_count ∙ map-bad declared_word _ (number-bad v e) in
+      let none : declared (length P.types) (bytes_from line (kind_end line)) ≡ bad (number_of k) = ap (λ t. declared t (bytes_from line (kind_end line))) held.counted.type_count ∙ map-bad declared_word _ (number-bad v e) in
       pass-none e d (ap forget (then-bad _ none))
 
-  module _ {f : Found} (e : x ≡ Is f) where
+  module _ {f : Found} (e : x ≡ Ok f) where
     within : IsPlace line f.next.at
     within = ends-within (number-moved v e)
 
@@ -176,6 +170,10 @@ module _ (line index : List ℕ) (n : Counts) {start : Cursor} (here : start.at 
 
     type-place : {lines : ℕ → List ℕ} {P : File} (held : Held lines index n P) → f.next.at ≡ initial_place line (type-read held).value
     type-place {P = P} held = place-behind (declared-exact (length P.types)) (number-moved v e) (type-read held).is
+
+    pub input-no-value : {r : Step} {k : Refusal} → Follows line index f.next (outside_names n 0) r (expr_at nesting_most) → r ≡ Err k → ReadsInput line index n r index
+    unfolding input
+    input-no-value u h = input-stops h λ lines P held. let g = type-read held in passes-behind (number-moved v e) (ap forget (then-got _ g.is) ∙ forget-then _ _) (u.says (outer_scope P.types P.functions 0) (tells-outside held 0) within)
 
     pub input-read : {index' : List ℕ} {r : Step} {a : ℕ} → Fits line n → PlaceWord f.next.at a → Follows line index f.next (outside_names n 0) r (expr_at nesting_most) → (channels_of index' ≡ set (set (set (channels_of index) (channel_words * n.inputs) f.value) (channel_words * n.inputs + 1) a) (channel_words * n.inputs + 2) 0) × Outside channels_from channel_table_words index index' →
         ReadsInput line index n r index'
@@ -197,28 +195,34 @@ module _ (line index : List ℕ) (n : Counts) {start : Cursor} (here : start.at 
 
   -- ---- a node
   module _ (all : ℕ) where
-    node-stops : {r : Step} {k : ℕ} → r ≡ Stop k → ((lines : ℕ → List ℕ) (P : File) → Held lines index n P → Passes line (kind_end line) r (forget (node all P (bytes_from line (kind_end line))))) → ReadsNode line index n all r index
+    node-stops : {r : Step} {k : Refusal} → r ≡ Err k → ((lines : ℕ → List ℕ) (P : File) → Held lines index n P → Passes line (kind_end line) r (forget (node all P (bytes_from line (kind_end line))))) → ReadsNode line index n all r index
     node-stops e says = record {
       says = λ lines P held few. says lines P held;
       enters = λ lines P held few m rest h. bad-is-not-got (sym (pass-bad (says lines P held) e) ∙ h);
       outside = record { before = refl; behind = refl };
     }
 
-    pub node-no-type : {k : ℕ} {r : Step} → x ≡ Refused k → r ≡ step_of x → ReadsNode line index n all r index
+    pub node-no-type : {k : Refusal} {r : Step} → x ≡ Err k → r ≡ step_of x → ReadsNode line index n all r index
     unfolding node forget
     node-no-type {k} e d = node-stops (d ∙ ap step_of e) λ lines P held.
-        let none : declared (length P.types) (bytes_from line (kind_end line)) ≡ bad k = ap (λ t. declared t (bytes_from line (kind_end line))) held.counted.type_count ∙ map-bad declared_word _ (number-bad v e) in
+        let none : declared (length P.types) (bytes_from line (kind_end line)) ≡ bad (number_of k) = ap (λ t. declared t (bytes_from line (kind_end line))) held.counted.type_count ∙ map-bad declared_word _ (number-bad v e) in
         pass-none e d (ap forget (then-bad _ none))
 
-    module _ {f : Found} (e : x ≡ Is f) {y : Step} (u : Follows line index f.next (outside_names n 0) y (expr_at nesting_most)) where
+    module _ {f : Found} (e : x ≡ Ok f) {y : Step} (u : Follows line index f.next (outside_names n 0) y (expr_at nesting_most)) where
       initial-passes : {lines : ℕ → List ℕ} {P : File} → Held lines index n P → Passes line f.next.at y (forget (expr_at nesting_most (outer_scope P.types P.functions 0) (bytes_from line f.next.at)))
       initial-passes {P = P} held = u.says (outer_scope P.types P.functions 0) (tells-outside held 0) (ends-within (number-moved v e))
 
-      pub node-no-initial : {k : ℕ} → y ≡ Stop k → ReadsNode line index n all y index
+      pub node-no-initial : {k : Refusal} → y ≡ Err k → ReadsNode line index n all y index
       unfolding node
       node-no-initial {k} h = node-stops h λ lines P held. passes-behind (number-moved v e) (ap forget (then-got _ (type-read e held).is)) (pass-stops-pass _ _ (initial-passes held) h)
 
-      pub node-read : {index' : List ℕ} {d : Cursor} {r : Step} {a b : ℕ} → y ≡ Next d → Fits line n → PlaceWord f.next.at a → PlaceWord d.at b → Follows line index d (outside_names n all) r (expr_at nesting_most) →
+      pub node-no-update : {d : Cursor} {r : Step} {k : Refusal} → y ≡ Ok d → Follows line index d (outside_names n all) r (expr_at nesting_most) → r ≡ Err k → ReadsNode line index n all r index
+      unfolding node
+      node-no-update there z h = node-stops h λ lines P held.
+          let i = pass-got (initial-passes held) there in
+          passes-behind (number-moved v e) (ap forget (then-got _ (type-read e held).is)) (passes-behind (pass-moved (initial-passes held) there) (ap forget (then-got _ i.is) ∙ forget-then _ _) (z.says (outer_scope P.types P.functions all) (tells-outside held all) (ends-within (pass-moved (initial-passes held) there))))
+
+      pub node-read : {index' : List ℕ} {d : Cursor} {r : Step} {a b : ℕ} → y ≡ Ok d → Fits line n → PlaceWord f.next.at a → PlaceWord d.at b → Follows line index d (outside_names n all) r (expr_at nesting_most) →
           (channels_of index' ≡ set (set (set (channels_of index) (channel_words * (n.inputs + n.nodes)) f.value) (channel_words * (n.inputs + n.nodes) + 1) a) (channel_words * (n.inputs + n.nodes) + 2) b) × Outside channels_from channel_table_words index index' → ReadsNode line index n all r index'
       unfolding node node_entry channel_table
       node-read {d} {r} {a} {b} there fits p q z w = record {

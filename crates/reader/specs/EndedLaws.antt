@@ -1,4 +1,8 @@
 -- The end of a frame: its bytes end there, or it is refused with 4.
+use Rattle.language.specs.declared.refusals.Refusal.{Refusal}
+use Rattle.language.specs.declared.refusals.Refusal.TheVariants.{BadLength}
+use Rattle.language.specs.RefusalNumbers.{number_of}
+use Rattle.std.specs.Prelude.{Ok, Err}
 use Rattle.std.specs.Prelude.{ℕ, ◌≤◌, ◌<◌, List, [], ◌∷◌, Bool, true, false, ◌≡◌, refl, length, ltb}
 use Rattle.std.proofs.Math.Path.{sym}
 use Rattle.std.proofs.Common.{ap, ◌∙◌, arith, ltb-true, ltb-false}
@@ -7,31 +11,30 @@ use Rattle.language.specs.Result.{ok, no, choose}
 use Rattle.language.specs.Parser.{Read, got}
 use Rattle.language.specs.Reader.{whole}
 use Rattle.text.specs.declared.Cursor.{Cursor}
-use Rattle.text.specs.declared.Step.{Step}
-use Rattle.text.specs.declared.Step.TheVariants.{Next, Stop}
-use Rattle.text.specs.Bytes.{bytes_from, bytes_left, forget, Passes}
+use Rattle.text.specs.Bytes.{Step, bytes_from, bytes_left, forget, Passes}
 use Rattle.text.specs.StepLaws.{pass-got, pass-bad}
 use Rattle.index.specs.declared.Counts.{Counts}
-use Rattle.reader.specs.declared.Frame.{Frame}
-use Rattle.reader.specs.declared.Frame.TheVariants.{Taken, Refused}
-use Rattle.reader.specs.Frames.{kind_end, ended_as}
+use Rattle.reader.specs.Frames.{Frame, kind_end, ended_as}
 
 -- ---- the end of a frame
-pub ended-stops : (line : List ℕ) (n : Counts) {r : Step} {k : ℕ} → r ≡ Stop k → Refused k ≡ ended_as line r n
-ended-stops line n e = rw e
+pub ended-stops : (line : List ℕ) (n : Counts) {r : Step} {x : Frame} {k : Refusal} → r ≡ Err k → x ≡ Err k → x ≡ ended_as line r n
+ended-stops line n e o = o ∙ sym (ap (λ s. ended_as line s n) e)
 
-module _ (line : List ℕ) (n : Counts) {r : Step} {c : Cursor} {more : Bool} (e : r ≡ Next c) (is : more ≡ ltb 0 (bytes_left line c.at)) where
-  pub ended-goes-on : more ≡ true → Refused bad_length ≡ ended_as line r n
-  unfolding choose
-  ended-goes-on q = rw (e, sym is ∙ q)
+pub ended-behind : (line : List ℕ) (n : Counts) {r : Step} {x : Frame} {c : Cursor} → r ≡ Ok c → x ≡ ended_as line (Ok c) n → x ≡ ended_as line r n
+ended-behind line n e o = o ∙ sym (ap (λ s. ended_as line s n) e)
 
-  pub ended-there : more ≡ false → Taken n ≡ ended_as line r n
+module _ (line : List ℕ) (n : Counts) (c : Cursor) {more : Bool} (is : more ≡ ltb 0 (bytes_left line c.at)) where
+  pub ended-goes-on : more ≡ true → Err BadLength ≡ ended_as line (Ok c) n
   unfolding choose
-  ended-there q = rw (e, sym is ∙ q)
+  ended-goes-on q = rw (sym is ∙ q)
+
+  pub ended-there : more ≡ false → Ok n ≡ ended_as line (Ok c) n
+  unfolding choose
+  ended-there q = rw (sym is ∙ q)
 
 pub data Ended {A : Type 0} (frame : ℕ) (y : Read A) (n : Counts) (x : Frame) : Type 0 where
-  stops : {k : ℕ} → x ≡ Refused k → whole frame y ≡ no k frame → Ended frame y n x
-  ends : {a : A} {rest : List ℕ} → x ≡ Taken n → y ≡ got a rest → whole frame y ≡ ok a → Ended frame y n x
+  stops : {k : Refusal} → x ≡ Err k → whole frame y ≡ no (number_of k) frame → Ended frame y n x
+  ends : {a : A} {rest : List ℕ} → x ≡ Ok n → y ≡ got a rest → whole frame y ≡ ok a → Ended frame y n x
 
 goes_on : {A : Type 0} (frame : ℕ) (a : A) (l : List ℕ) → 0 < length l → whole frame (got a l) ≡ no bad_length frame
 unfolding whole
@@ -48,11 +51,11 @@ stays frame a l e = rw e
 
 pub ended_is : {A : Type 0} {line : List ℕ} {n : Counts} {x : Frame} (frame : ℕ) (y : Read A) (r : Step) → Passes line (kind_end line) r (forget y) → x ≡ ended_as line r n → Ended frame y n x
 unfolding whole choose
-ended_is frame y (Stop k) p e = stops e (ap (whole frame) (pass-bad p refl))
-ended_is {A} {line} {n} {x} frame y (Next c) p e = by (ltb 0 (bytes_left line c.at)) refl
+ended_is frame y (Err k) p e = stops e (ap (whole frame) (pass-bad p refl))
+ended_is {A} {line} {n} {x} frame y (Ok c) p e = by (ltb 0 (bytes_left line c.at)) refl
   where
     by : (b : Bool) → ltb 0 (bytes_left line c.at) ≡ b → Ended frame y n x
     by true t = let g = pass-got p refl in
-        stops (e ∙ ap (λ b. choose b (Refused bad_length) (Taken n)) t) (ap (whole frame) g.is ∙ goes_on frame g.value (bytes_from line c.at) (ltb-true 0 (bytes_left line c.at) t))
+        stops (e ∙ ap (λ b. choose b (Err BadLength) (Ok n)) t) (ap (whole frame) g.is ∙ goes_on frame g.value (bytes_from line c.at) (ltb-true 0 (bytes_left line c.at) t))
     by false t = let g = pass-got p refl in
-        ends (e ∙ ap (λ b. choose b (Refused bad_length) (Taken n)) t) g.is (ap (whole frame) g.is ∙ stays frame g.value (bytes_from line c.at) (nothing_left (bytes_from line c.at) (ltb-false 0 (bytes_left line c.at) t)))
+        ends (e ∙ ap (λ b. choose b (Err BadLength) (Ok n)) t) g.is (ap (whole frame) g.is ∙ stays frame g.value (bytes_from line c.at) (nothing_left (bytes_from line c.at) (ltb-false 0 (bytes_left line c.at) t)))

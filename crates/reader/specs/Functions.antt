@@ -1,4 +1,6 @@
 -- Function frames: what the reads of the parts promise, a function's frame promises.
+use Rattle.language.specs.declared.refusals.Refusal.{Refusal}
+use Rattle.std.specs.Prelude.{Ok, Err}
 use Rattle.std.specs.Prelude.{ℕ, zero, suc, ◌+◌, ◌*◌, ◌%◌, ◌≤◌, ◌<◌, List, [], ◌∷◌, ◌++◌, ◌≡◌, refl, get_or, set}
 use Rattle.std.proofs.Common.{sym, ap, ◌∙◌, arith}
 use Rattle.std.proofs.Math.Path.{subst}
@@ -16,9 +18,7 @@ use Rattle.theory.specs.ExactParts.{one, index-exact, counted-exact}
 use Rattle.theory.specs.ExactTypes.{plain-exact, result-exact}
 use Rattle.theory.specs.ExactFrames.{conditions-exact}
 use Rattle.text.specs.declared.Cursor.{Cursor}
-use Rattle.text.specs.declared.Step.{Step}
-use Rattle.text.specs.declared.Step.TheVariants.{Next, Stop}
-use Rattle.text.specs.Bytes.{bytes_from, past, IsPlace, forget, Passes}
+use Rattle.text.specs.Bytes.{Step, bytes_from, past, IsPlace, forget, Passes}
 use Rattle.text.specs.Places.{past-past, past-append}
 use Rattle.text.specs.StepLaws.{ends-within, Gives, pass-got, pass-bad, pass-moved, passes-behind, pass-stops-pass, forget-then}
 use Rattle.index.specs.Lined.{lined-length, functions_in}
@@ -141,7 +141,7 @@ module _ (line index : List ℕ) (n : Counts) {start : Cursor} (begun : start.at
   v = rw begun at entered
 
   -- where the frame is refused, nothing is said of the function's entry
-  function-stops : {r : Step} {k : ℕ} → r ≡ Stop k → ((lines : ℕ → List ℕ) (P : File) → Held lines index n P → n.functions < functions_most → Passes line (kind_end line) r (forget (function P (bytes_from line (kind_end line))))) → ReadsFunction line index n r index₁
+  function-stops : {r : Step} {k : Refusal} → r ≡ Err k → ((lines : ℕ → List ℕ) (P : File) → Held lines index n P → n.functions < functions_most → Passes line (kind_end line) r (forget (function P (bytes_from line (kind_end line))))) → ReadsFunction line index n r index₁
   function-stops e says = record {
     says = λ lines P held few. says lines P held few;
     enters = λ lines P held few F rest h. bad-is-not-got (sym (pass-bad (says lines P held few) e) ∙ h);
@@ -151,10 +151,10 @@ module _ (line index : List ℕ) (n : Counts) {start : Cursor} (begun : start.at
   parameters-pass : {lines : ℕ → List ℕ} {P : File} → Held lines index n P → Passes line (kind_end line) w (forget (counted 0 parameters_most (plain (length P.types)) (bytes_from line (kind_end line))))
   parameters-pass {P = P} held = passes-as (ap (λ t. forget (counted 0 parameters_most (plain t) (bytes_from line (kind_end line)))) held.counted.type_count) v.0.passes
 
-  pub function-no-parameters : {k : ℕ} → w ≡ Stop k → ReadsFunction line index n w index₁
+  pub function-no-parameters : {k : Refusal} → w ≡ Err k → ReadsFunction line index n w index₁
   function-no-parameters e = function-stops e λ lines P held few. passes-as (ap forget (function-is P (bytes_from line (kind_end line)))) (pass-stops-pass _ _ (parameters-pass held) e)
 
-  module _ {c : Cursor} (e : w ≡ Next c) {vars : ℕ} (named : Named (functions_of index₁) n.functions vars) where
+  module _ {c : Cursor} (e : w ≡ Ok c) {vars : ℕ} (named : Named (functions_of index₁) n.functions vars) where
     module _ {lines : ℕ → List ℕ} {P : File} (held : Held lines index n P) (few : n.functions < functions_most) where
       head : ParametersRead n.types (functions_in lines P) n.functions (bytes_from line (kind_end line)) (bytes_from line c.at) (functions_of index₁)
       head = parameters-read n.types (functions_in lines P) v.0 (lined-length lines (length P.types) P.functions ∙ held.counted.function_count) few held.functions_are e
@@ -175,10 +175,10 @@ module _ (line index : List ℕ) (n : Counts) {start : Cursor} (begun : start.at
       result-passes : {lines : ℕ → List ℕ} {P : File} (held : Held lines index n P) (few : n.functions < functions_most) → Passes line c.at x (forget (result (length P.types) (named_count (head held few).list) (bytes_from line c.at)))
       result-passes held few = passes-as (ap (λ t. forget (result t (named_count (head held few).list) (bytes_from line c.at))) held.counted.type_count ∙ ap (λ z. forget (result n.types z (bytes_from line c.at))) (sizes-are held few)) p
 
-      pub function-no-result : {k : ℕ} → x ≡ Stop k → ReadsFunction line index n x index₁
+      pub function-no-result : {k : Refusal} → x ≡ Err k → ReadsFunction line index n x index₁
       function-no-result h = function-stops h λ lines P held few. from-parameters held few (pass-stops-pass _ _ (result-passes held few) h)
 
-      module _ {d : Cursor} (e₂ : x ≡ Next d) where
+      module _ {d : Cursor} (e₂ : x ≡ Ok d) where
         module _ {lines : ℕ → List ℕ} {P : File} (held : Held lines index n P) (few : n.functions < functions_most) where
           the_result : Gives (result (length P.types) (named_count (head held few).list) (bytes_from line c.at)) (bytes_from line d.at)
           the_result = pass-got (result-passes held few) e₂
@@ -190,10 +190,10 @@ module _ (line index : List ℕ) (n : Counts) {start : Cursor} (begun : start.at
           conditions-pass : {lines : ℕ → List ℕ} {P : File} (held : Held lines index n P) (few : n.functions < functions_most) → Passes line d.at y (forget (counted 0 conditions_most (condition (named_count (head held few).list)) (bytes_from line d.at)))
           conditions-pass held few = passes-as (ap (λ z. forget (counted 0 conditions_most (condition z) (bytes_from line d.at))) (sizes-are held few)) q
 
-          pub function-no-conditions : {k : ℕ} → y ≡ Stop k → ReadsFunction line index n y index₁
+          pub function-no-conditions : {k : Refusal} → y ≡ Err k → ReadsFunction line index n y index₁
           function-no-conditions h = function-stops h λ lines P held few. from-result held few (pass-stops-pass _ _ (conditions-pass held few) h)
 
-          module _ {m : Cursor} (e₃ : y ≡ Next m) where
+          module _ {m : Cursor} (e₃ : y ≡ Ok m) where
             module _ {lines : ℕ → List ℕ} {P : File} (held : Held lines index n P) (few : n.functions < functions_most) where
               the-conditions : Gives (counted 0 conditions_most (condition (named_count (head held few).list)) (bytes_from line d.at)) (bytes_from line m.at)
               the-conditions = pass-got (conditions-pass held few) e₃
@@ -205,10 +205,10 @@ module _ (line index : List ℕ) (n : Counts) {start : Cursor} (begun : start.at
               measure-passes : {lines : ℕ → List ℕ} {P : File} (held : Held lines index n P) (few : n.functions < functions_most) → Passes line m.at z (forget (counted 0 measures_most (index_read (named_count (head held few).list)) (bytes_from line m.at)))
               measure-passes held few = passes-as (ap (λ i. forget (counted 0 measures_most (index_read i) (bytes_from line m.at))) (sizes-are held few)) s
 
-              pub function-no-measure : {k : ℕ} → z ≡ Stop k → ReadsFunction line index n z index₁
+              pub function-no-measure : {k : Refusal} → z ≡ Err k → ReadsFunction line index n z index₁
               function-no-measure h = function-stops h λ lines P held few. from-conditions held few (pass-stops-pass _ _ (measure-passes held few) h)
 
-              module _ {b : Cursor} (e₄ : z ≡ Next b) where
+              module _ {b : Cursor} (e₄ : z ≡ Ok b) where
                 module _ {lines : ℕ → List ℕ} {P : File} (held : Held lines index n P) (few : n.functions < functions_most) where
                   the-measure : Gives (counted 0 measures_most (index_read (named_count (head held few).list)) (bytes_from line m.at)) (bytes_from line b.at)
                   the-measure = pass-got (measure-passes held few) e₄
@@ -221,6 +221,9 @@ module _ (line index : List ℕ) (n : Counts) {start : Cursor} (begun : start.at
 
                   scope-told : {variables : ℕ} → variables ≡ get_or (functions_of index₁) (function_words * n.functions) 0 % byte_range → Tells index₁ (inside_names n variables vars) (body_scope P.types P.functions (head held few).list)
                   scope-told a = tells-inside held v.1 few (head held few).table (head held few).tells (sym (a ∙ small _ _ (head held few).tells.count (head held few).tells.few)) (sizes-are held few)
+
+                pub function-no-body : {variables : ℕ} {r : Step} {k : Refusal} → variables ≡ get_or (functions_of index₁) (function_words * n.functions) 0 % byte_range → Follows line index₁ b (inside_names n variables vars) r (expr_at nesting_most) → r ≡ Err k → ReadsFunction line index n r index₁
+                function-no-body a u h = function-stops h λ lines P held few. from-measure held few (passes-as (forget-then _ _) (u.says (body_scope P.types P.functions (head held few).list) (scope-told held few a) (ends-within (pass-moved s e₄))))
 
                 pub function-read : {index' : List ℕ} {variables i₁ i₂ i₃ i₄ : ℕ} {r : Step} → Fits line n → variables ≡ get_or (functions_of index₁) (function_words * n.functions) 0 % byte_range → Follows line index₁ b (inside_names n variables vars) r (expr_at nesting_most) →
                     PlaceWord c.at i₁ → PlaceWord d.at i₂ → PlaceWord m.at i₃ → PlaceWord b.at i₄ →

@@ -1,4 +1,7 @@
 -- What the reader has when so many frames are read: a file so far, in the index; and what reading one frame more promises.
+use Rattle.std.specs.Prelude.{Ok, Err}
+use Rattle.language.specs.declared.refusals.Refusal.{Refusal}
+use Rattle.language.specs.RefusalNumbers.{number_of}
 use Rattle.std.specs.Prelude.{ℕ, ◌+◌, ◌≤◌, ◌<◌, List, [], ◌∷◌, ◌++◌, ◌≡◌, length}
 use Rattle.language.specs.Limits.{text_most, types_most, functions_most, inputs_most, nodes_most, parameters_most}
 use Rattle.language.specs.Result.{Result, ok, no}
@@ -6,8 +9,7 @@ use Rattle.language.specs.Syntax.{Function, Input, Node, File}
 use Rattle.language.specs.Within.{All}
 use Rattle.language.specs.Parser.{got}
 use Rattle.language.specs.Reader.{function, input, node, type_kind, read_kind, read_frame}
-use Rattle.text.specs.Bytes.{bytes_of, bytes_from, forget, Passes}
-use Rattle.text.specs.declared.Step.{Step}
+use Rattle.text.specs.Bytes.{Step, bytes_of, bytes_from, forget, Passes}
 use Rattle.index.specs.Lined.{functions_in, inputs_in, nodes_in}
 use Rattle.index.specs.Tables.{type_table, function_table, channel_table}
 use Rattle.index.specs.Sections.{types_from, functions_from, channels_from, type_table_words, function_table_words, channel_table_words, frames_of, types_of, functions_of, channels_of}
@@ -15,9 +17,7 @@ use Rattle.index.specs.SectionLaws.{Outside}
 use Rattle.index.specs.Indexed.{Counted}
 use Rattle.index.specs.TypeTable.{FewParts}
 use Rattle.index.specs.declared.Counts.{Counts}
-use Rattle.reader.specs.Frames.{kind_end}
-use Rattle.reader.specs.declared.Frame.{Frame}
-use Rattle.reader.specs.declared.Frame.TheVariants.{Taken, Refused}
+use Rattle.reader.specs.Frames.{Frame, kind_end}
 
 -- how many frames there are
 abbrev pub total : Counts → ℕ
@@ -77,10 +77,10 @@ pub record ReadsNode (line index : List ℕ) (n : Counts) (all : ℕ) (r : Step)
       node all P (bytes_from line (kind_end line)) ≡ got m rest → channels_of index' ≡ channel_table (inputs_in lines P) (nodes_in lines P ++ (record { line = line; part = m } ∷ []))
   pub outside : Outside channels_from channel_table_words index index'
 
--- a frame: the file with it, in the index, or the number of the refusal (its sections of the index are then free)
+-- a frame: the file with it, in the index, or the refusal (its sections of the index are then free)
 pub data FrameRead (lines : ℕ → List ℕ) (r : Frame) (index : List ℕ) : Result File → Type 0 where
-  taken : {n : Counts} {Q : File} → r ≡ Taken n → Held lines index n Q → FrameRead lines r index (ok Q)
-  refused : {m frame : ℕ} → r ≡ Refused m → FrameRead lines r index (no m frame)
+  taken : {n : Counts} {Q : File} → r ≡ Ok n → Held lines index n Q → FrameRead lines r index (ok Q)
+  refused : {m : Refusal} {frame : ℕ} → r ≡ Err m → FrameRead lines r index (no (number_of m) frame)
 
 pub record ReadsFrame (line index : List ℕ) (n : Counts) (all : ℕ) (r : Frame) (index' : List ℕ) : Type 0 where
   pub says : (lines : ℕ → List ℕ) (P : File) → Held lines index n P → line ≡ lines (total n) → (frame : ℕ) → FrameRead lines r index' (read_frame all frame P (bytes_of line))

@@ -5,7 +5,7 @@ use Rattle.std.proofs.Math.Path.{ap, ap₂}
 use Rattle.std.proofs.Math.ListN.{length, length-append}
 use Rattle.language.specs.Limits.{types_most, functions_most, inputs_most, nodes_most, parameters_most}
 use Rattle.language.specs.Syntax.{TypeDef, Function, Input, Node, File}
-use Rattle.language.specs.Reader.{with_type, with_function, with_input, with_node}
+use Rattle.language.specs.Reader.{with_type, with_function, with_input, with_node, type_kind, function_kind, input_kind, node_kind}
 use Rattle.theory.specs.Alls.{all_snoc}
 use Rattle.index.specs.Lined.{lined, lined-none, lined-more, functions_in, inputs_in, nodes_in}
 use Rattle.index.specs.Tables.{type_table, function_table, channel_table}
@@ -26,7 +26,7 @@ no-lined lines i e = ap (lined lines i) e
 
 -- ---- one frame more is held: its own section has its entry, the others are as they were
 module _ {lines : ℕ → List ℕ} {index index' : List ℕ} {n : Counts} {P : File} (held : Held lines index n P) where
-  pub held-type : (d : TypeDef) → NoLater P → types_of index' ≡ type_table (P.types ++ (d ∷ [])) → Outside types_from type_table_words index index' → n.types < types_most → FewParts d → Held lines index' (one_more_of 1 n) (with_type P d)
+  pub held-type : (d : TypeDef) → NoLater P → types_of index' ≡ type_table (P.types ++ (d ∷ [])) → Outside types_from type_table_words index index' → n.types < types_most → FewParts d → Held lines index' (one_more_of type_kind n) (with_type P d)
   unfolding with_type
   held-type d none tb o few parts = let same = held.counted in record {
     types_are = tb;
@@ -46,7 +46,7 @@ module _ {lines : ℕ → List ℕ} {index index' : List ℕ} {n : Counts} {P : 
     parameters = held.parameters;
   }
 
-  pub held-function : {line : List ℕ} (F : Function) → line ≡ lines (total n) → P.inputs ≡ [] → P.nodes ≡ [] → (functions_of index' ≡ function_table (functions_in lines P ++ (record { line = line; part = F } ∷ []))) × (length F.parameters ≤ parameters_most) → Outside functions_from function_table_words index index' → n.functions < functions_most → Held lines index' (one_more_of 2 n) (with_function P F)
+  pub held-function : {line : List ℕ} (F : Function) → line ≡ lines (total n) → P.inputs ≡ [] → P.nodes ≡ [] → (functions_of index' ≡ function_table (functions_in lines P ++ (record { line = line; part = F } ∷ []))) × (length F.parameters ≤ parameters_most) → Outside functions_from function_table_words index index' → n.functions < functions_most → Held lines index' (one_more_of function_kind n) (with_function P F)
   unfolding with_function
   held-function F here no-input no_Node tb o few = let same = held.counted in record {
     types_are = kept-before o types_from type_table_words (omega arith) ∙ held.types_are;
@@ -66,7 +66,7 @@ module _ {lines : ℕ → List ℕ} {index index' : List ℕ} {n : Counts} {P : 
     parameters = all_snoc held.parameters tb.1;
   }
 
-  pub held-input : {line : List ℕ} (i : Input) → line ≡ lines (total n) → channels_of index' ≡ channel_table (inputs_in lines P ++ (record { line = line; part = i } ∷ [])) [] → Outside channels_from channel_table_words index index' → P.nodes ≡ [] → n.inputs < inputs_most → Held lines index' (one_more_of 3 n) (with_input P i)
+  pub held-input : {line : List ℕ} (i : Input) → line ≡ lines (total n) → channels_of index' ≡ channel_table (inputs_in lines P ++ (record { line = line; part = i } ∷ [])) [] → Outside channels_from channel_table_words index index' → P.nodes ≡ [] → n.inputs < inputs_most → Held lines index' (one_more_of input_kind n) (with_input P i)
   unfolding with_input
   held-input i here tb o empty few = let same = held.counted in record {
     types_are = kept-before o types_from type_table_words (omega arith) ∙ held.types_are;
@@ -86,7 +86,7 @@ module _ {lines : ℕ → List ℕ} {index index' : List ℕ} {n : Counts} {P : 
     parameters = held.parameters;
   }
 
-  pub held-node : {line : List ℕ} (m : Node) → line ≡ lines (total n) → channels_of index' ≡ channel_table (inputs_in lines P) (nodes_in lines P ++ (record { line = line; part = m } ∷ [])) → Outside channels_from channel_table_words index index' → n.nodes < nodes_most → Held lines index' (one_more_of 4 n) (with_node P m)
+  pub held-node : {line : List ℕ} (m : Node) → line ≡ lines (total n) → channels_of index' ≡ channel_table (inputs_in lines P) (nodes_in lines P ++ (record { line = line; part = m } ∷ [])) → Outside channels_from channel_table_words index index' → n.nodes < nodes_most → Held lines index' (one_more_of node_kind n) (with_node P m)
   unfolding with_node
   held-node m here tb o few = let same = held.counted in record {
     types_are = kept-before o types_from type_table_words (omega arith) ∙ held.types_are;

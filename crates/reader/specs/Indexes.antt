@@ -1,5 +1,8 @@
 -- A text that was read is indexed: what the reader promises of its index gives all that Indexed says.
 use Prim.Native.Nat.{ℕ, ◌+◌, ◌*◌, ◌%◌, ◌≤◌, ◌<◌}
+use Rattle.std.specs.Prelude.{Ok, Err}
+use Rattle.language.specs.declared.refusals.RefusalAt.{RefusalAt}
+use Rattle.language.specs.RefusalNumbers.{number_of}
 use Rattle.std.specs.Prelude.{List, [], ◌++◌, map, ◌≡◌, refl, drop}
 use Rattle.std.proofs.Math.Option.{some}
 use Rattle.std.proofs.Common.{sym, ◌∙◌, add-zero, length-append}
@@ -26,9 +29,7 @@ use Rattle.index.specs.FunctionTable.{head_words}
 use Rattle.encoding.specs.FrameParts.{result_place, conditions_place, measure_place, body_place, initial_place, update_place, FunctionSpelled, InputSpelled, NodeSpelled}
 use Rattle.encoding.specs.FrameLines.{frame_lines_of, line_start, line_at, line-part, line-within, frames-counted}
 use Rattle.encoding.specs.FrameSpells.{frames-are-file, type-spelled, function-spelled, input-spelled, node-spelled}
-use Rattle.reader.specs.declared.Reading.{Reading}
-use Rattle.reader.specs.declared.Reading.TheVariants.{Done, Fault}
-use Rattle.reader.specs.Texts.{TextRead, done, fault}
+use Rattle.reader.specs.Texts.{Reading, TextRead, done, fault}
 use Rattle.index.specs.Indexed.{frame_place, frame_length, frame_part, line_count, FrameIndexed, result_at, conditions_at, measure_at, body_at, initial_at, update_at, function_line, channel_line, TypeIndexed, FunctionIndexed, ChannelIndexed, NodeIndexed, Counted, Indexed}
 use Rattle.encoding.specs.WithinParts.{function-within}
 use Rattle.index.specs.TableWords.{tells-field, parameters-told, place-told, input-told, node-told}
@@ -181,15 +182,15 @@ module _ (text : List ℕ) {P : File} (read : read_file text ≡ ok P) where
       }
 
 -- ---- what the reader promises: of a refusal, and of a file
-pub read-fault : {text index : List ℕ} {r : Reading} {m frame : ℕ} {x : Result File} → TextRead text r index x → r ≡ Fault m frame → x ≡ no m frame
+pub read-fault : {text index : List ℕ} {r : Reading} {a : RefusalAt} {x : Result File} → TextRead text r index x → r ≡ Err a → x ≡ no (number_of a.refusal) a.frame
 read-fault (done e whole) q = absurd (let u = sym e ∙ q in let z : ◌≡◌ {A = ℕ} 0 1 = cc in omega arith)
-read-fault {m} {frame} (fault {m = n} {frame = f} e zeros) q = let u : Fault n f ≡ Fault m frame = sym e ∙ q in cc
+read-fault {a = a} (fault {e = b} e zeros) q = let u : ◌≡◌ {A = Reading} (Err b) (Err a) = sym e ∙ q in let same : b ≡ a = cc in ap (λ (y : RefusalAt). no (number_of y.refusal) y.frame) same
 
 pub record ReadIndexed (text index : List ℕ) : Type 0 where
   pub file : File
   pub indexed : Indexed text index file
 
-pub read-indexes : {text index : List ℕ} {r : Reading} → TextRead text r index (read_file text) → r ≡ Done → ReadIndexed text index
+pub read-indexes : {text index : List ℕ} {r : Reading} → TextRead text r index (read_file text) → r ≡ Ok tt → ReadIndexed text index
 read-indexes {text} {index} {r} told answer = go (read_file text) refl told
   where
     go : (x : Result File) → read_file text ≡ x → TextRead text r index x → ReadIndexed text index

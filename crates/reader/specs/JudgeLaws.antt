@@ -1,4 +1,10 @@
 -- The pass over a whole text: at each turn the lines so far are in the section of frames.
+use Rattle.std.specs.Prelude.{Ok, Err, Some, None}
+use Rattle.language.specs.declared.refusals.RefusalAt.{RefusalAt}
+use Rattle.language.specs.declared.refusals.Refusal.TheVariants.{TextTooLong, BadLine}
+use Rattle.language.specs.RefusalNumbers.{number_of}
+use Rattle.language.specs.Told.{told}
+use Rattle.language.specs.Result.{no}
 use Rattle.std.specs.Prelude.{ℕ, ◌+◌, ◌-◌, ◌*◌, ◌≤◌, ◌<◌, true, false, ◌≡◌, refl, length, set, take, replicate}
 use mathlib.Core.List.{List, [], ◌∷◌, ◌++◌, append-nil}
 use Rattle.std.proofs.Math.Path.{sym, ap}
@@ -6,17 +12,15 @@ use Rattle.std.proofs.Common.{ap₂, ◌∙◌, arith, length-append, length-tak
 use Rattle.std.proofs.Math.ListN.{drop, drop_of_length-le}
 use Rattle.std.proofs.Math.Seq.{append_snoc}
 use Rattle.language.specs.Limits.{text_most}
-use Rattle.language.specs.Refusals.{no_frame, text_too_long, bad_line}
+use Rattle.language.specs.Refusals.{no_frame}
 use Rattle.language.specs.Layout.{padded}
-use Rattle.text_lines.specs.declared.Judged.TheVariants.{Frames, Refused}
 use Rattle.text_lines.specs.declared.rule_lines.FrameEnd.{FrameEnd}
-use Rattle.text_lines.specs.declared.rule_lines.RuleLine.{RuleLine}
-use Rattle.text_lines.specs.declared.rule_lines.RuleLine.TheVariants.{Extra, Frame, Bad}
+use Rattle.text_lines.specs.declared.rule_lines.RuleLine.TheVariants.{Extra, Frame}
 use Rattle.text.specs.Bytes.{bytes_of}
 use Rattle.language.specs.Result.{choose}
 use Rattle.language.specs.Format.{spell_all}
 use Rattle.language.specs.Text.{Lines, lines_of, is_extra}
-use Rattle.text_lines.specs.Lines.{first_line, next_line, channels_of, judgement}
+use Rattle.text_lines.specs.Lines.{LineRead, first_line, next_line, channels_of, judgement}
 use Rattle.text_lines.specs.LinesEnd.{behind, first-line-ended, behind-next}
 use Rattle.text_lines.specs.RuleLines.{line_chars, rule_line}
 use Rattle.text_lines.specs.RuleAnswers.{rule-extra, rule-frame, rule-bad}
@@ -69,31 +73,32 @@ module _ (t : List ℕ) (at : ℕ) {next : ℕ} (ended : length (first_line (dro
   frame-first e = lines-first ∙ rw e (ap (λ fs. record { start = at; line = line_chars (drop at t) } ∷ fs) lines-behind)
 
 -- a refusal says nothing of the frames
-refused-judges : {t index index' : List ℕ} {n k : ℕ} → Refused n k ≡ judgement t → Outside frames_start frame_table_words index index' → Judges t index (Refused n k) index'
-refused-judges e o = record { is = e; places = λ n c q. absurd (let z : ◌≡◌ {A = ℕ} 0 1 = cc in omega arith); outside = o }
+refused-judges : {t index index' : List ℕ} {e : RefusalAt} → no (number_of e.refusal) e.frame ≡ judgement t → Outside frames_start frame_table_words index index' → Judges t index (Err e) index'
+unfolding told
+refused-judges e o = record { is = e; places = λ n q. absurd (let z : ◌≡◌ {A = ℕ} 0 1 = cc in omega arith); outside = o }
 
-pub too-long-judges : (t index : List ℕ) → text_most < length t → Judges t index (Refused text_too_long no_frame) index
+pub too-long-judges : (t index : List ℕ) → text_most < length t → Judges t index (Err (record { refusal = TextTooLong; frame = no_frame })) index
 too-long-judges t index h = refused-judges (judged-too-long t h) (record { before = refl; behind = refl })
 
 module _ {t index₀ index : List ℕ} {at frames channels : ℕ} (p : JudgedTo t index₀ at frames channels index) where
-  module _ {x : RuleLine} (v : x ≡ rule_line t at) where
+  module _ {x : LineRead} (v : x ≡ rule_line t at) where
     -- where a frame's line ends, and where the next line starts
-    pub frame-behind : {f : FrameEnd} → x ≡ Frame f → at < f.end
+    pub frame-behind : {f : FrameEnd} → x ≡ Some (Frame f) → at < f.end
     frame-behind q = (rule-frame t at v q).from
 
-    pub frame-before : {f : FrameEnd} → x ≡ Frame f → f.end < f.next
+    pub frame-before : {f : FrameEnd} → x ≡ Some (Frame f) → f.end < f.next
     frame-before q = (rule-frame t at v q).less
 
-    pub frame-within : {f : FrameEnd} → x ≡ Frame f → f.next ≤ length t
+    pub frame-within : {f : FrameEnd} → x ≡ Some (Frame f) → f.next ≤ length t
     frame-within q = (rule-frame t at v q).within
 
-    pub extra-behind : {next : ℕ} → x ≡ Extra next → at < next
+    pub extra-behind : {next : ℕ} → x ≡ Some (Extra next) → at < next
     extra-behind q = (rule-extra t at v q).from
 
-    pub bad-judges : at < length t → x ≡ Bad → Judges t index₀ (Refused bad_line (frames + 1)) index
+    pub bad-judges : at < length t → x ≡ None → Judges t index₀ (Err (record { refusal = BadLine; frame = frames + 1 })) index
     bad-judges h q = refused-judges (judged-bad p.counted p.fits h (rule-bad t at v q)) p.outside
 
-    pub judged-extra : {next : ℕ} → x ≡ Extra next → JudgedTo t index₀ next frames channels index
+    pub judged-extra : {next : ℕ} → x ≡ Some (Extra next) → JudgedTo t index₀ next frames channels index
     judged-extra q =
         let n = rule-extra t at v q in
         record {
@@ -107,7 +112,7 @@ module _ {t index₀ index : List ℕ} {at frames channels : ℕ} (p : JudgedTo 
           outside = p.outside;
         }
 
-    pub judged-frame : {f : FrameEnd} {one : ℕ} {index' : List ℕ} → x ≡ Frame f →
+    pub judged-frame : {f : FrameEnd} {one : ℕ} {index' : List ℕ} → x ≡ Some (Frame f) →
         (frames_of index' ≡ set (set (frames_of index) (frame_words * frames) at) (frame_words * frames + 1) (f.end - at)) × Outside frames_start frame_table_words index index' →
         one ≡ channels_of (bytes_of (take (f.end - at) (drop at t))) → JudgedTo t index₀ f.next (frames + 1) (channels + one) index'
     judged-frame {f} q wrote is =
@@ -125,13 +130,13 @@ module _ {t index₀ index : List ℕ} {at frames channels : ℕ} (p : JudgedTo 
           outside = outside-then p.outside wrote.1;
         }
 
-  pub all-judges : length t ≤ at → Judges t index₀ (Frames frames channels) index
-  unfolding frame_table frame_lines_from lines_of
+  pub all-judges : length t ≤ at → Judges t index₀ (Ok (record { frames = frames; channels = channels })) index
+  unfolding told frame_table frame_lines_from lines_of
   all-judges h =
       let none_left : drop at t ≡ [] = drop_of_length-le t {i = at} h in
       let all_lines : p.before ≡ frame_lines_of t = sym (p.lines ∙ ap (λ l. p.before ++ frame_lines_from at (lines_of l).ended) none_left ∙ append-nil p.before) in
       record {
         is = judged-end p.counted p.fits h;
-        places = λ n c q. p.places ∙ ap (λ fs. padded frame_table_words (spell_all frame_entry fs)) all_lines;
+        places = λ n q. p.places ∙ ap (λ fs. padded frame_table_words (spell_all frame_entry fs)) all_lines;
         outside = p.outside;
       }

@@ -1,10 +1,10 @@
 -- Where a cursor stands behind what was read: as many bytes further on as its spelling has.
+use Rattle.std.specs.Prelude.{Ok}
 use Rattle.std.specs.Prelude.{ℕ, ◌≤◌, List, ◌≡◌, length, drop}
 use Rattle.std.proofs.Common.{sym, ap, ◌∙◌, subst, arith, length-append}
 use Rattle.std.proofs.Math.Seq.{drop-append_seam}
 use Rattle.language.specs.Parser.{Read, got, Parser}
 use Rattle.text.specs.declared.Cursor.{Cursor}
-use Rattle.text.specs.declared.Step.TheVariants.{Next}
 use Rattle.text.specs.Bytes.{bytes_from, past, bytes_left, Moved}
 use Rattle.text.specs.Places.{from-small, bytes_past}
 use Rattle.text.specs.StepLaws.{moved-past}
@@ -23,7 +23,7 @@ pub read-spelled : {A : Type 0} {p : Parser A} {bytes : A → List ℕ} {W : A �
 read-spelled x line at e = started (x.forth.reads (bytes_from line at) (from-small line at)) e
 
 -- a cursor that moved stands behind what was read
-pub place-behind : {A : Type 0} {p : Parser A} {bytes : A → List ℕ} {W : A → Type 0} (x : Exact p bytes W) {line : List ℕ} {at : ℕ} {c : Cursor} {a : A} → Moved line at (Next c) →
+pub place-behind : {A : Type 0} {p : Parser A} {bytes : A → List ℕ} {W : A → Type 0} (x : Exact p bytes W) {line : List ℕ} {at : ℕ} {c : Cursor} {a : A} → Moved line at (Ok c) →
     p (bytes_from line at) ≡ got a (bytes_from line c.at) → c.at ≡ past line at (length (bytes a))
 place-behind {bytes} x {line} {at} {c} {a} m e =
     let s = read-spelled x line at e in

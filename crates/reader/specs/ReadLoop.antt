@@ -1,4 +1,9 @@
 -- The loop over the frames of a text: at each turn the frames so far are read into the index, and those left decide the rest.
+use Rattle.std.specs.Prelude.{Ok, Err}
+use Rattle.language.specs.declared.refusals.Refusal.{Refusal}
+use Rattle.language.specs.declared.refusals.Refusal.TheVariants.{BadFrame}
+use Rattle.language.specs.declared.refusals.RefusalAt.{RefusalAt}
+use Rattle.language.specs.RefusalNumbers.{number_of}
 use Rattle.std.specs.Prelude.{ℕ, suc, ◌+◌, ◌≤◌, ◌<◌, List, [], ◌∷◌, ◌≡◌, refl, length, get_or, drop}
 use Rattle.std.proofs.Common.{sym, subst, ◌∙◌, arith, add-one, drop_of_length-le, drop-cons}
 use Rattle.std.proofs.Math.Path.{ap, ap₂}
@@ -18,12 +23,9 @@ use Rattle.index.specs.SectionLaws.{CountsPut, kept-behind}
 use Rattle.index.specs.Whole.{counts_entry, index_of, FileSections, sections-whole}
 use Rattle.index.specs.Indexed.{frame_part, line_count}
 use Rattle.index.specs.declared.Counts.{Counts}
-use Rattle.reader.specs.declared.Frame.{Frame}
-use Rattle.reader.specs.declared.Frame.TheVariants.{Taken, Refused}
-use Rattle.reader.specs.declared.Reading.{Reading}
-use Rattle.reader.specs.declared.Reading.TheVariants.{Done, Fault}
+use Rattle.reader.specs.Frames.{Frame}
 use Rattle.reader.specs.Held.{total, Held, Fits, FrameRead, taken, refused, ReadsFrame}
-use Rattle.reader.specs.Texts.{frame_reading, Finished, without_node, with-node, Ready, FramesRead, all_frames, bad-frame}
+use Rattle.reader.specs.Texts.{Reading, Finished, without_node, with-node, Ready, FramesRead, all_frames, bad-frame}
 use Rattle.reader.specs.TableLaws.{blank-held}
 use Rattle.reader.specs.LineLaws.{one-frame-more, full-when, one-too-many, frame-some, frame_refused, frame-taken, no_node, some-node}
 
@@ -42,18 +44,18 @@ frames-start {t} z ts fs is ns =
     record { accepted = z.accepted; file = empty_file; held = blank-held (line_at t) z ts fs is ns; so_many = omega (arith, ts, fs, is, ns); most = omega arith; places = z.places; is = z.accepted.file }
 
 -- ---- what reading a frame gives, by its answer
-frame-file : {lines : ℕ → List ℕ} {r : Frame} {index : List ℕ} {n : Counts} {x : Result File} → FrameRead lines r index x → r ≡ Taken n → (Q : File) × ((x ≡ ok Q) × Held lines index n Q)
+frame-file : {lines : ℕ → List ℕ} {r : Frame} {index : List ℕ} {n : Counts} {x : Result File} → FrameRead lines r index x → r ≡ Ok n → (Q : File) × ((x ≡ ok Q) × Held lines index n Q)
 frame-file {lines} {index = index} (taken {n = m} {Q = Q} e h) q = (Q, (refl, subst (λ k. Held lines index k Q) (let u = sym e ∙ q in cc) h))
 frame-file (refused e) q = absurd (let u = sym e ∙ q in let z : ◌≡◌ {A = ℕ} 0 1 = cc in omega arith)
 
-frame-fault : {lines : ℕ → List ℕ} {r : Frame} {index : List ℕ} {m : ℕ} {x : Result File} → FrameRead lines r index x → r ≡ Refused m → (k : ℕ) × (x ≡ no m k)
+frame-fault : {lines : ℕ → List ℕ} {r : Frame} {index : List ℕ} {m : Refusal} {x : Result File} → FrameRead lines r index x → r ≡ Err m → (k : ℕ) × (x ≡ no (number_of m) k)
 frame-fault (taken e h) q = absurd (let u = sym e ∙ q in let z : ◌≡◌ {A = ℕ} 0 1 = cc in omega arith)
-frame-fault (refused {m = n} {frame = k} e) q = (k, ap (λ i. no i k) (let u = sym e ∙ q in cc))
+frame-fault {m = m} (refused {m = n} {frame = k} e) q = (k, ap (λ i. no (number_of i) k) (let u : ◌≡◌ {A = Frame} (Err n) (Err m) = sym e ∙ q in cc))
 
-text-fault : (t : List ℕ) {index : List ℕ} {r : Reading} {m k : ℕ} → r ≡ Fault m k → read_file t ≡ no m k → FramesRead t r index (read_file t)
+text-fault : (t : List ℕ) {index : List ℕ} {r : Reading} {e : RefusalAt} → r ≡ Err e → read_file t ≡ no (number_of e.refusal) e.frame → FramesRead t r index (read_file t)
 text-fault t q e = rw e (bad-frame q)
 
-text-file : (t : List ℕ) {index : List ℕ} {r : Reading} {P : File} → r ≡ Done → index ≡ index_of t P → read_file t ≡ ok P → FramesRead t r index (read_file t)
+text-file : (t : List ℕ) {index : List ℕ} {r : Reading} {P : File} → r ≡ Ok tt → index ≡ index_of t P → read_file t ≡ ok P → FramesRead t r index (read_file t)
 text-file t q h e = rw e (all_frames q h)
 
 -- ---- one turn
@@ -61,10 +63,6 @@ module _ {t index : List ℕ} {count all read : ℕ} {known : Counts} (s : Frame
   -- as many frames are read as the file so far has
   read-so-far : line_count s.file ≡ read
   read-so-far = let same = s.held.counted in omega (arith, s.so_many, same.type_count, same.function_count, same.input_count, same.node_count)
-
-  -- no kind has too many of them, so all are not too many
-  pub few-frames : read ≤ frames_most
-  few-frames = let h = s.held in omega (arith, read-so-far, h.few_types, h.few_functions, h.few_inputs, h.few_nodes)
 
   module _ (less : read < count) where
     there : read < length s.accepted.frames
@@ -74,7 +72,7 @@ module _ {t index : List ℕ} {count all read : ℕ} {known : Counts} (s : Frame
     next-frame = drop-cons s.accepted.frames read [] there
 
     -- where the sum of all limits is reached, every kind has as many frames as it may have
-    pub too_many : {r : Reading} {index' : List ℕ} → frames_most ≤ read → r ≡ Fault bad_frame (read + 1) → FramesRead t r index' (read_file t)
+    pub too_many : {r : Reading} {index' : List ℕ} → frames_most ≤ read → r ≡ Err (record { refusal = BadFrame; frame = read + 1 }) → FramesRead t r index' (read_file t)
     too_many le e =
         let h = s.held in
         let bytes = frame-some (line_at t read) _ (line-spelled t s.accepted.frames s.accepted.are read there) in
@@ -114,12 +112,12 @@ module _ {t index : List ℕ} {count all read : ℕ} {known : Counts} (s : Frame
         frame-read : FrameRead (line_at t) x index' (read_frame all (suc read) s.file (get_or s.accepted.frames read []))
         frame-read = subst (λ (bs : List ℕ). FrameRead (line_at t) x index' (read_frame all (suc read) s.file bs)) line-bytes (v.says (line_at t) s.file s.held (line-is ∙ ap (line_at t) (sym s.so_many)) (suc read))
 
-        pub frame-stops : {m : ℕ} {r : Reading} → x ≡ Refused m → r ≡ frame_reading x (read + 1) → FramesRead t r index' (read_file t)
+        pub frame-stops : {m : Refusal} {r : Reading} → x ≡ Err m → r ≡ Err (record { refusal = m; frame = read + 1 }) → FramesRead t r index' (read_file t)
         frame-stops {m} q a =
             let no-file = frame-fault frame-read q in
-            text-fault t (a ∙ ap (λ y. frame_reading y (read + 1)) q) (s.is ∙ frame_refused all (suc read) s.file next-frame no-file.1 ∙ ap (no m) (sym (add-one read)))
+            text-fault t a (s.is ∙ frame_refused all (suc read) s.file next-frame no-file.1 ∙ ap (no (number_of m)) (sym (add-one read)))
 
-        pub frame-goes-on : {n : Counts} → x ≡ Taken n → FramesTo t count all n (read + 1) index'
+        pub frame-goes-on : {n : Counts} → x ≡ Ok n → FramesTo t count all n (read + 1) index'
         frame-goes-on {n} q =
             let Q = frame-file frame-read q in
             let after = Q.1.1.counted in
@@ -138,11 +136,11 @@ module _ {t index : List ℕ} {count all read : ℕ} {known : Counts} (s : Frame
   last-read : count ≤ read → read_file t ≡ read_frames all (suc read) s.file []
   last-read le = s.is ∙ ap (read_frames all (suc read) s.file) (drop_of_length-le s.accepted.frames {i = read} (omega (arith, le, s.accepted.counted)))
 
-  without : {index' : List ℕ} → count ≤ read → known.nodes ≡ 0 → FramesRead t (Fault bad_frame (read + 1)) index' (read_file t)
+  without : {index' : List ℕ} → count ≤ read → known.nodes ≡ 0 → FramesRead t (Err (record { refusal = BadFrame; frame = read + 1 })) index' (read_file t)
   without le none = text-fault t refl (last-read le ∙ no_node all (suc read) s.file (s.held.counted.node_count ∙ none) ∙ ap (no bad_frame) (sym (add-one read)))
 
   -- with the counts every section is the file's
-  with-some : {index' : List ℕ} → count ≤ read → (known.nodes ≡ 0 → ⊥) → CountsPut known index index' → length index' ≡ index_words → FramesRead t Done index' (read_file t)
+  with-some : {index' : List ℕ} → count ≤ read → (known.nodes ≡ 0 → ⊥) → CountsPut known index index' → length index' ≡ index_words → FramesRead t (Ok tt) index' (read_file t)
   with-some {index'} le some put long =
       let same = s.held.counted in
       let words : known.types ∷ known.functions ∷ known.inputs ∷ known.nodes ∷ [] ≡ counts_entry s.file = λ i. sym same.type_count i ∷ sym same.function_count i ∷ sym same.input_count i ∷ sym same.node_count i ∷ [] in

@@ -6,25 +6,34 @@ ghost use Rattle.reader.specs.Texts.{Judges};
 use index::INDEX_WORDS;
 use index_writer::put_frame;
 use language::limits::TEXT_MOST;
-use language::refusals::{BAD_LINE, NO_FRAME, TEXT_TOO_LONG};
+use language::refusals::{NO_FRAME, Refusal, RefusalAt};
 use text_lines::rule_lines::{RuleLine, rule_line, rule_marks};
-use text_lines::{Judged, channel};
+use text_lines::{FrameCounts, channel};
 
-// Refusal 1 for a text too long, 2 with the first bad line; else how many frames there are, and channels. Where each frame's line starts and
-// how long it is goes into the index, as far as it has room.
-pub fn judge(text: &[u8], index: &mut [u32; INDEX_WORDS]) -> Judged
+// How many frames there are, and channels; refused is a text too long, and the first bad line. Where each frame's line starts and how
+// long it is goes into the index, as far as it has room.
+pub fn judge(text: &[u8], index: &mut [u32; INDEX_WORDS]) -> Result<FrameCounts, RefusalAt>
     requires { index.old ≡ replicate index_words 0 }
     ensures { Judges text.now index.old result index.new }
 {
     if TEXT_MOST < text.len() {
-        return Judged::Refused(TEXT_TOO_LONG, NO_FRAME);
+        return Err(RefusalAt {
+            refusal: Refusal::TextTooLong,
+            frame: NO_FRAME,
+        });
     }
     let digits = rule_marks();
     let mut at: usize = 0;
     let mut frames: u32 = 0;
     let mut channels: u32 = 0;
+    // A line says where the next one starts: no range says the places.
     while at < text.len() {
-        let x = rule_line(text, &digits, at);
+        let Some(x) = rule_line(text, &digits, at) else {
+            return Err(RefusalAt {
+                refusal: Refusal::BadLine,
+                frame: frames + 1,
+            });
+        };
         match x {
             RuleLine::Extra(next) => {
                 at = next;
@@ -36,10 +45,7 @@ pub fn judge(text: &[u8], index: &mut [u32; INDEX_WORDS]) -> Judged
                 frames += 1;
                 at = f.next;
             }
-            RuleLine::Bad => {
-                return Judged::Refused(BAD_LINE, frames + 1);
-            }
         }
     }
-    Judged::Frames(frames, channels)
+    Ok(FrameCounts { frames, channels })
 }

@@ -5,7 +5,7 @@ use Rattle.std.proofs.Common.{sym, ◌∙◌, arith, le_refl}
 use Rattle.std.proofs.Math.Path.{ap, subst}
 use Rattle.std.proofs.Math.ListN.{length, take, drop, replicate, length-append, length-drop, take-append-drop}
 use Rattle.std.proofs.Math.Seq.{length-take-le, drop-length, take-take}
-use Rattle.language.specs.Refusals.{no_refusal, no_frame, types_disagree, not_lent, bad_input_line, self_reading}
+use Rattle.language.specs.Refusals.{no_frame, not_lent, bad_input_line}
 use Rattle.language.specs.Result.{Result, no, bind, need, from}
 use Rattle.language.specs.Syntax.{File}
 use Rattle.language.specs.Reader.{read_file}
@@ -15,52 +15,53 @@ use Rattle.language.specs.Slide.{State}
 use Rattle.language.specs.Layout.{state_length, state_words, load_state}
 use Rattle.language.specs.Line.{line_trees}
 use Rattle.language.specs.Machine.{Board as MachineBoard, Iterated, answer, written, zeros, lengths_lent, buffers_lent, iterate_state, iterate_file, iterated, iterate}
-use Rattle.theory.specs.Tests.{verdict, verdict-refused}
 use Rattle.theory.specs.PlainTypesAgree.{well-plain-passes}
 use Rattle.theory.specs.Orderly.{acyclic-passes}
 use Rattle.theory.specs.Unread.{load_same}
-use Rattle.reader.specs.declared.Reading.{Reading}
-use Rattle.reader.specs.declared.Reading.TheVariants.{Fault}
-use Rattle.reader.specs.Texts.{TextRead}
+use Rattle.std.specs.Prelude.{Option, Some, None, Ok, Err}
+use Rattle.language.specs.declared.refusals.RefusalAt.{RefusalAt}
+use Rattle.language.specs.declared.refusals.Refusal.TheVariants.{TypesDisagree, SelfReading, NotLent}
+use Rattle.language.specs.RefusalNumbers.{number_of}
+use Rattle.reader.specs.Texts.{Reading, TextRead}
 use Rattle.reader.specs.Indexes.{read-fault}
 use Rattle.ends.specs.Told.{TellsUpdates, TellsReadings}
 use Rattle.node_order.specs.Files.{JudgesOrder}
-use Rattle.node_order.specs.FileLaws.{orderly-verdict}
+use Rattle.node_order.specs.FileLaws.{orderly-refused}
 use Rattle.plain_types.specs.Verdicts.{JudgesAll}
-use Rattle.plain_types.specs.JudgeLaws.{plain-types-verdict}
+use Rattle.plain_types.specs.JudgeLaws.{plain-types-passes, plain-types-refused}
 use Rattle.heads.specs.Places.{channel_line_of}
-use Rattle.iteration.specs.declared.nodes.Updated.{Updated}
-use Rattle.iteration.specs.declared.nodes.Updated.TheVariants.{Used, Refused}
+use Rattle.iteration.specs.declared.nodes.RefusalIn.{RefusalIn}
+use Rattle.iteration.specs.Promises.{Updated}
 use Rattle.answers.specs.declared.Board.{Board}
 use Rattle.answers.specs.declared.Answer.{Answer}
-use Rattle.answers.specs.Boards.{board_of, said, refusal_of, read_answer, LendsAll, ClearsBoth}
+use Rattle.answers.specs.Boards.{board_of, said, answer_of, LendsAll, ClearsBoth}
 use Rattle.checker.specs.Checks.{ReadHeld}
 use Rattle.checker.specs.CheckLaws.{order-frame, ordered}
-use Rattle.runtime.specs.Runs.{Iterates, frame_at, answer_of, Cleared, Told, told_done, told_refused, Walked, on_state, Lent, IteratesLent, IteratesRead}
+use Rattle.runtime.specs.Runs.{Iterates, frame_at, Answered, reached, Cleared, Told, told_done, told_refused, Walked, on_state, Lent, IteratesLent, IteratesRead}
 use Rattle.answers.specs.LendLaws.{as_long, same-lent, Enough, enough-is}
 
 -- ---- answers
 pub frame_is : (index : List ℕ) (c : ℕ) {line : ℕ} → line ≡ channel_line_of index c → line + 1 ≡ frame_at index c
 frame_is index c e = ap (λ i. i + 1) e
 
-pub answer-done : (index : List ℕ) {x : Updated} {used : ℕ} {r : Answer} → x ≡ Used used → r ≡ refusal_of no_refusal no_frame → r ≡ answer_of index x
-answer-done index d q = q ∙ ap (answer_of index) (sym d)
+pub reached-done : (index : List ℕ) {x : Updated} {used : ℕ} → x ≡ Ok used → Ok tt ≡ reached index x
+reached-done index d = sym (ap (reached index) d)
 
-pub answer-refused : (index : List ℕ) {x : Updated} {n c frame : ℕ} {r : Answer} → x ≡ Refused n c → frame ≡ frame_at index c → r ≡ refusal_of n frame → r ≡ answer_of index x
-answer-refused index {n = n} d f q = q ∙ ap (refusal_of n) f ∙ ap (answer_of index) (sym d)
+pub reached-refused : (index : List ℕ) {x : Updated} {e : RefusalIn} {frame : ℕ} → x ≡ Err e → frame ≡ frame_at index e.channel → Err (record { refusal = e.refusal; frame = frame }) ≡ reached index x
+reached-refused index {e = e} d f = ap (λ n. Err (record { refusal = e.refusal; frame = n })) f ∙ sym (ap (reached index) d)
 
 -- ---- the board's words, of a longer buffer
 module _ (cells : ℕ) (state : List ℕ) (long : state_length cells ≤ length state) where
   front_long : length (take (state_length cells) state) ≡ state_length cells
   front_long = length-take-le (state_length cells) state long
 
-  put_back : {r : Answer} {words' : List ℕ} {o : Result State} → Told cells (take (state_length cells) state) r words' o → Told cells state r (words' ++ drop (state_length cells) state) o
+  put_back : {r : Answered} {words' : List ℕ} {o : Result State} → Told cells (take (state_length cells) state) r words' o → Told cells state r (words' ++ drop (state_length cells) state) o
   unfolding written
-  put_back (told_done {s} q w) =
+  put_back (told_done {s} w) =
       let rest = drop (state_length cells) state in
       let none : drop (state_length cells) (take (state_length cells) state) ≡ [] = ap (λ n. drop n (take (state_length cells) state)) (sym front_long) ∙ drop-length (take (state_length cells) state) in
-      told_done q (ap (λ (z : List ℕ). z ++ rest) (w ∙ ap (λ (z : List ℕ). state_words cells s ++ z) none ∙ append-nil (state_words cells s)))
-  put_back (told_refused q w) = told_refused q (ap (λ (z : List ℕ). z ++ drop (state_length cells) state) w ∙ take-append-drop (state_length cells) state)
+      told_done (ap (λ (z : List ℕ). z ++ rest) (w ∙ ap (λ (z : List ℕ). state_words cells s ++ z) none ∙ append-nil (state_words cells s)))
+  put_back (told_refused w) = told_refused (ap (λ (z : List ℕ). z ++ drop (state_length cells) state) w ∙ take-append-drop (state_length cells) state)
 
 -- ---- an iteration is all passes over what was read
 iterate-of : (text : List ℕ) (b : MachineBoard) (lent : Bool) (state line : List ℕ) {y : Result File} → read_file text ≡ y → iterate_file text b lent state line ≡ bind y (λ P. plain_types P (orderly P (need lent not_lent no_frame (on_state P b state line))))
@@ -69,8 +70,8 @@ iterate-of text b lent state line e = rw e
 
 -- ---- a file that was read: 9 and 25
 module _ {text index : List ℕ} (z : ReadHeld text index) where
-  pub walked : {frame node : ℕ} {ends row : List ℕ} → JudgesAll text index frame → TellsUpdates text index ends → TellsReadings text index row → JudgesOrder index row node → frame ≡ 0 → node ≡ 0 → Walked text index ends row
-  walked v u t o agree none = record { ordered = ordered z v t o agree none; ends_told = u; readings_told = t }
+  pub walked : {ends row : List ℕ} → JudgesAll text index None → TellsUpdates text index ends → TellsReadings text index row → JudgesOrder index row None → Walked text index ends row
+  walked v u t o = record { ordered = ordered z v t o; ends_told = u; readings_told = t }
 
   module _ (line : List ℕ) (b : Board) (state scratch slots : List ℕ) where
     abbrev lent_now : Bool
@@ -82,21 +83,19 @@ module _ {text index : List ℕ} (z : ReadHeld text index) where
     abbrev behind : Result State
     behind = on_state z.file (board_of b) state line
 
-    refused-with : {r : Answer} {m f : ℕ} → outcome ≡ no m f → r ≡ refusal_of m f → IteratesRead text line b state scratch slots r state scratch slots
-    refused-with {r} e q = record { says = subst (Told b.cells state r state) (sym e) (told_refused q refl); clean = refl; long = refl }
+    refused-with : {e : RefusalAt} → outcome ≡ no (number_of e.refusal) e.frame → IteratesRead text line b state scratch slots (Err e) state scratch slots
+    refused-with {e} said = record { says = subst (Told b.cells state (Err e) state) (sym said) (told_refused refl); clean = refl; long = refl }
 
-    module _ {frame : ℕ} (v : JudgesAll text index frame) where
-      after-reading : outcome ≡ verdict types_disagree frame (orderly z.file (need lent_now not_lent no_frame behind))
-      unfolding bind
-      after-reading = iterate-of text (board_of b) lent_now state line z.indexed.read ∙ plain-types-verdict v z.indexed (orderly z.file (need lent_now not_lent no_frame behind))
+    after-reading : outcome ≡ plain_types z.file (orderly z.file (need lent_now not_lent no_frame behind))
+    unfolding bind
+    after-reading = iterate-of text (board_of b) lent_now state line z.indexed.read
 
-      pub types-refused : {r : Answer} → (frame ≡ 0 → ⊥) → r ≡ refusal_of types_disagree frame → IteratesRead text line b state scratch slots r state scratch slots
-      types-refused wrong q = refused-with (after-reading ∙ verdict-refused types_disagree frame _ wrong) q
+    pub types-refused : {frame : ℕ} → JudgesAll text index (Some frame) → IteratesRead text line b state scratch slots (Err (record { refusal = TypesDisagree; frame = frame })) state scratch slots
+    types-refused v = refused-with {e = record { refusal = TypesDisagree; frame = _ }} (after-reading ∙ plain-types-refused v z.indexed (orderly z.file (need lent_now not_lent no_frame behind)))
 
-      pub order-refused : {row : List ℕ} {node : ℕ} {r : Answer} → TellsReadings text index row → JudgesOrder index row node → frame ≡ 0 → (node ≡ 0 → ⊥) → r ≡ refusal_of self_reading node → IteratesRead text line b state scratch slots r state scratch slots
-      unfolding verdict
-      order-refused {node = node} t o agree wrong q = refused-with (after-reading ∙ ap (λ f. verdict types_disagree f (orderly z.file (need lent_now not_lent no_frame behind))) agree ∙
-          orderly-verdict z.indexed.within (order-frame z t o) (need lent_now not_lent no_frame behind) ∙ verdict-refused self_reading node _ wrong) q
+    pub order-refused : {frame : ℕ} {row : List ℕ} → JudgesAll text index None → TellsReadings text index row → JudgesOrder index row (Some frame) → IteratesRead text line b state scratch slots (Err (record { refusal = SelfReading; frame = frame })) state scratch slots
+    order-refused v t o = refused-with {e = record { refusal = SelfReading; frame = _ }} (after-reading ∙ plain-types-passes v z.indexed (orderly z.file (need lent_now not_lent no_frame behind)) ∙
+        orderly-refused z.indexed.within (order-frame z t o) (need lent_now not_lent no_frame behind))
 
 -- ---- and what follows
 module _ {text index ends readings : List ℕ} (y : Walked text index ends readings) (line : List ℕ) (b : Board) (state scratch slots : List ℕ) where
@@ -109,9 +108,9 @@ module _ {text index ends readings : List ℕ} (y : Walked text index ends readi
     after-order = iterate-of text (board_of b) (lent_now z line b state scratch slots) state line z.indexed.read ∙
         well-plain-passes z.file _ y.ordered.plain ∙ acyclic-passes z.file _ y.ordered.acyclic ∙ ap (λ d. need d not_lent no_frame (behind z line b state scratch slots)) (sym g.is)
 
-    pub lent-refused : {r : Answer} → given ≡ false → r ≡ refusal_of not_lent no_frame → IteratesRead text line b state scratch slots r state scratch slots
+    pub lent-refused : given ≡ false → IteratesRead text line b state scratch slots (Err (record { refusal = NotLent; frame = no_frame })) state scratch slots
     unfolding need
-    lent-refused e q = refused-with z line b state scratch slots (after-order ∙ ap (λ d. need d not_lent no_frame (behind z line b state scratch slots)) e) q
+    lent-refused e = refused-with z line b state scratch slots {e = record { refusal = NotLent; frame = no_frame }} (after-order ∙ ap (λ d. need d not_lent no_frame (behind z line b state scratch slots)) e)
 
     module _ (good : given ≡ true) {words : ℕ} (w : words ≡ state_length b.cells) where
       enough : Enough b (length state) (length scratch) (length slots)
@@ -141,7 +140,7 @@ module _ {text index ends readings : List ℕ} (y : Walked text index ends readi
         clean = c;
       }
 
-      pub read-iterated : {r : Answer} {words' scratch' slots₁ : List ℕ} → IteratesLent text index line b.cells b.calls (take words state) scratch (take b.slots slots) r words' scratch' slots₁ →
+      pub read-iterated : {r : Answered} {words' scratch' slots₁ : List ℕ} → IteratesLent text index line b.cells b.calls (take words state) scratch (take b.slots slots) r words' scratch' slots₁ →
           IteratesRead text line b state scratch slots r (words' ++ drop words state) scratch' (slots₁ ++ drop b.slots slots)
       unfolding need from
       read-iterated {r} {words'} {scratch'} {slots₁} i =
@@ -163,24 +162,29 @@ module _ {text index ends readings : List ℕ} (y : Walked text index ends readi
           take_whole n l = take-take n n l (le_refl n)
 
 -- ---- the whole
-told-whole : {cells : ℕ} (scratch slots : List ℕ) {state state' scratch' slots' : List ℕ} {r : Answer} {o : Result State} → Told cells state r state' o → scratch' ≡ zeros scratch → slots' ≡ zeros slots →
-    ◌≡◌ {A = Iterated} (record { answer = said r; state = state'; scratch = scratch'; slots = slots' }) (iterated o cells state scratch slots)
-unfolding iterated answer
-told-whole scratch slots (told_done q w) s l = rw (q, w, s, l) refl
-told-whole scratch slots (told_refused q w) s l = rw (q, w, s, l) refl
+told-whole : {cells : ℕ} (scratch slots : List ℕ) {state state' scratch' slots' : List ℕ} {r : Answered} {o : Result State} → Told cells state r state' o → scratch' ≡ zeros scratch → slots' ≡ zeros slots →
+    ◌≡◌ {A = Iterated} (record { answer = said (answer_of r); state = state'; scratch = scratch'; slots = slots' }) (iterated o cells state scratch slots)
+unfolding iterated answer answer_of
+told-whole scratch slots (told_done w) s l = rw (w, s, l) refl
+told-whole scratch slots (told_refused w) s l = rw (w, s, l) refl
 
 pub is-clear : {scratch slots scratch₁ slots₁ : List ℕ} → ClearsBoth scratch slots scratch₁ slots₁ → Cleared scratch₁
 is-clear {scratch} c = record { is = c.first_is ∙ ap (λ n. replicate n 0) (sym (as_long scratch c.first_is)) }
 
-module _ (text : List ℕ) (b : Board) (state scratch slots line : List ℕ) {scratch₁ slots₁ : List ℕ} (cleared : ClearsBoth scratch slots scratch₁ slots₁) where
-  pub iterate-unread : {index : List ℕ} {x : Reading} {r : Answer} {m frame : ℕ} → TextRead text x index (read_file text) → x ≡ Fault m frame → r ≡ read_answer x → Iterates text b state scratch slots line r state scratch₁ slots₁
-  unfolding iterate bind read_answer
-  iterate-unread v q e = record { is = told-whole scratch slots (subst (Told b.cells state _ state) (sym (iterate-of text (board_of b) (buffers_lent (board_of b) state scratch slots) state line (read-fault v q))) (told_refused (e ∙ ap read_answer q) refl)) cleared.first_is cleared.second_is }
+-- a text that was not read
+pub text-unread : {text index line state scratch slots : List ℕ} {b : Board} {x : Reading} {e : RefusalAt} → TextRead text x index (read_file text) → x ≡ Err e → IteratesRead text line b state scratch slots (Err e) state scratch slots
+unfolding bind
+text-unread {text} {line = line} {state} {scratch} {slots} {b} {e = e} v q = record {
+  says = subst (Told b.cells state (Err e) state) (sym (iterate-of text (board_of b) (lengths_lent (board_of b) (length state) (length scratch) (length slots)) state line (read-fault v q))) (told_refused refl);
+  clean = refl;
+  long = refl;
+}
 
-  pub iterate-done : {state' scratch₂ slots₂ slots' : List ℕ} {r : Answer} → IteratesRead text line b state scratch₁ slots₁ r state' scratch₂ slots₂ → slots' ≡ replicate (length slots₂) 0 →
+module _ (text : List ℕ) (b : Board) (state scratch slots line : List ℕ) {scratch₁ slots₁ : List ℕ} (cleared : ClearsBoth scratch slots scratch₁ slots₁) where
+  pub iterate-done : {state' scratch₂ slots₂ slots' : List ℕ} {x : Answered} {r : Answer} → IteratesRead text line b state scratch₁ slots₁ x state' scratch₂ slots₂ → slots' ≡ replicate (length slots₂) 0 → r ≡ answer_of x →
       Iterates text b state scratch slots line r state' scratch₂ slots'
   unfolding iterate
-  iterate-done {state'} {r = r} i l = record {
-    is = told-whole scratch slots (subst (λ d. Told b.cells state r state' (iterate_file text (board_of b) d state line)) (same-lent b state cleared) i.says) (i.clean ∙ cleared.first_is)
-        (l ∙ ap (λ n. replicate n 0) (i.long ∙ as_long slots cleared.second_is));
+  iterate-done {state'} {x = x} i l q = record {
+    is = rw q (told-whole scratch slots (subst (λ d. Told b.cells state x state' (iterate_file text (board_of b) d state line)) (same-lent b state cleared) i.says) (i.clean ∙ cleared.first_is)
+        (l ∙ ap (λ n. replicate n 0) (i.long ∙ as_long slots cleared.second_is)));
   }

@@ -25,25 +25,26 @@ use Rattle.state_words.specs.StateLaws.{loaded-held}
 use Rattle.cell_check.specs.CellLaws.{some_of, none_of}
 use Rattle.state_check.specs.Loads.{StateJudged}
 use Rattle.input_line.specs.Judges.{LineJudged}
-use Rattle.iteration.specs.declared.nodes.Updated.{Updated}
+use Rattle.std.specs.Prelude.{Err}
+use Rattle.language.specs.declared.refusals.Refusal.TheVariants.{NotLent, BadInputLine}
+use Rattle.language.specs.RefusalNumbers.{number_of}
+use Rattle.iteration.specs.Promises.{Updated}
 use Rattle.iteration.specs.Whole.{Begun, Given, AgreesIteration, is_done, is_refused, IteratesState}
-use Rattle.answers.specs.declared.Answer.{Answer}
-use Rattle.answers.specs.Boards.{refusal_of}
-use Rattle.runtime.specs.Runs.{frame_at, answer_of, Told, told_done, told_refused, Lent, IteratesLent}
+use Rattle.runtime.specs.Runs.{frame_at, Answered, reached, Told, told_done, told_refused, Lent, IteratesLent}
 
 -- the frame of a channel is found by the index
 frame_found : {text index : List ℕ} {P : File} (c : ℕ) → Indexed text index P → c < channel_total P → frame_at index c ≡ channel_frame P c
 frame_found c x less = omega (arith, channel-line c x less)
 
 -- what an iteration answered
-told-by : {text index ends readings line : List ℕ} {cells : ℕ} {words : List ℕ} {P : File} (b : Board) {s : State} {vs : List Tree} {words₂ : List ℕ} {x : Updated} {o : Result State} {r : Answer} → Given text index ends readings line cells words P s vs → iterate_state P b s vs ≡ o →
-    AgreesIteration P cells words words₂ x o → r ≡ answer_of index x → Told cells words r words₂ o
-told-by b g e (is_done w) q = told_done q w
-told-by {line = line} {P = P} b {s} {vs} g e (is_refused {n} {c} w) q =
+told-by : {text index ends readings line : List ℕ} {cells : ℕ} {words : List ℕ} {P : File} (b : Board) {s : State} {vs : List Tree} {words₂ : List ℕ} {x : Updated} {o : Result State} {r : Answered} → Given text index ends readings line cells words P s vs → iterate_state P b s vs ≡ o →
+    AgreesIteration P cells words words₂ x o → r ≡ reached index x → Told cells words r words₂ o
+told-by b g e (is_done w) q = rw q (told_done w)
+told-by {line = line} {P = P} b {s} {vs} g e (is_refused {e = why} w) q =
     let fit = (line-forth-exact P line vs g.allowed).1 in
-    let met = (refused-iff-rules g.plain b (state-loaded g.indexed.within g.loaded).typed vs fit n (channel_frame P c)).0 e in
+    let met = (refused-iff-rules g.plain b (state-loaded g.indexed.within g.loaded).typed vs fit (number_of why.refusal) (channel_frame P why.channel)).0 e in
     let below = (iteration-numbered vs (omega (arith, inputs-count P vs fit)) met).to_last in
-    told_refused (q ∙ ap (refusal_of n) (frame_found c g.indexed (omega (arith, below)))) w
+    rw (q, frame_found why.channel g.indexed (omega (arith, below))) (told_refused {e = record { refusal = why.refusal; frame = channel_frame P why.channel }} w)
 
 module _ (text index ends readings line : List ℕ) (cells calls : ℕ) (words scratch slots : List ℕ) (l : Lent text index ends readings cells words scratch) {given : Bool} {scratch₁ : List ℕ} (v : StateJudged index words cells scratch given scratch₁) where
   -- enough is lent, so the test is whether there is a state
@@ -56,10 +57,10 @@ module _ (text index ends readings line : List ℕ) (cells calls : ℕ) (words s
   same : scratch₁ ≡ scratch
   same = v.none l.clean.is
 
-  pub state-refused : {r : Answer} → given ≡ false → r ≡ refusal_of not_lent no_frame → IteratesLent text index line cells calls words scratch slots r words scratch₁ slots
+  pub state-refused : given ≡ false → IteratesLent text index line cells calls words scratch slots (Err (record { refusal = NotLent; frame = no_frame })) words scratch₁ slots
   unfolding from
-  state-refused d q = record {
-    says = λ {P} x well. rw (none_of (load_state P cells words) (sym (valid-is x) ∙ d)) (told_refused q refl);
+  state-refused d = record {
+    says = λ {P} x well. rw (none_of (load_state P cells words) (sym (valid-is x) ∙ d)) (told_refused {e = record { refusal = NotLent; frame = no_frame }} refl);
     clean = same;
     long = refl;
   }
@@ -76,15 +77,15 @@ module _ (text index ends readings line : List ℕ) (cells calls : ℕ) (words s
     scratch-room = omega (arith, l.room, ap length same)
 
     module _ {allowed : Bool} (a : LineJudged line index allowed) where
-      pub line_refused : {r : Answer} → allowed ≡ false → r ≡ refusal_of bad_input_line no_frame → IteratesLent text index line cells calls words scratch slots r words scratch₁ slots
+      pub line_refused : allowed ≡ false → IteratesLent text index line cells calls words scratch slots (Err (record { refusal = BadInputLine; frame = no_frame })) words scratch₁ slots
       unfolding from
-      line_refused d q = record {
-        says = λ {P} x well. some_of (load_state P cells words) (sym (valid-is x) ∙ valid) _ (λ s loads. rw (loads, none_of (line_trees P line) (sym (a.says text P x) ∙ d)) (told_refused q refl));
+      line_refused d = record {
+        says = λ {P} x well. some_of (load_state P cells words) (sym (valid-is x) ∙ valid) _ (λ s loads. rw (loads, none_of (line_trees P line) (sym (a.says text P x) ∙ d)) (told_refused {e = record { refusal = BadInputLine; frame = no_frame }} refl));
         clean = same;
         long = refl;
       }
 
-      pub lent-iterated : {x : Updated} {words₂ scratch₂ slots₂ : List ℕ} {r : Answer} → allowed ≡ true → IteratesState text index ends readings line cells calls words scratch₁ slots x words₂ scratch₂ slots₂ → r ≡ answer_of index x →
+      pub lent-iterated : {x : Updated} {words₂ scratch₂ slots₂ : List ℕ} {r : Answered} → allowed ≡ true → IteratesState text index ends readings line cells calls words scratch₁ slots x words₂ scratch₂ slots₂ → r ≡ reached index x →
           IteratesLent text index line cells calls words scratch slots r words₂ scratch₂ slots₂
       unfolding from
       lent-iterated {x} good w q =

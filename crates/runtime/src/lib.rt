@@ -3,22 +3,19 @@
 
 ghost use Rattle.std.specs.Prelude.{◌≡◌};
 ghost use Rattle.checker.specs.Checks.{ReadHeld};
-ghost use Rattle.runtime.specs.Runs.{frame_at, answer_of, Cleared, Walked, Lent, IteratesLent, IteratesRead, Iterates};
+ghost use Rattle.runtime.specs.Runs.{frame_at, Cleared, Walked, Lent, IteratesLent, IteratesRead, Iterates};
 
-use answers::{Answer, Board, buffers_lent, clear_both, read_answer, refusal};
+use answers::{Answer, Board, buffers_lent, clear_both};
 use ends::find_ends;
 use heads::places::channel_line;
 use index::{INDEX_WORDS, clear};
 use input_line::allowed_line;
 use iteration::iterate_state;
-use iteration::nodes::Updated;
 use language::limits::{NODES_MOST, TEXT_MOST};
-use language::refusals::{
-    BAD_INPUT_LINE, NO_FRAME, NO_REFUSAL, NOT_LENT, SELF_READING, TYPES_DISAGREE,
-};
+use language::refusals::{NO_FRAME, Refusal, RefusalAt};
 use node_order::self_reading_frame;
 use plain_types::plain_types;
-use reader::{Reading, read};
+use reader::read;
 use state_check::valid_state;
 use state_words::state_length;
 
@@ -27,16 +24,6 @@ fn channel_frame(index: &[u32; INDEX_WORDS], c: u32) -> u32
     ensures { result ≡ frame_at index.now c }
 {
     channel_line(index, c) + 1
-}
-
-// The answer of an iteration.
-fn iteration_answer(index: &[u32; INDEX_WORDS], x: Updated) -> Answer
-    ensures { result ≡ answer_of index.now x }
-{
-    match x {
-        Updated::Used(_) => refusal(NO_REFUSAL, NO_FRAME),
-        Updated::Refused(n, c) => refusal(n, channel_frame(index, c)),
-    }
 }
 
 // An iteration with the board's words lent, the file's ends and readings found: 18, 19, then 20 to 23.
@@ -51,20 +38,31 @@ fn iterate_lent(
     line: &[u8],
     cells: u32,
     calls: u32,
-) -> Answer
+) -> Result<(), RefusalAt>
     requires { Lent text.now index.now ends.now readings.now cells state.old scratch.old }
     ensures { IteratesLent text.now index.now line.now cells calls state.old scratch.old slots.old result state.new scratch.new slots.new }
 {
     if !valid_state(index, state, scratch, cells) {
-        return refusal(NOT_LENT, NO_FRAME);
+        return Err(RefusalAt {
+            refusal: Refusal::NotLent,
+            frame: NO_FRAME,
+        });
     }
     if !allowed_line(line, index) {
-        return refusal(BAD_INPUT_LINE, NO_FRAME);
+        return Err(RefusalAt {
+            refusal: Refusal::BadInputLine,
+            frame: NO_FRAME,
+        });
     }
-    let x = iterate_state(
+    match iterate_state(
         text, index, ends, readings, state, scratch, slots, line, cells, calls,
-    );
-    iteration_answer(index, x)
+    ) {
+        Ok(_) => Ok(()),
+        Err(e) => Err(RefusalAt {
+            refusal: e.refusal,
+            frame: channel_frame(index, e.channel),
+        }),
+    }
 }
 
 // An iteration of a file of right plain types, no node of which reads itself: 18, and what follows.
@@ -78,13 +76,16 @@ fn iterate_ordered(
     scratch: &mut [u32],
     slots: &mut [u32],
     line: &[u8],
-) -> Answer
+) -> Result<(), RefusalAt>
     requires walked { Walked text.now index.now ends.now readings.now }
     requires cleared { Cleared scratch.old }
     ensures { IteratesRead text.now line.now b state.old scratch.old slots.old result state.new scratch.new slots.new }
 {
     if !buffers_lent(b, state.len(), scratch.len(), slots.len()) {
-        return refusal(NOT_LENT, NO_FRAME);
+        return Err(RefusalAt {
+            refusal: Refusal::NotLent,
+            frame: NO_FRAME,
+        });
     }
     let words = state_length(b.cells);
     let free = b.slots as usize;
@@ -111,25 +112,47 @@ fn iterate_read(
     scratch: &mut [u32],
     slots: &mut [u32],
     line: &[u8],
-) -> Answer
+) -> Result<(), RefusalAt>
     requires read_held { ReadHeld text.now index.now }
     requires cleared { Cleared scratch.old }
     ensures { IteratesRead text.now line.now b state.old scratch.old slots.old result state.new scratch.new slots.new }
 {
-    let frame = plain_types(text, index);
-    if frame != NO_FRAME {
-        return refusal(TYPES_DISAGREE, frame);
+    if let Some(frame) = plain_types(text, index) {
+        return Err(RefusalAt {
+            refusal: Refusal::TypesDisagree,
+            frame,
+        });
     }
     let mut ends = [0u16; TEXT_MOST];
     let mut readings = [0u32; NODES_MOST];
     find_ends(text, index, &mut ends, &mut readings);
     let node = self_reading_frame(index, &readings);
-    if node != NO_FRAME {
-        return refusal(SELF_READING, node);
+    if let Some(frame) = node {
+        return Err(RefusalAt {
+            refusal: Refusal::SelfReading,
+            frame,
+        });
     }
     iterate_ordered(
         text, index, &ends, &readings, b, state, scratch, slots, line,
     )
+}
+
+// An iteration of a text: 1 to 8, and what follows.
+fn iterate_text(
+    text: &[u8],
+    b: Board,
+    state: &mut [u32],
+    scratch: &mut [u32],
+    slots: &mut [u32],
+    line: &[u8],
+) -> Result<(), RefusalAt>
+    requires { Cleared scratch.old }
+    ensures { IteratesRead text.now line.now b state.old scratch.old slots.old result state.new scratch.new slots.new }
+{
+    let mut index = [0u32; INDEX_WORDS];
+    read(text, &mut index)?;
+    iterate_read(text, &index, b, state, scratch, slots, line)
 }
 
 // One iteration of a file on a board with a line of input. After a refusal the state is unchanged; scratch and environment end zero.
@@ -144,12 +167,7 @@ pub fn iterate(
     ensures { Iterates text.now b state.old scratch.old environment.old line.now result state.new scratch.new environment.new }
 {
     clear_both(scratch, environment);
-    let mut index = [0u32; INDEX_WORDS];
-    let x = read(text, &mut index);
-    let Reading::Done = x else {
-        return read_answer(x);
-    };
-    let r = iterate_read(text, &index, b, state, scratch, environment, line);
+    let r = iterate_text(text, b, state, scratch, environment, line);
     clear(environment);
-    r
+    Answer::from(r)
 }

@@ -1,4 +1,8 @@
 -- A body entered for the first time at its sizes: what each return of `body` gives.
+use Rattle.language.specs.declared.refusals.RefusalAt.{RefusalAt}
+use Rattle.language.specs.declared.refusals.Refusal.TheVariants.{SizesDisagree, TooManyInstances}
+use Rattle.std.specs.Prelude.{Ok, Err}
+use Rattle.size_steps.specs.Outcomes.{Sizing, Refused}
 use Prim.Native.Nat.{ℕ, zero, suc, ◌+◌, ◌-◌, ◌≤◌, ◌<◌}
 use Rattle.std.specs.Prelude.{List, [], ◌∷◌, ◌++◌, Bool, true, false, ◌≡◌, length, set}
 use Rattle.std.proofs.Math.Option.{none, some}
@@ -31,8 +35,6 @@ use Rattle.index.specs.Sections.{functions_of}
 use Rattle.heads.specs.Places.{line_behind_types, function-line}
 use Rattle.size_steps.specs.declared.Site.{Site}
 use Rattle.size_steps.specs.declared.Checked.{Checked}
-use Rattle.size_steps.specs.declared.Sizing.{Sizing}
-use Rattle.size_steps.specs.declared.Sizing.TheVariants.{Is, Refused}
 use Rattle.size_steps.specs.declared.Entry.{Entry}
 use Rattle.size_steps.specs.Sites.{moved_on_of, around_one, Sited}
 use Rattle.size_steps.specs.Agreement.{Row, Met, table, Holds, Agrees, agrees, refused, itself, Grows, not_grown, grows-to, grows_same, bind_is, bind-no, need-holds, need-fails}
@@ -91,9 +93,9 @@ module _ {P : File} {e : Entry} {F : Function} {ks scope sizes : List ℕ} (v : 
 
 -- ---- body
 module _ (e : Entry) {t : Lent} {b : Buffers} (p : Site) where
-  pub body-full : instances_most ≤ p.used → ChecksBody e t b p (Refused 14 (p.place.line + 1)) b
+  pub body-full : instances_most ≤ p.used → ChecksBody e t b p (Refused TooManyInstances (p.place.line + 1)) b
   body-full full = record {
-    says = λ P F ks L left i h deep v new. rw (no_room P (suc p.place.line) e.function F ks (meaning e.ty) L left new (omega (arith, full, h.count))) (refused (ap (Refused 14) (add-one p.place.line)));
+    says = λ P F ks L left i h deep v new. rw (no_room P (suc p.place.line) e.function F ks (meaning e.ty) L left new (omega (arith, full, h.count))) (refused (ap (Refused TooManyInstances) (add-one p.place.line)));
     grows = not_grown;
   }
 
@@ -139,17 +141,17 @@ module _ (e : Entry) {t : Lent} {b : Buffers} (p : Site) where
       entered_here : entering P left (suc p.place.line) e.function F ks (meaning e.ty) L ≡ bind (body_run P (entering P (left - 1)) e.function F ks L) (leaving P (suc p.place.line) e.function F ks (meaning e.ty) L)
       entered_here = entered-now P (suc p.place.line) e.function F ks (meaning e.ty) L left (left - 1) (omega (arith, deep, room, h.count)) new (omega (arith, room, h.count))
 
-    pub body_refused : {n frame : ℕ} → x ≡ Refused n frame → ChecksBody e t b p x b₁
+    pub body_refused : {why : RefusalAt} → x ≡ Err why → ChecksBody e t b p x b₁
     body_refused d = record {
       says = λ P F ks L left i h deep v new. rw (entered_here P F ks L left i h deep v new) (bind-no _ (body-agrees P F ks L left i h deep v new) d d);
       grows = body-grows;
     }
 
-    module _ {k : Checked} {r : Bool} (d : x ≡ Is k) (same : r ≡ same_type (meaning k.ty) (meaning e.ty)) where
-      pub body-differs : r ≡ false → ChecksBody e t b p (Refused 11 (q.place.line + 1)) b₁
+    module _ {k : Checked} {r : Bool} (d : x ≡ Ok k) (same : r ≡ same_type (meaning k.ty) (meaning e.ty)) where
+      pub body-differs : r ≡ false → ChecksBody e t b p (Refused SizesDisagree (q.place.line + 1)) b₁
       body-differs no-match = record {
         says = λ P F ks L left i h deep v new. rw (entered_here P F ks L left i h deep v new) (bind_is _ (body-agrees P F ks L left i h deep v new) d (λ y c.
-            need-fails _ (ap (λ τ. same_type τ (meaning e.ty)) (sym c.type) ∙ sym same ∙ no-match) (ap (λ z. Refused 11 (z.place.line + 1)) at ∙ ap (λ n. Refused 11 (n + 1)) (told P F ks L left i h deep v new))));
+            need-fails _ (ap (λ τ. same_type τ (meaning e.ty)) (sym c.type) ∙ sym same ∙ no-match) (ap (λ z. Refused SizesDisagree (z.place.line + 1)) at ∙ ap (λ n. Refused SizesDisagree (n + 1)) (told P F ks L left i h deep v new))));
         grows = not_grown;
       }
 

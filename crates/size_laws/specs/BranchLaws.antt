@@ -1,4 +1,5 @@
 -- One branch of a case: skipped, or checked for every split.
+use Rattle.size_steps.specs.Outcomes.{Sizing}
 use Rattle.std.specs.Prelude.{ℕ, zero, suc, ◌+◌, ◌*◌, ◌-◌, ◌%◌, ◌≤◌, ◌<◌, ◌≡◌, refl, length, get_or}
 use mathlib.Core.List.{List, [], ◌∷◌}
 use Rattle.std.proofs.Math.Option.{some}
@@ -33,7 +34,6 @@ use Rattle.splits.specs.SplitSizes.{splits-are}
 use Rattle.splits.specs.Walks.{starts-keep, walk-starts}
 use Rattle.index.specs.Sections.{frames_of, types_of, functions_of}
 use Rattle.size_steps.specs.declared.Site.{Site}
-use Rattle.size_steps.specs.declared.Sizing.{Sizing}
 use Rattle.size_steps.specs.declared.Subject.{Subject}
 use Rattle.size_steps.specs.Sites.{moved_on_of, Kept, kept-all, kept_then, site-kept}
 use Rattle.size_steps.specs.Agreement.{agrees}

@@ -1,4 +1,7 @@
 -- The branches of a case: what each return gives.
+use Rattle.language.specs.declared.refusals.RefusalAt.{RefusalAt}
+use Rattle.std.specs.Prelude.{Ok, Err}
+use Rattle.size_steps.specs.Outcomes.{Sizing}
 use Rattle.std.specs.Prelude.{ℕ, suc, ◌+◌, ◌*◌, ◌%◌, ◌≤◌, ◌<◌, List, [], ◌∷◌, ◌≡◌, refl, length, get_or, drop}
 use Rattle.std.proofs.Math.Option.{some}
 use Rattle.std.proofs.Common.{sym, ap, ◌∙◌, subst, arith, add-one, length-drop, drop_of_length-le, drop-cons}
@@ -23,8 +26,6 @@ use Rattle.sizes.specs.Promises.{meaning}
 use Rattle.index.specs.Sections.{types_of}
 use Rattle.size_steps.specs.declared.Site.{Site}
 use Rattle.size_steps.specs.declared.Checked.{Checked}
-use Rattle.size_steps.specs.declared.Sizing.{Sizing}
-use Rattle.size_steps.specs.declared.Sizing.TheVariants.{Is, Refused}
 use Rattle.size_steps.specs.declared.Subject.{Subject}
 use Rattle.size_steps.specs.Sites.{moved_on_of, Kept, kept-all, kept_then, kept-moved}
 use Rattle.size_steps.specs.Agreement.{CheckedAs, Agrees, Grows, agrees, of_type, grows-to, grows_same, bind_is, bind-no}
@@ -103,7 +104,7 @@ module _ {s : Subject} {k n : ℕ} {t : Lent} {b b₁ : Buffers} {p : Site} {x :
       BranchesPart (line_at t.text p.place.line) p S (drop k (constructors_of P s.of)) end bs → Apart (line_at t.text p.place.line) p S end (constructors_of P s.of) bs k
   apart-at {P} h w part = apart (constructors_of P s.of) k (omega (arith, more, constructors-told h.indexed w.of told)) part
 
-  pub branches-first : {m frame : ℕ} → x ≡ Refused m frame → SizesBranches s k t b p x b₁
+  pub branches-first : {why : RefusalAt} → x ≡ Err why → SizesBranches s k t b p x b₁
   branches-first d = record {
     says = λ P S q Γ Δ L left h w end bs part. let i = apart-at h w part in
         rw (i.is, i.splits, branches-then P (entering P left) i.first i.others i.fields (drop (suc k) (constructors_of P s.of)) q Γ Δ s.of s.size (meaning s.ty) L)
@@ -113,7 +114,7 @@ module _ {s : Subject} {k n : ℕ} {t : Lent} {b b₁ : Buffers} {p : Site} {x :
   }
 
   -- the branches behind it
-  module _ {a : Checked} {o : Site} {y : Sizing} {b₂ : Buffers} (d : x ≡ Is a) (moved : o ≡ moved_on_of p a.next a.used) (u : SizesBranches s (k + 1) t b₁ o y b₂) where
+  module _ {a : Checked} {o : Site} {y : Sizing} {b₂ : Buffers} (d : x ≡ Ok a) (moved : o ≡ moved_on_of p a.next a.used) (u : SizesBranches s (k + 1) t b₁ o y b₂) where
     under : SizesBranches s (suc k) t b₁ (moved_on_of p a.next a.used) y b₂
     under = rw (sym (add-one k), sym moved) u
 
@@ -130,7 +131,7 @@ module _ {s : Subject} {k n : ℕ} {t : Lent} {b b₁ : Buffers} {p : Site} {x :
         under.says P S q Γ Δ z.list left (here-moved h a.next v.kept c.holds (grows-to v.grows d)) w end i.others
         (record { spelled = rw c.ends i.rest; within = i.within; ends = i.ends ∙ ap (λ (n : ℕ). past (line_at t.text p.place.line) n (length (exprs_bytes i.others))) (sym c.ends) })
 
-    pub branches-rest : {m frame : ℕ} → y ≡ Refused m frame → SizesBranches s k t b p y b₂
+    pub branches-rest : {why : RefusalAt} → y ≡ Err why → SizesBranches s k t b p y b₂
     branches-rest d' = record {
       says = λ P S q Γ Δ L left h w end bs part. let i = apart-at h w part in
           rw (i.is, i.splits, branches-then P (entering P left) i.first i.others i.fields (drop (suc k) (constructors_of P s.of)) q Γ Δ s.of s.size (meaning s.ty) L)
@@ -140,7 +141,7 @@ module _ {s : Subject} {k n : ℕ} {t : Lent} {b b₁ : Buffers} {p : Site} {x :
       kept = branches-kept;
     }
 
-    pub branches-done : {f : Checked} {numbers : Estimate} {r : Sizing} → y ≡ Is f → Combines either a.numbers f.numbers numbers → r ≡ Is (record { ty = f.ty; numbers = numbers; next = f.next; used = f.used }) →
+    pub branches-done : {f : Checked} {numbers : Estimate} {r : Sizing} → y ≡ Ok f → Combines either a.numbers f.numbers numbers → r ≡ Ok (record { ty = f.ty; numbers = numbers; next = f.next; used = f.used }) →
         SizesBranches s k t b p r b₂
     branches-done d' all ends = record {
       says = λ P S q Γ Δ L left h w end bs part. let i = apart-at h w part in

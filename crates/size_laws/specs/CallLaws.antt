@@ -1,4 +1,7 @@
 -- `18`: what each return of a call gives, and of what is done behind its arguments.
+use Rattle.language.specs.declared.refusals.RefusalAt.{RefusalAt}
+use Rattle.std.specs.Prelude.{Ok, Err}
+use Rattle.size_steps.specs.Outcomes.{Counting, Sizing}
 use Rattle.std.specs.Prelude.{ℕ, ◌≤◌, List, Bool, true, false, ◌≡◌, refl, length, replicate}
 use Rattle.std.proofs.Math.Option.{Option, none, some}
 use Rattle.std.proofs.Math.Path.{ap}
@@ -16,14 +19,9 @@ use Rattle.type_rows.specs.Rows.{NamedSizes}
 use Rattle.index.specs.Sections.{functions_of}
 use Rattle.size_steps.specs.declared.Site.{Site}
 use Rattle.size_steps.specs.declared.Checked.{Checked}
-use Rattle.size_steps.specs.declared.Sizing.{Sizing}
-use Rattle.size_steps.specs.declared.Sizing.TheVariants.{Is, Refused}
 use Rattle.size_steps.specs.declared.Counted.{Counted}
-use Rattle.size_steps.specs.declared.Counting.{Counting}
-use Rattle.size_steps.specs.declared.Counting.TheVariants.{Are, Refused as RefusedAll}
 use Rattle.size_steps.specs.Sites.{moved_on_of}
 use Rattle.size_steps.specs.Agreement.{Table, Agrees, agrees, itself, of_type, before_9, grows-to, grows_same, grows-all-to, all_are, all-no, bind_is, bind-no, need-before, from_some}
-use Rattle.size_steps.specs.Leaves.{refused_of}
 use Rattle.size_laws.specs.SeveralAgree.{grown-as, not-grown-as}
 use Rattle.size_laws.specs.Promises.{Lent, Buffers, buffers, entering, Sizes, SizesAll, opened, Enters, applied, Argues, Applies}
 use Rattle.size_laws.specs.Parts.{CallPart}
@@ -33,16 +31,16 @@ use Rattle.size_laws.specs.Sums.{through}
 
 -- ---- a call: its arguments, and what is behind them
 module _ {t : Lent} {b b₁ : Buffers} {p : Site} {f n : ℕ} {row row₁ : List ℕ} {x : Counting} (arity : ArityOf (functions_of t.index) f n) (room : variables_most ≤ length row) (v : SizesAll t b p n row x b₁ row₁) where
-  pub call-arguments : {k frame : ℕ} {r : Sizing} → x ≡ RefusedAll k frame → r ≡ refused_of x → Sizes (CallPart f) t b p r b₁
+  pub call-arguments : {why : RefusalAt} {r : Sizing} → x ≡ Err why → r ≡ Err why → Sizes (CallPart f) t b p r b₁
   unfolding sized
   call-arguments d answer = record {
     says = λ P S q Γ Δ L left h end e part. let i = called arity h part in
-        rw i.form (all-no _ (v.says P S q Γ Δ L left h (omega (arith, room, i.few)) end i.list i.part) d (answer ∙ ap refused_of d));
-    grows = not-grown-as (answer ∙ ap refused_of d);
+        rw i.form (all-no _ (v.says P S q Γ Δ L left h (omega (arith, room, i.few)) end i.list i.part) d answer);
+    grows = not-grown-as answer;
     kept = v.kept;
   }
 
-  pub call-applied : {a : Counted} {r : Sizing} {list : Table} → x ≡ Are a → Applies f n a t b₁.list row₁ p r list → Sizes (CallPart f) t b p r (buffers list b₁.scope b₁.sizes)
+  pub call-applied : {a : Counted} {r : Sizing} {list : Table} → x ≡ Ok a → Applies f n a t b₁.list row₁ p r list → Sizes (CallPart f) t b p r (buffers list b₁.scope b₁.sizes)
   unfolding sized
   call-applied d u = record {
     says = λ P S o Γ Δ L left h end e part. let i = called arity h part in
@@ -106,14 +104,14 @@ module _ (p : Site) (a : Counted) {t : Lent} {list : Table} {row named named' : 
     deep = g.deep;
   })
 
-  pub apply-refused : {k frame : ℕ} → x ≡ Refused k frame → Applies f n a t list row p x b.list
+  pub apply-refused : {why : RefusalAt} → x ≡ Err why → Applies f n a t list row p x b.list
   apply-refused d = record {
     says = λ P o F z left next g. rw (applied-opened P (entering P left) o f F z) (bind-no _ (opened-as g) d d);
     grows = entry.grows;
   }
 
-  pub apply-done : {k : Checked} {inside both numbers : Estimate} {r : Sizing} → x ≡ Is k → Changes in_call k.numbers inside → Combines after a.numbers inside both → Changes (with_slots n) both numbers →
-      r ≡ Is (record { ty = k.ty; numbers = numbers; next = k.next; used = k.used }) → Applies f n a t list row p r b.list
+  pub apply-done : {k : Checked} {inside both numbers : Estimate} {r : Sizing} → x ≡ Ok k → Changes in_call k.numbers inside → Combines after a.numbers inside both → Changes (with_slots n) both numbers →
+      r ≡ Ok (record { ty = k.ty; numbers = numbers; next = k.next; used = k.used }) → Applies f n a t list row p r b.list
   apply-done {numbers = numbers} d one two three answer = record {
     says = λ P o F z left next g. rw (applied-opened P (entering P left) o f F z) (bind_is _ (opened-as g) d (λ y c.
         agrees answer (record {

@@ -1,4 +1,8 @@
 -- `1A`: what each return of a case gives.
+use Rattle.language.specs.declared.refusals.RefusalAt.{RefusalAt}
+use Rattle.language.specs.declared.refusals.Refusal.TheVariants.{SizeOutside}
+use Rattle.std.specs.Prelude.{Ok, Err, Some, None, Option as Maybe}
+use Rattle.size_steps.specs.Outcomes.{Sizing, Refused}
 use Rattle.std.specs.Prelude.{ℕ, ◌+◌, ◌<◌, List, [], ◌≡◌, length, get_or}
 use Rattle.std.proofs.Math.Path.{refl, sym, ap}
 use Rattle.std.proofs.Common.{◌∙◌, subst₂, arith}
@@ -22,15 +26,12 @@ use Rattle.estimate.specs.Stands.{Combines}
 use Rattle.sizes.specs.declared.SizedType.{SizedType}
 use Rattle.sizes.specs.declared.SizedType.TheVariants.{Named}
 use Rattle.sizes.specs.declared.TypeAt.{TypeAt}
-use Rattle.sizes.specs.declared.TypeAt.TheVariants.{Is as TypeIs, Outside as TypeOutside}
 use Rattle.sizes.specs.Promises.{meaning, AgreesType, TypeGiven}
 use Rattle.sizes.specs.TypeLaws.{type-given, type-not-given, type-within}
 use Rattle.sizes.specs.Prefixes.{type-in-scope}
 use Rattle.index.specs.Sections.{frames_of}
 use Rattle.size_steps.specs.declared.Site.{Site}
 use Rattle.size_steps.specs.declared.Checked.{Checked}
-use Rattle.size_steps.specs.declared.Sizing.{Sizing}
-use Rattle.size_steps.specs.declared.Sizing.TheVariants.{Is, Refused}
 use Rattle.size_steps.specs.declared.Subject.{Subject}
 use Rattle.size_steps.specs.Sites.{one-byte-bounded, moved_on_of, Kept, kept_then, kept-moved}
 use Rattle.size_steps.specs.Agreement.{Table, CheckedAs, Agrees, Grows, agrees, before_9, of_type, not_grown, grows-to, grows_same, bind_is, bind-no, need-before, named-before, from_some, from-none}
@@ -47,7 +48,7 @@ unfolding named
 named-is frame κ e a = rw e a
 
 module _ {t : Lent} {b b₁ : Buffers} {p : Site} {x : Sizing} (v : Sizes ExprPart t b p x b₁) where
-  pub case-first : {u n frame : ℕ} → x ≡ Refused n frame → Sizes (CasePart u) t b p x b₁
+  pub case-first : {u : ℕ} {why : RefusalAt} → x ≡ Err why → Sizes (CasePart u) t b p x b₁
   unfolding sized
   case-first d = record {
     says = λ P S q Γ Δ L left h end e part. let i = part.head in
@@ -56,8 +57,8 @@ module _ {t : Lent} {b b₁ : Buffers} {p : Site} {x : Sizing} (v : Sizes ExprPa
     kept = v.kept;
   }
 
-  module _ {a : Checked} (d : x ≡ Is a) where
-    pub case-plain : {u n frame : ℕ} → NotNamed a.ty → Sizes (CasePart u) t b p (Refused n frame) b₁
+  module _ {a : Checked} (d : x ≡ Ok a) where
+    pub case-plain : {u : ℕ} {why : RefusalAt} → NotNamed a.ty → Sizes (CasePart u) t b p (Err why) b₁
     unfolding sized
     case-plain other = record {
       says = λ P S q Γ Δ L left h end e part. let i = part.head in
@@ -68,7 +69,7 @@ module _ {t : Lent} {b b₁ : Buffers} {p : Site} {x : Sizing} (v : Sizes ExprPa
     }
 
     -- the type that is wanted of the branches
-    module _ {w m : ℕ} {line : List ℕ} {y : TypeAt} (is : a.ty ≡ Named w m) (cut : line ≡ frame_part t.text (frames_of t.index) p.place.line) (g : TypeGiven line a.next b₁.sizes y) where
+    module _ {w m : ℕ} {line : List ℕ} {y : Maybe TypeAt} (is : a.ty ≡ Named w m) (cut : line ≡ frame_part t.text (frames_of t.index) p.place.line) (g : TypeGiven line a.next b₁.sizes y) where
       -- what was read, where the definition reads it
       result-read : {P : File} {S : Scope} {q : Stand} {Γ : List Ty} {Δ : List ℕ} {L : List Instance} {left types at : ℕ} {z : Sized} {r : ResultType} → Here t b p P S q Γ Δ L left → CheckedAs P at b₁.list a z →
           Spells result_bytes (line_at t.text p.place.line) at r → WithinResult types S.sizes r → AgreesType (type_at Δ r) (past (line_at t.text p.place.line) at (length (result_bytes r))) y
@@ -77,18 +78,18 @@ module _ {t : Lent} {b b₁ : Buffers} {p : Site} {x : Sizing} (v : Sizes ExprPa
           let sizes = sizes-scope (here-behind h (behind-first v d) c) in
           rw (sym c.ends, sym (sym (type-in-scope b₁.sizes w) ∙ ap (λ (l : List ℕ). type_at l r) sizes), sym there) (g.says _ _ r w (rw (there, c.ends) s))
 
-      pub case-outside : {u : ℕ} → y ≡ TypeOutside → Sizes (CasePart u) t b p (Refused 10 (p.place.line + 1)) b₁
+      pub case-outside : {u : ℕ} → y ≡ None → Sizes (CasePart u) t b p (Refused SizeOutside (p.place.line + 1)) b₁
       unfolding sized
       case-outside o = record {
         says = λ P S q Γ Δ L left h end e part. let i = part.head in
             rw i.is (bind_is _ (v.says P S q Γ Δ L left h _ i.first (part_at p i.spelled i.within refl (suc-same i.deep))) d (λ z c.
             named-is _ _ (sym c.type ∙ ap meaning is) (need-before _ _ before_9 (λ _.
-            from-none _ (type-not-given o (result-read h c i.spelled₂ i.within₂)) (in_frame 10 h)))));
+            from-none _ (type-not-given o (result-read h c i.spelled₂ i.within₂)) (in_frame SizeOutside h)))));
         grows = not_grown;
         kept = v.kept;
       }
 
-      module _ {u : ℕ} {wanted : SizedType} {next : Cursor} {o : Site} {z : Sizing} {b₂ : Buffers} (given : y ≡ TypeIs wanted next) (moved : o ≡ moved_on_of p next a.used)
+      module _ {u : ℕ} {wanted : SizedType} {next : Cursor} {o : Site} {z : Sizing} {b₂ : Buffers} (given : y ≡ Some (record { ty = wanted; next = next })) (moved : o ≡ moved_on_of p next a.used)
           {s : Subject} (subject : s ≡ subject_of u m wanted) (br : SizesBranches s 0 t b₁ o z b₂) where
         under : SizesBranches (subject_of u m wanted) 0 t b₁ (moved_on_of p next a.used) z b₂
         under = subst₂ (λ i j. SizesBranches i 0 t b₁ j z b₂) subject moved br
@@ -111,7 +112,7 @@ module _ {t : Lent} {b b₁ : Buffers} {p : Site} {x : Sizing} (v : Sizes ExprPa
             (past (line_at t.text p.place.line) (past (line_at t.text p.place.line) at (length (result_bytes r))) (length (exprs_bytes bs))) bs
             (record { spelled = rw there spelled; within = rw (levels-are, sym h.site.known.types) within; ends = ap (λ (n : ℕ). past (line_at t.text p.place.line) n (length (exprs_bytes bs))) (sym there) })
 
-        pub case-branches : {n n₂ : ℕ} → z ≡ Refused n n₂ → Sizes (CasePart u) t b p z b₂
+        pub case-branches : {why : RefusalAt} → z ≡ Err why → Sizes (CasePart u) t b p z b₂
         unfolding sized
         case-branches d' = record {
           says = λ P S q Γ Δ L left h end e part. let i = part.head in
@@ -123,7 +124,7 @@ module _ {t : Lent} {b b₁ : Buffers} {p : Site} {x : Sizing} (v : Sizes ExprPa
           kept = case-kept;
         }
 
-        pub case-done : {k : Checked} {numbers : Estimate} {f : Sizing} → z ≡ Is k → Combines after a.numbers k.numbers numbers → f ≡ Is (record { ty = k.ty; numbers = numbers; next = k.next; used = k.used }) →
+        pub case-done : {k : Checked} {numbers : Estimate} {f : Sizing} → z ≡ Ok k → Combines after a.numbers k.numbers numbers → f ≡ Ok (record { ty = k.ty; numbers = numbers; next = k.next; used = k.used }) →
             Sizes (CasePart u) t b p f b₂
         unfolding sized
         case-done d' all ends = record {

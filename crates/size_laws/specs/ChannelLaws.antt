@@ -1,4 +1,8 @@
 -- Counts against the limits, and an expression of a channel: what each return gives.
+use Rattle.language.specs.declared.refusals.RefusalAt.{RefusalAt}
+use Rattle.language.specs.declared.refusals.Refusal.TheVariants.{SizesDisagree}
+use Rattle.std.specs.Prelude.{Ok, Err}
+use Rattle.size_steps.specs.Outcomes.{Sizing, Refused}
 use Rattle.std.specs.Prelude.{ℕ, ◌+◌, ◌*◌, ◌≤◌, ◌<◌, List, [], map, Bool, true, false, ◌≡◌, refl, length, get_or, leb}
 use Rattle.std.proofs.Common.{sym, ap₂, ◌∙◌, subst, arith, length-append, leb-true, leb-false}
 use Rattle.std.proofs.Math.Path.{ap}
@@ -25,8 +29,6 @@ use Rattle.sizes.specs.Promises.{meaning}
 use Rattle.index.specs.Sections.{channels_of}
 use Rattle.size_steps.specs.declared.Site.{Site}
 use Rattle.size_steps.specs.declared.Checked.{Checked}
-use Rattle.size_steps.specs.declared.Sizing.{Sizing}
-use Rattle.size_steps.specs.declared.Sizing.TheVariants.{Is, Refused}
 use Rattle.size_steps.specs.Sites.{around_none, Room}
 use Rattle.size_steps.specs.Agreement.{Table, Holds, Agrees, agrees, itself, bind_is, bind-no, need-holds, need-fails}
 use Rattle.size_laws.specs.Promises.{Lent, Buffers, buffers, IndexedFile, Here, entering, Sizes, ExprPart}
@@ -120,20 +122,20 @@ module _ {t : Lent} {list : Table} {scope sizes : List ℕ} {n : Counts} {c word
     test-is : {σ : Ty} {ty : SizedType} {r : Bool} (found : SizedType) → ChannelTyped t.index c ty → r ≡ same_type (meaning found) (meaning ty) → meaning found ≡ σ → same_type σ τ ≡ r
     test-is found typed same type = ap₂ same_type (sym type) (sym (channel-typed {t = t} i c s.declared typed)) ∙ sym same
 
-  pub channel-refused : {m frame : ℕ} → x ≡ Refused m frame → SizesChannel t list n c word used x b.list
+  pub channel-refused : {why : RefusalAt} → x ≡ Err why → SizesChannel t list n c word used x b.list
   unfolding sized_channel
   channel-refused d = record { says = λ P i k C named e τ s L h. bind-no _ (channel-agrees P i k C named e τ s L h) d d }
 
-  module _ {a : Checked} {ty : SizedType} {r : Bool} (d : x ≡ Is a) (typed : ChannelTyped t.index c ty) (same : r ≡ same_type (meaning a.ty) (meaning ty)) where
-    pub channel-differs : r ≡ false → SizesChannel t list n c word used (Refused 11 (p.place.line + 1)) b.list
+  module _ {a : Checked} {ty : SizedType} {r : Bool} (d : x ≡ Ok a) (typed : ChannelTyped t.index c ty) (same : r ≡ same_type (meaning a.ty) (meaning ty)) where
+    pub channel-differs : r ≡ false → SizesChannel t list n c word used (Refused SizesDisagree (p.place.line + 1)) b.list
     unfolding sized_channel
     channel-differs no-match = record {
       says = λ P i k C named e τ s L h. bind_is _ (channel-agrees P i k C named e τ s L h) d (λ y g.
           need-fails _ (test-is P i k C named e τ s L h a.ty typed same g.type ∙ no-match)
-          (ap (λ z. Refused 11 (z.place.line + 1)) place ∙ ap (λ m. Refused 11 (m + 1)) (sym (line-is P i k C named e τ s L h))));
+          (ap (λ z. Refused SizesDisagree (z.place.line + 1)) place ∙ ap (λ m. Refused SizesDisagree (m + 1)) (sym (line-is P i k C named e τ s L h))));
     }
 
-    pub channel-done : {z : Sizing} → r ≡ true → z ≡ Is a → SizesChannel t list n c word used z b.list
+    pub channel-done : {z : Sizing} → r ≡ true → z ≡ Ok a → SizesChannel t list n c word used z b.list
     unfolding sized_channel
     channel-done match answer = record {
       says = λ P i k C named e τ s L h. bind_is _ (channel-agrees P i k C named e τ s L h) d (λ y g.

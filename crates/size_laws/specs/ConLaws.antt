@@ -1,4 +1,7 @@
 -- `19`: what each return of a constructor gives.
+use Rattle.language.specs.declared.refusals.RefusalAt.{RefusalAt}
+use Rattle.std.specs.Prelude.{Ok, Err}
+use Rattle.size_steps.specs.Outcomes.{Counting, Sizing}
 use Rattle.std.specs.Prelude.{ℕ, suc, ◌+◌, ◌*◌, ◌%◌, ◌≤◌, ◌<◌, List, [], ◌≡◌, refl, length, get_or}
 use Rattle.std.proofs.Math.Option.{some}
 use Rattle.std.proofs.Common.{sym, ◌∙◌, subst, arith}
@@ -18,16 +21,13 @@ use Rattle.encoding.specs.ExprLists.{expr_count, exprs-counted}
 use Rattle.encoding.specs.FrameLines.{line_at}
 use Rattle.index.specs.Sections.{types_of}
 use Rattle.size_steps.specs.declared.Site.{Site}
-use Rattle.size_steps.specs.declared.Sizing.{Sizing}
 use Rattle.size_steps.specs.declared.Counted.{Counted}
-use Rattle.size_steps.specs.declared.Counting.{Counting}
-use Rattle.size_steps.specs.declared.Counting.TheVariants.{Are, Refused as RefusedAll}
 use Rattle.size_steps.specs.Agreement.{grows_same, grows-all-to, all-no, from_some}
 use Rattle.size_laws.specs.SeveralAgree.{not-grown-as, all-know}
 use Rattle.size_laws.specs.Promises.{Lent, Buffers, Here, entering, Sizes, SizesAll, ExprsPart}
 use Rattle.size_laws.specs.Parts.{ConPart}
 use Rattle.size_laws.specs.HereLaws.{ends_at, suc-same}
-use Rattle.size_steps.specs.Leaves.{Makes, refused_of}
+use Rattle.size_steps.specs.Leaves.{Makes}
 
 -- as many types as expressions
 any-sized : (P : File) (enter : Enter) (e : Expr) (p : Stand) (Γ : List Ty) (Δ : List ℕ) (L : List Instance) → Sat (λ q. Unit {0}) (sized P enter e p Γ Δ L)
@@ -83,16 +83,16 @@ constructed {t} {p} {P} {S} {of} {c} {n} told h part =
 
 -- ---- the returns
 module _ {t : Lent} {b b₁ : Buffers} {p : Site} {of c n : ℕ} {row row₁ : List ℕ} {x : Counting} (told : FieldsOf (types_of t.index) of c n) (room : fields_most ≤ length row) (v : SizesAll t b p n row x b₁ row₁) where
-  pub con-fields : {k frame : ℕ} {r : Sizing} → x ≡ RefusedAll k frame → r ≡ refused_of x → Sizes (ConPart of c) t b p r b₁
+  pub con-fields : {why : RefusalAt} {r : Sizing} → x ≡ Err why → r ≡ Err why → Sizes (ConPart of c) t b p r b₁
   unfolding sized
   con-fields d answer = record {
     says = λ P S q Γ Δ L left h end e part. let i = constructed told h part in
-        rw i.form (all-no _ (v.says P S q Γ Δ L left h (omega (arith, room, i.few)) end i.list i.part) d (answer ∙ ap refused_of d));
-    grows = not-grown-as (answer ∙ ap refused_of d);
+        rw i.form (all-no _ (v.says P S q Γ Δ L left h (omega (arith, room, i.few)) end i.list i.part) d answer);
+    grows = not-grown-as answer;
     kept = v.kept;
   }
 
-  pub con-made : {a : Counted} {r : Sizing} → x ≡ Are a → Makes t.index row₁ p a of c r → Sizes (ConPart of c) t b p r b₁
+  pub con-made : {a : Counted} {r : Sizing} → x ≡ Ok a → Makes t.index row₁ p a of c r → Sizes (ConPart of c) t b p r b₁
   unfolding sized
   con-made d m = record {
     says = λ P S q Γ Δ L left h end e part. let i = constructed told h part in

@@ -1,4 +1,7 @@
 -- What each return of an expression gives: no level left, a leaf, or what its form gives behind its head; and a form by its number.
+use Rattle.language.specs.declared.refusals.RefusalAt.{RefusalAt}
+use Rattle.std.specs.Prelude.{Err}
+use Rattle.size_steps.specs.Outcomes.{Sizing}
 use Rattle.std.specs.Prelude.{ℕ, suc, ◌-◌, ◌<◌, List, Bool, true, false, ◌≡◌, refl}
 use Rattle.std.proofs.Math.Path.{sym}
 use Rattle.std.proofs.Common.{ap, ◌∙◌, subst, arith}
@@ -24,8 +27,6 @@ use Rattle.sizes.specs.declared.SizedType.{SizedType}
 use Rattle.sizes.specs.declared.SizedType.TheVariants.{Bool as BoolIs, Int as IntIs}
 use Rattle.index.specs.Sections.{frames_of}
 use Rattle.size_steps.specs.declared.Site.{Site}
-use Rattle.size_steps.specs.declared.Sizing.{Sizing}
-use Rattle.size_steps.specs.declared.Sizing.TheVariants.{Refused}
 use Rattle.size_steps.specs.Sites.{bounded_bool, bounded_int, bounded-small, down_to, kept-all}
 use Rattle.size_steps.specs.Agreement.{agrees, Grows, grown, not_grown, before_6, from-before}
 use Rattle.size_laws.specs.Promises.{Lent, Buffers, Here, Sizes, ExprPart, FormPart}
@@ -67,7 +68,7 @@ some_level (w_case room less e r bs) = omega arith
 some_level (w_adj room s e) = omega arith
 some_level (w_fit room k a b d) = omega arith
 
-pub expr-deep : {t : Lent} {b : Buffers} {p : Site} {n frame : ℕ} → p.place.levels ≡ 0 → Sizes ExprPart t b p (Refused n frame) b
+pub expr-deep : {t : Lent} {b : Buffers} {p : Site} {why : RefusalAt} → p.place.levels ≡ 0 → Sizes ExprPart t b p (Err why) b
 expr-deep none = record {
   says = λ P S q Γ Δ L left h end e part. absurd (omega (arith, none, some_level part.within));
   grows = not_grown;
@@ -216,7 +217,7 @@ module _ (line : List ℕ) (p : Site) (S : Scope) (end : ℕ) (e : Expr) where
   no-parts Adjust none part = false-is-not-true (sym none)
   no-parts (Fit n) none part = false-is-not-true (sym none)
 
-pub compound-none : {t : Lent} {b : Buffers} {p : Site} {n frame : ℕ} (form : Form) → has_parts form ≡ false → Sizes (CompoundPart form) t b p (Refused n frame) b
+pub compound-none : {t : Lent} {b : Buffers} {p : Site} {why : RefusalAt} (form : Form) → has_parts form ≡ false → Sizes (CompoundPart form) t b p (Err why) b
 compound-none form none = record {
   says = λ P S q Γ Δ L left h end e part. absurd (no-parts _ _ _ _ _ form none part);
   grows = not_grown;

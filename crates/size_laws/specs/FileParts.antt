@@ -1,5 +1,9 @@
 -- What the functions on a file's channels promise: one expression against its channel's declared type, and those of several channels
 -- one after the other, their numbers summed as they come.
+use Rattle.language.specs.RefusalNumbers.{number_of}
+use Rattle.language.specs.declared.refusals.RefusalAt.{RefusalAt}
+use Rattle.std.specs.Prelude.{Ok, Err}
+use Rattle.size_steps.specs.Outcomes.{Counting, Sizing}
 use Rattle.std.specs.Prelude.{ℕ, suc, ◌+◌, ◌*◌, ◌≤◌, ◌<◌, List, [], ◌∷◌, Bool, true, false, ◌≡◌, length, get_or}
 use Rattle.std.proofs.Math.Option.{some}
 use Rattle.std.proofs.Math.ListN.{get_elem? as look}
@@ -21,10 +25,7 @@ use Rattle.index.specs.Indexed.{channel_line, Counted as CountsAre}
 use Rattle.instances.specs.Listed.{instance_words_count}
 use Rattle.index.specs.Sections.{channels_of}
 use Rattle.size_steps.specs.declared.Site.{Site}
-use Rattle.size_steps.specs.declared.Sizing.{Sizing}
 use Rattle.size_steps.specs.declared.Counted.{Counted}
-use Rattle.size_steps.specs.declared.Counting.{Counting}
-use Rattle.size_steps.specs.declared.Counting.TheVariants.{Are, Refused}
 use Rattle.size_steps.specs.Agreement.{Table, Holds, Before, Agrees, of_type}
 use Rattle.size_laws.specs.Promises.{Lent, IndexedFile}
 
@@ -82,8 +83,8 @@ pub data Lasting (t : Lent) (P : File) (word last : ℕ) : ℕ → List Expr →
   one_more : {c : ℕ} {e : Expr} {τ : Ty} {es : List Expr} {τs : List Ty} → c < last → Standing t P word c e τ → Lasting t P word last (suc c) es τs → Lasting t P word last c (e ∷ es) (τ ∷ τs)
 
 pub data AgreesSum (P : File) (table : Table) (r : Counting) : Result CountedDef → Type 0 where
-  sum_agrees : {k : Counted} {x : CountedDef} → r ≡ Are k → Stands k.numbers x.numbers → Holds P table k.used x.list → AgreesSum P table r (ok x)
-  sum_refused : {n frame : ℕ} → r ≡ Refused n frame → AgreesSum P table r (no n frame)
+  sum_agrees : {k : Counted} {x : CountedDef} → r ≡ Ok k → Stands k.numbers x.numbers → Holds P table k.used x.list → AgreesSum P table r (ok x)
+  sum_refused : {why : RefusalAt} → r ≡ Err why → AgreesSum P table r (no (number_of why.refusal) why.frame)
   sum_beyond : {n frame : ℕ} → Before n → AgreesSum P table r (no n frame)
 
 abbrev pub channel_count : Counts → ℕ
@@ -96,4 +97,4 @@ pub record SizesChannels (t : Lent) (list : Table) (n : Counts) (from word used 
 -- all initial values, from a cleared list on
 pub record SizesInitials (t : Lent) (list : List ℕ) (n : Counts) (r : Counting) (list' : Table) : Type 0 where
   pub says : (P : File) → IndexedFile t P → CountsAre n P → instance_words_count * instances_most ≤ length list → AgreesSum P list' r (summed P [] nothing 0 (initial_values P) (declared_types P) [])
-  pub few : {k : Counted} → r ≡ Are k → Few n
+  pub few : {k : Counted} → r ≡ Ok k → Few n

@@ -1,4 +1,8 @@
 -- `1C`: what each return of a fit gives.
+use Rattle.language.specs.declared.refusals.RefusalAt.{RefusalAt}
+use Rattle.language.specs.declared.refusals.Refusal.TheVariants.{SizesDisagree}
+use Rattle.std.specs.Prelude.{Ok, Err}
+use Rattle.size_steps.specs.Outcomes.{Sizing, Refused}
 use Rattle.std.specs.Prelude.{ℕ, ◌+◌, ◌≤◌, List, [], ◌∷◌, ◌++◌, Bool, true, false, ◌≡◌, length}
 use Rattle.std.proofs.Math.Path.{refl, sym}
 use Rattle.std.proofs.Common.{ap, ap₂, ◌∙◌}
@@ -18,8 +22,6 @@ use Rattle.sizes.specs.declared.SizedType.TheVariants.{Named}
 use Rattle.sizes.specs.Promises.{meaning}
 use Rattle.size_steps.specs.declared.Site.{Site}
 use Rattle.size_steps.specs.declared.Checked.{Checked}
-use Rattle.size_steps.specs.declared.Sizing.{Sizing}
-use Rattle.size_steps.specs.declared.Sizing.TheVariants.{Is, Refused}
 use Rattle.size_steps.specs.Sites.{moved_on_of, widened_by}
 use Rattle.size_steps.specs.Agreement.{CheckedAs, agrees, not_grown, bind_is, bind-no, named-before, need-holds, need-fails}
 use Rattle.size_laws.specs.Promises.{Lent, Buffers, Here, Sizes, ExprPart}
@@ -29,7 +31,7 @@ use Rattle.size_laws.specs.TurnLaws.{sizes-at, part-agrees, Behind, behind-first
 use Rattle.size_laws.specs.NamedTypes.{is-named, NotNamed, bounded_at, named-type}
 
 module _ (k : ℕ) {t : Lent} {b b₁ : Buffers} {p : Site} {x : Sizing} (v : Sizes ExprPart t b p x b₁) where
-  pub fit-subject : {n frame : ℕ} → x ≡ Refused n frame → Sizes (FitPart k) t b p x b₁
+  pub fit-subject : {why : RefusalAt} → x ≡ Err why → Sizes (FitPart k) t b p x b₁
   unfolding sized
   fit-subject d = record {
     says = λ P S q Γ Δ L left h end e part. let i = part.head in
@@ -39,7 +41,7 @@ module _ (k : ℕ) {t : Lent} {b b₁ : Buffers} {p : Site} {x : Sizing} (v : Si
   }
 
   -- the subject is of no named type: this was judged before
-  pub fit-plain : {a : Checked} {n frame : ℕ} → x ≡ Is a → NotNamed a.ty → Sizes (FitPart k) t b p (Refused n frame) b₁
+  pub fit-plain : {a : Checked} {why : RefusalAt} → x ≡ Ok a → NotNamed a.ty → Sizes (FitPart k) t b p (Err why) b₁
   unfolding sized
   fit-plain {a} d plain = record {
     says = λ P S q Γ Δ L left h end e part. let i = part.head in
@@ -50,7 +52,7 @@ module _ (k : ℕ) {t : Lent} {b b₁ : Buffers} {p : Site} {x : Sizing} (v : Si
   }
 
 -- the variable bound, and the first arm under it
-module _ (k : ℕ) {t : Lent} {b b₁ : Buffers} {p : Site} {x : Sizing} (v : Sizes ExprPart t b p x b₁) {a : Checked} {u j word : ℕ} {m o : Site} {y : Sizing} {b₂ : Buffers} (room : variables_most ≤ length b₁.scope) (d : x ≡ Is a) (ty : a.ty ≡ Named u j)
+module _ (k : ℕ) {t : Lent} {b b₁ : Buffers} {p : Site} {x : Sizing} (v : Sizes ExprPart t b p x b₁) {a : Checked} {u j word : ℕ} {m o : Site} {y : Sizing} {b₂ : Buffers} (room : variables_most ≤ length b₁.scope) (d : x ≡ Ok a) (ty : a.ty ≡ Named u j)
     (is : word ≡ declared_word (tnamed u k)) (moved : m ≡ moved_on_of p a.next a.used) (wide : o ≡ widened_by m 1 0) (w : Sizes ExprPart t (bound_in b₁ p word) o y b₂) where
   second : Sizes ExprPart t (bound_in b₁ p word) (bound_at p a) y b₂
   second = sizes-at (bound-at p a moved wide) w
@@ -62,7 +64,7 @@ module _ (k : ℕ) {t : Lent} {b b₁ : Buffers} {p : Site} {x : Sizing} (v : Si
       Here t (bound_in b₁ p word) (bound_at p a) P (wider 1 0 S) q (Γ ++ (tnamed u' k ∷ [])) Δ z.list left
   here-fit h c named bound fits = here-bound (here-behind h one c) room fits (bounded_at c.small named bound.1) (is ∙ ap (λ n. declared_word (tnamed n k)) (sym (named-type ty c.type named).0))
 
-  pub fit-first : {n frame : ℕ} → y ≡ Refused n frame → Sizes (FitPart k) t b p y b₂
+  pub fit-first : {why : RefusalAt} → y ≡ Err why → Sizes (FitPart k) t b p y b₂
   unfolding sized
   fit-first d₂ = record {
     says = λ P S q Γ Δ L left h end e part. let i = part.head in
@@ -74,14 +76,14 @@ module _ (k : ℕ) {t : Lent} {b b₁ : Buffers} {p : Site} {x : Sizing} (v : Si
   }
 
   -- the other arm, where the subject does not fit
-  module _ {l : Checked} {o₂ : Site} {z : Sizing} {b₃ : Buffers} (d₂ : y ≡ Is l) (moved₂ : o₂ ≡ moved_on_of p l.next l.used) (w₂ : Sizes ExprPart t b₂ o₂ z b₃) where
+  module _ {l : Checked} {o₂ : Site} {z : Sizing} {b₃ : Buffers} (d₂ : y ≡ Ok l) (moved₂ : o₂ ≡ moved_on_of p l.next l.used) (w₂ : Sizes ExprPart t b₂ o₂ z b₃) where
     third : Sizes ExprPart t b₂ (moved_on_of p l.next l.used) z b₃
     third = sizes-at moved₂ w₂
 
     two : Behind p b b₂ l
     two = behind-under word one second d₂
 
-    pub fit-other : {n frame : ℕ} → z ≡ Refused n frame → Sizes (FitPart k) t b p z b₃
+    pub fit-other : {why : RefusalAt} → z ≡ Err why → Sizes (FitPart k) t b p z b₃
     unfolding sized
     fit-other d₃ = record {
       says = λ P S q Γ Δ L left h end e part. let i = part.head in
@@ -93,8 +95,8 @@ module _ (k : ℕ) {t : Lent} {b b₁ : Buffers} {p : Site} {x : Sizing} (v : Si
       kept = next-kept two third;
     }
 
-    module _ {f : Checked} {r : Bool} (d₃ : z ≡ Is f) (same : r ≡ same_type (meaning f.ty) (meaning l.ty)) where
-      pub fit-differ : r ≡ false → Sizes (FitPart k) t b p (Refused 11 (p.place.line + 1)) b₃
+    module _ {f : Checked} {r : Bool} (d₃ : z ≡ Ok f) (same : r ≡ same_type (meaning f.ty) (meaning l.ty)) where
+      pub fit-differ : r ≡ false → Sizes (FitPart k) t b p (Refused SizesDisagree (p.place.line + 1)) b₃
       unfolding sized
       fit-differ differ = record {
         says = λ P S q Γ Δ L left h end e part. let i = part.head in
@@ -102,13 +104,13 @@ module _ (k : ℕ) {t : Lent} {b b₁ : Buffers} {p : Site} {x : Sizing} (v : Si
             named-before _ _ _ (λ u' j' named.
             bind_is _ (part-agrees second (here-fit h c named i.bound (fits-of i.within₂)) i.spelled₂ i.within₂ c.ends (suc-same i.deep)) d₂ (λ z₂ c₂.
             bind_is _ (part-agrees third (here-behind h two c₂) i.spelled₃ i.within₃ c₂.ends (suc-same i.deep)) d₃ (λ z₃ c₃.
-            need-fails _ (ap₂ same_type (sym c₃.type) (sym c₂.type) ∙ sym same ∙ differ) (in_frame 11 h))))));
+            need-fails _ (ap₂ same_type (sym c₃.type) (sym c₂.type) ∙ sym same ∙ differ) (in_frame SizesDisagree h))))));
         grows = not_grown;
         kept = next-kept two third;
       }
 
       pub fit-done : {slots arms numbers : Estimate} {g : Sizing} → r ≡ true → Changes (with_slots 1) l.numbers slots → Combines either slots f.numbers arms → Combines after a.numbers arms numbers →
-          g ≡ Is (record { ty = f.ty; numbers = numbers; next = f.next; used = f.used }) → Sizes (FitPart k) t b p g b₃
+          g ≡ Ok (record { ty = f.ty; numbers = numbers; next = f.next; used = f.used }) → Sizes (FitPart k) t b p g b₃
       unfolding sized
       fit-done agree held arms all gives = record {
         says = λ P S q Γ Δ L left h end e part. let i = part.head in

@@ -1,4 +1,7 @@
 -- `15`: what each return of a let gives.
+use Rattle.language.specs.declared.refusals.RefusalAt.{RefusalAt}
+use Rattle.std.specs.Prelude.{Ok, Err}
+use Rattle.size_steps.specs.Outcomes.{Sizing}
 use Rattle.std.specs.Prelude.{ℕ, ◌≤◌, ◌≡◌, length}
 use Rattle.std.proofs.Math.Path.{refl, sym, ap}
 use Rattle.std.proofs.Common.{◌∙◌}
@@ -11,8 +14,6 @@ use Rattle.estimate.specs.Stands.{Changes, Combines}
 use Rattle.sizes.specs.Promises.{meaning}
 use Rattle.size_steps.specs.declared.Site.{Site}
 use Rattle.size_steps.specs.declared.Checked.{Checked}
-use Rattle.size_steps.specs.declared.Sizing.{Sizing}
-use Rattle.size_steps.specs.declared.Sizing.TheVariants.{Is, Refused}
 use Rattle.size_steps.specs.Sites.{moved_on_of, widened_by}
 use Rattle.size_steps.specs.Agreement.{agrees, grows-to, bind_is, bind-no}
 use Rattle.size_laws.specs.Promises.{Lent, Buffers, Sizes, ExprPart}
@@ -21,7 +22,7 @@ use Rattle.size_laws.specs.TurnLaws.{sizes-at, part-agrees, Behind, behind-first
 use Rattle.size_laws.specs.HereLaws.{fits-of, ends_at, here-bound, suc-same}
 
 module _ {t : Lent} {b b₁ : Buffers} {p : Site} {x : Sizing} (v : Sizes ExprPart t b p x b₁) where
-  pub let-first : {n frame : ℕ} → x ≡ Refused n frame → Sizes LetPart t b p x b₁
+  pub let-first : {why : RefusalAt} → x ≡ Err why → Sizes LetPart t b p x b₁
   unfolding sized
   let-first d = record {
     says = λ P S q Γ Δ L left h end e part. let i = part.head in
@@ -31,7 +32,7 @@ module _ {t : Lent} {b b₁ : Buffers} {p : Site} {x : Sizing} (v : Sizes ExprPa
   }
 
   -- the variable bound, and the second part under it
-  module _ {a : Checked} {word : ℕ} {m o : Site} {y : Sizing} {b₂ : Buffers} (room : variables_most ≤ length b₁.scope) (d : x ≡ Is a) (is : word ≡ declared_word (meaning a.ty))
+  module _ {a : Checked} {word : ℕ} {m o : Site} {y : Sizing} {b₂ : Buffers} (room : variables_most ≤ length b₁.scope) (d : x ≡ Ok a) (is : word ≡ declared_word (meaning a.ty))
       (moved : m ≡ moved_on_of p a.next a.used) (wide : o ≡ widened_by m 1 0) (u : Sizes ExprPart t (bound_in b₁ p word) o y b₂) where
     under : Sizes ExprPart t (bound_in b₁ p word) (bound_at p a) y b₂
     under = sizes-at (bound-at p a moved wide) u
@@ -39,7 +40,7 @@ module _ {t : Lent} {b b₁ : Buffers} {p : Site} {x : Sizing} (v : Sizes ExprPa
     one : Behind p b b₁ a
     one = behind-first v d
 
-    pub let-second : {n frame : ℕ} → y ≡ Refused n frame → Sizes LetPart t b p y b₂
+    pub let-second : {why : RefusalAt} → y ≡ Err why → Sizes LetPart t b p y b₂
     unfolding sized
     let-second d₂ = record {
       says = λ P S q Γ Δ L left h end e part. let i = part.head in
@@ -49,8 +50,8 @@ module _ {t : Lent} {b b₁ : Buffers} {p : Site} {x : Sizing} (v : Sizes ExprPa
       kept = under-kept word one under;
     }
 
-    pub let-done : {k : Checked} {slots numbers : Estimate} {f : Sizing} → y ≡ Is k → Changes (with_slots 1) k.numbers slots → Combines after a.numbers slots numbers →
-        f ≡ Is (record { ty = k.ty; numbers = numbers; next = k.next; used = k.used }) → Sizes LetPart t b p f b₂
+    pub let-done : {k : Checked} {slots numbers : Estimate} {f : Sizing} → y ≡ Ok k → Changes (with_slots 1) k.numbers slots → Combines after a.numbers slots numbers →
+        f ≡ Ok (record { ty = k.ty; numbers = numbers; next = k.next; used = k.used }) → Sizes LetPart t b p f b₂
     unfolding sized
     let-done d₂ held all f = record {
       says = λ P S q Γ Δ L left h end e part. let i = part.head in

@@ -1,5 +1,7 @@
 -- The measure of the cycle: the instances left first, then the levels left, then the place in the cycle (its rank). And the room that
 -- each call finds.
+use Rattle.std.specs.Prelude.{Ok}
+use Rattle.size_steps.specs.Outcomes.{Sizing}
 use Rattle.std.specs.Prelude.{ℕ, suc, ◌+◌, ◌*◌, ◌-◌, ◌≤◌, ◌<◌, ◌^◌, List, ◌≡◌}
 use Rattle.std.proofs.Math.Path.{ap}
 use Rattle.std.proofs.Common.{arith}
@@ -7,8 +9,6 @@ use Rattle.language.specs.Limits.{byte_range, instances_most}
 use Rattle.text.specs.declared.Cursor.{Cursor}
 use Rattle.size_steps.specs.declared.Site.{Site}
 use Rattle.size_steps.specs.declared.Checked.{Checked}
-use Rattle.size_steps.specs.declared.Sizing.{Sizing}
-use Rattle.size_steps.specs.declared.Sizing.TheVariants.{Is}
 use Rattle.size_steps.specs.declared.Entry.{Entry}
 use Rattle.size_steps.specs.Sites.{moved_on_of, down_to, widened_by, Room}
 use Rattle.size_steps.specs.Agreement.{Grows, grows-to}
@@ -104,10 +104,10 @@ module _ {p q : Site} {at : Cursor} {used : ℕ} (r : Room (suc p.place.levels) 
   room-rest = room_moved r (suc q.place.levels) e (omega (arith, ap (λ z. z.place.levels) e)) (omega (arith, ap (λ z. z.place.levels) e))
 
 -- ---- instances grow from part to part
-pub grows-behind : (p : Site) {q : Site} {at : Cursor} {used : ℕ} {y : Sizing} {b : Checked} → p.used ≤ used → q ≡ moved_on_of p at used → Grows q.used y → y ≡ Is b → p.used ≤ b.used
+pub grows-behind : (p : Site) {q : Site} {at : Cursor} {used : ℕ} {y : Sizing} {b : Checked} → p.used ≤ used → q ≡ moved_on_of p at used → Grows q.used y → y ≡ Ok b → p.used ≤ b.used
 grows-behind p {q} le e g d = omega (arith, le, ap (λ z. z.used) e, grows-to g d)
 
-pub grows-wide : (p : Site) {m q : Site} {at : Cursor} {used : ℕ} (v s : ℕ) {y : Sizing} {b : Checked} → p.used ≤ used → m ≡ moved_on_of p at used → q ≡ widened_by m v s → Grows q.used y → y ≡ Is b → p.used ≤ b.used
+pub grows-wide : (p : Site) {m q : Site} {at : Cursor} {used : ℕ} (v s : ℕ) {y : Sizing} {b : Checked} → p.used ≤ used → m ≡ moved_on_of p at used → q ≡ widened_by m v s → Grows q.used y → y ≡ Ok b → p.used ≤ b.used
 grows-wide p {m} {q} v s le e w g d = omega (arith, le, ap (λ z. z.used) e, ap (λ z. z.used) w, grows-to g d)
 
 -- ---- into a body, whose scope starts anew

@@ -1,4 +1,7 @@
 -- `17`: what each return of an operation gives.
+use Rattle.language.specs.declared.refusals.RefusalAt.{RefusalAt}
+use Rattle.std.specs.Prelude.{Ok, Err}
+use Rattle.size_steps.specs.Outcomes.{Sizing}
 use Rattle.std.specs.Prelude.{ℕ, ◌≡◌}
 use Rattle.std.proofs.Math.Path.{refl, sym}
 use Rattle.std.proofs.Common.{◌∙◌}
@@ -12,8 +15,6 @@ use Rattle.estimate.specs.Stands.{Makes, Combines}
 use Rattle.sizes.specs.declared.SizedType.{SizedType}
 use Rattle.size_steps.specs.declared.Site.{Site}
 use Rattle.size_steps.specs.declared.Checked.{Checked}
-use Rattle.size_steps.specs.declared.Sizing.{Sizing}
-use Rattle.size_steps.specs.declared.Sizing.TheVariants.{Is, Refused}
 use Rattle.size_steps.specs.Sites.{Bounded, bounded_bool, bounded_int, moved_on_of}
 use Rattle.size_steps.specs.Agreement.{agrees, before_9, bind_is, bind-no, need-before}
 use Rattle.size_laws.specs.Promises.{Lent, Buffers, Sizes, ExprPart}
@@ -35,7 +36,7 @@ bounded-operation oand = bounded_bool
 bounded-operation oor = bounded_bool
 
 module _ {t : Lent} {b b₁ : Buffers} {p : Site} {x : Sizing} (v : Sizes ExprPart t b p x b₁) where
-  pub op-first : {o n frame : ℕ} → x ≡ Refused n frame → Sizes (OpPart o) t b p x b₁
+  pub op-first : {o : ℕ} {why : RefusalAt} → x ≡ Err why → Sizes (OpPart o) t b p x b₁
   unfolding sized
   op-first d = record {
     says = λ P S q Γ Δ L left h end e part. let i = part.head in
@@ -44,14 +45,14 @@ module _ {t : Lent} {b b₁ : Buffers} {p : Site} {x : Sizing} (v : Sizes ExprPa
     kept = v.kept;
   }
 
-  module _ {a : Checked} {m : Site} {y : Sizing} {b₂ : Buffers} (d : x ≡ Is a) (moved : m ≡ moved_on_of p a.next a.used) (u : Sizes ExprPart t b₁ m y b₂) where
+  module _ {a : Checked} {m : Site} {y : Sizing} {b₂ : Buffers} (d : x ≡ Ok a) (moved : m ≡ moved_on_of p a.next a.used) (u : Sizes ExprPart t b₁ m y b₂) where
     second : Sizes ExprPart t b₁ (moved_on_of p a.next a.used) y b₂
     second = sizes-at moved u
 
     one : Behind p b b₁ a
     one = behind-first v d
 
-    pub op-second : {o n frame : ℕ} → y ≡ Refused n frame → Sizes (OpPart o) t b p y b₂
+    pub op-second : {o : ℕ} {why : RefusalAt} → y ≡ Err why → Sizes (OpPart o) t b p y b₂
     unfolding sized
     op-second d₂ = record {
       says = λ P S q Γ Δ L left h end e part. let i = part.head in
@@ -62,8 +63,8 @@ module _ {t : Lent} {b b₁ : Buffers} {p : Site} {x : Sizing} (v : Sizes ExprPa
       kept = next-kept one second;
     }
 
-    pub op-done : {o : ℕ} {k : Checked} {ty : SizedType} {parts cell numbers : Estimate} {f : Sizing} → y ≡ Is k → OperatorType o ty → Combines after a.numbers k.numbers parts → Makes one_cell cell → Combines after parts cell numbers →
-        f ≡ Is (record { ty = ty; numbers = numbers; next = k.next; used = k.used }) → Sizes (OpPart o) t b p f b₂
+    pub op-done : {o : ℕ} {k : Checked} {ty : SizedType} {parts cell numbers : Estimate} {f : Sizing} → y ≡ Ok k → OperatorType o ty → Combines after a.numbers k.numbers parts → Makes one_cell cell → Combines after parts cell numbers →
+        f ≡ Ok (record { ty = ty; numbers = numbers; next = k.next; used = k.used }) → Sizes (OpPart o) t b p f b₂
     unfolding sized
     op-done d₂ gives both new all is = record {
       says = λ P S q Γ Δ L left h end e part. let i = part.head in

@@ -1,5 +1,6 @@
 -- What the functions on expressions promise, one record for all forms: for every file that the index tells and every expression
 -- spelled at the place, the answer is the definition's; and on any bytes the scope is kept and no instance is lost.
+use Rattle.size_steps.specs.Outcomes.{Counting, Sizing}
 use Rattle.std.specs.Prelude.{ℕ, suc, ◌+◌, ◌-◌, ◌≤◌, ◌<◌, List, ◌++◌, map, true, ◌≡◌, length, take, drop, leb}
 use Rattle.std.proofs.Math.Option.{none, some}
 use Rattle.std.proofs.Math.ListN.{get_elem? as look}
@@ -22,14 +23,15 @@ use Rattle.index.specs.Indexed.{Indexed}
 use Rattle.instances.specs.Listed.{SizesAre}
 use Rattle.sizes.specs.Promises.{meaning}
 use Rattle.splits.specs.Next.{Chain}
+use Rattle.size_steps.specs.declared.Source.{Source}
+use Rattle.size_steps.specs.declared.Instances.{Instances}
+use Rattle.size_steps.specs.declared.Scope.{Scope as ScopeHeld}
 use Rattle.size_steps.specs.declared.Site.{Site}
-use Rattle.size_steps.specs.declared.Sizing.{Sizing}
 use Rattle.size_steps.specs.declared.Counted.{Counted}
-use Rattle.size_steps.specs.declared.Counting.{Counting}
 use Rattle.size_steps.specs.declared.Entry.{Entry}
 use Rattle.size_steps.specs.declared.Subject.{Subject}
 use Rattle.size_steps.specs.Sites.{Bounded, Around, Sited, Kept}
-use Rattle.size_steps.specs.Agreement.{Table, Holds, CountedAs, Agrees, itself, of_type, AgreesAll, Grows, GrowsAll}
+use Rattle.size_steps.specs.Agreement.{Table, table, Holds, CountedAs, Agrees, itself, of_type, AgreesAll, Grows, GrowsAll}
 
 -- ---- what is lent: the text and its index, and what is written
 pub record Lent : Type 0 where
@@ -46,6 +48,20 @@ lent text index = record { text = text; index = index }
 
 abbrev pub buffers : Table → List ℕ → List ℕ → Buffers
 buffers list scope sizes = record { list = list; scope = scope; sizes = sizes }
+
+-- as the code holds them
+abbrev pub lent_by : Source → Lent
+lent_by s = lent s.text.now s.index.now
+
+abbrev pub table_of : Instances → Table
+table_of i = table i.list.now i.memo.now
+
+-- the list is still the one that was lent
+abbrev pub SameList : Instances → Instances → Type 0
+SameList i i' = i'.list.ghost_name ≡ i.list.ghost_name
+
+abbrev pub buffers_of : Instances → ScopeHeld → Buffers
+buffers_of i s = buffers (table_of i) s.types s.sizes
 
 abbrev pub IndexedFile : Lent → File → Type 0
 IndexedFile t P = Indexed t.text t.index P

@@ -1,4 +1,7 @@
 -- Arguments and fields, one after the other: what is known before each turn of the loop, and what each return gives.
+use Rattle.language.specs.declared.refusals.RefusalAt.{RefusalAt}
+use Rattle.std.specs.Prelude.{Ok, Err, Some, Option as Maybe}
+use Rattle.size_steps.specs.Outcomes.{Counting, Sizing}
 use Prim.Native.Nat.{ℕ, suc, ◌+◌, ◌-◌, ◌≤◌, ◌<◌}
 use mathlib.Core.List.{List, [], ◌∷◌, ◌++◌, map, map-append}
 use Rattle.std.proofs.Math.Option.{Option, none, some}
@@ -24,24 +27,20 @@ use Rattle.index.specs.Indexed.{frame_part}
 use Rattle.index.specs.FramePartLaws.{part-is-line}
 use Rattle.index.specs.Sections.{frames_of}
 use Rattle.heads.specs.declared.Form.TheVariants.{Variable}
-use Rattle.heads.specs.declared.VariableAt.{VariableAt}
-use Rattle.heads.specs.declared.VariableAt.TheVariants.{Is as VariableIs}
+use Rattle.text.specs.declared.Found.{Found}
 use Rattle.heads.specs.Heads.{Shows, Heads}
 use Rattle.heads.specs.HeadForms.{var-head}
 use Rattle.heads.specs.Variables.{VariableRead, is_variable, no-variable}
 use Rattle.sizes.specs.Promises.{meaning}
+use Rattle.size_steps.specs.declared.Instances.{Instances}
+use Rattle.size_steps.specs.declared.Scope.{Scope as ScopeHeld}
 use Rattle.size_steps.specs.declared.Site.{Site}
 use Rattle.size_steps.specs.declared.Checked.{Checked}
-use Rattle.size_steps.specs.declared.Sizing.{Sizing}
-use Rattle.size_steps.specs.declared.Sizing.TheVariants.{Is, Refused}
 use Rattle.size_steps.specs.declared.Counted.{Counted}
-use Rattle.size_steps.specs.declared.Counting.{Counting}
-use Rattle.size_steps.specs.declared.Counting.TheVariants.{Are, Refused as RefusedAll}
 use Rattle.size_steps.specs.Sites.{Bounded, moved_on_of, Kept, kept-all, kept_then, kept-moved}
-use Rattle.size_steps.specs.Agreement.{table, Holds, Before, before_6, CheckedAs, CountedAs, Agrees, agrees, refused, beyond, itself, AgreesAll, agree, refused_all, beyond_all, grown_all, not_grown_all, grows-to}
-use Rattle.size_steps.specs.Leaves.{refused_all_of}
+use Rattle.size_steps.specs.Agreement.{Holds, Before, before_6, CheckedAs, CountedAs, Agrees, agrees, refused, beyond, itself, AgreesAll, agree, refused_all, beyond_all, grown_all, not_grown_all, grows-to}
 use Rattle.size_steps.specs.Numbers.{NoneCounted, Joins, passed_to}
-use Rattle.size_laws.specs.Promises.{Lent, Buffers, buffers, Here, entering, Sizes, SizesAll, ExprPart, ExprsPart}
+use Rattle.size_laws.specs.Promises.{Lent, Buffers, buffers_of, Here, entering, Sizes, SizesAll, ExprPart, ExprsPart}
 use Rattle.size_laws.specs.HereLaws.{here-moved}
 use Rattle.size_laws.specs.TurnLaws.{part-agrees, sizes-at}
 use Rattle.size_laws.specs.TypesTold.{variable-told}
@@ -115,31 +114,31 @@ module _ {t : Lent} {b₀ b : Buffers} {p : Site} {n i : ℕ} {row₀ row : List
           whole ≡ bind (sized P (entering P left) m.of.first q Γ Δ xs.list) (λ (y : Sized). bind (sizeds P (entering P left) m.of.others q Γ Δ y.list) (λ ys. ok (and_then (and_one xs y) ys)))
       whole-first xs m is = is ∙ ap (λ l. bind (sizeds P (entering P left) l q Γ Δ xs.list) (λ ys. ok (and_then xs ys))) m.of.is ∙ then-more P (entering P left) q Γ Δ xs m.of.first m.of.others
 
-    several-stops : {P : File} {end : ℕ} {A : Type 0} {view : A → Sized} {next k frame : ℕ} {a : Result A} {whole : Result Sizeds} (κ : A → Result Sizeds) → Agrees P view next b₁.list x a → x ≡ Refused k frame → whole ≡ bind a κ → AgreesAll P end b₁.list row (RefusedAll k frame) whole
+    several-stops : {P : File} {end : ℕ} {A : Type 0} {view : A → Sized} {next : ℕ} {why : RefusalAt} {a : Result A} {whole : Result Sizeds} (κ : A → Result Sizeds) → Agrees P view next b₁.list x a → x ≡ Err why → whole ≡ bind a κ → AgreesAll P end b₁.list row (Err why) whole
     unfolding bind
     several-stops κ (agrees e g) d is = absurd (let same = sym e ∙ d in let z : ◌≡◌ {A = ℕ} 0 1 = cc in omega arith)
-    several-stops {k = k} {frame = frame} κ (refused {n = m} {frame = g} e) d is = let same : RefusedAll k frame ≡ RefusedAll m g = (let both : Refused k frame ≡ Refused m g = sym d ∙ e in cc) in rw is (refused_all same)
+    several-stops {why} κ (refused {why = told} e) d is = let both : ◌≡◌ {A = Sizing} (Err why) (Err told) = sym d ∙ e in let same : why ≡ told = cc in rw is (refused_all (ap Err same))
     several-stops κ (beyond j) d is = rw is (beyond_all j)
 
-    pub several-part : {k frame : ℕ} {r : Counting} → x ≡ Refused k frame → r ≡ refused_all_of x → SizesAll t b₀ p n row₀ r b₁ row
-    several-part {k} {frame} {r} d answer = let whole : r ≡ RefusedAll k frame = answer ∙ ap refused_all_of d in rw whole (record {
+    pub several-part : {why : RefusalAt} {r : Counting} → x ≡ Err why → r ≡ Err why → SizesAll t b₀ p n row₀ r b₁ row
+    several-part {why} d answer = rw answer (record {
       says = λ P S q Γ Δ L left h room end es part. go h (v.says P S q Γ Δ L left h room end es part);
       grows = not_grown_all;
       kept = now-kept;
     })
       where
         go : {P : File} {S : Scope} {q : Stand} {Γ : List Ty} {Δ : List ℕ} {L : List Instance} {left end : ℕ} {whole : Result Sizeds} → Here t b₀ p P S q Γ Δ L left → Gathered t p P S q Γ Δ left n i end b row all whole →
-            AgreesAll P end b₁.list row (RefusedAll k frame) whole
+            AgreesAll P end b₁.list row (Err why) whole
         go h (gathered {xs} count c part is) = let m = more-part part one_left in several-stops _ (first-agrees h {xs = xs} c m) d (whole-first h xs m is)
         go h (lost j is) = rw is (beyond_all j)
 
-    gathers-on : {P : File} {S : Scope} {q : Stand} {Γ : List Ty} {Δ : List ℕ} {left end : ℕ} {k : Checked} {word : ℕ} {row₁ : List ℕ} {all₁ : Counted} {xs : Sizeds} {es : Exprs} {a : Result Sized} {whole : Result Sizeds} → x ≡ Is k → word ≡ declared_word (meaning k.ty) → row₁ ≡ set row i word → Joins all k all₁ →
+    gathers-on : {P : File} {S : Scope} {q : Stand} {Γ : List Ty} {Δ : List ℕ} {left end : ℕ} {k : Checked} {word : ℕ} {row₁ : List ℕ} {all₁ : Counted} {xs : Sizeds} {es : Exprs} {a : Result Sized} {whole : Result Sizeds} → x ≡ Ok k → word ≡ declared_word (meaning k.ty) → row₁ ≡ set row i word → Joins all k all₁ →
         length xs.types ≡ i → i < length row → CountedAs P all.next.at b.list row all xs → (m : MorePart (line_at t.text p.place.line) (moved_on_of p all.next all.used) S (n - (i + 1)) end es) →
         Agrees P itself (past (line_at t.text p.place.line) all.next.at (length (expr_bytes m.of.first))) b₁.list x a → whole ≡ bind a (λ (y : Sized). bind (sizeds P (entering P left) m.of.others q Γ Δ y.list) (λ ys. ok (and_then (and_one xs y) ys))) →
         Gathered t p P S q Γ Δ left n (i + 1) end b₁ row₁ all₁ whole
     unfolding bind
     gathers-on {P} {k = k} {all₁ = all₁} d is put joins count room c m (agrees {k = j} {x = y} e g) rest =
-        let same : j ≡ k = (let both : Is j ≡ Is k = sym e ∙ d in cc) in
+        let same : j ≡ k = (let both : Ok j ≡ Ok k = sym e ∙ d in cc) in
         let next : ℕ = past (line_at t.text p.place.line) all.next.at (length (expr_bytes m.of.first)) in
         let f : CheckedAs P next b₁.list k y = subst (λ z. CheckedAs P next b₁.list z y) same g in
         gathered-one {b₁ = b₁} {all₁ = all₁} count room c m y put (is ∙ ap declared_word f.type) f.small (joins.numbers.says _ _ c.numbers f.numbers)
@@ -147,7 +146,7 @@ module _ {t : Lent} {b₀ b : Buffers} {p : Site} {n i : ℕ} {row₀ row : List
     gathers-on d is put joins count room c m (refused e) rest = absurd (let same = sym e ∙ d in let z : ◌≡◌ {A = ℕ} 0 1 = cc in omega arith)
     gathers-on d is put joins count room c m (beyond j) rest = lost j rest
 
-    pub several-turn : {k : Checked} {row₁ : List ℕ} {all₁ : Counted} (word : ℕ) → x ≡ Is k → word ≡ declared_word (meaning k.ty) → row₁ ≡ set row i word → Joins all k all₁ → Gathers t b₀ p n row₀ (i + 1) b₁ row₁ all₁
+    pub several-turn : {k : Checked} {row₁ : List ℕ} {all₁ : Counted} (word : ℕ) → x ≡ Ok k → word ≡ declared_word (meaning k.ty) → row₁ ≡ set row i word → Joins all k all₁ → Gathers t b₀ p n row₀ (i + 1) b₁ row₁ all₁
     several-turn {k} {row₁} {all₁} word d is put joins = record {
       says = λ P S q Γ Δ L left h room end es part. go h room (v.says P S q Γ Δ L left h room end es part);
       grown = omega (arith, v.grown, grows-to now.grows d, joins.used);
@@ -161,12 +160,12 @@ module _ {t : Lent} {b₀ b : Buffers} {p : Site} {n i : ℕ} {row₀ row : List
         go h room (lost j e) = lost j e
 
   -- a variable, whose word is taken over as it stands in the scope
-  module _ {line : List ℕ} {r : VariableAt} {number : ℕ} {next : Cursor} (cut : line ≡ frame_part t.text (frames_of t.index) p.place.line) (read : VariableRead line all.next.at r) (d : r ≡ VariableIs number next) where
+  module _ {line : List ℕ} {r : Maybe Found} {number : ℕ} {next : Cursor} (cut : line ≡ frame_part t.text (frames_of t.index) p.place.line) (read : VariableRead line all.next.at r) (d : r ≡ Some (record { value = number; next = next })) where
     shows : Heads line all.next.at (record { form = Variable number; next = next })
     shows = go read d
       where
-        go : {z : VariableAt} → VariableRead line all.next.at z → z ≡ VariableIs number next → Heads line all.next.at (record { form = Variable number; next = next })
-        go (is_variable {v = w} {next = c} s) e = let same : w ≡ number = cc in let also : c ≡ next = cc in record { shows = subst (λ k. Shows line all.next.at k.at (Variable number)) also (subst (λ k. Shows line all.next.at c.at (Variable k)) same s) }
+        go : {z : Maybe Found} → VariableRead line all.next.at z → z ≡ Some (record { value = number; next = next }) → Heads line all.next.at (record { form = Variable number; next = next })
+        go (is_variable {f = w} s) e = let same : ◌≡◌ {A = Found} w (record { value = number; next = next }) = cc in record { shows = subst (λ (k : Found). Shows line all.next.at k.next.at (Variable k.value)) same s }
         go (no-variable f) e = absurd (let z : ◌≡◌ {A = ℕ} 0 1 = cc in omega arith)
 
     pub several-variable : {row₁ : List ℕ} {all₁ : Counted} (word : ℕ) → word ≡ get_or b.scope number 0 → row₁ ≡ set row i word → all₁ ≡ passed_to all next → Gathers t b₀ p n row₀ (i + 1) b row₁ all₁
@@ -201,7 +200,7 @@ module _ {t : Lent} {b₀ b : Buffers} {p : Site} {n i : ℕ} {row₀ row : List
         go h room (lost j e) = lost j e
 
 -- ---- all were checked
-pub several-done : {t : Lent} {b₀ b : Buffers} {p : Site} {n i : ℕ} {row₀ row : List ℕ} {all : Counted} {r : Counting} → Gathers t b₀ p n row₀ i b row all → n ≤ i → r ≡ Are all → SizesAll t b₀ p n row₀ r b row
+pub several-done : {t : Lent} {b₀ b : Buffers} {p : Site} {n i : ℕ} {row₀ row : List ℕ} {all : Counted} {r : Counting} → Gathers t b₀ p n row₀ i b row all → n ≤ i → r ≡ Ok all → SizesAll t b₀ p n row₀ r b row
 unfolding exprs_bytes
 several-done {t} {b₀} {b} {p} {n} {i} {row₀} {row} {all} v ended answer = rw answer (record {
   says = λ P S q Γ Δ L left h room end es part. go (v.says P S q Γ Δ L left h room end es part);
@@ -209,31 +208,21 @@ several-done {t} {b₀} {b} {p} {n} {i} {row₀} {row} {all} v ended answer = rw
   kept = v.kept;
 })
   where
-    go : {P : File} {S : Scope} {q : Stand} {Γ : List Ty} {Δ : List ℕ} {left end : ℕ} {whole : Result Sizeds} → Gathered t p P S q Γ Δ left n i end b row all whole → AgreesAll P end b.list row (Are all) whole
+    go : {P : File} {S : Scope} {q : Stand} {Γ : List Ty} {Δ : List ℕ} {left end : ℕ} {whole : Result Sizeds} → Gathered t p P S q Γ Δ left n i end b row all whole → AgreesAll P end b.list row (Ok all) whole
     go {P} {q = q} {Γ = Γ} {Δ = Δ} {left = left} (gathered {xs} {es} count c part e) =
         let z : es ≡ enil = none_within part.within (omega (arith, ended)) in
         rw (e ∙ ap (λ l. bind (sizeds P (entering P left) l q Γ Δ xs.list) (λ ys. ok (and_then xs ys))) z ∙ then-none P (entering P left) q Γ Δ xs)
         (agree refl (record { types = c.types; small = c.small; numbers = c.numbers; ends = sym (part.ends ∙ ap (λ (l : Exprs). past (line_at t.text p.place.line) all.next.at (length (exprs_bytes l))) z ∙ past-none (line_at t.text p.place.line) all.next.at); holds = c.holds }))
     go (lost j e) = rw e (beyond_all j)
 
--- ---- the loop: what is known before a turn, with the length of the list
-pub record Turned (t : Lent) (list₀ memo₀ scope₀ sizes₀ : List ℕ) (p : Site) (n : ℕ) (row₀ : List ℕ) (i : ℕ) (list memo scope sizes row : List ℕ) (all : Counted) : Type 0 where
-  pub gathers : Gathers t (buffers (table list₀ memo₀) scope₀ sizes₀) p n row₀ i (buffers (table list memo) scope sizes) row all
-  pub list_long : length list ≡ length list₀
+-- ---- where two arms meet, each thing is what the arm left in it
+module _ {t : Lent} {b₀ : Buffers} {p : Site} {n : ℕ} {row₀ : List ℕ} {i : ℕ} {row : List ℕ} {all : Counted} {i' : Instances} {s' : ScopeHeld} {row' row₁ : List ℕ} {all' all₁ : Counted} where
+  pub turned-variable : {i₁ : Instances} {s₁ : ScopeHeld} → Gathers t b₀ p n row₀ i (buffers_of i₁ s₁) row all → i < n →
+      {line : List ℕ} {r : Maybe Found} {number : ℕ} {next : Cursor} → line ≡ frame_part t.text (frames_of t.index) p.place.line → VariableRead line all.next.at r → r ≡ Some (record { value = number; next = next }) → (word : ℕ) → word ≡ get_or s₁.types number 0 →
+      row₁ ≡ set row i word → all₁ ≡ passed_to all next → i' ≡ i₁ → s' ≡ s₁ → row' ≡ row₁ → all' ≡ all₁ → Gathers t b₀ p n row₀ (i + 1) (buffers_of i' s') row' all'
+  turned-variable v less cut read d word is put passed same-instances same-scope same_row same-all = rw (same-instances, same-scope, same_row, same-all) (several-variable v less cut read d word is put passed)
 
-pub turned-start : {t : Lent} {list memo scope sizes : List ℕ} {p : Site} {n : ℕ} {row : List ℕ} {all : Counted} → NoneCounted p.place.at p.used all → Turned t list memo scope sizes p n row 0 list memo scope sizes row all
-turned-start made = record { gathers = gathers-start made; list_long = refl }
-
--- where two arms meet, each thing is what the arm left in it
-module _ {t : Lent} {list₀ memo₀ scope₀ sizes₀ : List ℕ} {p : Site} {n : ℕ} {row₀ : List ℕ} {i : ℕ} {list memo scope sizes row : List ℕ} {all : Counted} (v : Turned t list₀ memo₀ scope₀ sizes₀ p n row₀ i list memo scope sizes row all) (less : i < n)
-    {list' memo' scope' sizes' row' row₁ : List ℕ} {all' all₁ : Counted} where
-  pub turned-variable : {line : List ℕ} {r : VariableAt} {number : ℕ} {next : Cursor} → line ≡ frame_part t.text (frames_of t.index) p.place.line → VariableRead line all.next.at r → r ≡ VariableIs number next → (word : ℕ) → word ≡ get_or scope number 0 →
-      row₁ ≡ set row i word → all₁ ≡ passed_to all next → list' ≡ list → memo' ≡ memo → scope' ≡ scope → sizes' ≡ sizes → row' ≡ row₁ → all' ≡ all₁ → Turned t list₀ memo₀ scope₀ sizes₀ p n row₀ (i + 1) list' memo' scope' sizes' row' all'
-  turned-variable cut read d word is put passed same-list same-memo same-scope same-sizes same_row same-all = rw (same-list, same-memo, same-scope, same-sizes, same_row, same-all)
-      (record { gathers = several-variable v.gathers less cut read d word is put passed; list_long = v.list_long })
-
-  pub turned-expr : {o : Site} {x : Sizing} {k : Checked} {list₁ memo₁ scope₁ sizes₁ : List ℕ} → o ≡ moved_on_of p all.next all.used → Sizes ExprPart t (buffers (table list memo) scope sizes) o x (buffers (table list₁ memo₁) scope₁ sizes₁) →
-      length list₁ ≡ length list → x ≡ Is k → (word : ℕ) → word ≡ declared_word (meaning k.ty) → row₁ ≡ set row i word → Joins all k all₁ →
-      list' ≡ list₁ → memo' ≡ memo₁ → scope' ≡ scope₁ → sizes' ≡ sizes₁ → row' ≡ row₁ → all' ≡ all₁ → Turned t list₀ memo₀ scope₀ sizes₀ p n row₀ (i + 1) list' memo' scope' sizes' row' all'
-  turned-expr at u l d word is put joins same-list same-memo same-scope same-sizes same_row same-all = rw (same-list, same-memo, same-scope, same-sizes, same_row, same-all)
-      (record { gathers = several-turn v.gathers less at u word d is put joins; list_long = l ∙ v.list_long })
+  pub turned-expr : {b : Buffers} → Gathers t b₀ p n row₀ i b row all → i < n → {o : Site} {x : Sizing} {k : Checked} {i₂ : Instances} {s₂ : ScopeHeld} → o ≡ moved_on_of p all.next all.used → Sizes ExprPart t b o x (buffers_of i₂ s₂) →
+      x ≡ Ok k → (word : ℕ) → word ≡ declared_word (meaning k.ty) → row₁ ≡ set row i word → Joins all k all₁ →
+      i' ≡ i₂ → s' ≡ s₂ → row' ≡ row₁ → all' ≡ all₁ → Gathers t b₀ p n row₀ (i + 1) (buffers_of i' s') row' all'
+  turned-expr v less at u d word is put joins same-instances same-scope same_row same-all = rw (same-instances, same-scope, same_row, same-all) (several-turn v less at u word d is put joins)

@@ -1,4 +1,8 @@
 -- A branch for every split: what a turn of the loop and each return give.
+use Rattle.language.specs.declared.refusals.RefusalAt.{RefusalAt}
+use Rattle.language.specs.declared.refusals.Refusal.TheVariants.{SizesDisagree}
+use Rattle.std.specs.Prelude.{Ok, Err}
+use Rattle.size_steps.specs.Outcomes.{Sizing, Refused}
 use Rattle.std.specs.Prelude.{ℕ, ◌+◌, ◌*◌, ◌%◌, ◌≤◌, ◌<◌, List, [], ◌∷◌, ◌++◌, Bool, true, false, ◌≡◌, length, get_or, take, drop}
 use Rattle.std.proofs.Math.Option.{some}
 use Rattle.std.proofs.Math.Path.{refl, ap}
@@ -30,11 +34,9 @@ use Rattle.type_rows.specs.ToldLaws.{told-fields, fields-counted}
 use Rattle.index.specs.Sections.{types_of}
 use Rattle.size_steps.specs.declared.Site.{Site}
 use Rattle.size_steps.specs.declared.Checked.{Checked}
-use Rattle.size_steps.specs.declared.Sizing.{Sizing}
-use Rattle.size_steps.specs.declared.Sizing.TheVariants.{Is, Refused}
 use Rattle.size_steps.specs.declared.Subject.{Subject}
 use Rattle.size_steps.specs.Sites.{Bounded, moved_on_of, widened_by, Kept, kept_then, kept-moved, kept_under}
-use Rattle.size_steps.specs.Agreement.{Table, Holds, Before, CheckedAs, Agrees, Grows, agrees, refused, beyond, itself, of_type, grown, not_grown, grows-to, grows_same, bind_is, bind-no, need-fails}
+use Rattle.size_steps.specs.Agreement.{Table, Holds, Before, CheckedAs, Agrees, Grows, agrees, refused, beyond, itself, of_type, not_grown, grows-to, grows_same, bind_is, bind-no, need-fails}
 use Rattle.size_laws.specs.Promises.{Lent, Buffers, buffers, Here, ExprPart, entering, BranchPart, UpToMost, Wanted, Sizes, SizesSplits}
 use Rattle.size_laws.specs.HereLaws.{fits-of, here-moved}
 use Rattle.size_laws.specs.TurnLaws.{in_frame, grown-is}
@@ -61,8 +63,8 @@ data Answered {A : Type 0} (P : File) (view : A → Sized) (next : ℕ) (table :
   answered : {x : A} → CheckedAs P next table k (view x) → Answered P view next table k (ok x)
   unanswered : {n frame : ℕ} → Before n → Answered P view next table k (no n frame)
 
-answer_is : {A : Type 0} {P : File} {view : A → Sized} {next : ℕ} {table : Table} {r : Sizing} {a : Result A} {k : Checked} → Agrees P view next table r a → r ≡ Is k → Answered P view next table k a
-answer_is {P} {view} {next} {table} {k} (agrees {k = j} {x = y} e c) d = answered (subst (λ i. CheckedAs P next table i (view y)) (let same : Is j ≡ Is k = sym e ∙ d in cc) c)
+answer_is : {A : Type 0} {P : File} {view : A → Sized} {next : ℕ} {table : Table} {r : Sizing} {a : Result A} {k : Checked} → Agrees P view next table r a → r ≡ Ok k → Answered P view next table k a
+answer_is {P} {view} {next} {table} {k} (agrees {k = j} {x = y} e c) d = answered (subst (λ i. CheckedAs P next table i (view y)) (let same : Ok j ≡ Ok k = sym e ∙ d in cc) c)
 answer_is (refused e) d = absurd (let same = sym e ∙ d in let z : ◌≡◌ {A = ℕ} 0 1 = cc in omega arith)
 answer_is (beyond b) d = unanswered b
 
@@ -71,13 +73,13 @@ abbrev slotted : ℕ → CountedDef → Result CountedDef
 slotted n x = ok (record { numbers = with_slots n x.numbers; list = x.list })
 
 -- a refusal is one of what is bound behind it
-stays : {P : File} {τ : Ty} {next : ℕ} {table : Table} {x : Sizing} {a : Result CountedDef} {n frame : ℕ} (κ : CountedDef → Result CountedDef) → x ≡ Refused n frame → Agrees P (of_type τ) next table x a → Agrees P (of_type τ) next table x (bind a κ)
+stays : {P : File} {τ : Ty} {next : ℕ} {table : Table} {x : Sizing} {a : Result CountedDef} {why : RefusalAt} (κ : CountedDef → Result CountedDef) → x ≡ Err why → Agrees P (of_type τ) next table x a → Agrees P (of_type τ) next table x (bind a κ)
 stays κ d u = bind-no κ u d d
 
 module _ {P : File} {f : List ℕ → List Instance → Result CountedDef} {r at end : ℕ} {b : Buffers} {all : Checked} {a : Result CountedDef} where
   -- a part refused for this split refuses the whole
-  stops : {τ : Ty} {table : Table} {x : Sizing} {n frame : ℕ} (m : ℕ) → Progress P f r at end b all true a →
-      ((M : List Instance) → Holds P b.list all.used M → All UpToMost (take r (drop at b.sizes)) → Agrees P (of_type τ) end table x (f (take r (drop at b.sizes)) M)) → x ≡ Refused n frame →
+  stops : {τ : Ty} {table : Table} {x : Sizing} {why : RefusalAt} (m : ℕ) → Progress P f r at end b all true a →
+      ((M : List Instance) → Holds P b.list all.used M → All UpToMost (take r (drop at b.sizes)) → Agrees P (of_type τ) end table x (f (take r (drop at b.sizes)) M)) → x ≡ Err why →
       Agrees P (of_type τ) end table x (bind a (slotted m))
   unfolding at_splits bind
   stops m (going {M} t e chain most stands holds) agree d =
@@ -88,7 +90,7 @@ module _ {P : File} {f : List ℕ → List Instance → Result CountedDef} {r at
 
   -- all splits are done
   done : {τ : Ty} {ty : SizedType} {numbers : Held} (m : ℕ) → Progress P f r at end b all false a → Changes (with_slots m) all.numbers numbers → meaning ty ≡ τ → Bounded τ →
-      Agrees P (of_type τ) end b.list (Is (record { ty = ty; numbers = numbers; next = all.next; used = all.used })) (bind a (slotted m))
+      Agrees P (of_type τ) end b.list (Ok (record { ty = ty; numbers = numbers; next = all.next; used = all.used })) (bind a (slotted m))
   unfolding bind
   done m (going t e chain most stands holds) held is small = false-is-not-true t
   done m (ended t e stands holds place) held is small = rw e (agrees refl (record { type = is; small = small; numbers = held.says _ stands; ends = place; holds = holds }))
@@ -179,7 +181,7 @@ module _ {s : Subject} {k n own : ℕ} {t : Lent} {b₀ b b₁ : Buffers} {p m o
       let there = rw (fields, owned) at under in
       there.says P (wider (length fs) (owns fs) S) q _ _ M left here end e (record { spelled = part.spelled; within = part.within; ends = part.ends })
 
-  pub splits-part : {number frame : ℕ} → x ≡ Refused number frame → SizesSplits s k t b₀ p x b₁
+  pub splits-part : {why : RefusalAt} → x ≡ Err why → SizesSplits s k t b₀ p x b₁
   splits-part d = record {
     says = λ P S q Γ Δ L left h fs wanted there end e part kss chain most.
         stops (length fs) (w.says P S q Γ Δ L left h fs wanted there end e part kss chain most) (λ M holds sizes. bind-no _ (inside-branch h wanted there part holds sizes) d d) d;
@@ -187,12 +189,12 @@ module _ {s : Subject} {k n own : ℕ} {t : Lent} {b₀ b b₁ : Buffers} {p m o
     kept = turn-kept;
   }
 
-  module _ {a : Checked} {same : Bool} (d : x ≡ Is a) (tested : same ≡ same_type (meaning a.ty) (meaning s.ty)) where
-    pub splits-differ : same ≡ false → SizesSplits s k t b₀ p (Refused 11 (p.place.line + 1)) b₁
+  module _ {a : Checked} {same : Bool} (d : x ≡ Ok a) (tested : same ≡ same_type (meaning a.ty) (meaning s.ty)) where
+    pub splits-differ : same ≡ false → SizesSplits s k t b₀ p (Refused SizesDisagree (p.place.line + 1)) b₁
     splits-differ other = record {
       says = λ P S q Γ Δ L left h fs wanted there end e part kss chain most.
           stops (length fs) (w.says P S q Γ Δ L left h fs wanted there end e part kss chain most) (λ M holds sizes. bind_is _ (inside-branch h wanted there part holds sizes) d (λ y c.
-          need-fails _ (ap (λ (τ : Ty). same_type τ (meaning s.ty)) (sym c.type) ∙ sym tested ∙ other) (in_frame 11 h))) refl;
+          need-fails _ (ap (λ (τ : Ty). same_type τ (meaning s.ty)) (sym c.type) ∙ sym tested ∙ other) (in_frame SizesDisagree h))) refl;
       grows = not_grown;
       kept = turn-kept;
     }
@@ -215,7 +217,7 @@ module _ {s : Subject} {k n own : ℕ} {t : Lent} {b₀ b b₁ : Buffers} {p m o
 
 -- ---- the loop is left
 pub splits-done : {s : Subject} {k n : ℕ} {t : Lent} {b₀ b : Buffers} {p : Site} {all : Checked} {numbers : Held} {r : Sizing} → Walks s k t b₀ p false b all → (n ≡ fields_word t s.of k % byte_range) × (n < byte_range) →
-    Changes (with_slots n) all.numbers numbers → r ≡ Is (record { ty = all.ty; numbers = numbers; next = all.next; used = all.used }) → SizesSplits s k t b₀ p r b
+    Changes (with_slots n) all.numbers numbers → r ≡ Ok (record { ty = all.ty; numbers = numbers; next = all.next; used = all.used }) → SizesSplits s k t b₀ p r b
 splits-done {s} {k} w count held is = record {
   says = λ P S q Γ Δ L left h fs wanted there end e part kss chain most.
       let fields = fields-counted (told-fields h.indexed s.of k wanted.of there) count in

@@ -1,4 +1,7 @@
 -- Parts that are checked in turn: what one gives by where it is spelled, and what is known behind it.
+use Rattle.language.specs.declared.refusals.Refusal.{Refusal}
+use Rattle.std.specs.Prelude.{Ok}
+use Rattle.size_steps.specs.Outcomes.{Sizing, Refused}
 use Rattle.std.specs.Prelude.{ℕ, ◌+◌, ◌≤◌, List, ◌≡◌, length, take, set}
 use Rattle.std.proofs.Common.{sym, ap, ◌∙◌, subst, arith}
 use Rattle.language.specs.Syntax.{Ty, Expr, File}
@@ -12,8 +15,6 @@ use Rattle.encoding.specs.Spells.{Spells}
 use Rattle.encoding.specs.FrameLines.{line_at}
 use Rattle.size_steps.specs.declared.Site.{Site}
 use Rattle.size_steps.specs.declared.Checked.{Checked}
-use Rattle.size_steps.specs.declared.Sizing.{Sizing}
-use Rattle.size_steps.specs.declared.Sizing.TheVariants.{Is, Refused}
 use Rattle.size_steps.specs.Sites.{moved_on_of, widened_by, Kept, kept_then, kept-moved, kept_under, kept_set}
 use Rattle.size_steps.specs.Agreement.{Table, Agrees, itself, CheckedAs, Grows, grown, grows-to, grows_same}
 use Rattle.size_laws.specs.Promises.{Lent, Buffers, buffers, Here, entering, Sizes, ExprPart}
@@ -33,7 +34,7 @@ pub record Behind (p : Site) (b b' : Buffers) (k : Checked) : Type 0 where
   pub kept : Kept p b.scope b.sizes b'.scope b'.sizes
   pub more : p.used ≤ k.used
 
-pub behind-first : {t : Lent} {b b' : Buffers} {p : Site} {x : Sizing} {k : Checked} → Sizes ExprPart t b p x b' → x ≡ Is k → Behind p b b' k
+pub behind-first : {t : Lent} {b b' : Buffers} {p : Site} {x : Sizing} {k : Checked} → Sizes ExprPart t b p x b' → x ≡ Ok k → Behind p b b' k
 behind-first v d = record { kept = v.kept; more = grows-to v.grows d }
 
 module _ {t : Lent} {b b₁ b₂ : Buffers} {p : Site} {a : Checked} {y : Sizing} (f : Behind p b b₁ a) (u : Sizes ExprPart t b₁ (moved_on_of p a.next a.used) y b₂) where
@@ -43,7 +44,7 @@ module _ {t : Lent} {b b₁ b₂ : Buffers} {p : Site} {a : Checked} {y : Sizing
   pub next_grows : Grows p.used y
   next_grows = grows_same f.more u.grows
 
-  pub behind-next : {k : Checked} → y ≡ Is k → Behind p b b₂ k
+  pub behind-next : {k : Checked} → y ≡ Ok k → Behind p b b₂ k
   behind-next d = record { kept = next-kept; more = grows-to next_grows d }
 
 pub here-behind : {t : Lent} {b b' : Buffers} {p : Site} {k : Checked} {P : File} {S : Scope} {q : Stand} {Γ : List Ty} {Δ : List ℕ} {L : List Instance} {left next : ℕ} {x : Sized} → Here t b p P S q Γ Δ L left →
@@ -67,7 +68,7 @@ module _ {t : Lent} {b b₁ b₂ : Buffers} {p : Site} {a : Checked} {y : Sizing
   pub under_grows : Grows p.used y
   under_grows = grows_same f.more u.grows
 
-  pub behind-under : {k : Checked} → y ≡ Is k → Behind p b b₂ k
+  pub behind-under : {k : Checked} → y ≡ Ok k → Behind p b b₂ k
   behind-under d = record { kept = under-kept; more = grows-to under_grows d }
 
 -- ---- the sizes in scope are the first of the sizes held
@@ -75,7 +76,7 @@ pub sizes-scope : {t : Lent} {b : Buffers} {p : Site} {P : File} {S : Scope} {q 
 sizes-scope {b} {p} {S} h = let same : S.sizes ≡ p.sizes = h.site.sizes_in ∙ sym h.site.size_count in ap (λ n. take n b.sizes) same ∙ h.site.sizes_are
 
 -- ---- a refusal in the frame of the place
-pub in_frame : {t : Lent} {b : Buffers} {p : Site} {P : File} {S : Scope} {q : Stand} {Γ : List Ty} {Δ : List ℕ} {L : List Instance} {left : ℕ} (n : ℕ) → Here t b p P S q Γ Δ L left → Refused n (p.place.line + 1) ≡ Refused n (frame_at P q)
+pub in_frame : {t : Lent} {b : Buffers} {p : Site} {P : File} {S : Scope} {q : Stand} {Γ : List Ty} {Δ : List ℕ} {L : List Instance} {left : ℕ} (n : Refusal) → Here t b p P S q Γ Δ L left → ◌≡◌ {A = Sizing} (Refused n (p.place.line + 1)) (Refused n (frame_at P q))
 in_frame {p} {P} {q} n h = let same : p.place.line + 1 ≡ frame_at P q = omega (arith, h.site.frame) in ap (λ frame. Refused n frame) same
 
 -- the scope as it was written
@@ -83,5 +84,5 @@ pub put_is : {Part : List ℕ → Site → Scope → ℕ → Expr → Type 0} {t
 put_is {Part} {t} {list} {sizes} {o} {y} {b} e u = subst (λ l. Sizes Part t (buffers list l sizes) o y b) e u
 
 -- ---- an answer that has gone on
-pub grown-is : {used : ℕ} {r : Sizing} {k : Checked} → r ≡ Is k → used ≤ k.used → Grows used r
+pub grown-is : {used : ℕ} {r : Sizing} {k : Checked} → r ≡ Ok k → used ≤ k.used → Grows used r
 grown-is {k} is le = rw is (grown {k = k} le)

@@ -1,5 +1,10 @@
 -- When an answer of the code agrees with the definition's: the type, the numbers as they are reported, where the next part starts,
 -- and the instances in the list's words. Refusals 6 and 9 were judged before sizes are: of them nothing is said.
+use Rattle.language.specs.declared.refusals.Refusal.{Refusal}
+use Rattle.language.specs.declared.refusals.RefusalAt.{RefusalAt}
+use Rattle.language.specs.RefusalNumbers.{number_of}
+use Rattle.std.specs.Prelude.{Ok, Err}
+use Rattle.size_steps.specs.Outcomes.{Counting, Sizing, Refused}
 use Rattle.std.specs.Prelude.{ℕ, ◌*◌, ◌-◌, ◌≤◌, List, map, Bool, length, take, drop, replicate}
 use Rattle.std.proofs.Math.Bool.{true, false}
 use Rattle.std.proofs.Math.Option.{Option, none, some}
@@ -20,11 +25,7 @@ use Rattle.estimate.specs.Stands.{Stands}
 use Rattle.instances.specs.Listed.{instance_words_count, result_word, Listed}
 use Rattle.sizes.specs.Promises.{meaning}
 use Rattle.size_steps.specs.declared.Checked.{Checked}
-use Rattle.size_steps.specs.declared.Sizing.{Sizing}
-use Rattle.size_steps.specs.declared.Sizing.TheVariants.{Is, Refused}
 use Rattle.size_steps.specs.declared.Counted.{Counted}
-use Rattle.size_steps.specs.declared.Counting.{Counting}
-use Rattle.size_steps.specs.declared.Counting.TheVariants.{Are, Refused as RefusedAll}
 use Rattle.size_steps.specs.Sites.{Bounded}
 
 -- ---- the list of instances in words; the rest of the words is 0
@@ -72,8 +73,8 @@ pub record CheckedAs (P : File) (next : ℕ) (table : Table) (k : Checked) (x : 
 
 -- view: what the definition's answer is as a sized expression
 pub data Agrees {A : Type 0} (P : File) (view : A → Sized) (next : ℕ) (table : Table) (r : Sizing) : Result A → Type 0 where
-  agrees : {k : Checked} {x : A} → r ≡ Is k → CheckedAs P next table k (view x) → Agrees P view next table r (ok x)
-  refused : {n frame : ℕ} → r ≡ Refused n frame → Agrees P view next table r (no n frame)
+  agrees : {k : Checked} {x : A} → r ≡ Ok k → CheckedAs P next table k (view x) → Agrees P view next table r (ok x)
+  refused : {why : RefusalAt} → r ≡ Err why → Agrees P view next table r (no (number_of why.refusal) why.frame)
   beyond : {n frame : ℕ} → Before n → Agrees P view next table r (no n frame)
 
 abbrev pub itself : Sized → Sized
@@ -92,20 +93,20 @@ pub record CountedAs (P : File) (next : ℕ) (table : Table) (row : List ℕ) (k
   pub holds : Holds P table k.used x.list
 
 pub data AgreesAll (P : File) (next : ℕ) (table : Table) (row : List ℕ) (r : Counting) : Result Sizeds → Type 0 where
-  agree : {k : Counted} {x : Sizeds} → r ≡ Are k → CountedAs P next table row k x → AgreesAll P next table row r (ok x)
-  refused_all : {n frame : ℕ} → r ≡ RefusedAll n frame → AgreesAll P next table row r (no n frame)
+  agree : {k : Counted} {x : Sizeds} → r ≡ Ok k → CountedAs P next table row k x → AgreesAll P next table row r (ok x)
+  refused_all : {why : RefusalAt} → r ≡ Err why → AgreesAll P next table row r (no (number_of why.refusal) why.frame)
   beyond_all : {n frame : ℕ} → Before n → AgreesAll P next table row r (no n frame)
 
 -- ---- the instances grow, on any bytes
 pub data Grows (used : ℕ) : Sizing → Type 0 where
-  grown : {k : Checked} → used ≤ k.used → Grows used (Is k)
-  not_grown : {n frame : ℕ} → Grows used (Refused n frame)
+  grown : {k : Checked} → used ≤ k.used → Grows used (Ok k)
+  not_grown : {why : RefusalAt} → Grows used (Err why)
 
 pub data GrowsAll (used : ℕ) : Counting → Type 0 where
-  grown_all : {k : Counted} → used ≤ k.used → GrowsAll used (Are k)
-  not_grown_all : {n frame : ℕ} → GrowsAll used (RefusedAll n frame)
+  grown_all : {k : Counted} → used ≤ k.used → GrowsAll used (Ok k)
+  not_grown_all : {why : RefusalAt} → GrowsAll used (Err why)
 
-pub grows-to : {used : ℕ} {r : Sizing} {k : Checked} → Grows used r → r ≡ Is k → used ≤ k.used
+pub grows-to : {used : ℕ} {r : Sizing} {k : Checked} → Grows used r → r ≡ Ok k → used ≤ k.used
 grows-to {used} {k} (grown {k = j} le) e = let same : j.used ≡ k.used = cc in omega (arith, le, same)
 grows-to not_grown e = absurd (let z : ◌≡◌ {A = ℕ} 0 1 = cc in omega arith)
 
@@ -113,36 +114,36 @@ pub grows_same : {used used' : ℕ} {r : Sizing} → used ≤ used' → Grows us
 grows_same le (grown {k} more) = grown {k = k} (omega (arith, le, more))
 grows_same le not_grown = not_grown
 
-pub grows-all-to : {used : ℕ} {r : Counting} {k : Counted} → GrowsAll used r → r ≡ Are k → used ≤ k.used
+pub grows-all-to : {used : ℕ} {r : Counting} {k : Counted} → GrowsAll used r → r ≡ Ok k → used ≤ k.used
 grows-all-to {used} {k} (grown_all {k = j} le) e = let same : j.used ≡ k.used = cc in omega (arith, le, same)
 grows-all-to not_grown_all e = absurd (let z : ◌≡◌ {A = ℕ} 0 1 = cc in omega arith)
 
 -- ---- a combinator of the definition at a time; the whole is answered by r
 module _ {A B : Type 0} {P : File} {view : A → Sized} {at : ℕ} {table₀ : Table} {x : Sizing} {viewed : B → Sized} {next : ℕ} {table : Table} {r : Sizing} (κ : A → Result B) where
-  pub bind_is : {a : Result A} {k : Checked} → Agrees P view at table₀ x a → x ≡ Is k → ((y : A) → CheckedAs P at table₀ k (view y) → Agrees P viewed next table r (κ y)) → Agrees P viewed next table r (bind a κ)
+  pub bind_is : {a : Result A} {k : Checked} → Agrees P view at table₀ x a → x ≡ Ok k → ((y : A) → CheckedAs P at table₀ k (view y) → Agrees P viewed next table r (κ y)) → Agrees P viewed next table r (bind a κ)
   unfolding bind
-  bind_is {k} (agrees {k = j} {x = y} e c) d f = f y (subst (λ i. CheckedAs P at table₀ i (view y)) (let same : Is j ≡ Is k = sym e ∙ d in cc) c)
+  bind_is {k} (agrees {k = j} {x = y} e c) d f = f y (subst (λ i. CheckedAs P at table₀ i (view y)) (let same : Ok j ≡ Ok k = sym e ∙ d in cc) c)
   bind_is (refused e) d f = absurd (let same = sym e ∙ d in let z : ◌≡◌ {A = ℕ} 0 1 = cc in omega arith)
   bind_is (beyond b) d f = beyond b
 
-  pub bind-no : {a : Result A} {n frame : ℕ} → Agrees P view at table₀ x a → x ≡ Refused n frame → r ≡ Refused n frame → Agrees P viewed next table r (bind a κ)
+  pub bind-no : {a : Result A} {why : RefusalAt} → Agrees P view at table₀ x a → x ≡ Err why → r ≡ Err why → Agrees P viewed next table r (bind a κ)
   unfolding bind
   bind-no (agrees e c) d f = absurd (let same = sym e ∙ d in let z : ◌≡◌ {A = ℕ} 0 1 = cc in omega arith)
-  bind-no {n} {frame} (refused {n = m} {frame = g} e) d f = refused (f ∙ sym d ∙ e)
+  bind-no (refused e) d f = refused (f ∙ sym d ∙ e)
   bind-no (beyond b) d f = beyond b
 
 -- of several parts
 module _ {B : Type 0} {P : File} {at : ℕ} {table₀ : Table} {row : List ℕ} {x : Counting} {viewed : B → Sized} {next : ℕ} {table : Table} {r : Sizing} (κ : Sizeds → Result B) where
-  pub all_are : {a : Result Sizeds} {k : Counted} → AgreesAll P at table₀ row x a → x ≡ Are k → ((y : Sizeds) → CountedAs P at table₀ row k y → Agrees P viewed next table r (κ y)) → Agrees P viewed next table r (bind a κ)
+  pub all_are : {a : Result Sizeds} {k : Counted} → AgreesAll P at table₀ row x a → x ≡ Ok k → ((y : Sizeds) → CountedAs P at table₀ row k y → Agrees P viewed next table r (κ y)) → Agrees P viewed next table r (bind a κ)
   unfolding bind
-  all_are {k} (agree {k = j} {x = y} e c) d f = f y (subst (λ l. CountedAs P at table₀ row l y) (let same : Are j ≡ Are k = sym e ∙ d in cc) c)
+  all_are {k} (agree {k = j} {x = y} e c) d f = f y (subst (λ l. CountedAs P at table₀ row l y) (let same : Ok j ≡ Ok k = sym e ∙ d in cc) c)
   all_are (refused_all e) d f = absurd (let same = sym e ∙ d in let z : ◌≡◌ {A = ℕ} 0 1 = cc in omega arith)
   all_are (beyond_all b) d f = beyond b
 
-  pub all-no : {a : Result Sizeds} {n frame : ℕ} → AgreesAll P at table₀ row x a → x ≡ RefusedAll n frame → r ≡ Refused n frame → Agrees P viewed next table r (bind a κ)
+  pub all-no : {a : Result Sizeds} {why : RefusalAt} → AgreesAll P at table₀ row x a → x ≡ Err why → r ≡ Err why → Agrees P viewed next table r (bind a κ)
   unfolding bind
   all-no (agree e c) d f = absurd (let same = sym e ∙ d in let z : ◌≡◌ {A = ℕ} 0 1 = cc in omega arith)
-  all-no {n} {frame} (refused_all {n = m} {frame = g} e) d f = let same : m ≡ n = (let both : RefusedAll m g ≡ RefusedAll n frame = sym e ∙ d in cc) in let also : g ≡ frame = (let both : RefusedAll m g ≡ RefusedAll n frame = sym e ∙ d in cc) in rw (same, also) (refused f)
+  all-no {why} (refused_all {why = told} e) d f = let both : ◌≡◌ {A = Counting} (Err told) (Err why) = sym e ∙ d in let same : told ≡ why = cc in rw same (refused f)
   all-no (beyond_all b) d f = beyond b
 
 -- a test that was made before, and one of the pass's own
@@ -167,7 +168,7 @@ module _ {B : Type 0} {P : File} {viewed : B → Sized} {next : ℕ} {table : Ta
   unfolding need
   need-holds n frame e t = rw e t
 
-  pub need-fails : {b : Bool} {n frame : ℕ} (x : Result B) → b ≡ false → r ≡ Refused n frame → Agrees P viewed next table r (need b n frame x)
+  pub need-fails : {b : Bool} {n : Refusal} {frame : ℕ} (x : Result B) → b ≡ false → r ≡ Refused n frame → Agrees P viewed next table r (need b (number_of n) frame x)
   unfolding need
   need-fails x e t = rw e (refused t)
 
@@ -175,6 +176,6 @@ module _ {B : Type 0} {P : File} {viewed : B → Sized} {next : ℕ} {table : Ta
   unfolding from
   from_some n frame κ e t = rw e t
 
-  pub from-none : {A : Type 0} {o : Option A} {n frame : ℕ} (κ : A → Result B) → o ≡ none → r ≡ Refused n frame → Agrees P viewed next table r (from o n frame κ)
+  pub from-none : {A : Type 0} {o : Option A} {n : Refusal} {frame : ℕ} (κ : A → Result B) → o ≡ none → r ≡ Refused n frame → Agrees P viewed next table r (from o (number_of n) frame κ)
   unfolding from
   from-none κ e t = rw e (refused t)

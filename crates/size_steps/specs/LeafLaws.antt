@@ -1,20 +1,24 @@
 -- What each return gives of the functions that work on no expression.
+use Rattle.language.specs.declared.refusals.Refusal.TheVariants.{SizeOutside, SizesDisagree, ConditionFails, MeasureNotLess}
+use Rattle.std.specs.Prelude.{Ok, Some, None, Option as Maybe}
+use Rattle.size_steps.specs.Outcomes.{Refused}
 use Rattle.std.specs.Prelude.{ℕ, ◌+◌, ◌≤◌, ◌<◌, Bool, false, ◌≡◌, take}
 use mathlib.Core.List.{List, map}
+use mathlib.Core.Bool.{◌&&◌}
 use Rattle.std.proofs.Math.Bool.{true}
 use Rattle.std.proofs.Math.Option.{some}
 use Rattle.std.proofs.Math.Path.{refl}
-use Rattle.std.proofs.Common.{sym, ap, ap₂, ◌∙◌, subst, arith, add-one}
+use Rattle.std.proofs.Common.{sym, ap, ◌∙◌, subst, arith, add-one}
 use Rattle.std.proofs.Math.ListN.{length, get_elem? as look}
-use Rattle.std.proofs.Math.Dec.{ltb}
+use Rattle.std.proofs.Math.Dec.{eqb, ltb}
 use borrow.Author.Tests.{lt-ltb, le-ltb, eq-eqb, ne_eqb, eqb-true, eqb-false}
-use Rattle.language.specs.Limits.{byte_range, size_most, nesting_most}
-use Rattle.language.specs.Result.{choose}
+use Rattle.language.specs.Limits.{byte_range, size_most}
+use Rattle.language.specs.Result.{both, choose}
 use Rattle.language.specs.Syntax.{Constructor, Op, oadd, osub, omul, oeq, olt, ole, oand, oor, tnamed, Function, File, constructors_of, function_frame}
 use Rattle.language.specs.Format.{op_code, result_bytes}
 use Rattle.language.specs.Scope.{named_count}
 use Rattle.language.specs.PlainTypes.{op_type}
-use Rattle.language.specs.Sizes.{type_at, conditions_hold, sum, summed_measure, own_sizes}
+use Rattle.language.specs.Sizes.{type_at, conditions_hold, sum, summed_measure, own_sizes, same_type}
 use Rattle.language.specs.Estimate.{after, one_cell}
 use Rattle.language.specs.Typing.{Place as Stand, outside, inside, frame_at, falls, base_type}
 use Rattle.language.specs.Checker.{Sizeds}
@@ -29,10 +33,10 @@ use Rattle.encoding.specs.WithinParts.{function-within}
 use Rattle.estimate.specs.declared.Estimate.{Estimate}
 use Rattle.estimate.specs.Stands.{Combines, Makes as Made}
 use Rattle.sizes.specs.declared.SizedType.{SizedType}
+use Rattle.sizes.specs.contracts.SizedTypePartialEq.TheImpl as derived
 use Rattle.sizes.specs.declared.SizedType.TheVariants.{Bool as BoolIs, Int as IntIs, Named}
 use Rattle.sizes.specs.declared.TypeAt.{TypeAt}
-use Rattle.sizes.specs.declared.TypeAt.TheVariants.{Is as TypeIs, Outside as TypeOutside}
-use Rattle.sizes.specs.Promises.{meaning, FromWord, Hold, SumsMeasure, AgreesType, TypeGiven}
+use Rattle.sizes.specs.Promises.{meaning, Hold, SumsMeasure, AgreesType, TypeGiven}
 use Rattle.sizes.specs.Prefixes.{type-in-scope, conditions-in-scope, measure-in-scope}
 use Rattle.sizes.specs.TypeLaws.{type-given, type-not-given, type-within}
 use Rattle.type_rows.specs.Rows.{ToldRow, OwnSum, FieldsAgree}
@@ -40,16 +44,28 @@ use Rattle.type_rows.specs.ToldLaws.{told-fields}
 use Rattle.index.specs.Sections.{frames_of, types_of, functions_of}
 use Rattle.heads.specs.Places.{line_behind_types, function-line}
 use Rattle.size_steps.specs.declared.Site.{Site}
-use Rattle.size_steps.specs.declared.Sizing.TheVariants.{Is, Refused}
 use Rattle.size_steps.specs.declared.Counted.{Counted}
-use Rattle.size_steps.specs.declared.Entering.TheVariants.{Ready, Refused as NotEntered}
 use Rattle.size_steps.specs.Sites.{bounded_named, bounded-small, one-byte-bounded, Around, around_none, around_one}
 use Rattle.size_steps.specs.Agreement.{Table, CountedAs, agrees, grown, not_grown, need-holds, need-fails}
 use Rattle.size_steps.specs.Leaves.{OperatorType, calls_itself, Falls, ready, no_condition, no_fall, no_size, entry_of, no_entry, SizesFor, Prepares, MayCall, Makes}
 
--- ---- type_in
-pub typed-word : {word told : ℕ} {r : SizedType} → word ≡ told → FromWord word r → FromWord told r
-typed-word {r} e v = subst (λ w. FromWord w r) e v
+-- ---- is_type: the derived test of two types
+and-both : (a b : Bool) → (a && b) ≡ both a b
+unfolding both
+and-both true b = refl
+and-both false b = refl
+
+pub types-tested : (x y : SizedType) → (derived.ghosts).eq x y ≡ same_type (meaning x) (meaning y)
+unfolding same_type both
+types-tested BoolIs BoolIs = refl
+types-tested BoolIs IntIs = refl
+types-tested BoolIs (Named u j) = refl
+types-tested IntIs BoolIs = refl
+types-tested IntIs IntIs = refl
+types-tested IntIs (Named u j) = refl
+types-tested (Named t k) BoolIs = refl
+types-tested (Named t k) IntIs = refl
+types-tested (Named t k) (Named u j) = and-both (eqb t u) (eqb k j)
 
 -- ---- operator_type
 pub operator-int : {o : ℕ} → o ≤ 2 → OperatorType o IntIs
@@ -125,7 +141,7 @@ module _ (text index sizes : List ℕ) {line : List ℕ} (p : Site) (f : ℕ) {c
         (subst (λ l. SumsMeasure l c sizes r) line-is h).says F.measure (rw here g.measure_count) (rw here g.measure)
         ∙ sym (measure-in-scope sizes w.measure) ∙ ap (summed_measure F.measure) sizes-are
 
-    type-is-at : {c : Cursor} {r : TypeAt} → c.at ≡ result_at (functions_of index) f → TypeGiven line c sizes r → AgreesType (type_at ks F.result) (past (line_at text (function_line P f)) c.at (length (result_bytes F.result))) r
+    type-is-at : {c : Cursor} {r : Maybe TypeAt} → c.at ≡ result_at (functions_of index) f → TypeGiven line c sizes r → AgreesType (type_at ks F.result) (past (line_at text (function_line P f)) c.at (length (result_bytes F.result))) r
     type-is-at {c} {r} here h =
         let g = i.each_function f is in
         let w = function-within i.within f is in
@@ -138,9 +154,9 @@ module _ (text index sizes : List ℕ) {line : List ℕ} (p : Site) (f : ℕ) {c
   }
 
   module _ {c : Cursor} {holds : Bool} (here : c.at ≡ conditions_at (functions_of index) f) (h : Hold line c sizes holds) where
-    pub prepare-no-condition : {n m : ℕ} → holds ≡ false → Prepares text index sizes p f n m (NotEntered 12 (p.place.line + 1))
+    pub prepare-no-condition : {n m : ℕ} → holds ≡ false → Prepares text index sizes p f n m (Refused ConditionFails (p.place.line + 1))
     prepare-no-condition fails = record {
-      says = λ P q F ks i around is s. no_condition (ap (NotEntered 12) (add-one p.place.line)) (sym (conditions-are i is s here h) ∙ fails);
+      says = λ P q F ks i around is s. no_condition (ap (Refused ConditionFails) (add-one p.place.line)) (sym (conditions-are i is s here h) ∙ fails);
       of = no_entry;
     }
 
@@ -152,32 +168,25 @@ module _ (text index sizes : List ℕ) {line : List ℕ} (p : Site) (f : ℕ) {c
         falls-there : {q : Stand} {b : Bool} → Around P p.place.line p.measure q → down ≡ b → falls q f (summed_measure F.measure ks) ≡ b
         falls-there {q} around e = ap (falls q f) (sym (measure-is i is s here₂ g)) ∙ sym (d.says text _ q i (look-less P.functions f is) around) ∙ e
 
-      pub prepare-no-fall : {n m : ℕ} → down ≡ false → Prepares text index sizes p f n m (NotEntered 13 (p.place.line + 1))
+      pub prepare-no-fall : {n m : ℕ} → down ≡ false → Prepares text index sizes p f n m (Refused MeasureNotLess (p.place.line + 1))
       prepare-no-fall fails = record {
-        says = λ P q F ks i around is s. no_fall (ap (NotEntered 13) (add-one p.place.line)) (holds-there i is s) (falls-there i is s around fails);
+        says = λ P q F ks i around is s. no_fall (ap (Refused MeasureNotLess) (add-one p.place.line)) (holds-there i is s) (falls-there i is s around fails);
         of = no_entry;
       }
 
-      module _ {c₃ : Cursor} {x : TypeAt} (goes : down ≡ true) (here₃ : c₃.at ≡ result_at (functions_of index) f) (t : TypeGiven line c₃ sizes x) where
-        pub prepare-no-size : {n m : ℕ} → x ≡ TypeOutside → Prepares text index sizes p f n m (NotEntered 10 (called + 1))
+      module _ {c₃ : Cursor} {x : Maybe TypeAt} (goes : down ≡ true) (here₃ : c₃.at ≡ result_at (functions_of index) f) (t : TypeGiven line c₃ sizes x) where
+        pub prepare-no-size : {n m : ℕ} → x ≡ None → Prepares text index sizes p f n m (Refused SizeOutside (called + 1))
         prepare-no-size e = record {
-          says = λ P q F ks i around is s. no_size (ap (NotEntered 10) (let same : called + 1 ≡ function_frame P f = omega (arith, number, function-line i (look-less P.functions f is)) in same)) (holds-there i is s) (falls-there i is s around goes) (type-not-given e (type-is-at i is s here₃ t));
+          says = λ P q F ks i around is s. no_size (ap (Refused SizeOutside) (let same : called + 1 ≡ function_frame P f = omega (arith, number, function-line i (look-less P.functions f is)) in same)) (holds-there i is s) (falls-there i is s around goes) (type-not-given e (type-is-at i is s here₃ t));
           of = no_entry;
         }
 
-        pub prepare-ready : {n m : ℕ} {ty : SizedType} {next : Cursor} → x ≡ TypeIs ty next → Prepares text index sizes p f n m (Ready (record { function = f; measure = w; ty = ty; variables = n; sizes = m }))
+        pub prepare-ready : {n m : ℕ} {y : TypeAt} → x ≡ Some y → Prepares text index sizes p f n m (Ok (record { function = f; measure = w; ty = y.ty; variables = n; sizes = m }))
         prepare-ready e = record {
           says = λ P q F ks i around is s.
               ready refl (holds-there i is s) (falls-there i is s around goes) (type-given e (type-is-at i is s here₃ t)).0 refl (measure-is i is s here₂ g) refl refl;
           of = entry_of refl refl refl (one-byte-bounded (type-within e t.bound));
         }
-
--- ---- body_site
-abbrev body_with : Cursor → ℕ → ℕ → ℕ → ℕ → ℕ → Site
-body_with at line variables sizes summed_measure used = record { place = record { at = at; levels = nesting_most; line = line; variables = variables }; sizes = sizes; measure = summed_measure; used = used }
-
-pub body_is : {at : Cursor} {n line told variables sizes summed_measure used : ℕ} → at.at ≡ n → line ≡ told → body_with at line variables sizes summed_measure used ≡ body_with (record { at = n }) told variables sizes summed_measure used
-body_is {variables} {sizes} {summed_measure} {used} is number = ap₂ (λ n l. body_with (record { at = n }) l variables sizes summed_measure used) is number
 
 -- ---- made
 told-row : {row : List ℕ} {table : Table} {a : Counted} {P : File} {next : ℕ} {x : Sizeds} (fs : Constructor) → length x.types ≡ length fs → CountedAs P next table row a x → ToldRow row (length fs) x.types
@@ -192,24 +201,24 @@ sum_is : (index : List ℕ) {row : List ℕ} {a : Counted} {t c size : ℕ} → 
 sum_is index {t = t} {c = c} o {x = x} fs i less is long k = o.says fs x.types (told-fields i t c less is) (told-row fs long k)
 
 module _ (index : List ℕ) {row : List ℕ} {p : Site} {a : Counted} {t c size : ℕ} (o : OwnSum (types_of index) row t c size) where
-  pub made-too-large : size_most ≤ size → Makes index row p a t c (Refused 10 (p.place.line + 1))
+  pub made-too-large : size_most ≤ size → Makes index row p a t c (Refused SizeOutside (p.place.line + 1))
   made-too-large large = record {
     says = λ text P q fs next table x i at less is long k.
-        need-fails _ (le-ltb _ size_most (subst (λ n. size_most ≤ n) (sum_is index o fs i less is long k) large)) (ap (Refused 10) (add-one p.place.line ∙ sym at));
+        need-fails _ (le-ltb _ size_most (subst (λ n. size_most ≤ n) (sum_is index o fs i less is long k) large)) (ap (Refused SizeOutside) (add-one p.place.line ∙ sym at));
     grows = not_grown;
   }
 
   module _ {r : Bool} (fits : size < size_most) (g : FieldsAgree (types_of index) row t c r) where
-    pub made-differs : r ≡ false → Makes index row p a t c (Refused 11 (p.place.line + 1))
+    pub made-differs : r ≡ false → Makes index row p a t c (Refused SizesDisagree (p.place.line + 1))
     made-differs e = record {
       says = λ text P q fs next table x i at less is long k.
           need-holds 10 (frame_at P q) (lt-ltb _ size_most (subst (λ n. n < size_most) (sum_is index o fs i less is long k) fits))
-          (need-fails _ (sym (g.says fs x.types (told-fields i t c less is) (told-row fs long k)) ∙ e) (ap (Refused 11) (add-one p.place.line ∙ sym at)));
+          (need-fails _ (sym (g.says fs x.types (told-fields i t c less is) (told-row fs long k)) ∙ e) (ap (Refused SizesDisagree) (add-one p.place.line ∙ sym at)));
       grows = not_grown;
     }
 
     pub made-done : {one numbers : Estimate} → r ≡ true → t < byte_range → Made one_cell one → Combines after a.numbers one numbers →
-        Makes index row p a t c (Is (record { ty = Named t (size + 1); numbers = numbers; next = a.next; used = a.used }))
+        Makes index row p a t c (Ok (record { ty = Named t (size + 1); numbers = numbers; next = a.next; used = a.used }))
     made-done {numbers} e small one all = record {
       says = λ text P q fs next table x i at less is long k.
           let whole = sum_is index o fs i less is long k in

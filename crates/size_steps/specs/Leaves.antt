@@ -1,4 +1,8 @@
 -- What the functions promise that work on no expression.
+use Rattle.language.specs.declared.refusals.RefusalAt.{RefusalAt}
+use Rattle.language.specs.declared.refusals.Refusal.TheVariants.{SizeOutside, ConditionFails, MeasureNotLess}
+use Rattle.std.specs.Prelude.{Ok, Err}
+use Rattle.size_steps.specs.Outcomes.{Entering, Sizing, Refused}
 use Rattle.std.specs.Prelude.{ℕ, suc, ◌+◌, ◌<◌, List, Bool, true, false, ◌≡◌, length, get_or, take, eqb, ltb}
 use Rattle.std.proofs.Math.Option.{none, some}
 use Rattle.std.proofs.Math.ListN.{get_elem? as look}
@@ -21,34 +25,14 @@ use Rattle.heads.specs.declared.Form.TheVariants.{Bool as BoolForm, Int, Variabl
 use Rattle.sizes.specs.declared.SizedType.{SizedType}
 use Rattle.sizes.specs.Promises.{meaning, FromWord}
 use Rattle.size_steps.specs.declared.Site.{Site}
-use Rattle.size_steps.specs.declared.Sizing.{Sizing}
-use Rattle.size_steps.specs.declared.Sizing.TheVariants.{Is, Refused as RefusedWhole}
 use Rattle.size_steps.specs.declared.Counted.{Counted}
-use Rattle.size_steps.specs.declared.Counting.{Counting}
-use Rattle.size_steps.specs.declared.Counting.TheVariants.{Are, Refused as RefusedAll}
 use Rattle.size_steps.specs.declared.Entry.{Entry}
-use Rattle.size_steps.specs.declared.Entering.{Entering}
-use Rattle.size_steps.specs.declared.Entering.TheVariants.{Ready, Refused}
 use Rattle.size_steps.specs.declared.Subject.{Subject}
 use Rattle.size_steps.specs.Sites.{Bounded, Around}
 use Rattle.size_steps.specs.Agreement.{Table, CountedAs, Agrees, itself, Grows}
 
 abbrev pub leaf_of : SizedType → Estimate → Site → Sizing
-leaf_of ty numbers p = Is (record { ty = ty; numbers = numbers; next = p.place.at; used = p.used })
-
--- a refusal among parts is one of the whole
-abbrev pub refused_of : Counting → Sizing
-refused_of (Are k) = RefusedWhole 0 0
-refused_of (RefusedAll n frame) = RefusedWhole n frame
-
--- a refusal of a part is one of them all
-abbrev pub refused_all_of : Sizing → Counting
-refused_all_of (Is k) = RefusedAll 0 0
-refused_all_of (RefusedWhole n frame) = RefusedAll n frame
-
-abbrev pub not_entered : Entering → Sizing
-not_entered (Ready e) = RefusedWhole 0 0
-not_entered (Refused n frame) = RefusedWhole n frame
+leaf_of ty numbers p = Ok (record { ty = ty; numbers = numbers; next = p.place.at; used = p.used })
 
 -- the type of a word of a row
 abbrev pub Typed : List ℕ → ℕ → SizedType → Type 0
@@ -83,16 +67,16 @@ body_of index p e = record {
 
 -- ---- a call whose arguments were checked: conditions, measure and result size in turn; F the function, ks the sizes
 pub data Prepared (P : File) (q : Stand) (p : Site) (f n m : ℕ) (F : Function) (ks : List ℕ) (r : Entering) : Type 0 where
-  ready : {e : Entry} → r ≡ Ready e → conditions_hold ks F.conditions ≡ true → falls q f (summed_measure F.measure ks) ≡ true → type_at ks F.result ≡ some (meaning e.ty) →
+  ready : {e : Entry} → r ≡ Ok e → conditions_hold ks F.conditions ≡ true → falls q f (summed_measure F.measure ks) ≡ true → type_at ks F.result ≡ some (meaning e.ty) →
       e.function ≡ f → e.measure ≡ summed_measure F.measure ks → e.variables ≡ n → e.sizes ≡ m → Prepared P q p f n m F ks r
-  no_condition : r ≡ Refused 12 (suc p.place.line) → conditions_hold ks F.conditions ≡ false → Prepared P q p f n m F ks r
-  no_fall : r ≡ Refused 13 (suc p.place.line) → conditions_hold ks F.conditions ≡ true → falls q f (summed_measure F.measure ks) ≡ false → Prepared P q p f n m F ks r
-  no_size : r ≡ Refused 10 (function_frame P f) → conditions_hold ks F.conditions ≡ true → falls q f (summed_measure F.measure ks) ≡ true → type_at ks F.result ≡ none → Prepared P q p f n m F ks r
+  no_condition : r ≡ Refused ConditionFails (suc p.place.line) → conditions_hold ks F.conditions ≡ false → Prepared P q p f n m F ks r
+  no_fall : r ≡ Refused MeasureNotLess (suc p.place.line) → conditions_hold ks F.conditions ≡ true → falls q f (summed_measure F.measure ks) ≡ false → Prepared P q p f n m F ks r
+  no_size : r ≡ Refused SizeOutside (function_frame P f) → conditions_hold ks F.conditions ≡ true → falls q f (summed_measure F.measure ks) ≡ true → type_at ks F.result ≡ none → Prepared P q p f n m F ks r
 
 -- on any bytes an entry is of the function that was called
 pub data EntryOf (f n m : ℕ) : Entering → Type 0 where
-  entry_of : {e : Entry} → e.function ≡ f → e.variables ≡ n → e.sizes ≡ m → Bounded (meaning e.ty) → EntryOf f n m (Ready e)
-  no_entry : {number frame : ℕ} → EntryOf f n m (Refused number frame)
+  entry_of : {e : Entry} → e.function ≡ f → e.variables ≡ n → e.sizes ≡ m → Bounded (meaning e.ty) → EntryOf f n m (Ok e)
+  no_entry : {why : RefusalAt} → EntryOf f n m (Err why)
 
 -- the sizes of the named arguments come first among the sizes
 pub record SizesFor (F : Function) (ks sizes : List ℕ) : Type 0 where

@@ -1,3 +1,4 @@
+pub mod Outcomes
 pub mod Sites
 pub mod Agreement
 pub mod Leaves

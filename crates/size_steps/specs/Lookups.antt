@@ -1,4 +1,6 @@
 -- A call of an instance that was entered before: what its record and what is kept beside it give.
+use Rattle.language.specs.declared.refusals.Refusal.TheVariants.{MeasureNotLess}
+use Rattle.size_steps.specs.Outcomes.{Sizing, Refused}
 use Rattle.std.specs.Prelude.{ℕ, suc, ◌+◌, List, Bool, true, false, ◌≡◌, refl}
 use Rattle.std.proofs.Math.Option.{some}
 use Rattle.std.proofs.Common.{sym, ap, ◌∙◌, subst, add-one, arith}
@@ -17,8 +19,6 @@ use Rattle.instances.specs.Matches.{no_instance, Numbers}
 use Rattle.sizes.specs.declared.SizedType.{SizedType}
 use Rattle.sizes.specs.Promises.{FromWord}
 use Rattle.size_steps.specs.declared.Site.{Site}
-use Rattle.size_steps.specs.declared.Sizing.{Sizing}
-use Rattle.size_steps.specs.declared.Sizing.TheVariants.{Refused}
 use Rattle.size_steps.specs.Sites.{Around, bounded-small}
 use Rattle.size_steps.specs.Agreement.{Met, Table, Holds, Agrees, agrees, itself, Grows, grown, not_grown, need-holds, need-fails, from_some}
 use Rattle.size_steps.specs.Leaves.{leaf_of, SizesFor, MayCall}
@@ -42,9 +42,9 @@ pub recorded-met : {P : File} {table : Table} {used f i : ℕ} {F : Function} {k
 recorded-met {P} {table} {i = i} {F = F} {x = x} is r = subst (λ ks. Met F ks (result_word table.memo i)) r.sizes (r.holds.met i x F r.there (ap (look P.functions) r.function ∙ is))
 
 module _ {text index : List ℕ} {table : Table} {sizes : List ℕ} {p : Site} {f i : ℕ} {b : Bool} (m : MayCall text index sizes p f b) where
-  pub again-refused : b ≡ false → Again text index table sizes p f i (Refused 13 (p.place.line + 1))
+  pub again-refused : b ≡ false → Again text index table sizes p f i (Refused MeasureNotLess (p.place.line + 1))
   again-refused no_fall = record {
-    says = λ P q F ks L x j frame around is s r. need-fails _ (sym (m.says P q F ks j around is s) ∙ no_fall) (ap (Refused 13) (add-one p.place.line ∙ sym frame));
+    says = λ P q F ks L x j frame around is s r. need-fails _ (sym (m.says P q F ks j around is s) ∙ no_fall) (ap (Refused MeasureNotLess) (add-one p.place.line ∙ sym frame));
     grows = not_grown;
   }
 

@@ -1,4 +1,6 @@
 -- The numbers of each form from those of its parts, as the code works them out: each step by its promise, and the answer.
+use Rattle.std.specs.Prelude.{Ok}
+use Rattle.size_steps.specs.Outcomes.{Sizing}
 use Rattle.std.specs.Prelude.{ℕ, ◌≡◌}
 use Rattle.text.specs.declared.Cursor.{Cursor}
 use Rattle.language.specs.Estimate.{nothing, one_cell, after, either, with_slots, in_call}
@@ -8,17 +10,15 @@ use Rattle.sizes.specs.declared.SizedType.{SizedType}
 use Rattle.sizes.specs.declared.SizedType.TheVariants.{Named}
 use Rattle.size_steps.specs.declared.Site.{Site}
 use Rattle.size_steps.specs.declared.Checked.{Checked}
-use Rattle.size_steps.specs.declared.Sizing.{Sizing}
-use Rattle.size_steps.specs.declared.Sizing.TheVariants.{Is}
 use Rattle.size_steps.specs.declared.Counted.{Counted}
 use Rattle.size_steps.specs.Leaves.{OperatorType}
 
 -- b with other numbers
 abbrev pub counted_as : Checked → Estimate → Sizing
-counted_as b numbers = Is (record { ty = b.ty; numbers = numbers; next = b.next; used = b.used })
+counted_as b numbers = Ok (record { ty = b.ty; numbers = numbers; next = b.next; used = b.used })
 
 abbrev pub adjusted_to : ℕ → ℕ → Checked → Sizing
-adjusted_to t k a = Is (record { ty = Named t k; numbers = a.numbers; next = a.next; used = a.used })
+adjusted_to t k a = Ok (record { ty = Named t k; numbers = a.numbers; next = a.next; used = a.used })
 
 pub record LetNumbers (a b : Checked) (r : Sizing) : Type 0 where
   pub slots : Estimate
@@ -43,7 +43,7 @@ pub record OpNumbers (o : ℕ) (a b : Checked) (r : Sizing) : Type 0 where
   pub both : Combines after a.numbers b.numbers operands
   pub one : Makes one_cell cell
   pub all : Combines after operands cell numbers
-  pub is : r ≡ Is (record { ty = ty; numbers = numbers; next = b.next; used = b.used })
+  pub is : r ≡ Ok (record { ty = ty; numbers = numbers; next = b.next; used = b.used })
 
 pub record CallNumbers (n : ℕ) (a : Counted) (b : Checked) (r : Sizing) : Type 0 where
   pub inner : Estimate

@@ -2,7 +2,7 @@
 -- Site is a notion of the code; document 01 has no word for it.
 use Rattle.std.specs.Prelude.{ℕ, suc, ◌+◌, ◌*◌, ◌≤◌, ◌<◌, ◌^◌, List, map, ◌≡◌, refl, length, take, set}
 use Rattle.std.proofs.Math.Option.{some}
-use Rattle.std.proofs.Common.{ap, ◌∙◌, arith}
+use Rattle.std.proofs.Common.{◌∙◌, arith}
 use Rattle.std.proofs.Math.ListN.{get_elem? as look}
 use Rattle.std.proofs.lemmas.List.{take-set-le}
 use Rattle.language.specs.Limits.{byte_range, size_most, nesting_most}
@@ -17,7 +17,6 @@ use Rattle.index.specs.Indexed.{function_line, line_count}
 use Rattle.encoding.specs.Known.{Known}
 use Rattle.sizes.specs.declared.SizedType.{SizedType}
 use Rattle.sizes.specs.Promises.{meaning, OneByteEach, bool_small, int_small, named_small, Small, small_bool, small_int, small_named}
-use Rattle.heads.specs.declared.places.Place.{Place}
 use Rattle.heads.specs.Places.{moved_to, inside_of, wider_by}
 use Rattle.size_steps.specs.declared.Site.{Site}
 
@@ -47,12 +46,6 @@ down_to p at = record { place = inside_of p.place at; sizes = p.sizes; measure =
 
 abbrev pub widened_by : Site → ℕ → ℕ → Site
 widened_by p v s = record { place = wider_by v p.place p.place.at; sizes = p.sizes + s; measure = p.measure; used = p.used }
-
-abbrev site_of : Place → ℕ → ℕ → ℕ → Site
-site_of place sizes summed_measure used = record { place = place; sizes = sizes; measure = summed_measure; used = used }
-
-pub site-at : {a b : Place} {sizes summed_measure used : ℕ} → a ≡ b → site_of a sizes summed_measure used ≡ site_of b sizes summed_measure used
-site-at {sizes} {summed_measure} {used} e = ap (λ (z : Place). site_of z sizes summed_measure used) e
 
 -- ---- what keeps the numbers of a site small on any bytes: each level adds fewer variables than a byte counts. deep: the levels
 -- that are still to be counted, one more inside a form whose head was read

@@ -1,27 +1,25 @@
-// What a form makes of the answers of its parts: its type, its numbers, or a refusal handed on.
-ghost use Rattle.size_steps.specs.Leaves.{leaf_of, OperatorType, subject_of, refused_of, refused_all_of, not_entered};
+// What a form makes of the answers of its parts: its type and its numbers.
+ghost use Rattle.size_steps.specs.Leaves.{leaf_of, OperatorType, subject_of};
 ghost use Rattle.std.specs.Prelude.{◌≡◌};
 ghost use Rattle.language.specs.Sizes.{same_type};
 ghost use Rattle.sizes.specs.Promises.{meaning, WordOf};
 ghost use Rattle.size_steps.specs.Numbers.{counted_as, LetNumbers, IfNumbers, OpNumbers, CallNumbers, CaseNumbers, EitherNumbers, LargerNumbers, SlotNumbers, adjusted_to, FitNumbers, NoneCounted, Joins, passed_to, NothingYet};
 
-use super::{Checked, Counted, Counting, Entering, Site, Sizing, Subject};
+use super::{Checked, Counted, Site, Subject};
 use estimate::{Estimate, after, either, in_call, nothing, one_cell, with_slots};
 use language::codes::OPERATOR_TIMES;
-use language::refusals::{NO_FRAME, NO_REFUSAL};
-use sizes::{SizedType, same, word_of};
+use language::refusals::RefusalAt;
+use sizes::SizedType;
 use text::Cursor;
 
 // A constant, a variable or a channel, which ends where the site is.
-pub fn leaf(ty: SizedType, numbers: Estimate, p: Site) -> Sizing
+pub fn leaf(ty: SizedType, numbers: Estimate, p: Site) -> Result<Checked, RefusalAt>
     ensures { result ≡ leaf_of ty numbers p }
 {
-    let here = p.place;
-    let at = here.at;
-    Sizing::Is(Checked {
-        ty: ty,
-        numbers: numbers,
-        next: at,
+    Ok(Checked {
+        ty,
+        numbers,
+        next: p.place.at,
         used: p.used,
     })
 }
@@ -37,108 +35,79 @@ pub fn operator_type(o: u32) -> SizedType
 }
 
 // A checked expression with other numbers.
-fn counted(b: Checked, numbers: Estimate) -> Sizing
+fn counted(b: Checked, numbers: Estimate) -> Result<Checked, RefusalAt>
     ensures { result ≡ counted_as b numbers }
 {
-    let ty = b.ty;
-    let next = b.next;
-    Sizing::Is(Checked {
-        ty: ty,
-        numbers: numbers,
-        next: next,
-        used: b.used,
-    })
+    Ok(Checked { numbers, ..b })
 }
 
 // The word of a checked expression's type.
 pub fn type_word(a: Checked) -> u32
     ensures { WordOf a.ty result }
 {
-    let ty = a.ty;
-    word_of(ty)
+    u32::from(a.ty)
 }
 
 // Whether a checked expression is of this type.
 pub fn is_type(a: Checked, ty: SizedType) -> bool
     ensures { result ≡ same_type (meaning a.ty) (meaning ty) }
 {
-    let found = a.ty;
-    same(found, ty)
+    a.ty == ty
 }
 
 // Whether two checked expressions are of the same type.
 pub fn agree(a: Checked, b: Checked) -> bool
     ensures { result ≡ same_type (meaning a.ty) (meaning b.ty) }
 {
-    let ty = b.ty;
-    is_type(a, ty)
+    is_type(a, b.ty)
 }
 
 // A let: a, and then b with a slot more.
-pub fn with_let(a: Checked, b: Checked) -> Sizing
+pub fn with_let(a: Checked, b: Checked) -> Result<Checked, RefusalAt>
     ensures { LetNumbers a b result }
 {
-    let first = a.numbers;
-    let second = b.numbers;
-    let numbers = after(first, with_slots(1, second));
+    let numbers = after(a.numbers, with_slots(1, b.numbers));
     counted(b, numbers)
 }
 
 // An if: a, and then b or d.
-pub fn chosen(a: Checked, b: Checked, d: Checked) -> Sizing
+pub fn chosen(a: Checked, b: Checked, d: Checked) -> Result<Checked, RefusalAt>
     ensures { IfNumbers a b d result }
 {
-    let first = a.numbers;
-    let second = b.numbers;
-    let third = d.numbers;
-    let numbers = after(first, either(second, third));
+    let numbers = after(a.numbers, either(b.numbers, d.numbers));
     counted(d, numbers)
 }
 
 // An operation: a, b, and a cell for the result.
-pub fn operated(o: u32, a: Checked, b: Checked) -> Sizing
+pub fn operated(o: u32, a: Checked, b: Checked) -> Result<Checked, RefusalAt>
     ensures { OpNumbers o a b result }
 {
-    let first = a.numbers;
-    let second = b.numbers;
-    let next = b.next;
-    let numbers = after(after(first, second), one_cell());
+    let numbers = after(after(a.numbers, b.numbers), one_cell());
     let ty = operator_type(o);
-    Sizing::Is(Checked {
-        ty: ty,
-        numbers: numbers,
-        next: next,
-        used: b.used,
-    })
+    Ok(Checked { ty, numbers, ..b })
 }
 
 // A call of n arguments: a, and then the body b inside a call, with a slot for each argument.
-pub fn called(n: u32, a: Counted, b: Checked) -> Sizing
+pub fn called(n: u32, a: Counted, b: Checked) -> Result<Checked, RefusalAt>
     ensures { CallNumbers n a b result }
 {
-    let first = a.numbers;
-    let second = b.numbers;
-    let numbers = with_slots(n, after(first, in_call(second)));
+    let numbers = with_slots(n, after(a.numbers, in_call(b.numbers)));
     counted(b, numbers)
 }
 
 // A case: the subject a, and then its branches b.
-pub fn cased(a: Checked, b: Checked) -> Sizing
+pub fn cased(a: Checked, b: Checked) -> Result<Checked, RefusalAt>
     ensures { CaseNumbers a b result }
 {
-    let first = a.numbers;
-    let second = b.numbers;
-    let numbers = after(first, second);
+    let numbers = after(a.numbers, b.numbers);
     counted(b, numbers)
 }
 
 // Branches: a or b; the answer ends behind b.
-pub fn branched(a: Checked, b: Checked) -> Sizing
+pub fn branched(a: Checked, b: Checked) -> Result<Checked, RefusalAt>
     ensures { EitherNumbers a b result }
 {
-    let first = a.numbers;
-    let second = b.numbers;
-    let numbers = either(first, second);
+    let numbers = either(a.numbers, b.numbers);
     counted(b, numbers)
 }
 
@@ -146,50 +115,37 @@ pub fn branched(a: Checked, b: Checked) -> Sizing
 pub fn larger(all: Checked, a: Checked) -> Checked
     ensures { LargerNumbers all a result }
 {
-    let first = all.numbers;
-    let second = a.numbers;
-    let ty = all.ty;
-    let next = a.next;
-    let numbers = either(first, second);
+    let numbers = either(all.numbers, a.numbers);
     Checked {
-        ty: ty,
-        numbers: numbers,
-        next: next,
-        used: a.used,
+        ty: all.ty,
+        numbers,
+        ..a
     }
 }
 
 // A branch at all splits, with a slot for each of n fields.
-pub fn slotted(n: u32, all: Checked) -> Sizing
+pub fn slotted(n: u32, all: Checked) -> Result<Checked, RefusalAt>
     ensures { SlotNumbers n all result }
 {
-    let inside = all.numbers;
-    let numbers = with_slots(n, inside);
+    let numbers = with_slots(n, all.numbers);
     counted(all, numbers)
 }
 
 // An expression of type t adjusted to size k.
-pub fn adjusted(t: u8, k: u8, a: Checked) -> Sizing
+pub fn adjusted(t: u8, k: u8, a: Checked) -> Result<Checked, RefusalAt>
     ensures { result ≡ adjusted_to t k a }
 {
-    let numbers = a.numbers;
-    let next = a.next;
-    Sizing::Is(Checked {
+    Ok(Checked {
         ty: SizedType::Named(t, k),
-        numbers: numbers,
-        next: next,
-        used: a.used,
+        ..a
     })
 }
 
 // A fit: a, and then b with a slot more, or d.
-pub fn fitted(a: Checked, b: Checked, d: Checked) -> Sizing
+pub fn fitted(a: Checked, b: Checked, d: Checked) -> Result<Checked, RefusalAt>
     ensures { FitNumbers a b d result }
 {
-    let first = a.numbers;
-    let second = b.numbers;
-    let third = d.numbers;
-    let numbers = after(first, either(with_slots(1, second), third));
+    let numbers = after(a.numbers, either(with_slots(1, b.numbers), d.numbers));
     counted(d, numbers)
 }
 
@@ -199,8 +155,8 @@ pub fn none(next: Cursor, used: u32) -> Counted
 {
     Counted {
         numbers: nothing(),
-        next: next,
-        used: used,
+        next,
+        used,
     }
 }
 
@@ -208,22 +164,17 @@ pub fn none(next: Cursor, used: u32) -> Counted
 pub fn none_at(p: Site) -> Counted
     ensures { NoneCounted p.place.at p.used result }
 {
-    let here = p.place;
-    let at = here.at;
-    none(at, p.used)
+    none(p.place.at, p.used)
 }
 
 // The parts so far, and then one more.
 pub fn joined(all: Counted, a: Checked) -> Counted
     ensures { Joins all a result }
 {
-    let first = all.numbers;
-    let second = a.numbers;
-    let next = a.next;
-    let numbers = after(first, second);
+    let numbers = after(all.numbers, a.numbers);
     Counted {
-        numbers: numbers,
-        next: next,
+        numbers,
+        next: a.next,
         used: a.used,
     }
 }
@@ -232,55 +183,18 @@ pub fn joined(all: Counted, a: Checked) -> Counted
 pub fn passed(all: Counted, next: Cursor) -> Counted
     ensures { result ≡ passed_to all next }
 {
-    let numbers = all.numbers;
-    Counted {
-        numbers: numbers,
-        next: next,
-        used: all.used,
-    }
+    Counted { next, ..all }
 }
 
 // A branch of this type before its first split.
 pub fn nothing_yet(ty: SizedType, p: Site) -> Checked
     ensures { NothingYet ty p result }
 {
-    let here = p.place;
-    let at = here.at;
     Checked {
-        ty: ty,
+        ty,
         numbers: nothing(),
-        next: at,
+        next: p.place.at,
         used: p.used,
-    }
-}
-
-// A refusal among arguments is one of the whole.
-pub fn refused(x: Counting) -> Sizing
-    ensures { result ≡ refused_of x }
-{
-    match x {
-        Counting::Are(_) => Sizing::Refused(NO_REFUSAL, NO_FRAME),
-        Counting::Refused(n, frame) => Sizing::Refused(n, frame),
-    }
-}
-
-// A refusal of one part is one of them all.
-pub fn refused_all(x: Sizing) -> Counting
-    ensures { result ≡ refused_all_of x }
-{
-    match x {
-        Sizing::Is(_) => Counting::Refused(NO_REFUSAL, NO_FRAME),
-        Sizing::Refused(n, frame) => Counting::Refused(n, frame),
-    }
-}
-
-// The same of a call that was not entered.
-pub fn not_entered(x: Entering) -> Sizing
-    ensures { result ≡ not_entered x }
-{
-    match x {
-        Entering::Ready(_) => Sizing::Refused(NO_REFUSAL, NO_FRAME),
-        Entering::Refused(n, frame) => Sizing::Refused(n, frame),
     }
 }
 
@@ -288,9 +202,5 @@ pub fn not_entered(x: Entering) -> Sizing
 pub fn subject(t: u32, m: u8, ty: SizedType) -> Subject
     ensures { result ≡ subject_of t m ty }
 {
-    Subject {
-        of: t,
-        size: m,
-        ty: ty,
-    }
+    Subject { of: t, size: m, ty }
 }

@@ -15,12 +15,10 @@ use text::Cursor;
 pub fn moved_on(p: Site, at: Cursor, used: u32) -> Site
     ensures { result ≡ moved_on_of p at used }
 {
-    let here = p.place;
     Site {
-        place: moved(here, at),
-        sizes: p.sizes,
-        measure: p.measure,
-        used: used,
+        place: moved(p.place, at),
+        used,
+        ..p
     }
 }
 
@@ -29,12 +27,9 @@ pub fn down(p: Site, at: Cursor) -> Site
     requires { 0 < p.place.levels }
     ensures { result ≡ down_to p at }
 {
-    let here = p.place;
     Site {
-        place: inside(here, at),
-        sizes: p.sizes,
-        measure: p.measure,
-        used: p.used,
+        place: inside(p.place, at),
+        ..p
     }
 }
 
@@ -43,13 +38,10 @@ pub fn widen(p: Site, variables: u32, sizes: u32) -> Site
     requires { (p.place.variables + variables < 2 ^ 32) × (p.sizes + sizes < 2 ^ 32) }
     ensures { result ≡ widened_by p variables sizes }
 {
-    let here = p.place;
-    let at = here.at;
     Site {
-        place: widened(here, at, variables),
+        place: widened(p.place, p.place.at, variables),
         sizes: p.sizes + sizes,
-        measure: p.measure,
-        used: p.used,
+        ..p
     }
 }
 
@@ -57,8 +49,7 @@ pub fn widen(p: Site, variables: u32, sizes: u32) -> Site
 pub fn behind(p: Site, a: Checked) -> Site
     ensures { result ≡ moved_on_of p a.next a.used }
 {
-    let next = a.next;
-    moved_on(p, next, a.used)
+    moved_on(p, a.next, a.used)
 }
 
 // Where the body of an entry stands.
@@ -69,13 +60,13 @@ pub fn body_site(index: &[u32; INDEX_WORDS], p: Site, e: Entry) -> Site
     let at = body_start(index, e.function);
     let line = line_behind_types(index, e.function);
     let place = Place {
-        at: at,
+        at,
         levels: NESTING_MOST,
-        line: line,
+        line,
         variables: e.variables,
     };
     Site {
-        place: place,
+        place,
         sizes: e.sizes,
         measure: e.measure,
         used: p.used + 1,

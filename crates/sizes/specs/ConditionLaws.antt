@@ -13,7 +13,7 @@ use Rattle.language.specs.Result.{both}
 use Rattle.language.specs.Syntax.{Relation, req, rlt, rle, Condition}
 use Rattle.language.specs.Format.{spell_all, size_bytes, relation_code, condition_bytes}
 use Rattle.language.specs.Within.{All, all_cons, WithinCondition}
-use Rattle.language.specs.Sizes.{added, taken, compare, condition_holds, conditions_hold, summed_measure}
+use Rattle.language.specs.Sizes.{compare, condition_holds, conditions_hold, summed_measure}
 use Rattle.text.specs.declared.Cursor.{Cursor}
 use Rattle.text.specs.declared.Found.{Found}
 use Rattle.text.specs.Places.{past}

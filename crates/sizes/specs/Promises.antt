@@ -1,6 +1,6 @@
 -- What the functions of this crate promise of a size, a result type, conditions and a measure spelled at a place of a line; Δ is
 -- the list of the sizes of the variables.
-use Rattle.std.specs.Prelude.{ℕ, ◌*◌, ◌^◌, ◌≤◌, ◌<◌, List, Bool, ◌≡◌, length, get_or}
+use Rattle.std.specs.Prelude.{ℕ, ◌*◌, ◌^◌, ◌≤◌, ◌<◌, List, Bool, ◌≡◌, length, get_or, Some, None, Option as Maybe}
 use Rattle.std.proofs.Math.Option.{Option, none, some}
 use Rattle.language.specs.Limits.{byte_range, nesting_most}
 use Rattle.language.specs.Syntax.{Ty, tbool, tint, tnamed, Size, ResultType, Relation, Condition}
@@ -14,11 +14,9 @@ use Rattle.text.specs.Places.{past, byte_at}
 use Rattle.encoding.specs.Spells.{Spells, themselves}
 use Rattle.sizes.specs.declared.Worked.{Worked}
 use Rattle.sizes.specs.declared.SizeAt.{SizeAt}
-use Rattle.sizes.specs.declared.SizeAt.TheVariants.{Is as SizeIs, Outside as SizeOutside}
 use Rattle.sizes.specs.declared.SizedType.{SizedType}
 use Rattle.sizes.specs.declared.SizedType.TheVariants.{Bool as BoolIs, Int as IntIs, Named}
 use Rattle.sizes.specs.declared.TypeAt.{TypeAt}
-use Rattle.sizes.specs.declared.TypeAt.TheVariants.{Is as TypeIs, Outside as TypeOutside}
 use Rattle.sizes.specs.declared.Judged.{Judged}
 
 -- the byte at a place of the line, 0 where it has none
@@ -50,16 +48,16 @@ pub record LeafWorked (line : List ℕ) (c : Cursor) (Δ : List ℕ) (code : ℕ
   pub taken_less : r.taken < byte_range
 
 -- the answer agrees with the definition's; a size has its cursor at the end of what is spelled
-pub data AgreesSize (x : Option ℕ) (end : ℕ) : SizeAt → Type 0 where
-  size_is : {k : ℕ} {next : Cursor} → x ≡ some k → next.at ≡ end → AgreesSize x end (SizeIs k next)
-  size-outside : x ≡ none → AgreesSize x end SizeOutside
+pub data AgreesSize (x : Option ℕ) (end : ℕ) : Maybe SizeAt → Type 0 where
+  size_is : {s : SizeAt} → x ≡ some s.size → s.next.at ≡ end → AgreesSize x end (Some s)
+  size-outside : x ≡ none → AgreesSize x end None
 
 -- a size that is given is 1 to 64, whatever the bytes are
-pub data SizeBound : SizeAt → Type 0 where
-  size_bound : {k : ℕ} {next : Cursor} → Bound k → SizeBound (SizeIs k next)
-  no_size : SizeBound SizeOutside
+pub data SizeBound : Maybe SizeAt → Type 0 where
+  size_bound : {s : SizeAt} → Bound s.size → SizeBound (Some s)
+  no_size : SizeBound None
 
-pub record SizeGiven (line : List ℕ) (c : Cursor) (Δ : List ℕ) (r : SizeAt) : Type 0 where
+pub record SizeGiven (line : List ℕ) (c : Cursor) (Δ : List ℕ) (r : Maybe SizeAt) : Type 0 where
   pub says : (vars : ℕ) (s : Size) → WithinSize vars nesting_most s → Spells size_bytes line c.at s → AgreesSize (type_size Δ s) (past line c.at (length (size_bytes s))) r
   pub bound : SizeBound r
 
@@ -69,9 +67,9 @@ meaning BoolIs = tbool
 meaning IntIs = tint
 meaning (Named t k) = tnamed t k
 
-pub data AgreesType (x : Option Ty) (end : ℕ) : TypeAt → Type 0 where
-  type_is : {τ : SizedType} {next : Cursor} → x ≡ some (meaning τ) → next.at ≡ end → AgreesType x end (TypeIs τ next)
-  type_outside : x ≡ none → AgreesType x end TypeOutside
+pub data AgreesType (x : Option Ty) (end : ℕ) : Maybe TypeAt → Type 0 where
+  type_is : {s : TypeAt} → x ≡ some (meaning s.ty) → s.next.at ≡ end → AgreesType x end (Some s)
+  type_outside : x ≡ none → AgreesType x end None
 
 -- a type of one byte each: its number, and its size from 1 to 64
 pub data OneByteEach : SizedType → Type 0 where
@@ -79,11 +77,11 @@ pub data OneByteEach : SizedType → Type 0 where
   int_small : OneByteEach IntIs
   named_small : {t k : ℕ} → t < byte_range → Bound k → OneByteEach (Named t k)
 
-pub data TypeBound : TypeAt → Type 0 where
-  type_bound : {τ : SizedType} {next : Cursor} → OneByteEach τ → TypeBound (TypeIs τ next)
-  no_type : TypeBound TypeOutside
+pub data TypeBound : Maybe TypeAt → Type 0 where
+  type_bound : {s : TypeAt} → OneByteEach s.ty → TypeBound (Some s)
+  no_type : TypeBound None
 
-pub record TypeGiven (line : List ℕ) (c : Cursor) (Δ : List ℕ) (r : TypeAt) : Type 0 where
+pub record TypeGiven (line : List ℕ) (c : Cursor) (Δ : List ℕ) (r : Maybe TypeAt) : Type 0 where
   pub says : (types vars : ℕ) (ρ : ResultType) → WithinResult types vars ρ → Spells result_bytes line c.at ρ → AgreesType (type_at Δ ρ) (past line c.at (length (result_bytes ρ))) r
   pub bound : TypeBound r
 

@@ -1,4 +1,7 @@
 -- Bytes, variables and sizes, return by return: what is worked out is what the written size says.
+use Rattle.language.specs.declared.refusals.Refusal.{Refusal}
+use Rattle.std.specs.Prelude.{Ok, Err}
+use Rattle.std.specs.Result.{result_unwrap_or}
 use Prim.Native.Nat.{ℕ, zero, suc, ◌+◌, ◌-◌, ◌*◌, ◌^◌, ◌<◌, ◌≤◌}
 use Rattle.std.specs.Prelude.{List, [], ◌∷◌, ◌≡◌, refl, length}
 use Rattle.std.proofs.Math.Path.{sym, ap, ap₂}
@@ -15,9 +18,7 @@ use Rattle.language.specs.Parser.{got, bad, byte}
 use Rattle.theory.specs.Places.{one_less}
 use Rattle.text.specs.declared.Cursor.{Cursor}
 use Rattle.text.specs.declared.Found.{Found}
-use Rattle.text.specs.declared.Number.{Number}
-use Rattle.text.specs.declared.Number.TheVariants.{Is, Refused}
-use Rattle.text.specs.Bytes.{bytes_from, past, byte_at, ReadsNumber, Below, below}
+use Rattle.text.specs.Bytes.{Number, bytes_from, past, byte_at, ReadsNumber, Below, below}
 use Rattle.text.specs.Places.{past-past, past_end}
 use Rattle.text.specs.StepLaws.{number-got, number-bad}
 use Rattle.encoding.specs.Spells.{Spells, IsLeaf}
@@ -28,12 +29,12 @@ use Rattle.sizes.specs.Promises.{Reads, Told, IsWorked, WorksOut, LeafWorked}
 
 -- ---- a byte
 value_of : Number → ℕ
-value_of (Is f) = f.value
-value_of (Refused n) = 0
+value_of (Ok f) = f.value
+value_of (Err n) = 0
 
 place_of : Number → ℕ
-place_of (Is f) = f.next.at
-place_of (Refused n) = 0
+place_of (Ok f) = f.next.at
+place_of (Err n) = 0
 
 byte-there : (bs : List ℕ) {b : ℕ} {rest : List ℕ} → byte bs ≡ got b rest → 0 < length bs
 unfolding byte
@@ -46,17 +47,24 @@ byte-missing [] e = refl
 byte-missing (b ∷ bs) e = absurd (let z : ◌≡◌ {A = ℕ} 0 1 = cc in omega arith)
 
 module _ (line : List ℕ) (c : Cursor) {x : Number} (v : ReadsNumber line c.at x (byte (bytes_from line c.at)) × Below byte_range x) where
-  pub read_none : {m : ℕ} → x ≡ Refused m → Reads line c (record { value = 0; next = c })
+  read_none : {m : Refusal} → x ≡ Err m → Reads line c (record { value = 0; next = c })
   read_none e =
       let none_left = byte-missing (bytes_from line c.at) (number-bad v.0 e) in
       record { value = sym (get_or-eq_default (bytes_from line c.at) 0 {n = 0} (omega (arith, none_left))); next = sym (past_end line c.at none_left); less = omega arith }
 
-  pub read_done : {f : Found} → x ≡ Is f → Reads line c f
+  read_done : {f : Found} → x ≡ Ok f → Reads line c f
   unfolding value_of place_of
   read_done {f} e =
       let less = byte-there (bytes_from line c.at) (number-got v.0 e) in
       let same = sym e ∙ byte-is x less v.0 in
       record { value = ap value_of same; next = ap place_of same; less = elim (subst (Below byte_range) e v.1) [ below q ↦ q ] }
+
+  pub read_told : {r : Found} → r ≡ result_unwrap_or x (record { value = 0; next = c }) → Reads line c r
+  read_told {r} e = go x refl e
+    where
+      go : (y : Number) → x ≡ y → r ≡ result_unwrap_or y (record { value = 0; next = c }) → Reads line c r
+      go (Ok f) q e = rw e (read_done q)
+      go (Err n) q e = rw e (read_none q)
 
 -- ---- a variable
 pub variable-told : (Δ : List ℕ) {i k : ℕ} → k ≡ get_or Δ i 0 → k < byte_range → Told Δ i k

@@ -1,16 +1,13 @@
 -- Types and their words: one word a type, as long as numbers and sizes are of one byte each.
-use Rattle.std.specs.Prelude.{ℕ, ◌+◌, ◌-◌, ◌*◌, ◌/◌, ◌%◌, ◌<◌, ◌≤◌, Bool, true, false, ◌≡◌, refl, eqb}
-use Rattle.std.proofs.Common.{sym, ap, ap₂, ◌∙◌, arith, eq-eqb, ne_eqb}
+use Rattle.std.specs.Prelude.{ℕ, ◌+◌, ◌-◌, ◌*◌, ◌/◌, ◌%◌, ◌<◌, ◌≤◌, ◌≡◌, refl}
+use Rattle.std.proofs.Common.{sym, ap₂, arith}
 use Rattle.language.specs.Limits.{byte_range}
 use Rattle.language.specs.Layout.{tag_step}
 use Rattle.language.specs.Syntax.{Ty, tbool, tint, tnamed}
-use Rattle.language.specs.Sizes.{same_type}
 use Rattle.text.specs.Bytes.{declared_word}
-use Rattle.theory.specs.Lists.{false-is-not-true}
-use Rattle.theory.specs.SameTests.{same-type, type-same}
 use Rattle.sizes.specs.declared.SizedType.{SizedType}
 use Rattle.sizes.specs.declared.SizedType.TheVariants.{Bool as BoolIs, Int as IntIs, Named}
-use Rattle.sizes.specs.Promises.{meaning, Small, small_bool, small_int, small_named, WordOf, FromWord}
+use Rattle.sizes.specs.Promises.{Small, small_bool, small_int, small_named, WordOf, FromWord}
 
 -- ---- the word of a type
 pub word-bool : {x : SizedType} → x ≡ BoolIs → WordOf x 0
@@ -65,10 +62,3 @@ word-once small_int (small_named p q) e = absurd (omega (arith, e))
 word-once (small_named p q) small_bool e = absurd (omega (arith, e))
 word-once (small_named p q) small_int e = absurd (omega (arith, e))
 word-once (small_named {t} {k} p q) (small_named {t = u} {k = j} r s) e = ap₂ tnamed (omega (arith, e, p, q, r, s)) (omega (arith, e, p, q, r, s))
-
-pub words_same : {x y : SizedType} {a b : ℕ} → WordOf x a → WordOf y b → eqb a b ≡ same_type (meaning x) (meaning y)
-words_same {x} {y} {a} {b} v w = tested (same_type (meaning x) (meaning y)) refl
-  where
-    tested : (r : Bool) → same_type (meaning x) (meaning y) ≡ r → eqb a b ≡ r
-    tested true e = eq-eqb a b (v.is ∙ ap declared_word (same-type (meaning x) (meaning y) e) ∙ sym w.is)
-    tested false e = ne_eqb a b (λ (z : a ≡ b). false-is-not-true (sym e ∙ type-same (word-once v.small w.small (sym v.is ∙ z ∙ w.is))))

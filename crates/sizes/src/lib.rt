@@ -3,13 +3,12 @@
 
 ghost use Rattle.std.specs.Prelude.{◌≡◌, ◌<◌, ◌≤◌};
 ghost use Rattle.language.specs.Limits.{byte_range, nesting_most};
-ghost use Rattle.language.specs.Sizes.{same_type};
-ghost use Rattle.sizes.specs.Promises.{Reads, Told, LeafWorked, WorksOut, SizeGiven, TypeGiven, Compares, Judges, HoldAll, Hold, SumsMeasure, SumsMeasures, meaning, WordOf, FromWord};
+ghost use Rattle.sizes.specs.Promises.{Reads, Told, LeafWorked, WorksOut, SizeGiven, TypeGiven, Compares, Judges, HoldAll, Hold, SumsMeasure, SumsMeasures, WordOf, FromWord};
 
 use index::byte_at;
 use language::codes::{RELATION_EQUAL, RELATION_LESS, SIZE_NUMBER, SIZE_SUM, TYPE_BOOL, TYPE_INT};
 use language::limits::{NESTING_MOST, SIZE_MOST};
-use text::{Cursor, Found, Number, TYPE_STEP};
+use text::{Cursor, Found, TYPE_STEP};
 
 // A size: what is added, what is taken away; the cursor behind it.
 #[derive(Clone, Copy)]
@@ -19,26 +18,26 @@ struct Worked {
     pub next: Cursor,
 }
 
-// The size of a type, 1 to 64, and the cursor behind it; outside of these is refusal 10.
+// The size of a type, 1 to 64, and the cursor behind it.
 #[derive(Clone, Copy)]
-pub enum SizeAt {
-    Is(u8, Cursor),
-    Outside,
+pub struct SizeAt {
+    pub size: u8,
+    pub next: Cursor,
 }
 
 // A type with its size: Bool, Int, or the number of a named type and its size.
-#[derive(Clone, Copy)]
+#[derive(Clone, Copy, PartialEq, Eq)]
 pub enum SizedType {
     Bool,
     Int,
     Named(u8, u8),
 }
 
-// A result or return type, and the cursor behind it; a size outside is refusal 10.
+// A result or return type, and the cursor behind it.
 #[derive(Clone, Copy)]
-pub enum TypeAt {
-    Is(SizedType, Cursor),
-    Outside,
+pub struct TypeAt {
+    pub ty: SizedType,
+    pub next: Cursor,
 }
 
 // Whether a condition holds, and the cursor behind it.
@@ -52,11 +51,7 @@ struct Judged {
 fn read(line: &[u8], c: Cursor) -> Found
     ensures { Reads line.now c result }
 {
-    let x = c.byte(line);
-    let Number::Is(f) = x else {
-        return Found { value: 0, next: c };
-    };
-    f
+    c.byte(line).unwrap_or(Found { value: 0, next: c })
 }
 
 // The size of a variable.
@@ -77,14 +72,14 @@ fn leaf(line: &[u8], c: Cursor, sizes: &[u8], code: u32) -> Worked
         return Worked {
             added: k as u64,
             taken: 0,
-            next: next,
+            next,
         };
     }
     let size = size_of(sizes, k);
     Worked {
         added: size as u64,
         taken: 0,
-        next: next,
+        next,
     }
 }
 
@@ -114,58 +109,67 @@ fn work_out(line: &[u8], c: Cursor, sizes: &[u8], levels: u32) -> Worked
         return Worked {
             added: x.added + y.added,
             taken: x.taken + y.taken,
-            next: next,
+            next,
         };
     }
     Worked {
         added: x.added + y.taken,
         taken: x.taken + y.added,
-        next: next,
+        next,
     }
 }
 
-// The size of a type.
-pub fn size_at(line: &[u8], c: Cursor, sizes: &[u8]) -> SizeAt
+// The size of a type; none where it is not 1 to 64.
+pub fn size_at(line: &[u8], c: Cursor, sizes: &[u8]) -> Option<SizeAt>
     ensures { SizeGiven line.now c sizes.now result }
 {
     let x = work_out(line, c, sizes, NESTING_MOST);
     let added = x.added;
     let taken = x.taken;
     if added <= taken {
-        return SizeAt::Outside;
+        return None;
     }
     let k = added - taken;
     if (SIZE_MOST as u64) < k {
-        return SizeAt::Outside;
+        return None;
     }
     let next = x.next;
-    SizeAt::Is(k as u8, next)
+    Some(SizeAt {
+        size: k as u8,
+        next,
+    })
 }
 
-// A result or return type.
-pub fn type_at(line: &[u8], c: Cursor, sizes: &[u8]) -> TypeAt
+// A result or return type; none where its size is not 1 to 64.
+pub fn type_at(line: &[u8], c: Cursor, sizes: &[u8]) -> Option<TypeAt>
     ensures { TypeGiven line.now c sizes.now result }
 {
     let f = read(line, c);
     let code = f.value;
     let behind = f.next;
     if code == TYPE_BOOL {
-        return TypeAt::Is(SizedType::Bool, behind);
+        return Some(TypeAt {
+            ty: SizedType::Bool,
+            next: behind,
+        });
     }
     if code == TYPE_INT {
-        return TypeAt::Is(SizedType::Int, behind);
+        return Some(TypeAt {
+            ty: SizedType::Int,
+            next: behind,
+        });
     }
     let g = read(line, behind);
     let t = g.value;
     let written = g.next;
-    let x = size_at(line, written, sizes);
-    let SizeAt::Is(k, next) = x else {
-        return TypeAt::Outside;
-    };
-    TypeAt::Is(SizedType::Named(t as u8, k), next)
+    let s = size_at(line, written, sizes)?;
+    Some(TypeAt {
+        ty: SizedType::Named(t as u8, s.size),
+        next: s.next,
+    })
 }
 
-// Two whole numbers in a relation, by its code.
+// Two whole numbers in a relation, by its code: the clause holds of any byte, so an enum would need a variant for the other codes.
 fn compare(code: u32, a: u64, b: u64) -> bool
     ensures { Compares code a b result }
 {
@@ -190,10 +194,7 @@ fn condition(line: &[u8], c: Cursor, sizes: &[u8]) -> Judged
     let y = work_out(line, second, sizes, NESTING_MOST);
     let next = y.next;
     let holds = compare(code, x.added + y.taken, y.added + x.taken);
-    Judged {
-        holds: holds,
-        next: next,
-    }
+    Judged { holds, next }
 }
 
 // So many conditions, one after the other.
@@ -247,33 +248,30 @@ pub fn summed_measure(line: &[u8], c: Cursor, sizes: &[u8]) -> u32
 }
 
 // A type as a word of a table or of a scope.
-pub fn word_of(x: SizedType) -> u32
-    ensures { WordOf x result }
-{
-    match x {
-        SizedType::Bool => TYPE_BOOL,
-        SizedType::Int => TYPE_INT,
-        SizedType::Named(t, k) => TYPE_STEP * (t as u32 + 1) + k as u32,
+impl From<SizedType> for u32 {
+    ghost from_gives = { λ x word. WordOf x word };
+
+    fn from(x: SizedType) -> u32 {
+        match x {
+            SizedType::Bool => TYPE_BOOL,
+            SizedType::Int => TYPE_INT,
+            SizedType::Named(t, k) => TYPE_STEP * (t as u32 + 1) + k as u32,
+        }
     }
 }
 
 // The type of a word.
-pub fn type_of(word: u32) -> SizedType
-    ensures { FromWord word result }
-{
-    if word == TYPE_BOOL {
-        return SizedType::Bool;
-    }
-    if word < TYPE_STEP {
-        return SizedType::Int;
-    }
-    let t = word / TYPE_STEP - 1;
-    SizedType::Named((t % TYPE_STEP) as u8, (word % TYPE_STEP) as u8)
-}
+impl From<u32> for SizedType {
+    ghost from_gives = { λ word x. FromWord word x };
 
-// Whether two types are the same, sizes and all.
-pub fn same(x: SizedType, y: SizedType) -> bool
-    ensures { result ≡ same_type (meaning x) (meaning y) }
-{
-    word_of(x) == word_of(y)
+    fn from(word: u32) -> SizedType {
+        if word == TYPE_BOOL {
+            return SizedType::Bool;
+        }
+        if word < TYPE_STEP {
+            return SizedType::Int;
+        }
+        let t = word / TYPE_STEP - 1;
+        SizedType::Named((t % TYPE_STEP) as u8, (word % TYPE_STEP) as u8)
+    }
 }

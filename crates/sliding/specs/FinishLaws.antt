@@ -6,7 +6,7 @@ use Rattle.std.proofs.Math.Path.{ap}
 use Rattle.std.proofs.Math.ListN.{get_or}
 use Rattle.std.proofs.lemmas.List.{length-replicate}
 use Rattle.std.proofs.lemmas.List.Edits.{sets, sets-eq}
-use Rattle.std.proofs.Math.Seq.{length-sets, take-append-add}
+use Rattle.std.proofs.Math.Seq.{take-append-add}
 use Rattle.language.specs.Limits.{channels_most, header_words, cell_words}
 use Rattle.language.specs.Heap.{Cell, cell_at}
 use Rattle.language.specs.Slide.{State, reached, slide}
@@ -44,9 +44,6 @@ pub renumbered-start : (words marks : List ℕ) → Renumbered words marks 0 wor
 unfolding row_of
 renumbered-start words marks = record { is = refl }
 
-pub renumbered-long : {words₀ marks words : List ℕ} {c : ℕ} → Renumbered words₀ marks c words → length words ≡ length words₀
-renumbered-long {words₀} {marks} {c = c} v = ap length v.is ∙ length-sets words₀ 1 (numbers_of words₀ marks c)
-
 pub renumbered-on : {words₀ marks words words' : List ℕ} {c l number : ℕ} → Renumbered words₀ marks c words → l ≡ channel_at words c → number ≡ get_or marks l 0 → words' ≡ set words (1 + c) number → Renumbered words₀ marks (c + 1) words'
 unfolding row_of
 renumbered-on {words₀} {marks} {words} {words'} {c} {l} {number} v p q e =
@@ -55,9 +52,6 @@ renumbered-on {words₀} {marks} {words} {words'} {c} {l} {number} v p q e =
     let old : l ≡ channel_at words₀ c = p ∙ ap (λ (x : List ℕ). channel_at x c) v.is ∙ sets-beyond row words₀ 1 (1 + c) (omega arith) in
     let number_is : number ≡ get_or marks (channel_at words₀ c) 0 = q ∙ ap (λ i. get_or marks i 0) old in
     record { is = e ∙ rw (v.is, number_is, add-one) (ap (λ i. set (sets words₀ 1 row) (1 + i) (get_or marks (channel_at words₀ c) 0)) (sym long) ∙ sym (sets-append row (get_or marks (channel_at words₀ c) 0 ∷ []) words₀ 1)) }
-
-pub renumbered-end : {words₀ marks words : List ℕ} {c n : ℕ} → c ≤ n → n ≤ c → Renumbered words₀ marks c words → words ≡ sets words₀ 1 (numbers_of words₀ marks n)
-renumbered-end {words₀} {marks} {c = c} {n} low high v = let same : c ≡ n = omega arith in v.is ∙ ap (λ k. sets words₀ 1 (numbers_of words₀ marks k)) same
 
 -- ---- the header written
 sets_behind : (row : List ℕ) (w i : ℕ) (ws : List ℕ) → sets (w ∷ ws) (suc i) row ≡ w ∷ sets ws i row

@@ -1,6 +1,6 @@
 -- The steps of sliding.
 use Rattle.std.specs.Prelude.{ℕ, ◌+◌, ◌-◌, ◌≤◌, List, ◌∷◌, ◌≡◌, refl, length, get_or, take, drop, set}
-use Rattle.std.proofs.Common.{sym, ap, ◌∙◌, subst, add-one, arith, length-set, drop_of_length-le, get_or-drop}
+use Rattle.std.proofs.Common.{sym, ap, ◌∙◌, add-one, arith, length-set, drop_of_length-le, get_or-drop}
 use Rattle.std.proofs.lemmas.List.Edits.{sets}
 use Rattle.language.specs.Limits.{fields_most}
 use Rattle.language.specs.Layout.{padded, state_length, all_zero}
@@ -28,9 +28,6 @@ filled_on f {j} {x} {row₀} {row} {row'} v q e = record {
   long = ap length e ∙ length-set row j x ∙ v.long;
   is = λ z. e ∙ rw (v.is z, q) (rw add-one (ap (λ i. set (padded fields_most (row_of f j)) i (f j)) (sym (row-length f j)) ∙ padded-next fields_most (row_of f j) (f j)));
 }
-
-pub filled-end : (f : ℕ → ℕ) {j n : ℕ} {row₀ row : List ℕ} → j ≤ n → n ≤ j → Filled f j row₀ row → Filled f n row₀ row
-filled-end f {j} {n} {row₀} {row} low high v = let same : j ≡ n = omega arith in subst (λ k. Filled f k row₀ row) same v
 
 -- ---- the words of the cell moved
 padded-again : (row : List ℕ) → length row ≡ fields_most → padded fields_most (take fields_most row) ≡ row

@@ -128,6 +128,3 @@ sweep-on {index} {words₀} {marks₀} {words} {marks} {words'} {marks'} {used} 
       above = λ l le. get_or-set_other marks i l next 0 (λ y. omega arith) ∙ v.above l (omega arith);
       says = λ s g lower m. moved_down v less s g lower m z w;
     })
-
-pub sweep-end : {index words₀ marks₀ words marks : List ℕ} {used i next : ℕ} → i ≤ used → used ≤ i → Sweeps index words₀ marks₀ used i next words marks → Sweeps index words₀ marks₀ used used next words marks
-sweep-end {index} {words₀} {marks₀} {words} {marks} {used} {i} {next} low high v = let same : i ≡ used = omega arith in subst (λ k. Sweeps index words₀ marks₀ used k next words marks) same v

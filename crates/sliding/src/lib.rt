@@ -35,12 +35,10 @@ fn put_new_number(marks: &mut [u32], cell: u32, number: u32)
 fn new_fields(state: &[u32], marks: &[u32], cell: u32, n: u32, fields: &mut [u32])
     ensures { Filled (λ j. get_or marks.now (field_at state.now cell j) 0) n fields.old fields.new }
 {
-    let mut j: u32 = 0;
-    while j < n {
+    for j in 0..n {
         let l = cell_field(state, cell, j);
         let number = new_number(marks, l);
         put(fields, j as usize, number);
-        j += 1;
     }
 }
 
@@ -49,7 +47,7 @@ fn move_cell(state: &mut [u32], marks: &[u32], cell: u32, to: u32, n: u32)
     requires { state_length (to + 1) ≤ length state.old }
     ensures { state.new ≡ sets state.old (state_length to) (tag_at state.old cell ∷ value_at state.old cell ∷ padded fields_most (row_of (λ j. get_or marks.now (field_at state.old cell j) 0) n)) }
 {
-    let mut fields: [u32; FIELDS_MOST] = [0; FIELDS_MOST];
+    let mut fields = [0u32; FIELDS_MOST];
     new_fields(state, marks, cell, n, &mut fields);
     let tag = cell_tag(state, cell);
     let value = cell_value(state, cell);
@@ -83,11 +81,9 @@ fn sweep(index: &[u32; INDEX_WORDS], state: &mut [u32], marks: &mut [u32], used:
     requires { state_length used ≤ length state.old }
     ensures { Sweeps index.now state.old marks.old used used result state.new marks.new }
 {
-    let mut cell: u32 = 0;
     let mut next: u32 = 0;
-    while cell < used {
+    for cell in 0..used {
         next = pass(index, state, marks, cell, next);
-        cell += 1;
     }
     next
 }
@@ -96,12 +92,10 @@ fn sweep(index: &[u32; INDEX_WORDS], state: &mut [u32], marks: &mut [u32], used:
 fn renumber_channels(state: &mut [u32], marks: &[u32], n: u32)
     ensures { state.new ≡ sets state.old 1 (row_of (λ c. get_or marks.now (channel_at state.old c) 0) n) }
 {
-    let mut c: u32 = 0;
-    while c < n {
+    for c in 0..n {
         let l = channel_cell(state, c);
         let number = new_number(marks, l);
         put_channel_cell(state, c, number);
-        c += 1;
     }
 }
 

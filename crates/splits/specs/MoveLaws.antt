@@ -1,6 +1,6 @@
 -- The steps of a move: looking for the place that gives, from the right; and the stores at and before it, which make the next split.
 use Rattle.std.specs.Prelude.{ℕ, zero, suc, ◌+◌, ◌-◌, ◌≤◌, ◌<◌, List, [], ◌∷◌, ◌++◌, true, false, ◌≡◌, refl, ltb, length, get_or, take, drop, set}
-use Rattle.std.proofs.Common.{append_assoc, sym, ap, ◌∙◌, zero-add, suc-add, add-one, arith, take-append-drop, lt-length-set, length-take-le, take-take, lt-ltb, le-ltb, ltb-true}
+use Rattle.std.proofs.Common.{append_assoc, sym, ap, ◌∙◌, zero-add, suc-add, add-one, arith, take-append-drop, length-take-le, take-take, lt-ltb, le-ltb, ltb-true}
 use Rattle.std.proofs.Math.Option.{none, some}
 use Rattle.std.proofs.Math.Seq.{slice, slice-cons, slice_empty, length-slice, take-nil}
 use Rattle.std.proofs.lemmas.List.{drop-append-le}
@@ -76,14 +76,6 @@ module _ {sizes : List ℕ} {at end j : ℕ} (v : Looks sizes at end j) where
     quiet = ap next (two-and-rest sizes end j v.room (omega arith) v.within) ∙ next-quiet _ _ _ from-j g;
   }
 
-  pub looks-found : may_move (get_or sizes (j - 1) 0) (get_or sizes j 0) ≡ true → Pivot sizes at end j
-  looks-found g = record { from = v.from; within = v.within; quiet = v.quiet; giving = λ _. g }
-
-  pub looks-end : j ≤ at → Pivot sizes at end at
-  looks-end h =
-      let first : j ≡ at = omega (arith, v.from) in
-      record { from = omega arith; within = omega (arith, v.within); quiet = rw first at v.quiet; giving = λ less. absurd (omega (arith, less)) }
-
 -- ---- parts of a list
 pub drop_of_take : (n m : ℕ) (l : List ℕ) → drop n (take (n + m) l) ≡ take m (drop n l)
 drop_of_take zero m l = rw zero-add
@@ -126,14 +118,6 @@ module _ {sizes : List ℕ} {at end j : ℕ} (g : Pivot sizes at end j) (ne : j 
   pub pivot-some : 1 < get_or sizes j 0
   pivot-some = may-move-some _ _ (g.giving pivot-behind)
 
--- the places of the second and the third store are still in the list
-module _ {sizes : List ℕ} {at end j : ℕ} (g : Pivot sizes at end j) (room : end ≤ length sizes) where
-  pub second-within : (k : ℕ) → j < length (set sizes (j - 1) k)
-  second-within k = lt-length-set sizes (j - 1) k (omega (arith, g.within))
-
-  pub third-within : (k p : ℕ) → end - 1 < length (set (set sizes (j - 1) k) j p)
-  third-within k p = lt-length-set (set sizes (j - 1) k) j p (lt-length-set sizes (j - 1) k (omega (arith, g.within)))
-
 module _ (sizes : List ℕ) (at end j : ℕ) (room : end ≤ length sizes) (h : at < j) (g : Pivot sizes at end j) where
   abbrev size : ℕ
   size = get_or sizes (j - 1) 0
@@ -172,9 +156,6 @@ module _ (sizes : List ℕ) (at end j : ℕ) (room : end ≤ length sizes) (h : 
 
 -- ---- the promise, return by return
 module _ (sizes : List ℕ) (at r : ℕ) where
-  pub moves-beyond : length sizes < at + r → Moves sizes at r false sizes
-  moves-beyond h = record { moves = λ room e. absurd (omega arith); ends = λ room e. absurd (omega arith); beyond = λ _. (refl, refl) }
-
   moves_not : next (take r (drop at sizes)) ≡ none → Moves sizes at r false sizes
   moves_not e = record { moves = λ _ f. none-is-not-some (sym e ∙ f); ends = λ _ _. (refl, refl); beyond = λ _. (refl, refl) }
 

@@ -32,11 +32,6 @@ pub record Written (sizes₀ : List ℕ) (at r n i : ℕ) (sizes : List ℕ) : T
   pub long : length sizes ≡ length sizes₀
   pub is : sizes ≡ paste sizes₀ at (first_of r n) (i - at)
 
-pub written_start : (sizes : List ℕ) (at r n : ℕ) → (r ≡ 0 → ⊥) → at + r ≤ length sizes → Written sizes at r n at sizes
-written_start sizes at r n pos room =
-    let none : at - at ≡ 0 = omega arith in
-    record { from = omega arith; below = omega (arith, pos); room = room; long = refl; is = rw none (paste-zero sizes at (first_of r n)) }
-
 module _ {sizes₀ sizes : List ℕ} {at r n i : ℕ} (v : Written sizes₀ at r n i sizes) where
   -- one more, of the split's size there
   stored : (k : ℕ) → get_or (first_of r n) (i - at) 0 ≡ k → set sizes i k ≡ paste sizes₀ at (first_of r n) (suc (i - at))
@@ -74,9 +69,3 @@ module _ (sizes : List ℕ) (at r n : ℕ) where
   pub starts-nothing : r ≡ 0 → Starts sizes at r n sizes
   unfolding first_of
   starts-nothing e = record { starts = λ _ _. rw e (paste-zero sizes at []); too_many = λ _. refl; beyond = λ _. refl }
-
-  pub starts-too-many : n < r → Starts sizes at r n sizes
-  starts-too-many h = record { starts = λ _ le. absurd (omega arith); too_many = λ _. refl; beyond = λ _. refl }
-
-  pub starts-beyond : length sizes < at + r → Starts sizes at r n sizes
-  starts-beyond h = record { starts = λ room _. absurd (omega arith); too_many = λ _. refl; beyond = λ _. refl }

@@ -24,10 +24,8 @@ pub fn first_split(sizes: &mut [u8], at: usize, r: u32, n: u8)
         return;
     }
     let last = at + (r as usize) - 1;
-    let mut i = at;
-    while i < last {
+    for i in at..last {
         sizes[i] = 1;
-        i += 1;
     }
     sizes[last] = n - ((r - 1) as u8);
 }
@@ -36,10 +34,7 @@ pub fn first_split(sizes: &mut [u8], at: usize, r: u32, n: u8)
 fn may_move(size: u8, behind: u8) -> bool
     ensures { result ≡ may_move size behind }
 {
-    if behind <= 1 {
-        return false;
-    }
-    (size as u32) < SIZE_MOST
+    1 < behind && (size as u32) < SIZE_MOST
 }
 
 // The rightmost place whose size may be lowered and the one before it raised; the first place if there is none.
@@ -47,12 +42,10 @@ fn pivot(sizes: &[u8], at: usize, end: usize) -> usize
     requires { (at < end) × (end ≤ length sizes.now) }
     ensures { Pivot sizes.now at end result }
 {
-    let mut j = end - 1;
-    while at < j {
+    for j in (at + 1..end).rev() {
         if may_move(sizes[j - 1], sizes[j]) {
             return j;
         }
-        j -= 1;
     }
     at
 }

@@ -16,9 +16,9 @@ use Rattle.theory.specs.StateWords.{state-loaded}
 use Rattle.theory.specs.Starts.{start-writes, starts}
 use Rattle.theory.specs.StartSteps.{start-by-rules}
 use Rattle.theory.specs.FileAnswers.{StartAccepted, zero-is-accepted, start-answers}
-use Rattle.reader.specs.declared.Reading.{Reading}
-use Rattle.reader.specs.declared.Reading.TheVariants.{Fault}
-use Rattle.reader.specs.Texts.{TextRead}
+use Rattle.std.specs.Prelude.{Err}
+use Rattle.language.specs.declared.refusals.RefusalAt.{RefusalAt}
+use Rattle.reader.specs.Texts.{Reading, TextRead}
 use Rattle.reader.specs.Indexes.{read-fault}
 use Rattle.index.specs.Indexed.{Indexed}
 use Rattle.new_cells.specs.Steps.{Board as BoardHas}
@@ -28,7 +28,7 @@ use Rattle.evaluator.specs.ChannelValues.{board_lent}
 use Rattle.initial_state.specs.Promises.{LaysState}
 use Rattle.answers.specs.declared.Board.{Board}
 use Rattle.answers.specs.declared.Answer.{Answer}
-use Rattle.answers.specs.Boards.{board_of, said, lent_records, read_answer, Granted, LendsList, ClearsBoth}
+use Rattle.answers.specs.Boards.{board_of, said, lent_records, answer_of, Granted, LendsList, ClearsBoth}
 use Rattle.checker.specs.Checks.{ReadHeld, ChecksGiven}
 use Rattle.answers.specs.LendLaws.{as_long, same-lent, list-room}
 use Rattle.checker.specs.ReadLaws.{reading-refused}
@@ -132,7 +132,7 @@ module _ (text : List ℕ) (b : Board) (records : ℕ) (state scratch slots : Li
   abbrev outcome : Bool → Result Accepted
   outcome d = check_file text (both (list_lent (board_of b) (lent_records records)) d)
 
-  pub start-unread : {index words' : List ℕ} {x : Reading} {r : Answer} {m frame : ℕ} (k : ℕ) → TextRead text x index (read_file text) → x ≡ Fault m frame → r ≡ read_answer x → words' ≡ replicate k 0 →
+  pub start-unread : {index words' : List ℕ} {x : Reading} {e : RefusalAt} {r : Answer} (k : ℕ) → TextRead text x index (read_file text) → x ≡ Err e → r ≡ answer_of x → words' ≡ replicate k 0 →
       StartsWords text b records state scratch slots r words' state scratch₁ slots₁
   unfolding start start_words verdict_of bind
   start-unread {x = x} k v q e z =

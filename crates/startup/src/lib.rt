@@ -1,18 +1,16 @@
 // The call that starts a rule file on a board.
 #![tactic(auto)]
 
-ghost use Rattle.std.specs.Prelude.{◌≡◌, length};
 ghost use Rattle.checker.specs.Checks.{ReadHeld};
-ghost use Rattle.instance_list.specs.Records.{list_words};
 ghost use Rattle.startup.specs.Starts.{StartsRead, StartsWords};
 
-use answers::{Answer, Board, all_lent, clear_both, read_answer};
+use answers::{Answer, Board, all_lent, clear_both};
 use checker::check_read;
 use index::{INDEX_WORDS, clear};
 use initial_state::put_initial_state;
-use instances::clear as clear_list;
+use instance_list::LIST_WORDS;
 use language::refusals::NO_REFUSAL;
-use reader::{Reading, read};
+use reader::read;
 use state_words::state_length;
 
 // The start of a file that was read: 9 to 18 as the checker has them, or the state.
@@ -21,13 +19,12 @@ fn start_read(
     index: &[u32; INDEX_WORDS],
     b: Board,
     records: usize,
-    words: &mut [u32],
+    words: &mut [u32; LIST_WORDS],
     state: &mut [u32],
     scratch: &[u32],
     slots: &mut [u32],
 ) -> Answer
-    requires read_held { ReadHeld text.now index.now }
-    requires words_len { length words.old ≡ list_words }
+    requires { ReadHeld text.now index.now }
     ensures { StartsRead text.now b records state.old scratch.now slots.old result words.new state.new slots.new }
 {
     let given = all_lent(b, records, state.len(), scratch.len(), slots.len());
@@ -53,21 +50,19 @@ pub fn start_words(
     text: &[u8],
     b: Board,
     records: usize,
-    words: &mut [u32],
+    words: &mut [u32; LIST_WORDS],
     state: &mut [u32],
     scratch: &mut [u32],
     slots: &mut [u32],
 ) -> Answer
-    requires { length words.old ≡ list_words }
     ensures { StartsWords text.now b records state.old scratch.old slots.old result words.new state.new scratch.new slots.new }
 {
     clear_both(scratch, slots);
     let mut index = [0u32; INDEX_WORDS];
-    let x = read(text, &mut index);
-    let Reading::Done = x else {
-        clear_list(words);
-        return read_answer(x);
-    };
+    if let Err(e) = read(text, &mut index) {
+        clear(words);
+        return Answer::from(Err(e));
+    }
     let r = start_read(text, &index, b, records, words, state, scratch, slots);
     clear(slots);
     r

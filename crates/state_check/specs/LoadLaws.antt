@@ -28,7 +28,7 @@ use Rattle.index.specs.Indexed.{Indexed, declared_at}
 use Rattle.state_words.specs.Words.{used_in, channel_at, row_of}
 use Rattle.state_words.specs.RowLaws.{row-length, row_at, row-taken, zeros-taken}
 use Rattle.state_words.specs.Holds.{Holds}
-use Rattle.marking.specs.Marks.{Marks, MarksReached}
+use Rattle.marking.specs.Marks.{Marks}
 use Rattle.marking.specs.MarkLaws.{not-marked, marked, unmarked, has-mark}
 use Rattle.cell_check.specs.Judged.{heap_to, LocationJudged, CellsJudged}
 use Rattle.cell_check.specs.CellLaws.{some_of, none_of}
@@ -130,20 +130,11 @@ one-not R i (suc n) e less = below_or_not i n (λ below. both-never (mem n R) (o
 pub all-not : {marks : List ℕ} {i used : ℕ} {r : Bool} → i < used → r ≡ not (eqb (get_or marks i 0) 0) → r ≡ false → MarksJudged marks used false
 all-not {marks} {i} {used} less q e = record { says = λ R m long. sym (one-not R i used (not-marked (mem i R) (sym (m.at i (omega arith)) ∙ unmarked q e)) less) }
 
-pub all_end : {marks : List ℕ} {i used : ℕ} → i ≤ used → used ≤ i → MarkedTo marks i → MarksJudged marks used true
-all_end {marks} {i} {used} low high v = let same : i ≡ used = omega arith in record { says = λ R m long. sym (subst (λ n. n ≤ length marks → all_reached R n ≡ true) same (v.says R m) (omega arith)) }
-
-pub reached-judged : {index words marks marks₁ marks' : List ℕ} {channels used : ℕ} {r : Bool} → MarksReached index words channels used marks marks₁ → MarksJudged marks₁ used r → marks' ≡ replicate (length marks₁) 0 → ReachedJudged index words channels used marks r marks'
-reached-judged mk j e = record { none = e ∙ ap (λ n. replicate n 0) mk.long; says = λ h g z. j.says _ (mk.says h g z) (mk.long ∙ g.each) }
-
 -- ---- unused words
 module _ {words : List ℕ} {channels used cells : ℕ} where
   pub laid-short : cells < used → LaidJudged words channels used cells false
   unfolding both
   laid-short less = record { room = λ e. absurd (let z : ◌≡◌ {A = ℕ} 0 1 = cc in omega arith); says = λ few. rw (lt-leb used cells less) }
-
-  pub laid-many : channels_most < channels → LaidJudged words channels used cells false
-  laid-many less = record { room = λ e. absurd (let z : ◌≡◌ {A = ℕ} 0 1 = cc in omega arith); says = λ few. absurd (omega arith) }
 
   pub laid-unclear : {b : Bool} → used ≤ cells → b ≡ all_zero (drop channels (take channels_most (drop 1 words))) → b ≡ false → LaidJudged words channels used cells false
   unfolding both

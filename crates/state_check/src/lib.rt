@@ -16,12 +16,10 @@ use state_words::{cells_clear, channel_cell, channels_clear, state_length, used_
 fn channels_fit(index: &[u32; INDEX_WORDS], state: &[u32], channels: u32, used: u32) -> bool
     ensures { ChannelsJudged index.now state.now channels used result }
 {
-    let mut c: u32 = 0;
-    while c < channels {
+    for c in 0..channels {
         if !location_fits(state, used, channel_cell(state, c), declared_word(index, c)) {
             return false;
         }
-        c += 1;
     }
     true
 }
@@ -30,12 +28,10 @@ fn channels_fit(index: &[u32; INDEX_WORDS], state: &[u32], channels: u32, used: 
 fn all_marked(marks: &[u32], used: u32) -> bool
     ensures { MarksJudged marks.now used result }
 {
-    let mut i: u32 = 0;
-    while i < used {
+    for i in 0..used {
         if !is_marked(marks, i) {
             return false;
         }
-        i += 1;
     }
     true
 }
@@ -61,6 +57,7 @@ fn laid_out(state: &[u32], channels: u32, used: u32, cells: u32) -> bool
     requires { state_length cells ≤ length state.now }
     ensures { LaidJudged state.now channels used cells result }
 {
+    // Test by test and no `&&`: what the later calls require is known from the earlier tests.
     if cells < used {
         return false;
     }
@@ -84,13 +81,9 @@ fn state_right(
 ) -> bool
     ensures { RightJudged index.now state.now types channels used marks.old result marks.new }
 {
-    if !cells_fit(index, types, state, used) {
-        return false;
-    }
-    if !channels_fit(index, state, channels, used) {
-        return false;
-    }
-    all_reached(index, state, marks, channels, used)
+    cells_fit(index, types, state, used)
+        && channels_fit(index, state, channels, used)
+        && all_reached(index, state, marks, channels, used)
 }
 
 // Whether the words are lent for so many cells and hold a valid state. The scratch is zero, and left so.

@@ -1,7 +1,7 @@
--- Words of a row: stored one after the other, made zero in a part, and tested for zero.
-use Rattle.std.specs.Prelude.{ℕ, zero, suc, ◌+◌, ◌-◌, ◌≤◌, ◌<◌, List, [], ◌∷◌, ◌++◌, Bool, true, false, ◌&&◌, ◌≡◌, refl, length, get_or, take, drop, set, replicate, eqb}
-use Rattle.std.proofs.Common.{sym, ap, ap₂, ◌∙◌, add-one, arith, length-append, length-take, length-drop, take-suc, take_all, length-take-le, get_or-take, get_or-drop, drop-drop}
-use Rattle.std.proofs.Math.ListN.{get_or-eq_default, get_or-append}
+-- Words of a row: stored one after the other, made zero, and tested for zero.
+use Rattle.std.specs.Prelude.{ℕ, zero, suc, ◌+◌, ◌≤◌, ◌<◌, List, [], ◌∷◌, ◌++◌, Bool, true, false, ◌&&◌, ◌≡◌, refl, length, get_or, take, drop, set, replicate, eqb}
+use Rattle.std.proofs.Common.{sym, ap, ap₂, ◌∙◌, add-one, arith, length-append, length-drop, take-suc, take_all, length-take-le, get_or-drop}
+use Rattle.std.proofs.Math.ListN.{get_or-append}
 use Rattle.std.proofs.lemmas.List.Edits.{sets}
 use Rattle.std.proofs.Math.Seq.{length-sets}
 use Rattle.std.proofs.lemmas.List.{get_or_at}
@@ -35,21 +35,7 @@ stored_on {words₀} {row} {words} {words'} {from} {j} v less q e =
 pub stored-end : {words₀ row words : List ℕ} {from j : ℕ} → Stored words₀ from row j words → length row ≤ j → words ≡ sets words₀ from row
 stored-end {words₀} {row} {from} {j} v le = v.is ∙ ap (sets words₀ from) (take_all j row le)
 
--- ---- a word of the first n
-pub first_word : (row : List ℕ) (n j : ℕ) → j < n → get_or row j 0 ≡ get_or (take n row) j 0
-first_word row n j less = sym (get_or-take n row j 0 less)
-
-pub first-none : (row : List ℕ) (n j : ℕ) → n ≤ j → 0 ≡ get_or (take n row) j 0
-first-none row n j le = sym (get_or-eq_default (take n row) 0 {n = j} (omega (arith, length-take n row)))
-
--- ---- a part made zero
-pub part-cleared : {part : List ℕ} (words : List ℕ) (from to : ℕ) → from ≤ to → to ≤ length words → part ≡ replicate (length (take (to - from) (drop from words))) 0 →
-    take from words ++ (part ++ drop (to - from) (drop from words)) ≡ take from words ++ (replicate (to - from) 0 ++ drop to words)
-part-cleared words from to le long e =
-    let size : length (take (to - from) (drop from words)) ≡ to - from = length-take-le (to - from) (drop from words) (omega (arith, length-drop from words)) in
-    let place : from + (to - from) ≡ to = omega arith in
-    rw (e, size, drop-drop (to - from) from words, place)
-
+-- ---- words made zero
 pub zeros-taken : (n m : ℕ) → n ≤ m → take n (replicate {A = ℕ} m 0) ≡ replicate n 0
 zeros-taken zero m le = refl
 zeros-taken (suc n) zero le = absurd (omega arith)
@@ -87,9 +73,6 @@ zero-on {row} {i} {r} v less = record {
   low = omega arith;
   is = and_both r (eqb (get_or row i 0) 0) ∙ ap (λ b. both b (eqb (get_or row i 0) 0)) v.is ∙ sym (zero_more (take i row) (get_or row i 0)) ∙ ap all_zero (sym (take-suc row i 0 less)) ∙ rw add-one;
 }
-
-pub zero-end : {row : List ℕ} {i : ℕ} {r : Bool} → ZeroTo row i r → length row ≤ i → r ≡ all_zero row
-zero-end {row} {i} v le = v.is ∙ ap all_zero (take_all i row le)
 
 -- ---- a row of words by their places
 pub row-are : (f : ℕ → ℕ) (n : ℕ) (ls : List ℕ) → n ≤ length ls → ((j : ℕ) → j < n → f j ≡ get_or ls j 0) → row_of f n ≡ take n ls

@@ -1,5 +1,5 @@
 -- Cells written: their words from the cell's place on, whatever the number of fields.
-use Rattle.std.specs.Prelude.{ℕ, zero, suc, ◌+◌, ◌-◌, ◌*◌, ◌≤◌, List, [], ◌∷◌, ◌++◌, ◌≡◌, length, take, drop, set, replicate}
+use Rattle.std.specs.Prelude.{ℕ, zero, suc, ◌+◌, ◌-◌, ◌≤◌, List, [], ◌∷◌, ◌++◌, ◌≡◌, length, take, drop, set, replicate}
 use Rattle.std.proofs.Common.{append_assoc, sym, ap, ◌∙◌, zero-add, suc-add, arith, length-set, drop-drop}
 use Rattle.std.proofs.lemmas.List.{length-replicate}
 use Rattle.std.proofs.lemmas.List.Edits.{sets, sets-eq}
@@ -7,7 +7,6 @@ use Rattle.std.proofs.Math.Seq.{take-nil}
 use Rattle.language.specs.Limits.{fields_most, channels_most, header_words, cell_words}
 use Rattle.language.specs.Layout.{padded, state_length, all_zero}
 use Rattle.index.specs.Padded.{padded-none}
-use Rattle.state_words.specs.Words.{cleared}
 
 pub drop_of_take : (m n : ℕ) (l : List ℕ) → drop m (take (m + n) l) ≡ take n (drop m l)
 drop_of_take zero n l = rw zero-add
@@ -44,18 +43,7 @@ leaf-written {words'} words cell at tag value place room e =
     ∙ sym (stored-parts zeros second (at + 2) (omega (arith, place, long, room, size)))
     ∙ ap (sets second (at + 2)) (sym (padded-none fields_most)))
 
--- cells made zero
-pub cells-cleared : {words' : List ℕ} (words : List ℕ) (from to a b : ℕ) → a ≡ state_length from → b ≡ state_length to → from ≤ to → words' ≡ take a words ++ (replicate (b - a) 0 ++ drop b words) → words' ≡ cleared words from to
-cells-cleared words from to a b p q le e =
-    let count : state_length to - state_length from ≡ cell_words * (to - from) = omega arith in
-    e ∙ rw (p, q, count)
-
--- and tested
-pub cells-tested : (words : List ℕ) (from to a b : ℕ) → a ≡ state_length from → b ≡ state_length to → from ≤ to → all_zero (take (b - a) (drop a words)) ≡ all_zero (take (cell_words * (to - from)) (drop (state_length from) words))
-cells-tested words from to a b p q le =
-    let count : state_length to - state_length from ≡ cell_words * (to - from) = omega arith in
-    rw (p, q, count)
-
+-- the channels' words tested for zero
 pub channels-tested : (words : List ℕ) (from : ℕ) → from ≤ channels_most → all_zero (take (header_words - (1 + from)) (drop (1 + from) words)) ≡ all_zero (drop from (take channels_most (drop 1 words)))
 channels-tested words from le =
     let count : header_words - (1 + from) ≡ channels_most - from = omega arith in

@@ -77,10 +77,7 @@ pub fn cell_field(state: &[u32], cell: u32, j: u32) -> u32
 fn word_of_first(row: &[u32], n: u32, j: u32) -> u32
     ensures { result ≡ get_or (take n row.now) j 0 }
 {
-    if j < n {
-        return word_at(row, j as usize);
-    }
-    0
+    if j < n { word_at(row, j as usize) } else { 0 }
 }
 
 // Writes the fields of a cell from a place on: the first n of those given, then zeros.
@@ -88,10 +85,8 @@ fn put_fields(state: &mut [u32], from: usize, fields: &[u32], n: u32)
     requires { from + fields_most ≤ length state.old }
     ensures { state.new ≡ sets state.old from (padded fields_most (take n fields.now)) }
 {
-    let mut j: u32 = 0;
-    while j < (FIELDS_MOST as u32) {
-        state[from + (j as usize)] = word_of_first(fields, n, j);
-        j += 1;
+    for j in 0..FIELDS_MOST {
+        state[from + j] = word_of_first(fields, n, j as u32);
     }
 }
 
@@ -135,15 +130,13 @@ pub fn clear_cells(state: &mut [u32], from: u32, to: u32)
     clear_part(state, state_length(from), state_length(to));
 }
 
-// Whether every word is zero.
+// Whether every word is zero. None is left out: to leave at the first that is not zero costs more than it saves.
 fn all_zero(row: &[u32]) -> bool
     ensures { result ≡ all_zero row.now }
 {
-    let mut i: usize = 0;
     let mut zero = true;
-    while i < row.len() {
-        zero = zero & (row[i] == 0);
-        i += 1;
+    for word in row {
+        zero = zero & (*word == 0);
     }
     zero
 }

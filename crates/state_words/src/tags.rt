@@ -1,4 +1,4 @@
-// Tags: a Bool, an Int, or a type and its constructor.
+// Tags: a Bool, an Int, or a type and its constructor; numbers, since they are words of the state, which the C interface lends.
 ghost use Rattle.std.specs.Prelude.{◌≡◌, ◌+◌, ◌-◌, ◌*◌, ◌/◌, ◌%◌, ◌<◌, ◌≤◌, eqb};
 ghost use Rattle.language.specs.Limits.{byte_range};
 ghost use Rattle.language.specs.Layout.{tag_step};

@@ -1,4 +1,7 @@
 -- What the reads of a cursor say of the bytes of its line.
+use Rattle.language.specs.declared.refusals.Refusal.{Refusal}
+use Rattle.language.specs.RefusalNumbers.{number_of}
+use Rattle.std.specs.Prelude.{Result, Ok, Err}
 use Rattle.std.specs.Prelude.{ℕ, ◌+◌, ◌*◌, ◌≤◌, ◌<◌, List, ◌≡◌, length, get_or}
 use Rattle.language.specs.Codes.{space}
 use Rattle.language.specs.Syntax.{Field, fbool, fint, own, other, Plain, pbool, pint, pnamed, Ty, tbool, tint, tnamed}
@@ -6,12 +9,15 @@ use Rattle.language.specs.Layout.{tag_step}
 use Rattle.language.specs.Parser.{Read, got, bad}
 use Rattle.text.specs.declared.Cursor.{Cursor}
 use Rattle.text.specs.declared.Found.{Found}
-use Rattle.text.specs.declared.Number.{Number}
-use Rattle.text.specs.declared.Number.TheVariants.{Is, Refused}
-use Rattle.text.specs.declared.Step.{Step}
-use Rattle.text.specs.declared.Step.TheVariants.{Next, Stop}
 unfoldable pub use Rattle.text.specs.Digits.{digit_value_of, bytes_of}
 pub use Rattle.text.specs.Places.{bytes_from, past, IsPlace, bytes_left, byte_at}
+
+-- what a read gives: a number and the cursor behind it; the cursor behind what was passed over; or a refusal
+abbrev pub Number : Type 0
+Number = Result Found Refusal
+
+abbrev pub Step : Type 0
+Step = Result Cursor Refusal
 
 -- a parser's answer with another value, and with none
 unfoldable pub map_read : {A B : Type 0} → (A → B) → Read A → Read B
@@ -24,21 +30,21 @@ forget (bad n) = bad n
 
 -- ---- what a read gives, as a parser's answer: the bytes left are those from the moved cursor on
 unfoldable pub given : List ℕ → Number → Read ℕ
-given line (Is f) = got f.value (bytes_from line f.next.at)
-given line (Refused n) = bad n
+given line (Ok f) = got f.value (bytes_from line f.next.at)
+given line (Err n) = bad (number_of n)
 
 unfoldable pub passed : List ℕ → Step → Read (Unit {0})
-passed line (Next c) = got tt (bytes_from line c.at)
-passed line (Stop n) = bad n
+passed line (Ok c) = got tt (bytes_from line c.at)
+passed line (Err n) = bad (number_of n)
 
 -- the cursor moved on by some of the bytes left, and is not beyond the line
 pub data Moved (line : List ℕ) (at : ℕ) : Step → Type 0 where
-  moved : {c : Cursor} (n : ℕ) → c.at ≡ past line at n → n ≤ bytes_left line at → IsPlace line c.at → Moved line at (Next c)
-  stopped : {n : ℕ} → Moved line at (Stop n)
+  moved : {c : Cursor} (n : ℕ) → c.at ≡ past line at n → n ≤ bytes_left line at → IsPlace line c.at → Moved line at (Ok c)
+  stopped : {n : Refusal} → Moved line at (Err n)
 
 abbrev pub step_of : Number → Step
-step_of (Is f) = Next f.next
-step_of (Refused n) = Stop n
+step_of (Ok f) = Ok f.next
+step_of (Err n) = Err n
 
 -- ---- the promises of reads at a place of a line: the answer is the parser's
 pub record ReadsNumber (line : List ℕ) (at : ℕ) (r : Number) (x : Read ℕ) : Type 0 where
@@ -51,8 +57,8 @@ pub record Passes (line : List ℕ) (at : ℕ) (r : Step) (x : Read (Unit {0})) 
 
 -- a number below a bound
 pub data Below (n : ℕ) : Number → Type 0 where
-  below : {f : Found} → f.value < n → Below n (Is f)
-  no_number : {m : ℕ} → Below n (Refused m)
+  below : {f : Found} → f.value < n → Below n (Ok f)
+  no_number : {m : Refusal} → Below n (Err m)
 
 -- ---- what the characters are
 -- a pair stands at a place, and no space before it

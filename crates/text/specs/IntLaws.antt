@@ -1,4 +1,6 @@
 -- An Int by its four bytes: each byte may be missing, else the number is theirs.
+use Rattle.language.specs.declared.refusals.Refusal.{Refusal}
+use Rattle.std.specs.Prelude.{Ok, Err}
 use Rattle.std.specs.Prelude.{ℕ, ◌+◌, ◌*◌, ◌^◌, ◌≤◌, ◌<◌, List, [], ◌∷◌, true, false, ◌≡◌, refl, length, get_or, drop}
 use Rattle.std.proofs.Common.{sym, ap, ◌∙◌, arith, add-zero}
 use Rattle.language.specs.Codes.{space}
@@ -6,11 +8,7 @@ use Rattle.language.specs.Limits.{byte_range}
 use Rattle.language.specs.Parser.{got, Parser, and_then, ◌>>=◌, return, byte}
 use Rattle.language.specs.ReadExpr.{int}
 use Rattle.text.specs.declared.Found.{Found}
-use Rattle.text.specs.declared.Number.{Number}
-use Rattle.text.specs.declared.Number.TheVariants.{Is, Refused}
-use Rattle.text.specs.declared.Step.{Step}
-use Rattle.text.specs.declared.Step.TheVariants.{Next}
-use Rattle.text.specs.Bytes.{bytes_from, past, bytes_left, forget, step_of, moved, ReadsNumber, Passes, Below, PairAt, UnspacedInt}
+use Rattle.text.specs.Bytes.{Number, Step, bytes_from, past, bytes_left, forget, step_of, moved, ReadsNumber, Passes, Below, PairAt, UnspacedInt}
 use Rattle.text.specs.Places.{pair_place_of, past-none, past-past, bytes_past, left-past, pair-here, place_inside, byte-read, past-read}
 use Rattle.text.specs.ReadLaws.{read-then}
 use Rattle.text.specs.StepLaws.{pass-here, read-passes, number-other, read-then-read, read-stops-read}
@@ -39,26 +37,26 @@ abbrev pub ByteAt : List ℕ → ℕ → Number → Type 0
 ByteAt line at x = ReadsNumber line at x (byte (bytes_from line at)) × Below byte_range x
 
 module _ (line : List ℕ) (at : ℕ) {x : Number} (v : ByteAt line at x) where
-  pub int-first-missing : {n : ℕ} → x ≡ Refused n → ReadsNumber line at x (int (bytes_from line at))
+  pub int-first-missing : {n : Refusal} → x ≡ Err n → ReadsNumber line at x (int (bytes_from line at))
   unfolding int
   int-first-missing e = read-stops-read behind_one v.0 e
 
-  module _ {f : Found} (d : x ≡ Is f) {y : Number} (u : ByteAt line f.next.at y) where
-    pub int-second-missing : {n : ℕ} → y ≡ Refused n → ReadsNumber line at y (int (bytes_from line at))
+  module _ {f : Found} (d : x ≡ Ok f) {y : Number} (u : ByteAt line f.next.at y) where
+    pub int-second-missing : {n : Refusal} → y ≡ Err n → ReadsNumber line at y (int (bytes_from line at))
     unfolding int
     int-second-missing e = read-then-read behind_one v.0 d (read-stops-read (behind_two f.value) u.0 e)
 
-    module _ {g : Found} (d' : y ≡ Is g) {z : Number} (w : ByteAt line g.next.at z) where
-      pub int-third-missing : {n : ℕ} → z ≡ Refused n → ReadsNumber line at z (int (bytes_from line at))
+    module _ {g : Found} (d' : y ≡ Ok g) {z : Number} (w : ByteAt line g.next.at z) where
+      pub int-third-missing : {n : Refusal} → z ≡ Err n → ReadsNumber line at z (int (bytes_from line at))
       unfolding int
       int-third-missing e = read-then-read behind_one v.0 d (read-then-read (behind_two f.value) u.0 d' (read-stops-read (behind_three f.value g.value) w.0 e))
 
-      module _ {h : Found} (d'' : z ≡ Is h) {q : Number} (t : ByteAt line h.next.at q) where
-        pub int-last-missing : {n : ℕ} → q ≡ Refused n → ReadsNumber line at q (int (bytes_from line at))
+      module _ {h : Found} (d'' : z ≡ Ok h) {q : Number} (t : ByteAt line h.next.at q) where
+        pub int-last-missing : {n : Refusal} → q ≡ Err n → ReadsNumber line at q (int (bytes_from line at))
         unfolding int
         int-last-missing e = read-then-read behind_one v.0 d (read-then-read (behind_two f.value) u.0 d' (read-then-read (behind_three f.value g.value) w.0 d'' (read-stops-read (behind_four f.value g.value h.value) t.0 e)))
 
-        pub int_whole : {k : Found} → q ≡ Is k → ReadsNumber line at (Is (record { value = f.value * 2 ^ 24 + g.value * 2 ^ 16 + h.value * 2 ^ 8 + k.value; next = k.next })) (int (bytes_from line at))
+        pub int_whole : {k : Found} → q ≡ Ok k → ReadsNumber line at (Ok (record { value = f.value * 2 ^ 24 + g.value * 2 ^ 16 + h.value * 2 ^ 8 + k.value; next = k.next })) (int (bytes_from line at))
         unfolding int
         int_whole e = read-then-read behind_one v.0 d (read-then-read (behind_two f.value) u.0 d' (read-then-read (behind_three f.value g.value) w.0 d'' (number-other t.0 e (read-then (behind_four f.value g.value h.value) t.0 e))))
 
@@ -114,7 +112,7 @@ module _ (line : List ℕ) (at : ℕ) where
       let two : Unspaced line (at + 4) 2 = one-unspaced 1 (omega arith) u.third last in
       one-unspaced 3 refl u.first (one-unspaced 2 (omega arith) u.second two)
 
-  pub past-int-whole : UnspacedInt line at → Passes line at (Next (record { at = at + 8 })) (forget (int (bytes_from line at)))
+  pub past-int-whole : UnspacedInt line at → Passes line at (Ok (record { at = at + 8 })) (forget (int (bytes_from line at)))
   past-int-whole u =
       let four = int-unspaced u in
       let place : bytes_from line (past line at 4) ≡ bytes_from line (at + 8) = ap (bytes_from line) four.passes in

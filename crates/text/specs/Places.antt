@@ -2,7 +2,7 @@
 -- above cites the laws: 0 bytes, so many and then so many more, order, and what is read behind them.
 -- A place is the number of characters before it; spaces stand before the byte that follows them.
 use Prim.Native.Nat.{ℕ, zero, suc, ◌+◌, ◌*◌, ◌-◌, ◌≤◌, ◌<◌, zero-le}
-use Rattle.std.specs.Prelude.{List, [], ◌∷◌, ◌++◌, Bool, true, false, ◌≡◌, get_or, eqb, leb}
+use Rattle.std.specs.Prelude.{List, [], ◌∷◌, ◌++◌, Bool, true, false, ◌≡◌, get_or, eqb, leb, max}
 use Rattle.std.proofs.Math.Path.{refl, ap}
 use Rattle.std.proofs.Common.{sym, ◌∙◌, zero-add, suc-add, length-append, drop_of_length-le, drop-cons}
 use native.Mathlib.Omega.{arith}
@@ -230,3 +230,17 @@ module _ (line : List ℕ) (at : ℕ) where
     pub past-read : past line at 1 ≡ pair_place_of line at + 2
     unfolding past behind_byte pair_place_of
     past-read = ap (λ (n : ℕ). at + n) (taken-pair (drop at line) pair-there) ∙ omega arith
+
+-- where only spaces stand from a place on, the next pair would start at the line's end; beyond the end it would at the place itself
+pub pair-behind-all : (line : List ℕ) {from at m : ℕ} → m ≡ max from (length line) → from ≤ at × (from ≤ length line → at ≤ length line) → length line ≤ at → pair_place_of line at ≡ pair_place_of line from → m ≡ pair_place_of line from
+pair-behind-all line {from} {at} {m} e a h walked = by (leb from (length line)) refl
+  where
+    by : (b : Bool) → leb from (length line) ≡ b → m ≡ pair_place_of line from
+    by true k =
+        let le = a.1 (leb-true from (length line) k) in
+        let same : m ≡ at = omega (arith, e, h, le, a.0) in
+        same ∙ pair-at-end line at h ∙ walked
+    by false k =
+        let lt = leb-false from (length line) k in
+        let same : m ≡ from = omega (arith, e, lt) in
+        same ∙ pair-at-end line from (omega (arith, lt))

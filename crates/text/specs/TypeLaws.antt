@@ -1,4 +1,6 @@
 -- Types read as words, and result types passed over: each way of the cursor is the way of the parser.
+use Rattle.language.specs.declared.refusals.Refusal.{Refusal}
+use Rattle.std.specs.Prelude.{Ok, Err}
 use Prim.Native.Nat.{ℕ, zero, suc, ◌+◌, ◌*◌, ◌^◌, ◌≤◌, ◌<◌}
 use Rattle.std.specs.Prelude.{List, ◌≡◌}
 use Rattle.std.proofs.Math.Option.{some}
@@ -11,11 +13,7 @@ use Rattle.language.specs.Syntax.{other, Plain, pnamed, tnamed, ResultType, rnam
 use Rattle.language.specs.Parser.{Read, got, bad, Parser, ◌>>=◌, return, and_then, index, count}
 use Rattle.language.specs.ReadExpr.{FieldForm, bool_field, int_field, own_field, other_field, field_forms, field_behind, field, TypeForm, bool_type, int_type, named_type, type_forms, plain_behind, plain, declared_behind, declared, bound, size, size_at, result_behind, result}
 use Rattle.text.specs.declared.Found.{Found}
-use Rattle.text.specs.declared.Number.{Number}
-use Rattle.text.specs.declared.Number.TheVariants.{Is, Refused}
-use Rattle.text.specs.declared.Step.{Step}
-use Rattle.text.specs.declared.Step.TheVariants.{Next}
-use Rattle.text.specs.Bytes.{bytes_from, forget, map_read, step_of, ReadsNumber, Passes, Below, below, plain_word, declared_word, field_word}
+use Rattle.text.specs.Bytes.{Number, Step, bytes_from, forget, map_read, step_of, ReadsNumber, Passes, Below, below, plain_word, declared_word, field_word}
 use Rattle.text.specs.Codes.{code_place, named_word}
 use Rattle.text.specs.ReadLaws.{read-then, read-stops}
 use Rattle.text.specs.StepLaws.{below_more, number-below, number-moved, number_same, number-none, number-other, pass-none, pass-here, reads-behind, passes-behind, read-then-read, read-stops-read, read-then-pass, read-stops-pass, forget-then}
@@ -26,26 +24,26 @@ below-words : {x : Number} → Below byte_range x → Below (2 ^ 17) x
 below-words b = below_more (omega arith) b
 
 -- the last form of a table is the one left
-last-type : {line : List ℕ} {at : ℕ} {x : Number} {f : Found} → ReadsNumber line at x (code_place 0x00 3 (bytes_from line at)) → x ≡ Is f → 2 ≤ f.value → f.value ≡ 2
+last-type : {line : List ℕ} {at : ℕ} {x : Number} {f : Found} → ReadsNumber line at x (code_place 0x00 3 (bytes_from line at)) → x ≡ Ok f → 2 ≤ f.value → f.value ≡ 2
 last-type v e h = omega (arith, code_below 0x00 type_forms v e)
 
-last-field : {line : List ℕ} {at : ℕ} {x : Number} {f : Found} → ReadsNumber line at x (code_place 0x00 4 (bytes_from line at)) → x ≡ Is f → 3 ≤ f.value → f.value ≡ 3
+last-field : {line : List ℕ} {at : ℕ} {x : Number} {f : Found} → ReadsNumber line at x (code_place 0x00 4 (bytes_from line at)) → x ≡ Ok f → 3 ≤ f.value → f.value ≡ 3
 last-field v e h = omega (arith, code_below 0x00 field_forms v e)
 
 -- ---- the type of a parameter
 module _ (line : List ℕ) (at types : ℕ) {x : Number} (v : ReadsNumber line at x (code_place 0x00 3 (bytes_from line at)) × Below byte_range x) where
-  pub parameter-no-code : {n : ℕ} → x ≡ Refused n → ReadsNumber line at x (map_read plain_word (plain types (bytes_from line at))) × Below (2 ^ 17) x
+  pub parameter-no-code : {n : Refusal} → x ≡ Err n → ReadsNumber line at x (map_read plain_word (plain types (bytes_from line at))) × Below (2 ^ 17) x
   unfolding plain map_read
   parameter-no-code e = (number-none v.0 e (ap (map_read plain_word) (code-stops 0x00 type_forms (plain_behind types) v.0 e)), below-words v.1)
 
-  module _ {f : Found} (e : x ≡ Is f) where
+  module _ {f : Found} (e : x ≡ Ok f) where
     plain-constant : (i : ℕ) → f.value ≡ i → i < 2 → map_read plain_word (plain types (bytes_from line at)) ≡ got f.value (bytes_from line f.next.at)
     unfolding plain plain_behind map_read plain_word
     plain-constant zero q h = ap (map_read plain_word) (code-then 0x00 type_forms (plain_behind types) v.0 bool_type e q refl) ∙ rw q
     plain-constant (suc zero) q h = ap (map_read plain_word) (code-then 0x00 type_forms (plain_behind types) v.0 int_type e q refl) ∙ rw q
     plain-constant (suc (suc i)) q h = absurd (omega arith)
 
-    pub parameter-constant : f.value < 2 → ReadsNumber line at (Is f) (map_read plain_word (plain types (bytes_from line at))) × Below (2 ^ 17) (Is f)
+    pub parameter-constant : f.value < 2 → ReadsNumber line at (Ok f) (map_read plain_word (plain types (bytes_from line at))) × Below (2 ^ 17) (Ok f)
     parameter-constant h = (number_same v.0 e (plain-constant f.value refl h), below-words (rw e at v.1))
 
     module _ (h : 2 ≤ f.value) {y : Number} (u : ReadsNumber line f.next.at y (index types (bytes_from line f.next.at)) × Below byte_range y) where
@@ -56,11 +54,11 @@ module _ (line : List ℕ) (at types : ℕ) {x : Number} (v : ReadsNumber line a
       unfolding plain plain_behind
       plain-named = code-then 0x00 type_forms (plain_behind types) v.0 named_type e (last-type v.0 e h) refl
 
-      pub parameter-no-type : {n : ℕ} → y ≡ Refused n → ReadsNumber line at y (map_read plain_word (plain types (bytes_from line at))) × Below (2 ^ 17) y
+      pub parameter-no-type : {n : Refusal} → y ≡ Err n → ReadsNumber line at y (map_read plain_word (plain types (bytes_from line at))) × Below (2 ^ 17) y
       unfolding map_read
       parameter-no-type d = (reads-behind (number-moved v.0 e) refl (number-none u.0 d (ap (map_read plain_word) (plain-named ∙ read-stops named_of u.0 d))), below-words u.1)
 
-      pub parameter-named : {g : Found} → y ≡ Is g → ReadsNumber line at (Is (record { value = tag_step * (g.value + 1); next = g.next })) (map_read plain_word (plain types (bytes_from line at))) × Below (2 ^ 17) (Is (record { value = tag_step * (g.value + 1); next = g.next }))
+      pub parameter-named : {g : Found} → y ≡ Ok g → ReadsNumber line at (Ok (record { value = tag_step * (g.value + 1); next = g.next })) (map_read plain_word (plain types (bytes_from line at))) × Below (2 ^ 17) (Ok (record { value = tag_step * (g.value + 1); next = g.next }))
       unfolding map_read plain_word
       parameter-named {g} d = (reads-behind (number-moved v.0 e) refl (number-other u.0 d (ap (map_read plain_word) (plain-named ∙ read-then named_of u.0 d))), below {f = record { value = tag_step * (g.value + 1); next = g.next }} (omega (arith, number-below u.1 d)))
 
@@ -74,16 +72,16 @@ module _ (line : List ℕ) (at types : ℕ) {x : Number} (v : ReadsNumber line a
     k ← bound
     word_of t k
 
-  pub named-no-type : {n : ℕ} → x ≡ Refused n → ReadsNumber line at x (named_word types (bytes_from line at)) × Below (2 ^ 17) x
+  pub named-no-type : {n : Refusal} → x ≡ Err n → ReadsNumber line at x (named_word types (bytes_from line at)) × Below (2 ^ 17) x
   unfolding named_word
   named-no-type e = (read-stops-read sized_of v.0 e, below-words v.1)
 
-  module _ {f : Found} (e : x ≡ Is f) {y : Number} (u : ReadsNumber line f.next.at y (count 1 size_most (bytes_from line f.next.at)) × Below byte_range y) where
-    pub named-no-size : {n : ℕ} → y ≡ Refused n → ReadsNumber line at y (named_word types (bytes_from line at)) × Below (2 ^ 17) y
+  module _ {f : Found} (e : x ≡ Ok f) {y : Number} (u : ReadsNumber line f.next.at y (count 1 size_most (bytes_from line f.next.at)) × Below byte_range y) where
+    pub named-no-size : {n : Refusal} → y ≡ Err n → ReadsNumber line at y (named_word types (bytes_from line at)) × Below (2 ^ 17) y
     unfolding named_word bound
     named-no-size d = (read-then-read sized_of v.0 e (read-stops-read (word_of f.value) u.0 d), below-words u.1)
 
-    pub named-whole : {g : Found} → y ≡ Is g → ReadsNumber line at (Is (record { value = tag_step * (f.value + 1) + g.value; next = g.next })) (named_word types (bytes_from line at)) × Below (2 ^ 17) (Is (record { value = tag_step * (f.value + 1) + g.value; next = g.next }))
+    pub named-whole : {g : Found} → y ≡ Ok g → ReadsNumber line at (Ok (record { value = tag_step * (f.value + 1) + g.value; next = g.next })) (named_word types (bytes_from line at)) × Below (2 ^ 17) (Ok (record { value = tag_step * (f.value + 1) + g.value; next = g.next }))
     unfolding named_word bound
     named-whole {g} d = (read-then-read sized_of v.0 e (number-other u.0 d (read-then (word_of f.value) u.0 d)), below {f = record { value = tag_step * (f.value + 1) + g.value; next = g.next }} (omega (arith, number-below v.1 e, number-below u.1 d)))
 
@@ -105,11 +103,11 @@ module _ {A : Type 0} (word : A → ℕ) (make : ℕ → ℕ → A) (p : (t k : 
 
 -- ---- a declared type
 module _ (line : List ℕ) (at types : ℕ) {x : Number} (v : ReadsNumber line at x (code_place 0x00 3 (bytes_from line at)) × Below byte_range x) where
-  pub declared-no-code : {n : ℕ} → x ≡ Refused n → ReadsNumber line at x (map_read declared_word (declared types (bytes_from line at))) × Below (2 ^ 17) x
+  pub declared-no-code : {n : Refusal} → x ≡ Err n → ReadsNumber line at x (map_read declared_word (declared types (bytes_from line at))) × Below (2 ^ 17) x
   unfolding declared map_read
   declared-no-code e = (number-none v.0 e (ap (map_read declared_word) (code-stops 0x00 type_forms (declared_behind types) v.0 e)), below-words v.1)
 
-  module _ {f : Found} (e : x ≡ Is f) where
+  module _ {f : Found} (e : x ≡ Ok f) where
     declared-form : {i : ℕ} (form : TypeForm) → f.value ≡ i → look type_forms i ≡ some form → map_read declared_word (declared types (bytes_from line at)) ≡ map_read declared_word (declared_behind types form (bytes_from line f.next.at))
     unfolding declared
     declared-form form q p = ap (map_read declared_word) (code-then 0x00 type_forms (declared_behind types) v.0 form e q p)
@@ -120,7 +118,7 @@ module _ (line : List ℕ) (at types : ℕ) {x : Number} (v : ReadsNumber line a
     declared-is (suc zero) q h = declared-form int_type q refl ∙ rw q
     declared-is (suc (suc i)) q h = absurd (omega arith)
 
-    pub declared-constant : f.value < 2 → ReadsNumber line at (Is f) (map_read declared_word (declared types (bytes_from line at))) × Below (2 ^ 17) (Is f)
+    pub declared-constant : f.value < 2 → ReadsNumber line at (Ok f) (map_read declared_word (declared types (bytes_from line at))) × Below (2 ^ 17) (Ok f)
     declared-constant h = (number_same v.0 e (declared-is f.value refl h), below-words (rw e at v.1))
 
     pub declared-named : {y : Number} → 2 ≤ f.value → ReadsNumber line f.next.at y (named_word types (bytes_from line f.next.at)) × Below (2 ^ 17) y →
@@ -130,11 +128,11 @@ module _ (line : List ℕ) (at types : ℕ) {x : Number} (v : ReadsNumber line a
 
 -- ---- a field
 module _ (line : List ℕ) (at types : ℕ) {x : Number} (v : ReadsNumber line at x (code_place 0x00 4 (bytes_from line at)) × Below byte_range x) where
-  pub field-no-code : {n : ℕ} → x ≡ Refused n → ReadsNumber line at x (map_read field_word (field types (bytes_from line at))) × Below (2 ^ 17) x
+  pub field-no-code : {n : Refusal} → x ≡ Err n → ReadsNumber line at x (map_read field_word (field types (bytes_from line at))) × Below (2 ^ 17) x
   unfolding field map_read
   field-no-code e = (number-none v.0 e (ap (map_read field_word) (code-stops 0x00 field_forms (field_behind types) v.0 e)), below-words v.1)
 
-  module _ {f : Found} (e : x ≡ Is f) where
+  module _ {f : Found} (e : x ≡ Ok f) where
     field-form : {i : ℕ} (form : FieldForm) → f.value ≡ i → look field_forms i ≡ some form → map_read field_word (field types (bytes_from line at)) ≡ map_read field_word (field_behind types form (bytes_from line f.next.at))
     unfolding field
     field-form form q p = ap (map_read field_word) (code-then 0x00 field_forms (field_behind types) v.0 form e q p)
@@ -146,7 +144,7 @@ module _ (line : List ℕ) (at types : ℕ) {x : Number} (v : ReadsNumber line a
     field_is (suc (suc zero)) q h = field-form own_field q refl ∙ rw q
     field_is (suc (suc (suc i))) q h = absurd (omega arith)
 
-    pub field-constant : f.value < 3 → ReadsNumber line at (Is f) (map_read field_word (field types (bytes_from line at))) × Below (2 ^ 17) (Is f)
+    pub field-constant : f.value < 3 → ReadsNumber line at (Ok f) (map_read field_word (field types (bytes_from line at))) × Below (2 ^ 17) (Ok f)
     field-constant h = (number_same v.0 e (field_is f.value refl h), below-words (rw e at v.1))
 
     pub field-other : {y : Number} → 3 ≤ f.value → ReadsNumber line f.next.at y (named_word types (bytes_from line f.next.at)) × Below (2 ^ 17) y →
@@ -156,11 +154,11 @@ module _ (line : List ℕ) (at types : ℕ) {x : Number} (v : ReadsNumber line a
 
 -- ---- a result type
 module _ (line : List ℕ) (at types vars : ℕ) {x : Number} (v : ReadsNumber line at x (code_place 0x00 3 (bytes_from line at)) × Below byte_range x) where
-  pub result-no-code : {n : ℕ} {s : Step} → x ≡ Refused n → s ≡ step_of x → Passes line at s (forget (result types vars (bytes_from line at)))
+  pub result-no-code : {n : Refusal} {s : Step} → x ≡ Err n → s ≡ step_of x → Passes line at s (forget (result types vars (bytes_from line at)))
   unfolding result forget
   result-no-code e d = pass-none e d (ap forget (code-stops 0x00 type_forms (result_behind types vars) v.0 e))
 
-  module _ {f : Found} (e : x ≡ Is f) where
+  module _ {f : Found} (e : x ≡ Ok f) where
     result-form : {i : ℕ} (form : TypeForm) → f.value ≡ i → look type_forms i ≡ some form → forget (result types vars (bytes_from line at)) ≡ forget (result_behind types vars form (bytes_from line f.next.at))
     unfolding result
     result-form form q p = ap forget (code-then 0x00 type_forms (result_behind types vars) v.0 form e q p)
@@ -171,7 +169,7 @@ module _ (line : List ℕ) (at types vars : ℕ) {x : Number} (v : ReadsNumber l
     result-is (suc zero) q h = result-form int_type q refl
     result-is (suc (suc i)) q h = absurd (omega arith)
 
-    pub result-constant : f.value < 2 → Passes line at (Next f.next) (forget (result types vars (bytes_from line at)))
+    pub result-constant : f.value < 2 → Passes line at (Ok f.next) (forget (result types vars (bytes_from line at)))
     result-constant h = pass-here (number-moved v.0 e) (result-is f.value refl h)
 
     module _ (h : 2 ≤ f.value) {y : Number} (u : ReadsNumber line f.next.at y (index types (bytes_from line f.next.at)) × Below byte_range y) where
@@ -184,8 +182,8 @@ module _ (line : List ℕ) (at types vars : ℕ) {x : Number} (v : ReadsNumber l
       unfolding result_behind
       result-named w = passes-behind (number-moved v.0 e) (result-form named_type (last-type v.0 e h) refl) w
 
-      pub result-no-type : {n : ℕ} {s : Step} → y ≡ Refused n → s ≡ step_of y → Passes line at s (forget (result types vars (bytes_from line at)))
+      pub result-no-type : {n : Refusal} {s : Step} → y ≡ Err n → s ≡ step_of y → Passes line at s (forget (result types vars (bytes_from line at)))
       result-no-type d k = result-named (read-stops-pass sized_result u.0 d k)
 
-      pub result-sized : {g : Found} {s : Step} → y ≡ Is g → Passes line g.next.at s (forget (size_at nesting_most vars (bytes_from line g.next.at))) → Passes line at s (forget (result types vars (bytes_from line at)))
+      pub result-sized : {g : Found} {s : Step} → y ≡ Ok g → Passes line g.next.at s (forget (size_at nesting_most vars (bytes_from line g.next.at))) → Passes line at s (forget (result types vars (bytes_from line at)))
       result-sized {g} d w = result-named (read-then-pass sized_result u.0 d (rw (forget-then (rnamed g.value) (size vars (bytes_from line g.next.at))) w))

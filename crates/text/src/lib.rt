@@ -5,7 +5,7 @@ ghost use Rattle.std.specs.Prelude.{true, ◌≡◌, ◌<◌, ◌^◌, ltb};
 ghost use Rattle.language.specs.Limits.{byte_range};
 ghost use Rattle.language.specs.Parser.{byte as byte_read, index as index_read, count as count_read};
 ghost use Rattle.language.specs.ReadExpr.{int as int_read, size_at, result as result_read, plain, declared as declared_read, field as field_read};
-ghost use Rattle.text.specs.Bytes.{digit_value_of, bytes_from, bytes_left, ReadsNumber, Passes, Below, UnspacedInt, step_of, forget, map_read, plain_word, declared_word, field_word};
+ghost use Rattle.text.specs.Bytes.{digit_value_of, bytes_from, bytes_left, ReadsNumber, Passes, Below, UnspacedInt, forget, map_read, plain_word, declared_word, field_word};
 ghost use Rattle.text.specs.Places.{pair_place_of};
 ghost use Rattle.text.specs.Codes.{code_place, place_in, named_word};
 
@@ -14,9 +14,10 @@ use language::codes::{
     SIZE_VARIABLE, SPACE, TYPE_FIRST, TYPE_FORMS, TYPE_NAMED,
 };
 use language::limits::{BYTE_RANGE, NESTING_MOST, SIZE_MOST};
-use language::refusals::{BAD_CODE, BAD_INDEX, BAD_LENGTH, OUTSIDE_LIMITS};
+use language::refusals::Refusal;
 
-// A named type as a word: its number and one, times this, and its size.
+// A named type as a word: its number and one, times this, and its size. Types are words, and no enum, where they stand in a row of words
+// (the index, a scope): fixed memory.
 pub const TYPE_STEP: u32 = 256;
 
 // A byte is spelled by so many digits, and an Int by so many.
@@ -60,14 +61,12 @@ pub fn digit(c: u8) -> u32
 pub fn behind_spaces(line: &[u8], from: usize) -> usize
     ensures { result ≡ pair_place_of line.now from }
 {
-    let mut at = from;
-    while at < line.len() {
+    for at in from..line.len() {
         if line[at] != SPACE {
             return at;
         }
-        at += 1;
     }
-    at
+    from.max(line.len())
 }
 
 // Where the next pair starts. Strict lines have no space, so its walk is kept out of the way.
@@ -122,32 +121,6 @@ pub struct Found {
     pub next: Cursor,
 }
 
-#[derive(Clone, Copy)]
-pub enum Number {
-    Is(Found),
-    Refused(u32),
-}
-
-// The cursor behind what was passed over.
-#[derive(Clone, Copy)]
-pub enum Step {
-    Next(Cursor),
-    Stop(u32),
-}
-
-// What is left of a number read once its value is not asked for.
-pub fn step_of(x: Number) -> Step
-    ensures { result ≡ step_of x }
-{
-    match x {
-        Number::Is(f) => {
-            let c = f.next;
-            Step::Next(c)
-        }
-        Number::Refused(n) => Step::Stop(n),
-    }
-}
-
 impl Cursor {
     // Whether bytes are left.
     pub fn more(self, line: &[u8]) -> bool
@@ -161,263 +134,209 @@ impl Cursor {
     }
 
     // The next byte, behind the spaces before it; 4 where the line ends.
-    pub fn byte(self, line: &[u8]) -> Number
+    pub fn byte(self, line: &[u8]) -> Result<Found, Refusal>
         ensures { ReadsNumber line.now self.at result (byte_read (bytes_from line.now self.at)) × Below byte_range result }
     {
         let from = self.at;
         if line.len() <= from {
-            return Number::Refused(BAD_LENGTH);
+            return Err(Refusal::BadLength);
         }
         let at = pair_start(line, from);
         let behind = at + BYTE_DIGITS;
         if line.len() < behind {
-            return Number::Refused(BAD_LENGTH);
+            return Err(Refusal::BadLength);
         }
         let high = digit(line[at]);
         let low = digit(line[at + 1]);
         let value = high * DIGIT_BASE + low;
-        Number::Is(Found {
+        Ok(Found {
             value: value,
             next: Cursor { at: behind },
         })
     }
 
     // An index below a bound; 6 where it is none.
-    pub fn index(self, line: &[u8], bound: u32) -> Number
+    pub fn index(self, line: &[u8], bound: u32) -> Result<Found, Refusal>
         ensures { ReadsNumber line.now self.at result (index_read bound (bytes_from line.now self.at)) × Below byte_range result }
     {
-        let x = self.byte(line);
-        let Number::Is(f) = x else {
-            return x;
-        };
+        let f = self.byte(line)?;
         let i = f.value;
         if bound <= i {
-            return Number::Refused(BAD_INDEX);
+            return Err(Refusal::BadIndex);
         }
-        x
+        Ok(f)
     }
 
     // A count from least to most; 7 where it is outside.
-    pub fn count(self, line: &[u8], least: u32, most: u32) -> Number
+    pub fn count(self, line: &[u8], least: u32, most: u32) -> Result<Found, Refusal>
         ensures { ReadsNumber line.now self.at result (count_read least most (bytes_from line.now self.at)) × Below byte_range result }
     {
-        let x = self.byte(line);
-        let Number::Is(f) = x else {
-            return x;
-        };
+        let f = self.byte(line)?;
         let n = f.value;
         if n < least {
-            return Number::Refused(OUTSIDE_LIMITS);
+            return Err(Refusal::OutsideLimits);
         }
         if most < n {
-            return Number::Refused(OUTSIDE_LIMITS);
+            return Err(Refusal::OutsideLimits);
         }
-        x
+        Ok(f)
     }
 
     // A code of a set: its place, counted from the first code; 5 where it is none of them.
-    pub fn code(self, line: &[u8], first: u32, size: u32) -> Number
+    pub fn code(self, line: &[u8], first: u32, size: u32) -> Result<Found, Refusal>
         ensures { ReadsNumber line.now self.at result (code_place first size (bytes_from line.now self.at)) × Below byte_range result }
     {
-        let x = self.byte(line);
-        let Number::Is(f) = x else {
-            return x;
-        };
+        let f = self.byte(line)?;
         let b = f.value;
         let c = f.next;
         if b < first {
-            return Number::Refused(BAD_CODE);
+            return Err(Refusal::BadCode);
         }
         let i = b - first;
         if size <= i {
-            return Number::Refused(BAD_CODE);
+            return Err(Refusal::BadCode);
         }
-        Number::Is(Found { value: i, next: c })
+        Ok(Found { value: i, next: c })
     }
 
     // The same where it matters whether there is room: 5 comes before 7.
-    pub fn code_in(self, line: &[u8], room: bool, first: u32, size: u32) -> Number
+    pub fn code_in(self, line: &[u8], room: bool, first: u32, size: u32) -> Result<Found, Refusal>
         ensures { ReadsNumber line.now self.at result (place_in room first size (bytes_from line.now self.at)) × Below byte_range result }
     {
-        let x = self.code(line, first, size);
-        let Number::Is(_) = x else {
-            return x;
-        };
+        let f = self.code(line, first, size)?;
         if !room {
-            return Number::Refused(OUTSIDE_LIMITS);
+            return Err(Refusal::OutsideLimits);
         }
-        x
+        Ok(f)
     }
 
     // An Int: four bytes, the high byte first.
-    pub fn int(self, line: &[u8]) -> Number
+    pub fn int(self, line: &[u8]) -> Result<Found, Refusal>
         ensures { ReadsNumber line.now self.at result (int_read (bytes_from line.now self.at)) }
     {
-        let x = self.byte(line);
-        let Number::Is(f) = x else {
-            return x;
-        };
+        let f = self.byte(line)?;
         let c = f.next;
-        let y = c.byte(line);
-        let Number::Is(g) = y else {
-            return y;
-        };
+        let g = c.byte(line)?;
         let d = g.next;
-        let z = d.byte(line);
-        let Number::Is(h) = z else {
-            return z;
-        };
+        let h = d.byte(line)?;
         let e = h.next;
-        let w = e.byte(line);
-        let Number::Is(k) = w else {
-            return w;
-        };
+        let k = e.byte(line)?;
         let value = f.value * FIRST_BYTE + g.value * SECOND_BYTE + h.value * THIRD_BYTE + k.value;
         let next = k.next;
-        Number::Is(Found {
+        Ok(Found {
             value: value,
             next: next,
         })
     }
 
     // Passes over an Int, whatever its bytes are; 4 where the line ends before the last of them.
-    pub fn past_int(self, line: &[u8]) -> Step
+    pub fn past_int(self, line: &[u8]) -> Result<Cursor, Refusal>
         ensures { Passes line.now self.at result (forget (int_read (bytes_from line.now self.at))) }
     {
         let at = self.at;
         if unspaced_int(line, at) {
-            return Step::Next(Cursor {
+            return Ok(Cursor {
                 at: at + INT_DIGITS,
             });
         }
-        let x = self.int(line);
-        step_of(x)
+        let f = self.int(line)?;
+        Ok(f.next)
     }
 
     // Passes over a size with so many levels left; vars is the number of size variables in scope.
-    pub fn size(self, line: &[u8], vars: u32, levels: u32) -> Step
+    pub fn size(self, line: &[u8], vars: u32, levels: u32) -> Result<Cursor, Refusal>
         ensures { Passes line.now self.at result (forget (size_at levels vars (bytes_from line.now self.at))) }
     {
         if levels == 0 {
-            let none = self.code_in(line, false, SIZE_FIRST, SIZE_FORMS);
-            return step_of(none);
+            let none = self.code_in(line, false, SIZE_FIRST, SIZE_FORMS)?;
+            return Ok(none.next);
         }
-        let x = self.code_in(line, true, SIZE_FIRST, SIZE_FORMS);
-        let Number::Is(f) = x else {
-            return step_of(x);
-        };
+        let f = self.code_in(line, true, SIZE_FIRST, SIZE_FORMS)?;
         let form = f.value;
         let c = f.next;
         if form == NUMBER_PLACE {
-            let k = c.byte(line);
-            return step_of(k);
+            let k = c.byte(line)?;
+            return Ok(k.next);
         }
         if form == VARIABLE_PLACE {
-            let i = c.index(line, vars);
-            return step_of(i);
+            let i = c.index(line, vars)?;
+            return Ok(i.next);
         }
-        let y = c.size(line, vars, levels - 1);
-        let Step::Next(d) = y else {
-            return y;
-        };
+        let d = c.size(line, vars, levels - 1)?;
         d.size(line, vars, levels - 1)
     }
 
     // Passes over a result type.
-    pub fn result(self, line: &[u8], types: u32, vars: u32) -> Step
+    pub fn result(self, line: &[u8], types: u32, vars: u32) -> Result<Cursor, Refusal>
         ensures { Passes line.now self.at result (forget (result_read types vars (bytes_from line.now self.at))) }
     {
-        let x = self.code(line, TYPE_FIRST, TYPE_FORMS);
-        let Number::Is(f) = x else {
-            return step_of(x);
-        };
+        let f = self.code(line, TYPE_FIRST, TYPE_FORMS)?;
         let form = f.value;
         let c = f.next;
         if form < TYPE_NAMED {
-            return Step::Next(c);
+            return Ok(c);
         }
-        let t = c.index(line, types);
-        let Number::Is(g) = t else {
-            return step_of(t);
-        };
+        let g = c.index(line, types)?;
         let d = g.next;
         d.size(line, vars, NESTING_MOST)
     }
 
     // The type of a parameter, as a word.
-    pub fn parameter(self, line: &[u8], types: u32) -> Number
+    pub fn parameter(self, line: &[u8], types: u32) -> Result<Found, Refusal>
         ensures { ReadsNumber line.now self.at result (map_read plain_word (plain types (bytes_from line.now self.at))) × Below (2 ^ 17) result }
     {
-        let x = self.code(line, TYPE_FIRST, TYPE_FORMS);
-        let Number::Is(f) = x else {
-            return x;
-        };
+        let f = self.code(line, TYPE_FIRST, TYPE_FORMS)?;
         let form = f.value;
         if form < TYPE_NAMED {
-            return x;
+            return Ok(f);
         }
         let c = f.next;
-        let y = c.index(line, types);
-        let Number::Is(g) = y else {
-            return y;
-        };
+        let g = c.index(line, types)?;
         let t = g.value;
         let d = g.next;
-        Number::Is(Found {
+        Ok(Found {
             value: TYPE_STEP * (t + 1),
             next: d,
         })
     }
 
     // A named type with its size, as a word: its number, and a size from 1 on.
-    pub fn named(self, line: &[u8], types: u32) -> Number
+    pub fn named(self, line: &[u8], types: u32) -> Result<Found, Refusal>
         ensures { ReadsNumber line.now self.at result (named_word types (bytes_from line.now self.at)) × Below (2 ^ 17) result }
     {
-        let x = self.index(line, types);
-        let Number::Is(f) = x else {
-            return x;
-        };
+        let f = self.index(line, types)?;
         let t = f.value;
         let c = f.next;
-        let y = c.count(line, 1, SIZE_MOST);
-        let Number::Is(g) = y else {
-            return y;
-        };
+        let g = c.count(line, 1, SIZE_MOST)?;
         let k = g.value;
         let d = g.next;
-        Number::Is(Found {
+        Ok(Found {
             value: TYPE_STEP * (t + 1) + k,
             next: d,
         })
     }
 
     // A declared type, as a word.
-    pub fn declared(self, line: &[u8], types: u32) -> Number
+    pub fn declared(self, line: &[u8], types: u32) -> Result<Found, Refusal>
         ensures { ReadsNumber line.now self.at result (map_read declared_word (declared_read types (bytes_from line.now self.at))) × Below (2 ^ 17) result }
     {
-        let x = self.code(line, TYPE_FIRST, TYPE_FORMS);
-        let Number::Is(f) = x else {
-            return x;
-        };
+        let f = self.code(line, TYPE_FIRST, TYPE_FORMS)?;
         let form = f.value;
         if form < TYPE_NAMED {
-            return x;
+            return Ok(f);
         }
         let c = f.next;
         c.named(line, types)
     }
 
     // A field of a constructor, as a word.
-    pub fn field(self, line: &[u8], types: u32) -> Number
+    pub fn field(self, line: &[u8], types: u32) -> Result<Found, Refusal>
         ensures { ReadsNumber line.now self.at result (map_read field_word (field_read types (bytes_from line.now self.at))) × Below (2 ^ 17) result }
     {
-        let x = self.code(line, FIELD_FIRST, FIELD_FORMS);
-        let Number::Is(f) = x else {
-            return x;
-        };
+        let f = self.code(line, FIELD_FIRST, FIELD_FORMS)?;
         let form = f.value;
         if form < FIELD_OTHER {
-            return x;
+            return Ok(f);
         }
         let c = f.next;
         c.named(line, types)

@@ -1,4 +1,5 @@
 -- The walk over a frame's line, group by group: what is left of the line behind a group decides what the whole line is.
+use Rattle.std.specs.Prelude.{Some, None}
 use Prim.Native.Nat.{ℕ, suc, ◌+◌, ◌≤◌, ◌<◌}
 use mathlib.Core.List.{List, [], ◌∷◌}
 use Rattle.std.specs.Prelude.{Bool, ◌≡◌, get_or, drop, eqb}
@@ -11,9 +12,8 @@ use borrow.Author.Tests.{eq-eqb, ne_eqb}
 use Rattle.language.specs.Codes.{space}
 use Rattle.language.specs.Result.{both, choose}
 use Rattle.language.specs.Text.{is_empty, behind_pair, frame_bytes}
-use Rattle.text_lines.specs.declared.LineEnd.TheVariants.{At, Bad as NoEnd}
-use Rattle.text_lines.specs.declared.rule_lines.RuleLine.{RuleLine}
-use Rattle.text_lines.specs.declared.rule_lines.RuleLine.TheVariants.{Frame, Bad}
+use Rattle.text_lines.specs.Lines.{LineRead}
+use Rattle.text_lines.specs.declared.rule_lines.RuleLine.TheVariants.{Frame}
 use Rattle.text_lines.specs.Lines.{first_line, digit_pairs}
 use Rattle.text.specs.Digits.{spaces}
 use Rattle.text.specs.Places.{pair_place_of, pair_place}
@@ -60,7 +60,7 @@ pub record Grouped (t : List ℕ) (at end : ℕ) : Type 0 where
   pub over : digit_pairs wide_digit (drop end t) ≡ 0
 
 module _ (t : List ℕ) (at : ℕ) {end : ℕ} (is : end ≡ at + digit_pairs wide_digit (drop at t)) where
-  pub group-missing : end ≡ at → Bad ≡ frame_line t at
+  pub group-missing : end ≡ at → None ≡ frame_line t at
   group-missing e = not-asked frame_bytes at (drop at t) (no-pair (drop at t) (omega (arith, is)))
 
   pub group-there : at ≤ length t → (end ≡ at → ⊥) → Grouped t at end
@@ -75,15 +75,15 @@ module _ (t : List ℕ) (at : ℕ) {end : ℕ} (is : end ≡ at + digit_pairs wi
       }
 
 module _ {t : List ℕ} {at end : ℕ} (g : Grouped t at end) where
-  pub group-cut : length t ≤ end → Bad ≡ frame_line t at
+  pub group-cut : length t ≤ end → None ≡ frame_line t at
   unfolding line_from first_line both choose
   group-cut h = sym (g.is ∙ ap (line_from behind_pair end) (drop_of_length-le t {i = end} h))
 
-  pub group-closed : {r : RuleLine} → end < length t → (get_or t end 0 ≡ space → ⊥) → r ≡ frame_close t end → r ≡ frame_line t at
+  pub group-closed : {r : LineRead} → end < length t → (get_or t end 0 ≡ space → ⊥) → r ≡ frame_close t end → r ≡ frame_line t at
   unfolding line_close frame_at choose
   group-closed {r} h n c = c ∙ sym (g.is ∙ there)
     where
-      framed : (b : Bool) (next : ℕ) → choose b (Frame (record { end = end; next = next })) Bad ≡ frame_at end (choose b (At next) NoEnd)
+      framed : (b : Bool) (next : ℕ) → choose b (Some (Frame (record { end = end; next = next }))) None ≡ frame_at end (choose b (Some next) None)
       framed true next = refl
       framed false next = refl
 
@@ -91,7 +91,7 @@ module _ {t : List ℕ} {at end : ℕ} (g : Grouped t at end) where
       there =
           let split = drop-cons t end 0 h in
           ap (line_from behind_pair end) split ∙ close_passed end (get_or t end 0) (drop (suc end) t) (ap (digit_pairs wide_digit) (sym split) ∙ g.over) (ne_eqb _ _ n) ∙
-          ap (λ l. choose (both (is_ended l) (is_empty (line_chars l))) (Frame (record { end = end; next = end + length (first_line l) + 1 })) Bad) (sym split) ∙
+          ap (λ l. choose (both (is_ended l) (is_empty (line_chars l))) (Some (Frame (record { end = end; next = end + length (first_line l) + 1 }))) None) (sym split) ∙
           framed (both (is_ended (drop end t)) (is_empty (line_chars (drop end t)))) (end + length (first_line (drop end t)) + 1)
 
   module _ {next : ℕ} (h : end < length t) (e : get_or t end 0 ≡ space) (found : next ≡ pair_place_of t end) where
@@ -112,7 +112,7 @@ module _ {t : List ℕ} {at end : ℕ} (g : Grouped t at end) where
         ap (λ l. line_from frame_bytes (end + spaces l) (drop (spaces l) l)) (sym split) ∙ (λ i. line_from frame_bytes (sym is i) (place i))
 
     module _ {last : ℕ} (are : last ≡ next + digit_pairs wide_digit (drop next t)) where
-      pub next-missing : last ≡ next → Bad ≡ frame_line t at
+      pub next-missing : last ≡ next → None ≡ frame_line t at
       next-missing q = group-missing t next are q ∙ sym behind-spaces
 
       pub next-there : (last ≡ next → ⊥) → Grouped t at last

@@ -1,4 +1,9 @@
 -- Lines as parts of a text, and what the pass over a whole text answers (document 01, "By place": refusals 1 and 2).
+use Rattle.std.specs.Prelude.{Option as Maybe, Result as Outcome}
+use Rattle.language.specs.declared.refusals.RefusalAt.{RefusalAt}
+use Rattle.text_lines.specs.declared.FrameCounts.{FrameCounts}
+use Rattle.text_lines.specs.declared.rule_lines.RuleLine.{RuleLine}
+use Rattle.std.specs.Prelude.{Some, None}
 use Rattle.std.specs.Prelude.{ℕ, suc, ◌+◌, ◌≤◌, List, [], ◌∷◌, ◌++◌, Bool, true, false, not, ◌≡◌, length, get_or, drop, replicate, eqb, ltb, leb}
 use Rattle.std.proofs.Math.Option.{Option, none, some}
 use Rattle.language.specs.Limits.{text_most}
@@ -7,10 +12,16 @@ use Rattle.language.specs.Codes.{line_feed}
 use Rattle.language.specs.Result.{Result, ok, no, need, both, choose}
 use Rattle.language.specs.Text.{digit, line_bytes, text_frames}
 use Rattle.language.specs.Reader.{is_channel, channel_count}
-use Rattle.text_lines.specs.declared.LineEnd.{LineEnd}
-use Rattle.text_lines.specs.declared.LineEnd.TheVariants.{At, Bad}
-use Rattle.text_lines.specs.declared.Judged.{Judged}
-use Rattle.text_lines.specs.declared.Judged.TheVariants.{Frames, Refused}
+
+-- where a line ends, if it is a good one; a line of a rule file, if it is; a text judged as a whole
+abbrev pub LineEnd : Type 0
+LineEnd = Maybe ℕ
+
+abbrev pub LineRead : Type 0
+LineRead = Maybe RuleLine
+
+abbrev pub Judged : Type 0
+Judged = Outcome FrameCounts RefusalAt
 
 -- the characters before the first LF
 unfoldable pub first_line : List ℕ → List ℕ
@@ -50,16 +61,16 @@ pub record PairsTo (marks t : List ℕ) (at end : ℕ) : Type 0 where
 
 -- where the line from a place on ends, if LF ends it and it has bytes
 unfoldable pub line_end : List ℕ → ℕ → LineEnd
-line_end t at = let l = first_line (drop at t) in choose (both (ltb (length l) (length (drop at t))) (is_some (line_bytes l))) (At (at + length l)) Bad
+line_end t at = let l = first_line (drop at t) in choose (both (ltb (length l) (length (drop at t))) (is_some (line_bytes l))) (Some (at + length l)) None
 
 -- 1 for the frame of a channel, 0 for any other
 abbrev pub channels_of : List ℕ → ℕ
 channels_of bs = choose (is_channel bs) 1 0
 
 -- "Text is judged as a whole": how many frames it has and how many of them are channels, or its refusal
-unfoldable pub judged : Result (List (List ℕ)) → Judged
-judged (ok fs) = Frames (length fs) (channel_count fs)
-judged (no number frame) = Refused number frame
+unfoldable pub judged : Result (List (List ℕ)) → Result FrameCounts
+judged (ok fs) = ok (record { frames = length fs; channels = channel_count fs })
+judged (no number frame) = no number frame
 
-unfoldable pub judgement : List ℕ → Judged
+unfoldable pub judgement : List ℕ → Result FrameCounts
 judgement t = judged (need (leb (length t) text_most) text_too_long no_frame (text_frames t))

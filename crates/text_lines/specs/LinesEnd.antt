@@ -44,8 +44,8 @@ reaches-on {t} {at} {end} h ne r =
 pub line-stops : {t : List ℕ} {at end : ℕ} → end < length t → get_or t end 0 ≡ line_feed → Reaches t at end → take (end - at) (drop at t) ≡ first_line (drop at t)
 line-stops {t} {at} {end} h e r = sym (r.is ∙ ap (λ l. take (end - at) (drop at t) ++ l) (line-at-feed t end h e) ∙ append-nil (take (end - at) (drop at t)))
 
-pub line-ends : {t : List ℕ} {at end : ℕ} → length t ≤ end → Reaches t at end → take (end - at) (drop at t) ≡ first_line (drop at t)
-line-ends {t} {at} {end} h r = sym (r.is ∙ ap (λ l. take (end - at) (drop at t) ++ l) (line-beyond t end h) ∙ append-nil (take (end - at) (drop at t)))
+pub line-ends : {t : List ℕ} {at end : ℕ} → length t ≤ end → Reaches t at end → take (length t - at) (drop at t) ≡ first_line (drop at t)
+line-ends {t} {at} {end} h r = ap (λ (n : ℕ). take (n - at) (drop at t)) {x = length t} {y = end} (omega (arith, h, r.within)) ∙ sym (r.is ∙ ap (λ l. take (end - at) (drop at t) ++ l) (line-beyond t end h) ∙ append-nil (take (end - at) (drop at t)))
 
 pub line-missing : (t : List ℕ) (at : ℕ) → length t ≤ at → take (length t - length t) (drop (length t) t) ≡ first_line (drop at t)
 line-missing t at h = let none : length t - length t ≡ 0 = omega arith in rw (line-beyond t at h, none)

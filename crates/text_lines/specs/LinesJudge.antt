@@ -1,4 +1,8 @@
 -- A channel by the first byte of its line, and a strict line: LF ends it and it has bytes.
+use Rattle.language.specs.declared.refusals.Refusal.{Refusal}
+use Rattle.language.specs.RefusalNumbers.{number_of}
+use Rattle.std.specs.Prelude.{Some, None}
+use Rattle.std.specs.Prelude.{Ok, Err}
 use Rattle.std.specs.Prelude.{ℕ, ◌+◌, ◌-◌, ◌<◌, Bool, drop, eqb}
 use mathlib.Core.List.{List, [], ◌∷◌}
 use Rattle.std.proofs.Math.Bool.{true, false}
@@ -9,22 +13,19 @@ use Rattle.std.proofs.Math.ListN.{length, take, length-drop}
 use Rattle.std.proofs.Math.Dec.{ltb}
 use borrow.Author.Tests.{eq-eqb, ne_eqb, ltb-true}
 use Rattle.language.specs.Limits.{byte_range}
-use Rattle.language.specs.Result.{from, both, one_of, choose}
+use Rattle.language.specs.Result.{both, one_of, choose}
 use Rattle.language.specs.Codes.{line_feed}
 use Rattle.language.specs.Parser.{byte, bad}
 use Rattle.language.specs.Text.{line_bytes}
 use Rattle.language.specs.Reader.{is_channel}
 use Rattle.text.specs.declared.Found.{Found}
-use Rattle.text.specs.declared.Number.{Number}
-use Rattle.text.specs.declared.Number.TheVariants.{Is, Refused as NumberRefused}
-use Rattle.text_lines.specs.declared.LineEnd.{LineEnd}
-use Rattle.text_lines.specs.declared.LineEnd.TheVariants.{At, Bad}
-use Rattle.text.specs.Bytes.{bytes_of, bytes_from, given, ReadsNumber, Below}
+use Rattle.text_lines.specs.Lines.{LineEnd}
+use Rattle.text.specs.Bytes.{Number, bytes_of, bytes_from, given, ReadsNumber, Below}
 use Rattle.text.specs.Places.{bytes-start}
 use Rattle.text_lines.specs.Lines.{first_line, next_line, is_some, line_end, channels_of}
 
 -- ---- a channel, by the first byte of its line
-first_byte : (bs line : List ℕ) {x : Number} {f : Found} → given line x ≡ byte bs → x ≡ Is f → is_channel bs ≡ one_of (eqb f.value 0x03) (eqb f.value 0x04)
+first_byte : (bs line : List ℕ) {x : Number} {f : Found} → given line x ≡ byte bs → x ≡ Ok f → is_channel bs ≡ one_of (eqb f.value 0x03) (eqb f.value 0x04)
 unfolding given byte is_channel
 first_byte [] line e q = absurd (let z = sym e ∙ ap (given line) q in let y : ◌≡◌ {A = ℕ} 0 1 = cc in omega arith)
 first_byte (b ∷ bs) line {f = f} e q = let y : b ≡ f.value = let u = sym e ∙ ap (given line) q in cc in rw y
@@ -33,23 +34,23 @@ module _ {line : List ℕ} {x : Number} (v : ReadsNumber line 0 x (byte (bytes_f
   first_is : given line x ≡ byte (bytes_of line)
   first_is = v.0.is ∙ ap byte (bytes-start line)
 
-  pub line-without-bytes : {n : ℕ} → x ≡ NumberRefused n → 0 ≡ channels_of (bytes_of line)
+  pub line-without-bytes : {n : Refusal} → x ≡ Err n → 0 ≡ channels_of (bytes_of line)
   unfolding given byte is_channel choose
   line-without-bytes {n} q = go (bytes_of line) (sym first_is ∙ ap (given line) q)
     where
-      go : (bs : List ℕ) → byte bs ≡ bad n → 0 ≡ channels_of bs
+      go : (bs : List ℕ) → byte bs ≡ bad (number_of n) → 0 ≡ channels_of bs
       go [] e = refl
       go (b ∷ bs) e = absurd (let y : ◌≡◌ {A = ℕ} 0 1 = cc in omega arith)
 
-  pub input-line : {f : Found} → x ≡ Is f → f.value ≡ 3 → 1 ≡ channels_of (bytes_of line)
+  pub input-line : {f : Found} → x ≡ Ok f → f.value ≡ 3 → 1 ≡ channels_of (bytes_of line)
   unfolding one_of choose
   input-line q k = rw (first_byte (bytes_of line) line first_is q, eq-eqb _ 0x03 k)
 
-  pub node-line : {f : Found} → x ≡ Is f → (f.value ≡ 3 → ⊥) → f.value ≡ 4 → 1 ≡ channels_of (bytes_of line)
+  pub node-line : {f : Found} → x ≡ Ok f → (f.value ≡ 3 → ⊥) → f.value ≡ 4 → 1 ≡ channels_of (bytes_of line)
   unfolding one_of choose
   node-line q n k = rw (first_byte (bytes_of line) line first_is q, ne_eqb _ 0x03 n, eq-eqb _ 0x04 k)
 
-  pub other-line : {f : Found} → x ≡ Is f → (f.value ≡ 3 → ⊥) → (f.value ≡ 4 → ⊥) → 0 ≡ channels_of (bytes_of line)
+  pub other-line : {f : Found} → x ≡ Ok f → (f.value ≡ 3 → ⊥) → (f.value ≡ 4 → ⊥) → 0 ≡ channels_of (bytes_of line)
   unfolding one_of choose
   other-line q n k = rw (first_byte (bytes_of line) line first_is q, ne_eqb _ 0x03 n, ne_eqb _ 0x04 k)
 
@@ -77,11 +78,11 @@ filled [] bs e = absurd (let z : ◌≡◌ {A = ℕ} 0 1 = cc in omega arith)
 filled (c ∷ l) bs e = omega arith
 
 module _ (t : List ℕ) (at : ℕ) {x : LineEnd} (v : x ≡ line_end t at) where
-  pub line-ended : {end : ℕ} → x ≡ At end → Ended t at end
+  pub line-ended : {end : ℕ} → x ≡ Some end → Ended t at end
   unfolding line_end both choose is_some
   line-ended {end} q = go (ltb (length (first_line (drop at t))) (length (drop at t))) (line_bytes (first_line (drop at t))) refl refl (sym v ∙ q)
     where
-      go : (a : Bool) (o : Option (List ℕ)) → ltb (length (first_line (drop at t))) (length (drop at t)) ≡ a → line_bytes (first_line (drop at t)) ≡ o → choose (both a (is_some o)) (At (at + length (first_line (drop at t)))) Bad ≡ At end → Ended t at end
+      go : (a : Bool) (o : Option (List ℕ)) → ltb (length (first_line (drop at t))) (length (drop at t)) ≡ a → line_bytes (first_line (drop at t)) ≡ o → choose (both a (is_some o)) (Some (at + length (first_line (drop at t)))) None ≡ Some end → Ended t at end
       go true (some bs) p o e =
           let place : at + length (first_line (drop at t)) ≡ end = cc in
           let same : end - at ≡ length (first_line (drop at t)) = omega (arith, place) in

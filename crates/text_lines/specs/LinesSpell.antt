@@ -1,4 +1,5 @@
 -- Where a line that spells bytes ends: behind its pairs of digits, if LF stands there.
+use Rattle.std.specs.Prelude.{Some, None}
 use Rattle.std.specs.Prelude.{ℕ, suc, ◌+◌, ◌≤◌, ◌<◌, Bool, true, ◌≡◌, get_or, drop, eqb, ltb}
 use mathlib.Core.List.{List, [], ◌∷◌}
 use Rattle.std.proofs.Math.Bool.{false}
@@ -9,7 +10,6 @@ use Rattle.std.proofs.Math.ListN.{length, length-drop}
 use Rattle.language.specs.Result.{both, when, choose}
 use Rattle.language.specs.Codes.{line_feed}
 use Rattle.language.specs.Text.{digit, pair, pairs, line_bytes}
-use Rattle.text_lines.specs.declared.LineEnd.TheVariants.{At, Bad}
 use Rattle.text_lines.specs.Lines.{first_line, is_some, strict_digit, digit_pairs, line_end}
 
 -- characters differ where one is a digit and the other is none
@@ -91,25 +91,25 @@ never true = refl
 never false = refl
 
 module _ (t : List ℕ) (at : ℕ) where
-  unended : length (drop at t) ≤ length (first_line (drop at t)) → Bad ≡ line_end t at
+  unended : length (drop at t) ≤ length (first_line (drop at t)) → None ≡ line_end t at
   unfolding line_end both choose
   unended h = rw (le-ltb _ _ h)
 
-  unspelled : is_some (line_bytes (first_line (drop at t))) ≡ false → Bad ≡ line_end t at
+  unspelled : is_some (line_bytes (first_line (drop at t))) ≡ false → None ≡ line_end t at
   unfolding line_end choose
   unspelled e = rw (e, never (ltb (length (first_line (drop at t))) (length (drop at t))))
 
-  pub end-beyond : length t ≤ at → Bad ≡ line_end t at
+  pub end-beyond : length t ≤ at → None ≡ line_end t at
   end-beyond h = unended (omega (arith, length-drop at t))
 
   module _ {end : ℕ} (is : end ≡ at + digit_pairs strict_digit (drop at t)) where
-    pub end-missing : length t ≤ end → at < length t → Bad ≡ line_end t at
+    pub end-missing : length t ≤ end → at < length t → None ≡ line_end t at
     end-missing h less = unended (unended-line (drop at t) (omega (arith, length-drop at t)))
 
     behind-pairs : get_or (drop at t) (digit_pairs strict_digit (drop at t)) 0 ≡ get_or t end 0
     behind-pairs = get_or-drop at t (digit_pairs strict_digit (drop at t)) 0 ∙ ap (λ n. get_or t n 0) (sym is)
 
-    pub end-other : end < length t → (get_or t end 0 ≡ line_feed → ⊥) → Bad ≡ line_end t at
+    pub end-other : end < length t → (get_or t end 0 ≡ line_feed → ⊥) → None ≡ line_end t at
     unfolding is_some line_bytes
     end-other h n = unspelled (go (first_line (drop at t)) (unspelled-line (drop at t) (omega (arith, length-drop at t)) (λ e. n (sym behind-pairs ∙ e))))
       where
@@ -120,14 +120,14 @@ module _ (t : List ℕ) (at : ℕ) where
     found : end < length t → get_or t end 0 ≡ line_feed → (length (first_line (drop at t)) ≡ digit_pairs strict_digit (drop at t)) × (is_some (pairs (first_line (drop at t))) ≡ true)
     found h e = spelled-line (drop at t) (omega (arith, length-drop at t)) (behind-pairs ∙ e)
 
-    pub end_empty : end < length t → get_or t end 0 ≡ line_feed → end ≡ at → Bad ≡ line_end t at
+    pub end_empty : end < length t → get_or t end 0 ≡ line_feed → end ≡ at → None ≡ line_end t at
     end_empty h e none-there = unspelled (no_line (first_line (drop at t)) ((found h e).0 ∙ omega (arith, is)))
 
-    pub end-found : end < length t → get_or t end 0 ≡ line_feed → (end ≡ at → ⊥) → At end ≡ line_end t at
+    pub end-found : end < length t → get_or t end 0 ≡ line_feed → (end ≡ at → ⊥) → Some end ≡ line_end t at
     unfolding line_end both choose
     end-found h e some-there =
         let line = found h e in
         let filled : length (first_line (drop at t)) ≡ 0 → ⊥ = λ z. some-there (omega (arith, is, line.0)) in
         let ended : length (first_line (drop at t)) < length (drop at t) = omega (arith, length-drop at t, line.0, is) in
         let place : end ≡ at + length (first_line (drop at t)) = omega (arith, is, line.0) in
-        rw (lt-ltb _ _ ended, line-of-pairs (first_line (drop at t)) filled, line.1) (ap At place)
+        rw (lt-ltb _ _ ended, line-of-pairs (first_line (drop at t)) filled, line.1) (ap Some place)

@@ -1,4 +1,5 @@
 -- What the answer on a line of a rule file says of it: an extra line, a frame's, or one that is refused.
+use Rattle.std.specs.Prelude.{Some, None}
 use Rattle.std.specs.Prelude.{ℕ, ◌+◌, ◌-◌, ◌≤◌, ◌<◌, List, [], ◌∷◌, Bool, drop, eqb}
 use Rattle.std.proofs.Math.Bool.{true, false}
 use Rattle.std.proofs.Math.Option.{Option, none, some}
@@ -9,8 +10,8 @@ use Rattle.language.specs.Codes.{line_feed, carriage_return}
 use Rattle.language.specs.Result.{both, choose}
 use Rattle.language.specs.Text.{frame_bytes, without_return, last_or_more, is_extra}
 use Rattle.text_lines.specs.declared.rule_lines.FrameEnd.{FrameEnd}
-use Rattle.text_lines.specs.declared.rule_lines.RuleLine.{RuleLine}
-use Rattle.text_lines.specs.declared.rule_lines.RuleLine.TheVariants.{Extra, Frame, Bad}
+use Rattle.text_lines.specs.Lines.{LineRead}
+use Rattle.text_lines.specs.declared.rule_lines.RuleLine.TheVariants.{Extra, Frame}
 use Rattle.text_lines.specs.Lines.{first_line, next_line, is_some}
 use Rattle.text_lines.specs.RuleLines.{line_chars, is_ended, line_from, rule_line}
 
@@ -79,23 +80,23 @@ pub data RuleBad (t : List ℕ) (at : ℕ) : Type 0 where
   unended : length (drop at t) ≤ length (first_line (drop at t)) → RuleBad t at
   unspelled : length (first_line (drop at t)) < length (drop at t) → is_extra (line_chars (drop at t)) ≡ false → frame_bytes (line_chars (drop at t)) ≡ none → RuleBad t at
 
-module _ (t : List ℕ) (at : ℕ) {r : RuleLine} (v : r ≡ rule_line t at) where
+module _ (t : List ℕ) (at : ℕ) {r : LineRead} (v : r ≡ rule_line t at) where
   -- the answer by what the line is
-  answer : Bool → Bool → Option (List ℕ) → RuleLine
-  answer a x o = choose (both a x) (Extra (next_line t at)) (choose (both a (is_some o)) (Frame (record { end = at + length (line_chars (drop at t)); next = next_line t at })) Bad)
+  answer : Bool → Bool → Option (List ℕ) → LineRead
+  answer a x o = choose (both a x) (Some (Extra (next_line t at))) (choose (both a (is_some o)) (Some (Frame (record { end = at + length (line_chars (drop at t)); next = next_line t at }))) None)
 
-  answered : {s : RuleLine} → r ≡ s → answer (is_ended (drop at t)) (is_extra (line_chars (drop at t))) (frame_bytes (line_chars (drop at t))) ≡ s
+  answered : {s : LineRead} → r ≡ s → answer (is_ended (drop at t)) (is_extra (line_chars (drop at t))) (frame_bytes (line_chars (drop at t))) ≡ s
   unfolding rule_line line_from answer
   answered q = sym v ∙ q
 
   longer : is_ended (drop at t) ≡ true → length (first_line (drop at t)) < length (drop at t)
   longer p = ltb-true (length (first_line (drop at t))) (length (drop at t)) p
 
-  pub rule-extra : {next : ℕ} → r ≡ Extra next → RuleExtra t at next
+  pub rule-extra : {next : ℕ} → r ≡ Some (Extra next) → RuleExtra t at next
   unfolding answer both choose is_some
   rule-extra {next} q = go (is_ended (drop at t)) (is_extra (line_chars (drop at t))) (frame_bytes (line_chars (drop at t))) refl refl (answered q)
     where
-      go : (a x : Bool) (o : Option (List ℕ)) → is_ended (drop at t) ≡ a → is_extra (line_chars (drop at t)) ≡ x → answer a x o ≡ Extra next → RuleExtra t at next
+      go : (a x : Bool) (o : Option (List ℕ)) → is_ended (drop at t) ≡ a → is_extra (line_chars (drop at t)) ≡ x → answer a x o ≡ Some (Extra next) → RuleExtra t at next
       go true true o p e s =
           let place : next ≡ next_line t at = cc in
           record { from = omega (arith, place); within = omega (arith, place, longer p, length-drop at t); place = place; ended = longer p; extra = e }
@@ -103,11 +104,11 @@ module _ (t : List ℕ) (at : ℕ) {r : RuleLine} (v : r ≡ rule_line t at) whe
       go true false none p e s = absurd (let z : ◌≡◌ {A = ℕ} 0 1 = cc in omega arith)
       go false x o p e s = absurd (let z : ◌≡◌ {A = ℕ} 0 1 = cc in omega arith)
 
-  pub rule-frame : {f : FrameEnd} → r ≡ Frame f → RuleFrame t at f
+  pub rule-frame : {f : FrameEnd} → r ≡ Some (Frame f) → RuleFrame t at f
   unfolding answer both choose is_some
   rule-frame {f} q = go (is_ended (drop at t)) (is_extra (line_chars (drop at t))) (frame_bytes (line_chars (drop at t))) refl refl refl (answered q)
     where
-      go : (a x : Bool) (o : Option (List ℕ)) → is_ended (drop at t) ≡ a → is_extra (line_chars (drop at t)) ≡ x → frame_bytes (line_chars (drop at t)) ≡ o → answer a x o ≡ Frame f → RuleFrame t at f
+      go : (a x : Bool) (o : Option (List ℕ)) → is_ended (drop at t) ≡ a → is_extra (line_chars (drop at t)) ≡ x → frame_bytes (line_chars (drop at t)) ≡ o → answer a x o ≡ Some (Frame f) → RuleFrame t at f
       go true true o p e b s = absurd (let z : ◌≡◌ {A = ℕ} 0 1 = cc in omega arith)
       go true false (some bs) p e b s =
           let last : f.end ≡ at + length (line_chars (drop at t)) = cc in
@@ -127,11 +128,11 @@ module _ (t : List ℕ) (at : ℕ) {r : RuleLine} (v : r ≡ rule_line t at) whe
       go true false none p e b s = absurd (let z : ◌≡◌ {A = ℕ} 0 1 = cc in omega arith)
       go false x o p e b s = absurd (let z : ◌≡◌ {A = ℕ} 0 1 = cc in omega arith)
 
-  pub rule-bad : r ≡ Bad → RuleBad t at
+  pub rule-bad : r ≡ None → RuleBad t at
   unfolding answer both choose is_some
   rule-bad q = go (is_ended (drop at t)) (is_extra (line_chars (drop at t))) (frame_bytes (line_chars (drop at t))) refl refl refl (answered q)
     where
-      go : (a x : Bool) (o : Option (List ℕ)) → is_ended (drop at t) ≡ a → is_extra (line_chars (drop at t)) ≡ x → frame_bytes (line_chars (drop at t)) ≡ o → answer a x o ≡ Bad → RuleBad t at
+      go : (a x : Bool) (o : Option (List ℕ)) → is_ended (drop at t) ≡ a → is_extra (line_chars (drop at t)) ≡ x → frame_bytes (line_chars (drop at t)) ≡ o → answer a x o ≡ None → RuleBad t at
       go true true o p e b s = absurd (let z : ◌≡◌ {A = ℕ} 0 1 = cc in omega arith)
       go true false (some bs) p e b s = absurd (let z : ◌≡◌ {A = ℕ} 0 1 = cc in omega arith)
       go true false none p e b s = unspelled (longer p) e b

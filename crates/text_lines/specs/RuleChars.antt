@@ -1,4 +1,5 @@
 -- A line of a rule file, character by character: each but LF and CR belongs to it, and LF, or CR with LF behind it, ends it.
+use Rattle.std.specs.Prelude.{Some, None}
 use Prim.Native.Nat.{ℕ, suc, ◌+◌, ◌≤◌, ◌<◌}
 use Rattle.std.specs.Prelude.{List, [], ◌∷◌, Bool, true, false, ◌≡◌, refl, length, get_or, drop, eqb, ltb}
 use Rattle.std.proofs.Math.Option.{Option}
@@ -9,7 +10,6 @@ use borrow.Author.Tests.{eq-eqb, ne_eqb, lt-ltb, le-ltb, ltb-true, ltb-false}
 use Rattle.language.specs.Codes.{line_feed, carriage_return}
 use Rattle.language.specs.Result.{both, choose}
 use Rattle.language.specs.Text.{is_empty, without_return, last_or_more}
-use Rattle.text_lines.specs.declared.LineEnd.TheVariants.{At, Bad as NoEnd}
 use Rattle.text_lines.specs.Lines.{first_line, is_some}
 use Rattle.text_lines.specs.LinesSpell.{never}
 use Rattle.text_lines.specs.LinesPairs.{two-there}
@@ -69,36 +69,36 @@ char-passed asked next at c l p e =
 
 -- ---- the end of a line at a place
 module _ (t : List ℕ) (at : ℕ) where
-  pub close-beyond : length t ≤ at → NoEnd ≡ line_close t at
+  pub close-beyond : length t ≤ at → None ≡ line_close t at
   unfolding line_close first_line both choose
   close-beyond h = rw (drop_of_length-le t {i = at} h)
 
-  pub close-feed : at < length t → get_or t at 0 ≡ line_feed → At (at + 1) ≡ line_close t at
+  pub close-feed : at < length t → get_or t at 0 ≡ line_feed → Some (at + 1) ≡ line_close t at
   unfolding line_close first_line without_return is_empty both choose
   close-feed h e =
       let ended : 0 < suc (length (drop (suc at) t)) = omega arith in
       let place : at + 1 ≡ at + 0 + 1 = omega arith in
-      rw (drop-cons t at 0 h, eq-eqb _ _ e, lt-ltb _ _ ended) (ap At place)
+      rw (drop-cons t at 0 h, eq-eqb _ _ e, lt-ltb _ _ ended) (ap Some place)
 
-  has-characters : is_empty (line_chars (drop at t)) ≡ false → NoEnd ≡ line_close t at
+  has-characters : is_empty (line_chars (drop at t)) ≡ false → None ≡ line_close t at
   unfolding line_close choose
   has-characters e = rw (e, never (is_ended (drop at t)))
 
-  pub close_other : at < length t → (get_or t at 0 ≡ line_feed → ⊥) → (get_or t at 0 ≡ carriage_return → ⊥) → NoEnd ≡ line_close t at
+  pub close_other : at < length t → (get_or t at 0 ≡ line_feed → ⊥) → (get_or t at 0 ≡ carriage_return → ⊥) → None ≡ line_close t at
   unfolding is_empty
   close_other h n m =
       let plain : Plain (get_or t at 0) = record { feed = ne_eqb _ _ n; return = ne_eqb _ _ m } in
       has-characters (rw (drop-cons t at 0 h, chars-plain (get_or t at 0) (drop (suc at) t) plain))
 
-  pub close-cut : at < length t → get_or t at 0 ≡ carriage_return → length t ≤ at + 1 → NoEnd ≡ line_close t at
+  pub close-cut : at < length t → get_or t at 0 ≡ carriage_return → length t ≤ at + 1 → None ≡ line_close t at
   unfolding line_close first_line both choose
   close-cut h e last = rw (drop-cons t at 0 h, e, drop_of_length-le t {i = suc at} (omega arith))
 
-  pub close-inside : at + 1 < length t → get_or t at 0 ≡ carriage_return → (get_or t (at + 1) 0 ≡ line_feed → ⊥) → NoEnd ≡ line_close t at
+  pub close-inside : at + 1 < length t → get_or t at 0 ≡ carriage_return → (get_or t (at + 1) 0 ≡ line_feed → ⊥) → None ≡ line_close t at
   unfolding first_line without_return last_or_more is_empty choose
   close-inside h e n = has-characters (rw (two-there t at h, e, ne_eqb _ _ n))
 
-  pub close-return : at + 1 < length t → get_or t at 0 ≡ carriage_return → get_or t (at + 1) 0 ≡ line_feed → At (at + 1 + 1) ≡ line_close t at
+  pub close-return : at + 1 < length t → get_or t at 0 ≡ carriage_return → get_or t (at + 1) 0 ≡ line_feed → Some (at + 1 + 1) ≡ line_close t at
   unfolding line_close first_line without_return last_or_more is_empty both choose
   close-return h e f =
       let ended : 1 < suc (suc (length (drop (at + 2) t))) = omega arith in

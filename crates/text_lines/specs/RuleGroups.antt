@@ -1,11 +1,12 @@
 -- A frame's line in groups: pairs of digits one behind the other, spaces, the next group, and the line's end behind the last pair.
+use Rattle.std.specs.Prelude.{Some, None}
 use Rattle.std.specs.Prelude.{ℕ, suc, ◌+◌, ◌<◌, List, [], ◌∷◌, Bool, true, false, ◌≡◌, refl, length, drop, eqb}
 use Rattle.std.proofs.Math.Option.{Option, none, some}
 use Rattle.std.proofs.Common.{sym, ap, ◌∙◌, arith, eqb-true}
 use Rattle.language.specs.Codes.{space}
 use Rattle.language.specs.Result.{both, when, choose}
 use Rattle.language.specs.Text.{is_empty, digit, any_digit, pair, pair_at, behind_pair, behind_space, frame_bytes, without_return}
-use Rattle.text_lines.specs.declared.rule_lines.RuleLine.TheVariants.{Frame, Bad}
+use Rattle.text_lines.specs.declared.rule_lines.RuleLine.TheVariants.{Frame}
 use Rattle.text_lines.specs.Lines.{first_line, is_some, digit_pairs}
 use Rattle.text_lines.specs.LinesSpell.{apart, never}
 use Rattle.text.specs.Digits.{spaces}
@@ -85,7 +86,7 @@ asked-alike : (asked other : List ℕ → Option (List ℕ)) (at : ℕ) (l : Lis
 unfolding line_from
 asked-alike asked other at l e = rw e
 
-pub not-asked : (asked : List ℕ → Option (List ℕ)) (at : ℕ) (l : List ℕ) → is_some (asked (line_chars l)) ≡ false → Bad ≡ line_from asked at l
+pub not-asked : (asked : List ℕ → Option (List ℕ)) (at : ℕ) (l : List ℕ) → is_some (asked (line_chars l)) ≡ false → None ≡ line_from asked at l
 unfolding line_from choose
 not-asked asked at l e = rw (e, never (is_ended l))
 
@@ -150,12 +151,12 @@ space-passed at c l p =
 
 -- where neither a pair nor a space stands, the line ends or is refused
 pub close_passed : (at c : ℕ) (l : List ℕ) → digit_pairs wide_digit (c ∷ l) ≡ 0 → eqb c space ≡ false →
-    line_from behind_pair at (c ∷ l) ≡ choose (both (is_ended (c ∷ l)) (is_empty (line_chars (c ∷ l)))) (Frame (record { end = at; next = at + length (first_line (c ∷ l)) + 1 })) Bad
+    line_from behind_pair at (c ∷ l) ≡ choose (both (is_ended (c ∷ l)) (is_empty (line_chars (c ∷ l)))) (Some (Frame (record { end = at; next = at + length (first_line (c ∷ l)) + 1 }))) None
 unfolding line_from behind_pair frame_bytes is_empty is_some choose
 close_passed at c l e p = go (chars-begin c l) (no-pair (c ∷ l) e)
   where
     go : {k : List ℕ} → Begins c k → is_some (frame_bytes k) ≡ false →
-        choose (both (is_ended (c ∷ l)) (is_some (behind_pair k))) (Frame (record { end = at + length k; next = at + length (first_line (c ∷ l)) + 1 })) Bad ≡
-        choose (both (is_ended (c ∷ l)) (is_empty k)) (Frame (record { end = at; next = at + length (first_line (c ∷ l)) + 1 })) Bad
+        choose (both (is_ended (c ∷ l)) (is_some (behind_pair k))) (Some (Frame (record { end = at + length k; next = at + length (first_line (c ∷ l)) + 1 }))) None ≡
+        choose (both (is_ended (c ∷ l)) (is_empty k)) (Some (Frame (record { end = at; next = at + length (first_line (c ∷ l)) + 1 }))) None
     go nothing q = let here : at + 0 ≡ at = omega arith in rw here
     go character q = rw (p, q, never (is_ended (c ∷ l)))

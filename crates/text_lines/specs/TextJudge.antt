@@ -9,7 +9,7 @@ use Rattle.language.specs.Refusals.{no_frame, text_too_long, bad_line}
 use Rattle.language.specs.Result.{Result, ok, no, bind, need, choose}
 use Rattle.language.specs.Text.{text_frames}
 use Rattle.language.specs.Reader.{is_channel, channel_count, read_file, read_frames, empty_file}
-use Rattle.text_lines.specs.declared.Judged.TheVariants.{Frames, Refused}
+use Rattle.text_lines.specs.declared.FrameCounts.{FrameCounts}
 use Rattle.text_lines.specs.declared.rule_lines.FrameEnd.{FrameEnd}
 use Rattle.text.specs.Bytes.{bytes_of}
 use Rattle.text_lines.specs.Lines.{channels_of, judged, judgement}
@@ -83,19 +83,19 @@ module _ {t : List ℕ} {at frames channels : ℕ} {earlier : List (List ℕ)} (
             ∙ ap (λ k. bind (frames_behind (suc k) (drop f.next t)) (λ fs. ok ((earlier ++ (n.frame ∷ [])) ++ fs))) (sym (add-one frames));
       }
 
-  pub judged-bad : length t ≤ text_most → at < length t → RuleBad t at → Refused bad_line (frames + 1) ≡ judgement t
+  pub judged-bad : length t ≤ text_most → at < length t → RuleBad t at → no bad_line (frames + 1) ≡ judgement t
   unfolding judged bind
-  judged-bad fits h b = sym (whole-judged t fits ∙ ap judged (c.split ∙ ap (λ r. bind r (λ fs. ok (earlier ++ fs))) (frames-refused t at h b (suc frames))) ∙ ap (Refused bad_line) (sym (add-one frames)))
+  judged-bad fits h b = sym (whole-judged t fits ∙ ap judged (c.split ∙ ap (λ r. bind r (λ fs. ok (earlier ++ fs))) (frames-refused t at h b (suc frames))) ∙ ap (no bad_line) (sym (add-one frames)))
 
   frames-are : length t ≤ at → text_frames t ≡ ok earlier
   unfolding bind
   frames-are h = c.split ∙ ap (λ r. bind r (λ fs. ok (earlier ++ fs))) (frames-end t at h (suc frames)) ∙ ap ok (append-nil earlier)
 
-  pub judged-end : length t ≤ text_most → length t ≤ at → Frames frames channels ≡ judgement t
+  pub judged-end : length t ≤ text_most → length t ≤ at → ok (record { frames = frames; channels = channels }) ≡ judgement t
   unfolding judged
-  judged-end fits h = sym (whole-judged t fits ∙ ap judged (frames-are h) ∙ ap₂ Frames c.count c.kinds)
+  judged-end fits h = sym (whole-judged t fits ∙ ap judged (frames-are h) ∙ ap₂ (λ n k. ok (record { frames = n; channels = k })) c.count c.kinds)
 
-pub judged-too-long : (t : List ℕ) → text_most < length t → Refused text_too_long no_frame ≡ judgement t
+pub judged-too-long : (t : List ℕ) → text_most < length t → no text_too_long no_frame ≡ judgement t
 unfolding judgement judged need
 judged-too-long t h = rw (lt-leb (length t) text_most h)
 
@@ -107,22 +107,23 @@ pub record Accepted (t : List ℕ) (count channels : ℕ) : Type 0 where
   pub fits : length t ≤ text_most
   pub file : read_file t ≡ read_frames channels 1 empty_file frames
 
-pub judged-accepted : (t : List ℕ) (count channels : ℕ) → judgement t ≡ Frames count channels → Accepted t count channels
+pub judged-accepted : (t : List ℕ) (count channels : ℕ) → judgement t ≡ ok (record { frames = count; channels = channels }) → Accepted t count channels
 unfolding judgement judged read_file need bind
 judged-accepted t count channels e = go (leb (length t) text_most) (text_frames t) refl refl e
   where
-    go : (b : Bool) (r : Result (List (List ℕ))) → leb (length t) text_most ≡ b → text_frames t ≡ r → judged (need b text_too_long no_frame r) ≡ Frames count channels → Accepted t count channels
+    go : (b : Bool) (r : Result (List (List ℕ))) → leb (length t) text_most ≡ b → text_frames t ≡ r → judged (need b text_too_long no_frame r) ≡ ok (record { frames = count; channels = channels }) → Accepted t count channels
     go true (ok fs) q are e =
-        let same : channel_count fs ≡ channels = cc in
-        record { frames = fs; counted = cc; are = are; fits = leb-true (length t) text_most q; file = rw (q, are) (ap (λ n. read_frames n 1 empty_file fs) same) }
+        let counts : ◌≡◌ {A = FrameCounts} (record { frames = length fs; channels = channel_count fs }) (record { frames = count; channels = channels }) = cc in
+        let same : channel_count fs ≡ channels = ap (λ (n : FrameCounts). n.channels) counts in
+        record { frames = fs; counted = ap (λ (n : FrameCounts). n.frames) counts; are = are; fits = leb-true (length t) text_most q; file = rw (q, are) (ap (λ n. read_frames n 1 empty_file fs) same) }
     go true (no n frame) q are e = absurd (let z : ◌≡◌ {A = ℕ} 0 1 = cc in omega arith)
     go false r q are e = absurd (let z : ◌≡◌ {A = ℕ} 0 1 = cc in omega arith)
 
-pub judged-refused : (t : List ℕ) (n frame : ℕ) → judgement t ≡ Refused n frame → read_file t ≡ no n frame
+pub judged-refused : (t : List ℕ) (n frame : ℕ) → judgement t ≡ no n frame → read_file t ≡ no n frame
 unfolding judgement judged read_file need bind
 judged-refused t n frame e = go (leb (length t) text_most) (text_frames t) e
   where
-    go : (b : Bool) (r : Result (List (List ℕ))) → judged (need b text_too_long no_frame r) ≡ Refused n frame → need b text_too_long no_frame (bind r (λ fs. read_frames (channel_count fs) 1 empty_file fs)) ≡ no n frame
+    go : (b : Bool) (r : Result (List (List ℕ))) → judged (need b text_too_long no_frame r) ≡ no n frame → need b text_too_long no_frame (bind r (λ fs. read_frames (channel_count fs) 1 empty_file fs)) ≡ no n frame
     go true (ok fs) e = absurd (let z : ◌≡◌ {A = ℕ} 0 1 = cc in omega arith)
     go true (no m other) e = cc
     go false r e = cc

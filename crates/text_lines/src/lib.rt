@@ -9,23 +9,16 @@ ghost use Rattle.text_lines.specs.Lines.{first_line, digit_marks, marked, digit_
 
 use language::codes::{KIND_INPUT, KIND_NODE, LINE_FEED};
 use language::limits::BYTE_RANGE;
-use text::{BYTE_DIGITS, Cursor, FOURTH_PAIR, Number, SECOND_PAIR, THIRD_PAIR};
+use text::{BYTE_DIGITS, Cursor, FOURTH_PAIR, SECOND_PAIR, THIRD_PAIR};
 
 // So many digits are tested together.
 const EIGHT: usize = 4 * BYTE_DIGITS;
 
-// A text judged as a whole: how many frames it has and how many of them are channels, or a refusal with its number and frame.
+// How many frames a text has, and how many of them are channels.
 #[derive(Clone, Copy)]
-pub enum Judged {
-    Frames(u32, u32),
-    Refused(u32, u32),
-}
-
-// Where a line ends, if it is ended by LF and spells bytes.
-#[derive(Clone, Copy)]
-pub enum LineEnd {
-    At(usize),
-    Bad,
+pub struct FrameCounts {
+    pub frames: u32,
+    pub channels: u32,
 }
 
 // The part of the text from a place up to the next LF, or to the end; empty beyond the end.
@@ -35,14 +28,12 @@ pub fn line_at<'a>(text: &'a [u8], at: usize) -> &'a [u8]
     if text.len() <= at {
         return &text[text.len()..];
     }
-    let mut end = at;
-    while end < text.len() {
+    for end in at..text.len() {
         if text[end] == LINE_FEED {
             return &text[at..end];
         }
-        end += 1;
     }
-    &text[at..end]
+    &text[at..]
 }
 
 // For each character 1 where it is an upper-case hexadecimal digit, else 0.
@@ -95,6 +86,7 @@ fn eights_end(text: &[u8], digits: &[u8; BYTE_RANGE as usize], at: usize) -> usi
     ensures { PairsTo digits.now text.now at result }
 {
     let mut end = at;
+    // What is left is asked for at each turn: `step_by` would take one more test for eight that are cut off.
     while EIGHT <= text.len() - end {
         if !eight_digits(text, digits, end) {
             return end;
@@ -110,6 +102,7 @@ fn pairs_end(text: &[u8], digits: &[u8; BYTE_RANGE as usize], at: usize) -> usiz
     ensures { result ≡ at + digit_pairs (marked digits.now) (drop at text.now) }
 {
     let mut end = eights_end(text, digits, at);
+    // The same by two.
     while BYTE_DIGITS <= text.len() - end {
         if digits[text[end] as usize] == 0 {
             return end;
@@ -123,32 +116,31 @@ fn pairs_end(text: &[u8], digits: &[u8; BYTE_RANGE as usize], at: usize) -> usiz
 }
 
 // Where the line from a place on ends, if it is ended by LF and spells bytes.
-pub fn line_end(text: &[u8], at: usize) -> LineEnd
+pub fn line_end(text: &[u8], at: usize) -> Option<usize>
     ensures { result ≡ line_end text.now at }
 {
     if text.len() <= at {
-        return LineEnd::Bad;
+        return None;
     }
     let digits = digit_marks();
     let end = pairs_end(text, &digits, at);
     if text.len() <= end {
-        return LineEnd::Bad;
+        return None;
     }
     if text[end] != LINE_FEED {
-        return LineEnd::Bad;
+        return None;
     }
     if end == at {
-        return LineEnd::Bad;
+        return None;
     }
-    LineEnd::At(end)
+    Some(end)
 }
 
 // 1 for a line whose first byte is 03 or 04, an input or a node; 0 for any other.
 pub fn channel(line: &[u8]) -> u32
     ensures { result ≡ channels_of (bytes_of line.now) }
 {
-    let x = Cursor { at: 0 }.byte(line);
-    let Number::Is(f) = x else {
+    let Ok(f) = Cursor { at: 0 }.byte(line) else {
         return 0;
     };
     let kind = f.value;

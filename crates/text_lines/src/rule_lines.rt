@@ -3,7 +3,7 @@ ghost use Rattle.std.specs.Prelude.{◌≡◌, ◌+◌, ◌≤◌, ◌<◌, leng
 ghost use Rattle.language.specs.Codes.{semicolon};
 ghost use Rattle.text_lines.specs.RuleLines.{any_digit_marks, line_close, frame_close, frame_line, rule_line};
 
-use super::{LineEnd, digit_marks, line_at, pairs_end};
+use super::{digit_marks, line_at, pairs_end};
 use language::codes::{CARRIAGE_RETURN, LINE_FEED, SEMICOLON, SPACE};
 use language::limits::BYTE_RANGE;
 use text::behind_spaces;
@@ -15,12 +15,11 @@ pub struct FrameEnd {
     pub next: usize,
 }
 
-// A line of a rule file: one that is no frame, with where the next line starts; a frame's; or one that is refused.
+// A line of a rule file: one that is no frame, with where the next line starts; or a frame's.
 #[derive(Clone, Copy)]
 pub enum RuleLine {
     Extra(usize),
     Frame(FrameEnd),
-    Bad,
 }
 
 // For each character 1 where it is a hexadecimal digit of either case, else 0.
@@ -38,49 +37,47 @@ pub fn rule_marks() -> [u8; BYTE_RANGE as usize]
 }
 
 // Where the next line starts, if LF or CR LF stands at a place.
-fn line_close(text: &[u8], at: usize) -> LineEnd
+fn line_close(text: &[u8], at: usize) -> Option<usize>
     ensures { result ≡ line_close text.now at }
 {
     if text.len() <= at {
-        return LineEnd::Bad;
+        return None;
     }
     let behind = at + 1;
     if text[at] == LINE_FEED {
-        return LineEnd::At(behind);
+        return Some(behind);
     }
     if text[at] != CARRIAGE_RETURN {
-        return LineEnd::Bad;
+        return None;
     }
     if text.len() <= behind {
-        return LineEnd::Bad;
+        return None;
     }
     if text[behind] != LINE_FEED {
-        return LineEnd::Bad;
+        return None;
     }
     let next = behind + 1;
-    LineEnd::At(next)
+    Some(next)
 }
 
 // A frame's line whose characters end at a place, if the line ends there.
-fn frame_close(text: &[u8], end: usize) -> RuleLine
+fn frame_close(text: &[u8], end: usize) -> Option<RuleLine>
     ensures { result ≡ frame_close text.now end }
 {
-    let x = line_close(text, end);
-    let LineEnd::At(next) = x else {
-        return RuleLine::Bad;
-    };
-    RuleLine::Frame(FrameEnd { end, next })
+    let next = line_close(text, end)?;
+    Some(RuleLine::Frame(FrameEnd { end, next }))
 }
 
 // The line at a place as a frame's: pairs of digits, with spaces between them.
-fn frame_line(text: &[u8], digits: &[u8; BYTE_RANGE as usize], at: usize) -> RuleLine
+fn frame_line(text: &[u8], digits: &[u8; BYTE_RANGE as usize], at: usize) -> Option<RuleLine>
     requires { (at ≤ length text.now) × (digits.now ≡ any_digit_marks) }
     ensures { result ≡ frame_line text.now at }
 {
     let mut end = pairs_end(text, digits, at);
     if end == at {
-        return RuleLine::Bad;
+        return None;
     }
+    // A group of pairs says where the next one starts: no range says the places.
     while end < text.len() {
         if text[end] != SPACE {
             return frame_close(text, end);
@@ -88,40 +85,39 @@ fn frame_line(text: &[u8], digits: &[u8; BYTE_RANGE as usize], at: usize) -> Rul
         let next = behind_spaces(text, end);
         end = pairs_end(text, digits, next);
         if end == next {
-            return RuleLine::Bad;
+            return None;
         }
     }
-    RuleLine::Bad
+    None
 }
 
 // A line that starts with a semicolon: whatever it holds, it is no frame.
-fn comment_line(text: &[u8], at: usize) -> RuleLine
+fn comment_line(text: &[u8], at: usize) -> Option<RuleLine>
     requires { (at < length text.now) × (get_or text.now at 0 ≡ semicolon) }
     ensures { result ≡ rule_line text.now at }
 {
     let line = line_at(text, at);
     let end = at + line.len();
     if text.len() <= end {
-        return RuleLine::Bad;
+        return None;
     }
     let next = end + 1;
-    RuleLine::Extra(next)
+    Some(RuleLine::Extra(next))
 }
 
 // The line at a place, by the marks of `rule_marks`.
-pub fn rule_line(text: &[u8], digits: &[u8; BYTE_RANGE as usize], at: usize) -> RuleLine
+pub fn rule_line(text: &[u8], digits: &[u8; BYTE_RANGE as usize], at: usize) -> Option<RuleLine>
     requires { digits.now ≡ any_digit_marks }
     ensures { result ≡ rule_line text.now at }
 {
     if text.len() <= at {
-        return RuleLine::Bad;
+        return None;
     }
     if text[at] == SEMICOLON {
         return comment_line(text, at);
     }
-    let x = line_close(text, at);
-    let LineEnd::At(next) = x else {
+    let Some(next) = line_close(text, at) else {
         return frame_line(text, digits, at);
     };
-    RuleLine::Extra(next)
+    Some(RuleLine::Extra(next))
 }

@@ -29,9 +29,6 @@ agreeing-first t (other u k) fs τ τs = refl
 pub record AgreeFrom (types row : List ℕ) (t c i : ℕ) : Type 0 where
   pub says : (fs : List Field) (τs : List Ty) → ToldFields types t c fs → ToldRow row (length fs) τs → agreeing t fs τs ≡ agreeing t (drop i fs) (drop i τs)
 
-pub agree-start : (types row : List ℕ) (t c : ℕ) → AgreeFrom types row t c 0
-agree-start types row t c = record { says = λ fs τs q p. refl }
-
 module _ {types row : List ℕ} {t c n i : ℕ} (a : (n ≡ get_or types (type_words * t + 1 + constructor_words * c) 0 % byte_range) × (n < byte_range)) (v : AgreeFrom types row t c i) where
   module _ {field word : ℕ} {b : Bool} (h : i < n) (is : field ≡ field_at types t c i) (read : word ≡ get_or row i 0) (test : b ≡ field_agrees field word t) where
     next-decides : (fs : List Field) (τs : List Ty) → ToldFields types t c fs → ToldRow row (length fs) τs → agreeing t fs τs ≡ both b (agreeing t (drop (suc i) fs) (drop (suc i) τs))

@@ -1,5 +1,5 @@
 -- The sizes of the named types of a row, written one by one.
-use Rattle.std.specs.Prelude.{ℕ, suc, ◌+◌, ◌%◌, ◌≤◌, ◌<◌, ◌≡◌, refl, take}
+use Rattle.std.specs.Prelude.{ℕ, suc, ◌+◌, ◌%◌, ◌≤◌, ◌<◌, ◌≡◌, take}
 use mathlib.Core.List.{List, [], ◌∷◌, ◌++◌}
 use Rattle.std.proofs.Common.{sym, ◌∙◌, arith, drop_of_length-le, take_all, take-suc, drop-cons, length-take-le}
 use Rattle.std.proofs.Math.Path.{ap, ap₂}
@@ -50,9 +50,6 @@ write-next s d j less fits =
     ∙ ap (λ l. l ++ drop (suc j) d) (sym (take-suc s j 0 less))
 
 -- ---- the loop
-pub writing_start : (row : List ℕ) (n : ℕ) (sizes : List ℕ) → Writing row n sizes 0 0 sizes
-writing_start row n sizes = record { low = omega arith; few = omega arith; long = refl; says = λ τs q fits. record { left = refl; within = omega arith; is = refl } }
-
 module _ {row : List ℕ} {n : ℕ} {sizes₀ : List ℕ} {count i : ℕ} {sizes : List ℕ} (v : Writing row n sizes₀ count i sizes) where
   module _ {word : ℕ} (h : i < n) (read : word ≡ get_or row i 0) where
     next-left : (τs : List Ty) → ToldRow row n τs → length (sizes_of τs) ≤ length sizes₀ → drop count (sizes_of τs) ≡ sizes_of (get_or τs i tbool ∷ drop (suc i) τs)

@@ -10,7 +10,7 @@ use index::types::{OWN_FIELD, field_word, fields};
 use index::{INDEX_WORDS, byte_at, one_if, put, word_at};
 use text::TYPE_STEP;
 
-// Writes a size; beyond the sizes nothing.
+// Writes a size; beyond the sizes nothing. Of bytes what `index::put` is of words: a generic one would ask for a bound and be no plainer.
 fn put_size(sizes: &mut [u8], i: usize, size: u8)
     ensures { sizes.new ≡ set sizes.old i size }
 {
@@ -55,14 +55,12 @@ pub fn named_sizes(row: &[u32], n: u32, sizes: &mut [u8]) -> u32
     ensures { NamedSizes row.now n sizes.old result sizes.new }
 {
     let mut count: u32 = 0;
-    let mut i: u32 = 0;
-    while i < n {
+    for i in 0..n {
         let word = word_at(row, i as usize);
         if TYPE_STEP <= word {
             put_size(sizes, count as usize, (word % TYPE_STEP) as u8);
             count += 1;
         }
-        i += 1;
     }
     count
 }
@@ -73,12 +71,10 @@ pub fn own_sum(index: &[u32; INDEX_WORDS], row: &[u32], t: u32, c: u32) -> u32
 {
     let n = fields(index, t, c);
     let mut sum: u32 = 0;
-    let mut i: u32 = 0;
-    while i < n {
+    for i in 0..n {
         if field_word(index, t, c, i) == OWN_FIELD {
             sum += size_in(word_at(row, i as usize));
         }
-        i += 1;
     }
     sum
 }
@@ -88,14 +84,12 @@ pub fn fields_agree(index: &[u32; INDEX_WORDS], row: &[u32], t: u32, c: u32) -> 
     ensures { FieldsAgree (types_of index.now) row.now t c result }
 {
     let n = fields(index, t, c);
-    let mut i: u32 = 0;
-    while i < n {
+    for i in 0..n {
         let field = field_word(index, t, c, i);
         let word = word_at(row, i as usize);
         if !field_agrees(field, word, t) {
             return false;
         }
-        i += 1;
     }
     true
 }
@@ -114,13 +108,11 @@ pub fn bind_fields(
 {
     let n = fields(index, t, c);
     let mut next: u32 = 0;
-    let mut i: u32 = 0;
-    while i < n {
+    for i in 0..n {
         let field = field_word(index, t, c, i);
         let size = byte_at(sizes, (from as usize) + (next as usize));
         let word = bound_word(field, t, size);
         put(scope, (to as usize) + (i as usize), word);
         next += one_if(field == OWN_FIELD);
-        i += 1;
     }
 }

@@ -1,5 +1,5 @@
 -- The lines of an index are the file's, and the call from the text on, return by return.
-use Prim.Native.Nat.{ℕ, zero, suc, ◌+◌, ◌≤◌, ◌<◌}
+use Prim.Native.Nat.{ℕ, zero, suc, ◌≤◌, ◌<◌}
 use mathlib.Core.List.{List, [], ◌++◌}
 use Rattle.std.proofs.Math.Bool.{false}
 use Rattle.std.specs.Prelude.{◌≡◌, get_or, take}
@@ -23,23 +23,19 @@ use Rattle.text.specs.Bytes.{bytes_from}
 use Rattle.text.specs.Places.{bytes-start}
 use Rattle.encoding.specs.FrameLines.{line_at}
 use Rattle.encoding.specs.FrameSpells.{line-is-frame}
-use Rattle.index.specs.declared.Counts.{Counts}
-use Rattle.index.specs.Sections.{counts_in, frames_of}
+use Rattle.index.specs.Sections.{frames_of}
 use Rattle.index.specs.Padded.{padded-none, padded-sets}
 use Rattle.index.specs.Indexed.{frame_part, Indexed}
 use Rattle.index.specs.FramePartLaws.{part-is-line}
-use Rattle.reader.specs.declared.Reading.{Reading}
-use Rattle.reader.specs.declared.Reading.TheVariants.{Fault}
-use Rattle.reader.specs.Texts.{TextRead}
+use Rattle.std.specs.Prelude.{Err}
+use Rattle.language.specs.declared.refusals.RefusalAt.{RefusalAt}
+use Rattle.reader.specs.Texts.{Reading, TextRead}
 use Rattle.reader.specs.Indexes.{file-frames, ReadIndexed, read-fault}
 use Rattle.answers.specs.declared.Answer.{Answer}
-use Rattle.answers.specs.Boards.{said, refusal_of, read_answer}
+use Rattle.answers.specs.Boards.{said, refusal_of, answer_of}
 use Rattle.answers.specs.LendLaws.{as_long}
 use Rattle.writer.specs.Writes.{Writes, frames_indexed, strict_line, strict_lines, Cleared}
 use Rattle.index.specs.Entries.{spell-more}
-
-pub frames-summed : {n : Counts} (index : List ℕ) → n ≡ counts_in index → n.types + n.functions + n.inputs + n.nodes ≡ frames_indexed index
-frames-summed index e = ap (λ (n : Counts). n.types + n.functions + n.inputs + n.nodes) e
 
 -- ---- the lines that an index names, of a file that was read
 module _ {text index : List ℕ} {P : File} (h : Indexed text index P) where
@@ -116,8 +112,8 @@ module _ (buffer : List ℕ) {buffer₁ : List ℕ} (cleared : buffer₁ ≡ rep
   unfolding write
   write_done {text} w = record { is = w.is ∙ ap (λ n. in_buffer (strict_text text n) buffer₁) (as_long buffer cleared) ∙ same-buffer (strict_text text (length buffer)) }
 
-  pub write-unread : {text index : List ℕ} {x : Reading} {r : Answer} {m frame : ℕ} → TextRead text x index (read_file text) → x ≡ Fault m frame → r ≡ read_answer x → Writes text buffer r buffer₁
-  unfolding write strict_text bind in_buffer answer read_answer
+  pub write-unread : {text index : List ℕ} {x : Reading} {r : Answer} {a : RefusalAt} → TextRead text x index (read_file text) → x ≡ Err a → r ≡ answer_of x → Writes text buffer r buffer₁
+  unfolding write strict_text bind in_buffer answer answer_of
   write-unread {text} v q e = record {
-    is = (λ i. record { answer = said ((e ∙ ap read_answer q) i); buffer = cleared i }) ∙ sym (ap (behind buffer) (read-fault v q));
+    is = (λ i. record { answer = said ((e ∙ ap answer_of q) i); buffer = cleared i }) ∙ sym (ap (behind buffer) (read-fault v q));
   }

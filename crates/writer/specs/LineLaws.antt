@@ -1,9 +1,11 @@
 -- A line counted and stored, byte by byte, as a cursor reads it.
+use Rattle.language.specs.declared.refusals.Refusal.{Refusal}
+use Rattle.std.specs.Prelude.{Ok, Err}
 use Prim.Native.Nat.{ℕ, ◌+◌, ◌*◌, ◌/◌, ◌%◌, ◌≤◌, ◌<◌}
 use mathlib.Core.List.{List, [], ◌∷◌, ◌++◌, append-nil, append_assoc}
 use Rattle.std.specs.Prelude.{◌≡◌, refl}
 use Rattle.std.proofs.Math.Path.{sym, ap}
-use Rattle.std.proofs.Common.{◌∙◌, add-zero, zero-add, add-one, arith, length-append, length-set}
+use Rattle.std.proofs.Common.{◌∙◌, add-zero, zero-add, add-one, arith, length-append}
 use Rattle.std.proofs.Math.ListN.{length, set}
 use Rattle.std.proofs.Math.Seq.{sets, length-sets}
 use Rattle.language.specs.Codes.{digit_base, line_feed}
@@ -11,9 +13,7 @@ use Rattle.language.specs.Parser.{got, bad, byte}
 use Rattle.language.specs.Format.{spell_all, digit_of, pair_of, line_text}
 use Rattle.text.specs.declared.Cursor.{Cursor}
 use Rattle.text.specs.declared.Found.{Found}
-use Rattle.text.specs.declared.Number.{Number}
-use Rattle.text.specs.declared.Number.TheVariants.{Is, Refused}
-use Rattle.text.specs.Bytes.{bytes_from, bytes_left, ReadsNumber}
+use Rattle.text.specs.Bytes.{Number, bytes_from, bytes_left, ReadsNumber}
 use Rattle.text.specs.Places.{left-most}
 use Rattle.text.specs.StepLaws.{number-got, number-bad}
 use Rattle.theory.specs.Lists.{sets-append}
@@ -41,13 +41,13 @@ byte-bad [] e = refl
 byte-bad (a ∷ bs) e = absurd (let z : ◌≡◌ {A = ℕ} 0 1 = cc in omega arith)
 
 module _ {line : List ℕ} {at : ℕ} {x : Number} (v : ReadsNumber line at x (byte (bytes_from line at))) where
-  byte-first : {f : Found} → x ≡ Is f → bytes_from line at ≡ f.value ∷ bytes_from line f.next.at
+  byte-first : {f : Found} → x ≡ Ok f → bytes_from line at ≡ f.value ∷ bytes_from line f.next.at
   byte-first e = byte-got (bytes_from line at) (number-got v e)
 
-  byte_last : {n : ℕ} → x ≡ Refused n → bytes_from line at ≡ []
+  byte_last : {n : Refusal} → x ≡ Err n → bytes_from line at ≡ []
   byte_last e = byte-bad (bytes_from line at) (number-bad v e)
 
-  pub byte-less : {f : Found} → x ≡ Is f → bytes_left line f.next.at < bytes_left line at
+  pub byte-less : {f : Found} → x ≡ Ok f → bytes_left line f.next.at < bytes_left line at
   byte-less e = omega (arith, ap length (byte-first e))
 
 -- ---- the bytes of a line, counted
@@ -58,13 +58,13 @@ pub count-start : (line : List ℕ) → CountTo line 0 (record { at = 0 })
 count-start line = record { is = zero-add (bytes_left line 0) }
 
 module _ {line : List ℕ} {n : ℕ} {c : Cursor} (t : CountTo line n c) {x : Number} (v : ReadsNumber line c.at x (byte (bytes_from line c.at))) where
-  pub count-few : {f : Found} → x ≡ Is f → n < length line
+  pub count-few : {f : Found} → x ≡ Ok f → n < length line
   count-few e = omega (arith, t.is, ap length (byte-first v e), left-most line 0)
 
-  pub count-on : {f : Found} → x ≡ Is f → CountTo line (n + 1) f.next
+  pub count-on : {f : Found} → x ≡ Ok f → CountTo line (n + 1) f.next
   count-on e = record { is = omega (arith, t.is, ap length (byte-first v e)) }
 
-  pub count-end : {m : ℕ} → x ≡ Refused m → n ≡ bytes_left line 0
+  pub count-end : {m : Refusal} → x ≡ Err m → n ≡ bytes_left line 0
   count-end e = omega (arith, t.is, ap length (byte_last v e))
 
 -- ---- a line stored: the pairs of its first bytes, and where the next one goes
@@ -82,9 +82,6 @@ module _ {line : List ℕ} {from : ℕ} {buffer₀ : List ℕ} {at : ℕ} {c : C
   pub line_kept : length buffer ≡ length buffer₀
   line_kept = ap length t.is ∙ length-sets buffer₀ from (spell_all pair_of t.first)
 
-  pub feed-kept : length (set buffer at line_feed) ≡ length buffer₀
-  feed-kept = length-set buffer at line_feed ∙ line_kept
-
   left_behind : from + length (strict_line line) ≡ at + 2 * bytes_left line c.at + 1
   left_behind = omega (arith, line-long line, t.place, pairs-long t.first, ap length t.split, length-append t.first (bytes_from line c.at))
 
@@ -92,11 +89,11 @@ module _ {line : List ℕ} {from : ℕ} {buffer₀ : List ℕ} {at : ℕ} {c : C
     pub feed-fits : at < length buffer
     feed-fits = omega (arith, room, left_behind, line_kept)
 
-    pub pair_fits : {x : Number} {f : Found} → ReadsNumber line c.at x (byte (bytes_from line c.at)) → x ≡ Is f → at + 1 < length buffer
+    pub pair_fits : {x : Number} {f : Found} → ReadsNumber line c.at x (byte (bytes_from line c.at)) → x ≡ Ok f → at + 1 < length buffer
     pair_fits v e = omega (arith, room, left_behind, line_kept, byte-less v e)
 
   module _ {x : Number} (v : ReadsNumber line c.at x (byte (bytes_from line c.at))) where
-    pub line_on : {f : Found} {buffer' : List ℕ} → x ≡ Is f → buffer' ≡ sets buffer at (pair_of f.value) → LineTo line from buffer₀ (at + 2) f.next buffer'
+    pub line_on : {f : Found} {buffer' : List ℕ} → x ≡ Ok f → buffer' ≡ sets buffer at (pair_of f.value) → LineTo line from buffer₀ (at + 2) f.next buffer'
     unfolding pair_of
     line_on {f} {buffer'} e w =
         let b = f.value in
@@ -109,7 +106,7 @@ module _ {line : List ℕ} {from : ℕ} {buffer₀ : List ℕ} {at : ℕ} {c : C
               ∙ ap (sets buffer₀ from) (sym (spell-more pair_of t.first b));
         }
 
-    pub line-end : {m : ℕ} {buffer' : List ℕ} → x ≡ Refused m → buffer' ≡ set buffer at line_feed → PutsLine line from buffer₀ (at + 1) buffer'
+    pub line-end : {m : Refusal} {buffer' : List ℕ} → x ≡ Err m → buffer' ≡ set buffer at line_feed → PutsLine line from buffer₀ (at + 1) buffer'
     unfolding line_text
     line-end {buffer'} e w =
         let pairs : List ℕ = spell_all pair_of t.first in

@@ -1,22 +1,23 @@
 // The writer: the strict text of a rule file. Document 02, R-1.
 #![tactic(auto)]
 
-ghost use Rattle.std.specs.Prelude.{◌≡◌, ◌+◌, ◌<◌, ◌≤◌, length, replicate};
+ghost use Rattle.std.specs.Prelude.{◌≡◌, ◌+◌, ◌<◌, ◌≤◌, length};
 ghost use Rattle.std.proofs.lemmas.List.Edits.{sets};
 ghost use Rattle.language.specs.Codes.{digit_base};
 ghost use Rattle.language.specs.Limits.{byte_range, text_most};
 ghost use Rattle.language.specs.Format.{digit_of, pair_of};
 ghost use Rattle.text.specs.Bytes.{bytes_left};
 ghost use Rattle.reader.specs.Indexes.{ReadIndexed};
+ghost use Rattle.answers.specs.Boards.{answer_of};
 ghost use Rattle.writer.specs.Writes.{Writes, frames_indexed, strict_line, strict_lines, Cleared, PutsLine};
 
-use answers::{Answer, read_answer, refusal};
+use answers::Answer;
 use index::frames::frame_line;
 use index::{INDEX_WORDS, frame_counts};
 use language::codes::{DIGIT_BASE, LINE_FEED};
-use language::refusals::{BUFFER_SHORT, NO_FRAME, NO_REFUSAL};
-use reader::{Reading, read};
-use text::{BYTE_DIGITS, Cursor, Number};
+use language::refusals::{NO_FRAME, Refusal, RefusalAt};
+use reader::read;
+use text::{BYTE_DIGITS, Cursor};
 
 // So many digits are decimal. Each adds its value to this: `0` to `9` are 30 to 39, `A` to `F` are 41 to 46.
 const DECIMAL_DIGITS: u32 = 10;
@@ -24,17 +25,6 @@ const DECIMAL_DIGITS: u32 = 10;
 const DECIMAL_OFFSET: u32 = 0x30;
 
 const LETTER_OFFSET: u32 = 0x37;
-
-// Every byte 0.
-fn clear(row: &mut [u8])
-    ensures { row.new ≡ replicate (length row.old) 0 }
-{
-    let mut i = 0;
-    while i < row.len() {
-        row[i] = 0;
-        i += 1;
-    }
-}
 
 // The character of a digit, upper case.
 fn digit_character(d: u32) -> u8
@@ -63,14 +53,11 @@ fn byte_count(line: &[u8]) -> usize
 {
     let mut n: usize = 0;
     let mut c = Cursor { at: 0 };
-    loop {
-        let x = c.byte(line);
-        let Number::Is(f) = x else {
-            return n;
-        };
+    while let Ok(f) = c.byte(line) {
         c = f.next;
         n += 1;
     }
+    n
 }
 
 // Stores the strict text of a line from a place on, its pairs and LF; answers the place behind it.
@@ -80,16 +67,13 @@ fn put_line(line: &[u8], buffer: &mut [u8], from: usize) -> usize
 {
     let mut at = from;
     let mut c = Cursor { at: 0 };
-    loop {
-        let x = c.byte(line);
-        let Number::Is(f) = x else {
-            buffer[at] = LINE_FEED;
-            return at + 1;
-        };
+    while let Ok(f) = c.byte(line) {
         put_pair(buffer, at, f.value);
         at += BYTE_DIGITS;
         c = f.next;
     }
+    buffer[at] = LINE_FEED;
+    at + 1
 }
 
 // How many frames the file has.
@@ -106,12 +90,10 @@ fn strict_length(text: &[u8], index: &[u32; INDEX_WORDS], frames: u32) -> usize
     ensures { result ≡ length (strict_lines text.now index.now frames) }
 {
     let mut total: usize = 0;
-    let mut i: u32 = 0;
-    while i < frames {
+    for i in 0..frames {
         let line = frame_line(text, index, i);
         let bytes = byte_count(line);
         total += BYTE_DIGITS * bytes + 1;
-        i += 1;
     }
     total
 }
@@ -122,38 +104,39 @@ fn put_lines(text: &[u8], index: &[u32; INDEX_WORDS], frames: u32, buffer: &mut 
     ensures { buffer.new ≡ sets buffer.old 0 (strict_lines text.now index.now frames) }
 {
     let mut at: usize = 0;
-    let mut i: u32 = 0;
-    while i < frames {
+    for i in 0..frames {
         let line = frame_line(text, index, i);
         at = put_line(line, buffer, at);
-        i += 1;
     }
 }
 
-// Writes a file that was read into a buffer of zeros; 24 where its strict text is longer.
-fn write_read(text: &[u8], index: &[u32; INDEX_WORDS], buffer: &mut [u8]) -> Answer
+// Writes a file that was read into a buffer of zeros; refused where its strict text is longer.
+fn write_read(text: &[u8], index: &[u32; INDEX_WORDS], buffer: &mut [u8]) -> Result<(), RefusalAt>
     requires read_indexed { ReadIndexed text.now index.now }
     requires cleared { Cleared buffer.old }
-    ensures { Writes text.now buffer.old result buffer.new }
+    ensures { Writes text.now buffer.old (answer_of result) buffer.new }
 {
     let frames = frame_count(index);
     let size = strict_length(text, index, frames);
     if buffer.len() < size {
-        return refusal(BUFFER_SHORT, NO_FRAME);
+        return Err(RefusalAt {
+            refusal: Refusal::BufferShort,
+            frame: NO_FRAME,
+        });
     }
     put_lines(text, index, frames, buffer);
-    refusal(NO_REFUSAL, NO_FRAME)
+    Ok(())
 }
 
 // Writes the strict text of a file. The buffer is zero behind it, and all of it after a refusal: 1 to 8, then 24.
 pub fn write(text: &[u8], buffer: &mut [u8]) -> Answer
     ensures { Writes text.now buffer.old result buffer.new }
 {
-    clear(buffer);
+    buffer.fill(0);
     let mut index = [0u32; INDEX_WORDS];
     let x = read(text, &mut index);
-    let Reading::Done = x else {
-        return read_answer(x);
+    let Ok(()) = x else {
+        return Answer::from(x);
     };
-    write_read(text, &index, buffer)
+    Answer::from(write_read(text, &index, buffer))
 }

@@ -1,5 +1,4 @@
 -- The list, then the buffers.
-use borrow.Author.Tests.{not-true, not-false}
 use Rattle.answers.specs.LendLaws.{list-short, list_long}
 use Rattle.answers.proofs.all_lent.Goals as goal
 

@@ -1,8 +1,6 @@
 -- Each test is one of the definition's.
-use borrow.Author.Tests.{not-true, not-false}
 use mathlib.Core.Path.{refl}
 use Rattle.answers.specs.LendLaws.{board-too-large, state-short, scratch-short, slots-judged}
-use borrow.Author.Rules.{rules}
 use Rattle.answers.proofs.buffers_lent.Goals as goal
 
 pub returns-then-not-board_allowed : goal.returns-then-not-board_allowed

@@ -1,5 +1,4 @@
 -- Each row by itself.
-use borrow.Author.Rules.{rules}
 use Rattle.answers.proofs.clear_both.Goals as goal
 
 pub returns : goal.returns

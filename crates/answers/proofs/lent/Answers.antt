@@ -1,6 +1,5 @@
 -- The board first, then the list.
 use mathlib.Core.Path.{refl}
-use borrow.Author.Tests.{not-true, not-false}
 use Rattle.answers.specs.LendLaws.{board-over, list-judged}
 use Rattle.answers.proofs.lent.Goals as goal
 

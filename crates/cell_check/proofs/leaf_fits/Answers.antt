@@ -1,6 +1,4 @@
 -- No fields, and a Bool that is 0 or 1 or an Int.
-use borrow.Author.Tests.{not-true, not-false}
-use borrow.Author.Rules.{rules}
 use Rattle.cell_check.specs.CellLaws.{leaf-unclear, leaf-bool, leaf-int}
 use Rattle.cell_check.proofs.leaf_fits.Goals as goal
 

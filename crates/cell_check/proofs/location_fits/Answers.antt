@@ -1,6 +1,5 @@
 -- A number beyond the cells fits nothing.
 use native.Mathlib.Omega.{arith}
-use borrow.Author.Rules.{rules}
 use Rattle.cell_check.specs.FieldLaws.{location-beyond, location-judged}
 use Rattle.cell_check.proofs.location_fits.Goals as goal
 

@@ -1,8 +1,5 @@
--- Not below, of another type, too large, or its size taken.
-use mathlib.Core.Path.{refl}
+-- Not below, of another type, or its size taken.
 use native.Mathlib.Omega.{arith}
-use borrow.Author.Tests.{not-true, not-false}
-use borrow.Author.Rules.{rules}
 use Rattle.cell_check.specs.FieldLaws.{own-beyond, own-other, own-taken}
 use Rattle.cell_check.proofs.own_left.Goals as goal
 
@@ -12,8 +9,5 @@ returns-then-cell-l c = own-beyond (omega (arith, c.if-cell-l.true))
 pub returns-then-not-same_type : goal.returns-then-not-same_type
 returns-then-not-same_type c = own-other c.if-cell-l.false c.cell_tag.ensures c.same_type.ensures c.if-not-same_type.true
 
-pub returns-then-left-size : goal.returns-then-left-size
-returns-then-left-size c = own-taken c.if-cell-l.false c.cell_tag.ensures c.same_type.ensures c.if-not-same_type.false c.cell_value-size.ensures (omega (arith, c.if-left-size.true))
-
 pub returns : goal.returns
-returns c = own-taken c.if-cell-l.false c.cell_tag.ensures c.same_type.ensures c.if-not-same_type.false c.cell_value-size.ensures refl
+returns c = own-taken c.if-cell-l.false c.cell_tag.ensures c.same_type.ensures c.if-not-same_type.false c.cell_value.ensures c.checked_sub.ensures

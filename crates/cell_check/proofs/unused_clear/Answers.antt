@@ -1,13 +1,6 @@
 -- A word at each turn, until one is not zero.
-use Prim.Native.Nat.{◌-◌}
-use native.Mathlib.Omega.{arith}
-use borrow.Author.Rules.{rules}
-use Rattle.language.specs.Limits.{fields_most}
-use Rattle.cell_check.specs.CellLaws.{UnusedFrom, unused-start, unused-not, unused-on, unused-end}
+use Rattle.cell_check.specs.CellLaws.{unused-not, unused-on, unused-end}
 use Rattle.cell_check.proofs.unused_clear.Goals as goal
-
-pub loop-j-init : goal.loop-j-init
-loop-j-init c = unused-start _ _ _
 
 pub returns-then-cell_field-ne0 : goal.returns-then-cell_field-ne0
 returns-then-cell_field-ne0 c = unused-not c.loop-j.invariant c.loop-j-test.true c.cell_field.ensures c.if-cell_field-ne0.true

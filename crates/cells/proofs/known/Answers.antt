@@ -1,7 +1,6 @@
 -- A word of the lent table at its place.
 use mathlib.Core.Path.{ap, ◌∙◌}
 use lib.ListN.{get_or}
-use borrow.Author.Rules.{rules}
 use Rattle.cells.proofs.known.Goals as goal
 
 pub returns : goal.returns

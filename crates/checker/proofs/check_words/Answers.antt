@@ -1,15 +1,14 @@
 -- A text that is not read, or what its file's check gives.
-use lib.ListN.{length}
+use Rattle.std.proofs.Common.{refl, length}
 use Rattle.checker.specs.ReadLaws.{check-unread, read_held}
 use Rattle.checker.specs.Outcomes.{checked}
-use borrow.Author.Rules.{rules}
 use Rattle.checker.proofs.check_words.Goals as goal
 
-pub returns-in_default : goal.returns-in_default
-returns-in_default c = check-unread (length c.args.words.now) c.read-x.ensures c.in_default.is c.read_answer.ensures c.clear.ensures
+pub returns-in-Err : goal.returns-in-Err
+returns-in-Err c = check-unread (length c.args.words.now) c.in-Err.ensures refl c.from.ensures c.clear.ensures
 
 pub check_read-requires : goal.check_read-requires
-check_read-requires c = record { read_held = read_held c.read-x.ensures c.in-Done.is; words_len = c.requires }
+check_read-requires c = read_held c.in_default.ensures refl
 
 pub returns : goal.returns
-returns c = checked c.lent-given.ensures c.check_read.ensures
+returns c = checked c.lent.ensures c.check_read.ensures

@@ -2,7 +2,6 @@
 use Rattle.cells.specs.Counts.{table_words}
 use mathlib.Core.Path.{refl}
 use Rattle.checker.specs.NeedLaws.{needs-all}
-use borrow.Author.Rules.{rules}
 use Rattle.checker.proofs.needed.Goals as goal
 
 pub returns : goal.returns

@@ -1,5 +1,4 @@
 -- A field by its word.
-use borrow.Author.Rules.{rules}
 use Rattle.construction.specs.FieldLaws.{constant-added, own-added, own-over, other-added, other-over}
 use Rattle.construction.proofs.with_field.Goals as goal
 

@@ -2,7 +2,6 @@
 use Prim.Native.Nat.{ℕ}
 use mathlib.Core.Path.{ap, ◌∙◌}
 use Rattle.ends.specs.EndOf.{end_of}
-use borrow.Author.Rules.{rules}
 use Rattle.ends.proofs.end_of.Goals as goal
 
 pub returns : goal.returns

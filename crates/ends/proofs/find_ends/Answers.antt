@@ -1,6 +1,5 @@
 -- The bodies first, then the updates, whose lines stand behind them.
 use Rattle.ends.specs.ToldLaws.{updates-told, readings_told}
-use borrow.Author.Rules.{rules}
 use Rattle.ends.proofs.find_ends.Goals as goal
 
 pub returns : goal.returns

@@ -1,7 +1,6 @@
 -- The bodies first, then the initial values, whose lines stand behind them.
 use mathlib.Core.Path.{refl}
 use Rattle.ends.specs.ToldLaws.{initials-told}
-use borrow.Author.Rules.{rules}
 use Rattle.ends.proofs.find_initial_ends.Goals as goal
 
 pub returns : goal.returns

@@ -1,6 +1,5 @@
 -- The updates alone, with a table of ends that nobody asks for.
 use Rattle.ends.specs.ToldLaws.{readings_told}
-use borrow.Author.Rules.{rules}
 use Rattle.ends.proofs.find_readings.Goals as goal
 
 pub returns : goal.returns

@@ -1,6 +1,5 @@
 -- The start of a part, by the accessor of its section.
 use Rattle.ends.specs.Told.{start_of}
-use borrow.Author.Rules.{rules}
 use Rattle.ends.proofs.part_start.Goals as goal
 
 pub returns-in-Body : goal.returns-in-Body

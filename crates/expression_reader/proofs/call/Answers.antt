@@ -1,10 +1,11 @@
 -- `call` meets its contract, return by return.
-use Rattle.expression_reader.specs.FormLaws.{call_none, call-some}
-use borrow.Author.Rules.{rules}
+use Rattle.std.proofs.Common.{sym, ◌∙◌, refl}
+use Rattle.language.specs.HandedOn.{handed_on}
+use Rattle.expression_reader.specs.FormLaws.{opened-some, call_none, call-some}
 use Rattle.expression_reader.proofs.call.Goals as goal
 
-pub returns-in_default : goal.returns-in_default
-returns-in_default c = call_none _ _ _ _ c.index-x.ensures c.in_default.is
+pub returns-in_err-f : goal.returns-in_err-f
+returns-in_err-f c = rw (handed_on c.from_residual.ensures ∙ sym c.in_err-f.was) (call_none _ _ _ _ c.index.ensures c.in_err-f.was)
 
 pub returns : goal.returns
-returns c = call-some _ _ _ _ c.index-x.ensures c.in-Is.is c.arity-parts.ensures c.step_of.ensures c.opened.ensures
+returns c = call-some _ _ _ _ c.index.ensures c.in_ok-f.was c.arity-parts.ensures refl (opened-some refl c.opened.ensures)

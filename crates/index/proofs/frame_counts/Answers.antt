@@ -1,7 +1,6 @@
 -- Four words, each taken as a byte.
 use mathlib.Core.Path.{refl}
 use native.Mathlib.Omega.{arith}
-use borrow.Author.Rules.{rules}
 use Rattle.index.proofs.frame_counts.Goals as goal
 
 pub returns : goal.returns

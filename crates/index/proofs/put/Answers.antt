@@ -1,7 +1,6 @@
 -- A word of a table stored; beyond it nothing changes.
 use mathlib.Core.Path.{sym}
 use lib.Seq.{set_out}
-use borrow.Author.Rules.{rules}
 use Rattle.index.proofs.put.Goals as goal
 
 pub returns-else-i-row : goal.returns-else-i-row

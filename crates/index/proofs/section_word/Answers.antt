@@ -1,6 +1,5 @@
 -- A word of a section: the index has it, or the section ends before it.
 use Rattle.index.specs.SectionLaws.{section-word, section-beyond}
-use borrow.Author.Rules.{rules}
 use Rattle.index.proofs.section_word.Goals as goal
 
 pub returns-then-i-words : goal.returns-then-i-words

@@ -1,6 +1,5 @@
 -- The cell of a constructor, if there is one left.
 use Rattle.input_cells.specs.Lays.{con_put, con_full}
-use borrow.Author.Rules.{rules}
 use Rattle.input_cells.proofs.lay_constructor.Goals as goal
 
 pub returns-then-cells-top : goal.returns-then-cells-top

@@ -1,6 +1,5 @@
 -- The cell of a Bool or an Int, if there is one left.
 use Rattle.input_cells.specs.Lays.{leaf_put, leaf_full}
-use borrow.Author.Rules.{rules}
 use Rattle.input_cells.proofs.lay_leaf.Goals as goal
 
 pub returns-then-cells-used : goal.returns-then-cells-used

@@ -1,5 +1,4 @@
 -- The numbers of a record, read from their words.
-use native.Mathlib.Omega.{arith}
 use Rattle.instances.specs.FindLaws.{numbers-read}
 use Rattle.instances.proofs.numbers.Goals as goal
 

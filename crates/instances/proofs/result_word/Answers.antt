@@ -1,5 +1,4 @@
 -- The word of a record's result type.
-use native.Mathlib.Omega.{arith}
 use Rattle.instances.specs.Listed.{result_word}
 use Rattle.instances.proofs.result_word.Goals as goal
 

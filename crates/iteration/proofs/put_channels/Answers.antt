@@ -1,18 +1,10 @@
 -- The channels' cells written.
 use native.Mathlib.Omega.{arith}
-use Prim.Native.Nat.{◌-◌, ◌≤◌}
-use Rattle.iteration.specs.Whole.{ChannelsPut}
 use Rattle.iteration.specs.WholeLaws.{put-none, put-more, put-long, put-done}
 use Rattle.iteration.proofs.put_channels.Goals as goal
 
 pub loop-c-init : goal.loop-c-init
 loop-c-init c = (put-none _ _, omega arith)
-
-pub overflow_add-c : goal.overflow_add-c
-overflow_add-c c = omega (arith, c.loop-c-test.true)
-
-pub loop-c-smaller : goal.loop-c-smaller
-loop-c-smaller c = omega (arith, c.loop-c-test.true)
 
 pub loop-c-preserved : goal.loop-c-preserved
 loop-c-preserved c = (put-more c.loop-c.invariant.0 c.word_at.ensures c.put_channel_cell.ensures, omega (arith, c.loop-c-test.true))

@@ -1,5 +1,4 @@
 -- The channels' cells, then what they name.
-use borrow.Author.Rules.{rules}
 use Rattle.marking.specs.MarkLaws.{reached-marked}
 use Rattle.marking.proofs.mark_reached.Goals as goal
 

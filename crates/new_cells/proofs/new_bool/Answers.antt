@@ -1,5 +1,4 @@
 -- A Bool's words.
-use borrow.Author.Rules.{rules}
 use Rattle.new_cells.specs.AllocLaws.{bool-made}
 use Rattle.new_cells.proofs.new_bool.Goals as goal
 

@@ -1,5 +1,4 @@
 -- No cell left, or the next one written.
-use borrow.Author.Rules.{rules}
 use Rattle.new_cells.specs.AllocLaws.{heap-spent, cell-made, row_written}
 use Rattle.new_cells.proofs.new_leaf.Goals as goal
 

@@ -1,10 +1,9 @@
 -- A node that is ready.
 use Rattle.node_order.specs.RowLaws.{not-ready, ready-if}
-use borrow.Author.Rules.{rules}
 use Rattle.node_order.proofs.is_ready.Goals as goal
 
-pub returns-then-done-c-eq1 : goal.returns-then-done-c-eq1
-returns-then-done-c-eq1 c = not-ready _ _ _ c.if-done-c-eq1.true
+pub returns-then-not-has : goal.returns-then-not-has
+returns-then-not-has c = ready-if _ _ _ c.has.ensures c.word_at.ensures c.if-not-has.true
 
-pub returns : goal.returns
-returns c = ready-if _ _ _ c.word_at.ensures c.if-done-c-eq1.false
+pub returns-else-not-has : goal.returns-else-not-has
+returns-else-not-has c = not-ready _ _ _ c.has.ensures c.if-not-has.false

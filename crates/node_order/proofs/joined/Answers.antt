@@ -1,7 +1,6 @@
 -- A node's readings joined to another's.
 use mathlib.Core.Path.{sym, ◌∙◌}
 use Rattle.node_order.specs.RowLaws.{joined-there, joined-not}
-use borrow.Author.Rules.{rules}
 use Rattle.node_order.proofs.joined.Goals as goal
 
 pub returns-then-has : goal.returns-then-has

@@ -1,31 +1,12 @@
 -- The search for a node that reads its own channel.
-use Prim.Native.Nat.{ℕ, ◌+◌, ◌-◌}
-use mathlib.Core.Bool.{false}
-use mathlib.Core.Path.{◌≡◌, sym, ap, ◌∙◌}
-use native.Mathlib.Omega.{arith}
-use Rattle.node_order.specs.Rows.{self_in}
+use Prim.Native.Nat.{ℕ, ◌+◌}
+use mathlib.Core.Path.{sym, ap, ◌∙◌}
 use Rattle.channel_sets.specs.Sets.{in_set}
-use Rattle.node_order.specs.Lowest.{Below}
-use Rattle.node_order.specs.LowestLaws.{below_none, below_more, lowest-here, lowest-none}
+use Rattle.node_order.specs.LowestLaws.{below_more, lowest-here, lowest-none}
 use Rattle.node_order.proofs.reads_itself.Goals as goal
-
-pub loop-node-init : goal.loop-node-init
-loop-node-init c = below_none
-
-pub overflow_add-inputs : goal.overflow_add-inputs
-overflow_add-inputs c = omega (arith, c.loop-node-test.true, c.requires)
-
-pub has-requires : goal.has-requires
-has-requires c = omega (arith, c.loop-node-test.true, c.requires)
 
 pub returns-then-has : goal.returns-then-has
 returns-then-has c = lowest-here c.loop-node.invariant c.loop-node-test.true (ap (λ (x : ℕ). in_set x (c.args.inputs + c.loop-node.node)) (sym c.word_at.ensures) ∙ sym c.has.ensures ∙ c.if-has.true)
-
-pub overflow_add-node : goal.overflow_add-node
-overflow_add-node c = omega (arith, c.loop-node-test.true)
-
-pub loop-node-smaller : goal.loop-node-smaller
-loop-node-smaller c = omega (arith, c.loop-node-test.true)
 
 pub loop-node-preserved : goal.loop-node-preserved
 loop-node-preserved c = below_more c.loop-node.invariant (ap (λ (x : ℕ). in_set x (c.args.inputs + c.loop-node.node)) (sym c.word_at.ensures) ∙ sym c.has.ensures ∙ c.if-has.false)

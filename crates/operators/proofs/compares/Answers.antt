@@ -1,5 +1,4 @@
 -- One law a comparison.
-use Rattle.std.proofs.Common.{rules}
 use Rattle.operators.specs.OperatorLaws.{equal-computed, less-computed, at-most-computed}
 use Rattle.operators.proofs.compares.Goals as goal
 

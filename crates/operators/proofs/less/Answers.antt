@@ -1,5 +1,4 @@
 -- The order of the bits with the sign turned over.
-use Rattle.std.proofs.Common.{rules}
 use Rattle.operators.specs.OperatorLaws.{signed-less}
 use Rattle.operators.proofs.less.Goals as goal
 

@@ -1,5 +1,4 @@
 -- What is computed on the constants of the cells is what the operator gives.
-use Rattle.std.proofs.Common.{rules}
 use Rattle.operators.specs.OperatorLaws.{numbers-operated, numbers-compared, truths-operated}
 use Rattle.operators.proofs.operate.Goals as goal
 

@@ -3,4 +3,4 @@ use Rattle.paugmeln.specs.Answers.{text-answered}
 use Rattle.paugmeln.proofs.paugmeln_read.Goals as goal
 
 pub returns : goal.returns
-returns c = text-answered c.read-x.ensures c.read_answer.ensures
+returns c = text-answered c.read.ensures c.from.ensures

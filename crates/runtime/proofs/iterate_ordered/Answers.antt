@@ -6,7 +6,7 @@ use borrow.Author.Rules.{rules}
 use Rattle.runtime.proofs.iterate_ordered.Goals as goal
 
 pub returns-then-not-buffers_lent : goal.returns-then-not-buffers_lent
-returns-then-not-buffers_lent c = lent-refused c.requires.walked _ _ _ _ _ c.buffers_lent.ensures c.if-not-buffers_lent.true c.refusal.ensures
+returns-then-not-buffers_lent c = lent-refused c.requires.walked _ _ _ _ _ c.buffers_lent.ensures c.if-not-buffers_lent.true
 
 pub slice_bounds-iterate_lent-end : goal.slice_bounds-iterate_lent-end
 slice_bounds-iterate_lent-end c = words-there c.requires.walked [] _ c.args.state.now c.args.scratch.now c.args.slots.now c.buffers_lent.ensures c.if-not-buffers_lent.false c.state_length-words.ensures

@@ -2,7 +2,6 @@
 use native.Mathlib.Omega.{arith}
 use native.Mathlib.Nat.{pos_of_ne-zero}
 use Rattle.sizes.specs.ConditionLaws.{none_left, one-fails, one_holds}
-use Prim.Native.Nat.{ℕ, ◌<◌}
 use Rattle.sizes.proofs.+conditions.Goals as goal
 
 pub returns-then-n-eq0 : goal.returns-then-n-eq0

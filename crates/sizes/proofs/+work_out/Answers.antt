@@ -2,7 +2,6 @@
 use native.Mathlib.Omega.{arith}
 use native.Mathlib.Nat.{pos_of_ne-zero}
 use Rattle.sizes.specs.SizeLaws.{sum_fits, work_none, work-leaf, work-sum, work-difference}
-use Prim.Native.Nat.{ℕ, ◌<◌}
 use Rattle.sizes.proofs.+work_out.Goals as goal
 
 pub returns-then-levels-eq0 : goal.returns-then-levels-eq0

@@ -1,5 +1,4 @@
 -- `condition` meets its contract, return by return.
-use native.Mathlib.Omega.{arith}
 use Rattle.sizes.specs.ConditionLaws.{sides-fit, condition-judged}
 use Rattle.sizes.proofs.condition.Goals as goal
 

@@ -1,6 +1,5 @@
 -- `leaf` meets its contract, return by return.
 use Rattle.sizes.specs.SizeLaws.{leaf-number, leaf-variable}
-use borrow.Author.Rules.{rules}
 use Rattle.sizes.proofs.leaf.Goals as goal
 
 pub returns-then-code-eq-SIZE_NUMBER : goal.returns-then-code-eq-SIZE_NUMBER

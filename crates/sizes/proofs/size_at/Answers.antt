@@ -1,7 +1,6 @@
 -- `size_at` meets its contract, return by return.
 use native.Mathlib.Omega.{arith}
 use Rattle.sizes.specs.TypeLaws.{size_low, size-high, size-found}
-use borrow.Author.Rules.{rules}
 use Rattle.sizes.proofs.size_at.Goals as goal
 
 pub returns-then-added-taken : goal.returns-then-added-taken

@@ -9,11 +9,11 @@ returns-then-code-eq-TYPE_BOOL c = type-bool _ _ _ c.read-f.ensures c.if-code-eq
 pub returns-then-code-eq-TYPE_INT : goal.returns-then-code-eq-TYPE_INT
 returns-then-code-eq-TYPE_INT c = type-int _ _ _ c.read-f.ensures c.if-code-eq-TYPE_INT.true
 
-pub returns-in_default : goal.returns-in_default
-returns-in_default c = type-refused _ _ _ c.read-f.ensures c.if-code-eq-TYPE_BOOL.false c.if-code-eq-TYPE_INT.false c.read-g.ensures c.size_at-x.ensures c.in_default.is
+pub returns-in_err-s : goal.returns-in_err-s
+returns-in_err-s c = rw c.from_residual.ensures (type-refused _ _ _ c.read-f.ensures c.if-code-eq-TYPE_BOOL.false c.if-code-eq-TYPE_INT.false c.read-g.ensures c.size_at.ensures c.in_err-s.was)
 
 pub overflow_cast-result : goal.overflow_cast-result
 overflow_cast-result c = omega (arith, c.read-g.ensures.less)
 
 pub returns : goal.returns
-returns c = type-named _ _ _ c.read-f.ensures c.if-code-eq-TYPE_BOOL.false c.if-code-eq-TYPE_INT.false c.read-g.ensures c.size_at-x.ensures c.in-Is.is
+returns c = type-named _ _ _ c.read-f.ensures c.if-code-eq-TYPE_BOOL.false c.if-code-eq-TYPE_INT.false c.read-g.ensures c.size_at.ensures c.in_ok-s.was

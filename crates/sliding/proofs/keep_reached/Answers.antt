@@ -1,5 +1,4 @@
 -- Marked, moved, cleared, renumbered.
-use borrow.Author.Rules.{rules}
 use Rattle.sliding.specs.FinishLaws.{reached-kept}
 use Rattle.sliding.proofs.keep_reached.Goals as goal
 

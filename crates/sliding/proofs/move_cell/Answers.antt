@@ -1,6 +1,5 @@
 -- The cell read, its fields renumbered, and written.
 use mathlib.Core.Path.{refl}
-use borrow.Author.Rules.{rules}
 use Rattle.sliding.specs.SlideLaws.{move-written}
 use Rattle.sliding.proofs.move_cell.Goals as goal
 

@@ -1,11 +1,10 @@
 -- A refusal of the checker, or the state at the start in the board's words.
 use native.Mathlib.Omega.{arith}
 use Rattle.startup.specs.StartLaws.{start-refused, words-there, words-cut, slots-there, slots-cut, board-there, start-done}
-use borrow.Author.Rules.{rules}
 use Rattle.startup.proofs.start_read.Goals as goal
 
 pub check_read-r-requires : goal.check_read-r-requires
-check_read-r-requires c = record { read_held = c.requires.read_held; words_len = c.requires.words_len }
+check_read-r-requires c = c.requires
 
 pub returns-then-r-ne-NO_REFUSAL : goal.returns-then-r-ne-NO_REFUSAL
 returns-then-r-ne-NO_REFUSAL c = start-refused _ _ _ _ _ c.all_lent-given.ensures c.check_read-r.ensures (λ z. omega (arith, z, c.if-r-ne-NO_REFUSAL.true))
@@ -26,4 +25,4 @@ pub put_initial_state-requires : goal.put_initial_state-requires
 put_initial_state-requires c = board-there _ _ c.args.state.now c.args.scratch.now c.args.slots.now c.all_lent-given.ensures c.check_read-r.ensures (omega (arith, c.if-r-ne-NO_REFUSAL.false)) c.state_length-state_words.ensures
 
 pub returns : goal.returns
-returns c = start-done _ _ _ _ _ c.all_lent-given.ensures c.check_read-r.ensures (omega (arith, c.if-r-ne-NO_REFUSAL.false)) c.state_length-state_words.ensures c.requires.read_held c.put_initial_state.ensures
+returns c = start-done _ _ _ _ _ c.all_lent-given.ensures c.check_read-r.ensures (omega (arith, c.if-r-ne-NO_REFUSAL.false)) c.state_length-state_words.ensures c.requires c.put_initial_state.ensures

@@ -1,14 +1,17 @@
 -- The cells, the channels, what they reach.
-use borrow.Author.Tests.{not-true, not-false}
-use borrow.Author.Rules.{rules}
+use Rattle.std.proofs.Common.{◌≡◌, true, false, sym, ◌∙◌}
 use Rattle.state_check.specs.LoadLaws.{right-no-cells, right-no-channels, right-reached}
 use Rattle.state_check.proofs.state_right.Goals as goal
+use Rattle.state_check.proofs.state_right.Goals.{then-cells_fit, else-cells_fit}
 
-pub returns-then-not-cells_fit : goal.returns-then-not-cells_fit
-returns-then-not-cells_fit c = right-no-cells c.cells_fit.ensures c.if-not-cells_fit.true
+pub returns-then-channels_fit : goal.returns-then-channels_fit
+returns-then-channels_fit c = elim c.if-cells_fit.branch [
+  | then-cells_fit w ↦ right-reached c.cells_fit.ensures w.if-cells_fit.true w.channels_fit.ensures (sym w.value-is ∙ c.if-channels_fit.true) c.all_reached.ensures
+  | else-cells_fit w ↦ absurd (let z : true ≡ false = sym c.if-channels_fit.true ∙ w.value-is ∙ w.if-cells_fit.false in cc)
+]
 
-pub returns-then-not-channels_fit : goal.returns-then-not-channels_fit
-returns-then-not-channels_fit c = right-no-channels c.cells_fit.ensures c.if-not-cells_fit.false c.channels_fit.ensures c.if-not-channels_fit.true
-
-pub returns : goal.returns
-returns c = right-reached c.cells_fit.ensures c.if-not-cells_fit.false c.channels_fit.ensures c.if-not-channels_fit.false c.all_reached.ensures
+pub returns-else-channels_fit : goal.returns-else-channels_fit
+returns-else-channels_fit c = rw c.if-channels_fit.false (elim c.if-cells_fit.branch [
+  | then-cells_fit w ↦ right-no-channels c.cells_fit.ensures w.if-cells_fit.true w.channels_fit.ensures (sym w.value-is ∙ c.if-channels_fit.false)
+  | else-cells_fit w ↦ right-no-cells c.cells_fit.ensures w.if-cells_fit.false
+])

@@ -1,9 +1,5 @@
 -- Too short a state or scratch, words that are not laid out as a state, or as they are judged.
-use mathlib.Core.Path.{sym}
 use native.Mathlib.Omega.{arith}
-use lib.Seq.{length-take-le}
-use borrow.Author.Tests.{not-true, not-false}
-use borrow.Author.Rules.{rules}
 use Rattle.state_check.specs.LoadLaws.{state-short, scratch-short, state-unlaid, state-judged}
 use Rattle.state_check.proofs.valid_state.Goals as goal
 
@@ -15,12 +11,6 @@ returns-then-scratch-cells c = scratch-short _ _ _ _ c.if-scratch-cells.true
 
 pub returns-then-not-laid_out : goal.returns-then-not-laid_out
 returns-then-not-laid_out c = state-unlaid _ _ _ _ c.state_length.ensures c.if-state-state_length.false c.if-scratch-cells.false c.used_cells-used.ensures c.frame_counts-counts.ensures.0 c.laid_out.ensures c.if-not-laid_out.true
-
-pub slice_bounds-state_right-end : goal.slice_bounds-state_right-end
-slice_bounds-state_right-end c = omega (arith, c.laid_out.ensures.room c.if-not-laid_out.false, c.if-scratch-cells.false)
-
-pub slice_bounds-state_right-end-2 : goal.slice_bounds-state_right-end-2
-slice_bounds-state_right-end-2 c = sym (length-take-le c.used_cells-used.result c.args.scratch.now (omega (arith, c.laid_out.ensures.room c.if-not-laid_out.false, c.if-scratch-cells.false)))
 
 pub returns : goal.returns
 returns c = state-judged _ _ _ _ c.state_length.ensures c.if-state-state_length.false c.if-scratch-cells.false c.used_cells-used.ensures c.frame_counts-counts.ensures.0 c.laid_out.ensures c.if-not-laid_out.false (omega (arith, c.laid_out.ensures.room c.if-not-laid_out.false, c.if-scratch-cells.false)) c.state_right.ensures

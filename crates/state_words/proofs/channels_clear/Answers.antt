@@ -1,6 +1,5 @@
 -- The channels' words, as a part.
 use mathlib.Core.Path.{◌∙◌}
-use borrow.Author.Rules.{rules}
 use Rattle.state_words.specs.WriteLaws.{channels-tested}
 use Rattle.state_words.proofs.channels_clear.Goals as goal
 

@@ -2,7 +2,6 @@
 use mathlib.Core.Path.{refl}
 use Rattle.text.specs.Bytes.{digit_value_of}
 use Rattle.text.specs.DigitLaws.{digit-small}
-use borrow.Author.Rules.{rules}
 use Rattle.text.proofs.digit.Goals as goal
 
 pub returns : goal.returns

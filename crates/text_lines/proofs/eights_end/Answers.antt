@@ -1,9 +1,5 @@
 -- Eight digits at a time, the walk stays at a place that is reached by pairs.
-use Prim.Native.Nat.{◌-◌}
 use native.Mathlib.Omega.{arith}
-use lib.ListN.{length}
-use borrow.Author.Tests.{not-false}
-use Rattle.text_lines.specs.Lines.{PairsTo}
 use Rattle.text_lines.specs.LinesPairs.{pairs_start}
 use Rattle.text_lines.specs.LinesEights.{pairs-behind}
 use Rattle.text_lines.proofs.eights_end.Goals as goal

@@ -1,10 +1,6 @@
 use Prim.Native.Nat.{◌-◌}
-use native.Mathlib.Omega.{arith}
 use lib.ListN.{length}
-use borrow.Author.Tests.{not-false}
 use Rattle.text_lines.specs.Lines.{PairsTo}
-use Rattle.text_lines.specs.LinesPairs.{pairs_start}
-use Rattle.text_lines.specs.LinesEights.{pairs-behind}
 use Rattle.text_lines.proofs.eights_end.Given as goal
 
 abbrev pub invariant-loop-end : goal.invariant-loop-end

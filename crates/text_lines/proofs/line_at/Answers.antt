@@ -1,8 +1,6 @@
 -- The part found is the line at the place: the walk reaches the first LF, or the end.
-use Prim.Native.Nat.{◌-◌}
 use native.Mathlib.Omega.{arith}
-use lib.ListN.{length}
-use Rattle.text_lines.specs.LinesEnd.{Reaches, reaches-start, reaches-on, line-stops, line-ends, line-missing}
+use Rattle.text_lines.specs.LinesEnd.{reaches-start, reaches-on, line-stops, line-ends, line-missing}
 use Rattle.text_lines.proofs.line_at.Goals as goal
 
 pub returns-then-text-at : goal.returns-then-text-at
@@ -27,13 +25,10 @@ pub loop-end-preserved : goal.loop-end-preserved
 loop-end-preserved c = reaches-on c.loop-end-test.true c.if-text-end-eq-LINE_FEED.false c.loop-end.invariant
 
 pub slice_bounds-result-count-2 : goal.slice_bounds-result-count-2
-slice_bounds-result-count-2 c = omega (arith, c.loop-end.invariant.from)
+slice_bounds-result-count-2 c = omega (arith, c.if-text-at.false)
 
 pub slice_bounds-result-start-2 : goal.slice_bounds-result-start-2
-slice_bounds-result-start-2 c = c.loop-end.invariant.from
-
-pub slice_bounds-result-end-2 : goal.slice_bounds-result-end-2
-slice_bounds-result-end-2 c = c.loop-end.invariant.within
+slice_bounds-result-start-2 c = omega (arith, c.if-text-at.false)
 
 pub returns : goal.returns
 returns c = line-ends c.loop-end-test.false c.loop-end.invariant

@@ -1,8 +1,6 @@
 -- The walk goes over pairs of digits, and stops before the first character that is none.
-use Prim.Native.Nat.{◌+◌, ◌-◌}
+use Prim.Native.Nat.{◌+◌}
 use native.Mathlib.Omega.{arith}
-use lib.ListN.{length}
-use Rattle.text_lines.specs.Lines.{PairsTo}
 use Rattle.text_lines.specs.LinesPairs.{pairs-on, pairs-stop, pairs-halve, pairs_end}
 use Rattle.text_lines.proofs.pairs_end.Goals as goal
 

@@ -1,8 +1,6 @@
-use Prim.Native.Nat.{◌+◌, ◌-◌}
-use native.Mathlib.Omega.{arith}
+use Prim.Native.Nat.{◌-◌}
 use lib.ListN.{length}
 use Rattle.text_lines.specs.Lines.{PairsTo}
-use Rattle.text_lines.specs.LinesPairs.{pairs-on, pairs-stop, pairs-halve, pairs_end}
 use Rattle.text_lines.proofs.pairs_end.Given as goal
 
 abbrev pub invariant-loop-end : goal.invariant-loop-end

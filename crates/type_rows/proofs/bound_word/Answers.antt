@@ -1,11 +1,6 @@
 -- The word of a field's type, its size filled in.
-use native.Mathlib.Omega.{arith}
-use borrow.Author.Rules.{rules}
 use Rattle.type_rows.specs.RowWordLaws.{bound-own, bound-other}
 use Rattle.type_rows.proofs.bound_word.Goals as goal
-
-pub overflow_add-result-then-field-eq-OWN_FIELD : goal.overflow_add-result-then-field-eq-OWN_FIELD
-overflow_add-result-then-field-eq-OWN_FIELD c = omega (arith, c.requires)
 
 pub returns-then-field-eq-OWN_FIELD : goal.returns-then-field-eq-OWN_FIELD
 returns-then-field-eq-OWN_FIELD c = bound-own _ _ c.if-field-eq-OWN_FIELD.true

@@ -1,5 +1,4 @@
 -- The word of a value's type against that of a field.
-use borrow.Author.Rules.{rules}
 use Rattle.type_rows.specs.RowWordLaws.{agrees-own, agrees-other}
 use Rattle.type_rows.proofs.field_agrees.Goals as goal
 

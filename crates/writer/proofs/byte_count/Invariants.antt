@@ -1,7 +1,5 @@
-use native.Mathlib.Omega.{arith}
 use Rattle.text.specs.Bytes.{bytes_left}
-use Rattle.writer.specs.LineLaws.{byte-less, CountTo, count-start, count-few, count-on, count-end}
-use borrow.Author.Rules.{rules}
+use Rattle.writer.specs.LineLaws.{CountTo}
 use Rattle.writer.proofs.byte_count.Given as goal
 
 abbrev pub invariant-loop-f : goal.invariant-loop-f

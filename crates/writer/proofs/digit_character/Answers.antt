@@ -1,7 +1,6 @@
 -- A digit's character: a decimal one, or a letter.
 use mathlib.Core.Path.{sym}
 use Rattle.theory.specs.ExactDigits.{spelled-low, spelled-high}
-use borrow.Author.Rules.{rules}
 use Rattle.writer.proofs.digit_character.Goals as goal
 
 pub returns-then-d-lt-DECIMAL_DIGITS : goal.returns-then-d-lt-DECIMAL_DIGITS

@@ -1,6 +1,5 @@
 -- The two digits of a byte, one behind the other.
 use Rattle.writer.specs.LineLaws.{pair_put}
-use borrow.Author.Rules.{rules}
 use Rattle.writer.proofs.put_pair.Goals as goal
 
 pub returns : goal.returns

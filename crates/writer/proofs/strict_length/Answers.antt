@@ -1,7 +1,6 @@
 -- The strict text's characters counted: at each turn those of one frame more.
-use Prim.Native.Nat.{◌-◌}
 use native.Mathlib.Omega.{arith}
-use Rattle.writer.specs.LinesLaws.{LengthTo, length-start, length-within, length-on, length-end}
+use Rattle.writer.specs.LinesLaws.{length-start, length-within, length-on, length-end}
 use Rattle.writer.proofs.strict_length.Goals as goal
 
 pub loop-i-init : goal.loop-i-init
@@ -15,12 +14,6 @@ overflow_add-total c = omega (arith, length-within c.loop-i.invariant c.loop-i-t
 
 pub overflow_add-total-in-loop-i : goal.overflow_add-total-in-loop-i
 overflow_add-total-in-loop-i c = omega (arith, length-within c.loop-i.invariant c.loop-i-test.true c.frame_line-line.ensures c.byte_count-bytes.ensures, c.requires)
-
-pub overflow_add-i : goal.overflow_add-i
-overflow_add-i c = omega (arith, c.loop-i-test.true, c.ranges.frames)
-
-pub loop-i-smaller : goal.loop-i-smaller
-loop-i-smaller c = omega (arith, c.loop-i-test.true)
 
 pub loop-i-preserved : goal.loop-i-preserved
 loop-i-preserved c = length-on c.loop-i.invariant c.loop-i-test.true c.frame_line-line.ensures c.byte_count-bytes.ensures

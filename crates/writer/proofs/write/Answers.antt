@@ -5,10 +5,10 @@ use borrow.Author.Rules.{rules}
 use Rattle.writer.proofs.write.Goals as goal
 
 pub returns-in_default : goal.returns-in_default
-returns-in_default c = write-unread _ c.clear.ensures c.read-x.ensures c.in_default.is c.read_answer.ensures
+returns-in_default c = write-unread c.args.buffer.now (search rules) c.read-x.ensures c.in_default.is c.from.ensures
 
 pub write_read-requires : goal.write_read-requires
-write_read-requires c = record { read_indexed = read-indexes c.read-x.ensures c.in-Done.is; cleared = is-cleared c.args.buffer.now c.clear.ensures }
+write_read-requires c = record { read_indexed = read-indexes c.read-x.ensures c.in-Ok.is; cleared = is-cleared c.args.buffer.now (search rules) }
 
 pub returns : goal.returns
-returns c = write_done _ c.clear.ensures c.write_read.ensures
+returns c = rw c.from-2.ensures (write_done c.args.buffer.now (search rules) c.write_read.ensures)

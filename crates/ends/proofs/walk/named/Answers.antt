@@ -1,6 +1,5 @@
 -- A channel below the word's bits is the set of itself; of another nothing is said.
 use Rattle.ends.specs.Gathered.{gathers-one, gathers-bitless}
-use borrow.Author.Rules.{rules}
 use Rattle.ends.proofs.walk.named.Goals as goal
 
 pub returns-then-channel-lt-WORD_BITS : goal.returns-then-channel-lt-WORD_BITS

@@ -1,7 +1,6 @@
 -- A word of the table stored; beyond it nothing changes.
 use native.Mathlib.Omega.{arith}
 use Rattle.ends.specs.WalkLaws.{note-stored, note-large, note-beyond}
-use borrow.Author.Rules.{rules}
 use Rattle.ends.proofs.walk.note.Goals as goal
 
 pub returns-then-word-gt-TEXT_MOST : goal.returns-then-word-gt-TEXT_MOST

@@ -1,5 +1,4 @@
 -- Where a function's body is evaluated, from the index.
-use borrow.Author.Rules.{rules}
 use Rattle.evaluation_steps.specs.LeafLaws.{body-found}
 use Rattle.evaluation_steps.proofs.contexts.body_context.Goals as goal
 

@@ -1,6 +1,5 @@
 -- `frame_line` meets its contract: the part that the words of the entry name, as far as the text goes.
 use native.Mathlib.Omega.{arith}
-use borrow.Author.Rules.{rules}
 use Rattle.index.specs.FramePartLaws.{part-beyond, part_to_end, part-whole}
 use Rattle.index.proofs.frames.frame_line.Goals as goal
 

@@ -1,10 +1,7 @@
 -- Words of parameters of named types, counted one by one.
-use Prim.Native.Nat.{◌+◌, ◌*◌, ◌-◌}
 use native.Mathlib.Omega.{arith}
-use Rattle.index.specs.Tables.{function_words}
-use Rattle.index.specs.Sections.{functions_of}
 use Rattle.index.specs.Enters.{is_named}
-use Rattle.index.specs.CountLaws.{Counted, counted_start, counted-on, named-in-all}
+use Rattle.index.specs.CountLaws.{counted_start, counted-on, named-in-all}
 use Rattle.index.proofs.functions.named.Goals as goal
 
 pub loop-i-init : goal.loop-i-init

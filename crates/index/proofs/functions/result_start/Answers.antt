@@ -3,7 +3,6 @@ use Prim.Native.Nat.{ℕ, ◌+◌, ◌*◌}
 use mathlib.Core.Path.{ap, ◌∙◌}
 use native.Mathlib.Nat.{add-zero}
 use lib.ListN.{get_or}
-use borrow.Author.Rules.{rules}
 use Rattle.index.specs.Tables.{function_words}
 use Rattle.index.specs.FunctionTable.{head_words}
 use Rattle.index.specs.Sections.{functions_of}

@@ -1,8 +1,5 @@
 -- A constructor without a field of the type itself, looked for one by one.
-use Prim.Native.Nat.{◌-◌}
-use native.Mathlib.Omega.{arith}
-use Rattle.index.specs.Sections.{types_of}
-use Rattle.index.specs.FreeLaws.{FreeFrom, free-start, free-found, free_on, free-none}
+use Rattle.index.specs.FreeLaws.{free-start, free-found, free_on, free-none}
 use Rattle.index.proofs.types.self_free.Goals as goal
 
 pub loop-c-init : goal.loop-c-init

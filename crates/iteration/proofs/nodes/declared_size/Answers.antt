@@ -2,7 +2,6 @@
 use mathlib.Core.Path.{◌≡◌, subst}
 use Rattle.iteration.specs.Promises.{size_in_word}
 use Rattle.iteration.specs.NodeLaws.{word-is-plain, word-is-named}
-use borrow.Author.Rules.{rules}
 use Rattle.iteration.proofs.nodes.declared_size.Goals as goal
 
 pub returns-then-word-lt-CONSTRUCTOR_TAGS : goal.returns-then-word-lt-CONSTRUCTOR_TAGS

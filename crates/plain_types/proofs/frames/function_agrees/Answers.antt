@@ -3,8 +3,5 @@ use native.Mathlib.Omega.{arith}
 use Rattle.plain_types.specs.FrameLaws.{function-fits}
 use Rattle.plain_types.proofs.frames.function_agrees.Goals as goal
 
-pub expect-x-requires : goal.expect-x-requires
-expect-x-requires c = omega (arith, c.arity-n.ensures.1)
-
 pub returns : goal.returns
-returns c = function-fits _ _ _ c.arity-n.ensures _ c.enter.ensures (omega arith) c.body_start-at.ensures c.line_behind_types-line.ensures c.returned-result.ensures c.expect-x.ensures c.is_typed.ensures
+returns c = function-fits _ _ _ c.arity-n.ensures _ c.enter.ensures (omega arith) c.body_start-at.ensures c.line_behind_types-line.ensures c.returned-result.ensures c.expect.ensures c.is_some.ensures

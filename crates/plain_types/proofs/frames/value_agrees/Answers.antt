@@ -3,8 +3,5 @@ use native.Mathlib.Omega.{arith}
 use Rattle.plain_types.specs.FrameLaws.{value-fits}
 use Rattle.plain_types.proofs.frames.value_agrees.Goals as goal
 
-pub expect-x-requires : goal.expect-x-requires
-expect-x-requires c = c.requires
-
 pub returns : goal.returns
-returns c = value-fits _ _ _ c.declared_word.ensures c.type_of-declared.ensures c.expect-x.ensures (omega arith) c.is_typed.ensures
+returns c = value-fits _ _ _ c.declared_word.ensures c.from-declared.ensures c.expect.ensures (omega arith) c.is_some.ensures

@@ -1,28 +1,31 @@
--- A frame is in order: kind by kind, from the last.
-use Rattle.reader.specs.OrderLaws.{node-order, nodes-before, input-order, inputs-before, function-order, functions-before, type-order, unknown-kind}
-use borrow.Author.Rules.{rules}
+-- A frame is in order: kind by kind, in turn or late.
+use Rattle.std.proofs.Common.{refl, ap, ◌∙◌, arith}
+use Rattle.reader.specs.Frames.{meant}
+use Rattle.reader.specs.OrderLaws.{node-order, input-order, function-order, type-order, input-late, function-late, type-late}
+use Rattle.reader.proofs.frames.in_order.Goals.{then-known-eq0, else-known-eq0, then-known-eq0-2, else-known-eq0-2, then-known-eq0-4, else-known-eq0-4}
 use Rattle.reader.proofs.frames.in_order.Goals as goal
 
-pub returns-then-kind-eq-KIND_NODE : goal.returns-then-kind-eq-KIND_NODE
-returns-then-kind-eq-KIND_NODE c = node-order c.if-kind-eq-KIND_NODE.true
+pub returns-then-known-eq0-3 : goal.returns-then-known-eq0-3
+returns-then-known-eq0-3 c = type-order (ap meant c.in-Type.is) c.if-known-eq0-3.true.0 c.if-known-eq0-3.true.1 c.if-known-eq0-3.true.2
 
-pub returns-then-known-ne0 : goal.returns-then-known-ne0
-returns-then-known-ne0 c = nodes-before c.if-kind-eq-KIND_NODE.false c.if-known-ne0.true
+pub returns-else-known-eq0-3 : goal.returns-else-known-eq0-3
+returns-else-known-eq0-3 c =
+    elim c.if-known-eq0-2.branch [
+      | then-known-eq0-2 w ↦ type-late w.t-5-is (omega arith) (ap meant c.in-Type.is) (omega arith)
+      | else-known-eq0-2 w ↦ elim c.if-known-eq0.branch [ then-known-eq0 v ↦ type-late (w.t-5-is ∙ v.t-6-is) (omega arith) (ap meant c.in-Type.is) (omega arith) | else-known-eq0 v ↦ type-late (w.t-5-is ∙ v.t-6-is) (omega arith) (ap meant c.in-Type.is) (omega arith) ]
+    ]
 
-pub returns-then-kind-eq-KIND_INPUT : goal.returns-then-kind-eq-KIND_INPUT
-returns-then-kind-eq-KIND_INPUT c = input-order c.if-kind-eq-KIND_INPUT.true c.if-known-ne0.false
+pub returns-then-known-eq0-5 : goal.returns-then-known-eq0-5
+returns-then-known-eq0-5 c = function-order (ap meant c.in-Function.is) c.if-known-eq0-5.true.0 c.if-known-eq0-5.true.1
 
-pub returns-then-known-ne0-2 : goal.returns-then-known-ne0-2
-returns-then-known-ne0-2 c = inputs-before c.if-kind-eq-KIND_NODE.false c.if-kind-eq-KIND_INPUT.false c.if-known-ne0-2.true
+pub returns-else-known-eq0-5 : goal.returns-else-known-eq0-5
+returns-else-known-eq0-5 c = elim c.if-known-eq0-4.branch [ then-known-eq0-4 w ↦ function-late w.t-9-is (omega arith) (ap meant c.in-Function.is) (omega arith) | else-known-eq0-4 w ↦ function-late w.t-9-is (omega arith) (ap meant c.in-Function.is) (omega arith) ]
 
-pub returns-then-kind-eq-KIND_FUNCTION : goal.returns-then-kind-eq-KIND_FUNCTION
-returns-then-kind-eq-KIND_FUNCTION c = function-order c.if-kind-eq-KIND_FUNCTION.true c.if-known-ne0.false c.if-known-ne0-2.false
+pub returns-then-known-eq0-6 : goal.returns-then-known-eq0-6
+returns-then-known-eq0-6 c = input-order (ap meant c.in-Input.is) c.if-known-eq0-6.true
 
-pub returns-then-known-ne0-3 : goal.returns-then-known-ne0-3
-returns-then-known-ne0-3 c = functions-before c.if-kind-eq-KIND_NODE.false c.if-kind-eq-KIND_INPUT.false c.if-kind-eq-KIND_FUNCTION.false c.if-known-ne0-3.true
+pub returns-else-known-eq0-6 : goal.returns-else-known-eq0-6
+returns-else-known-eq0-6 c = input-late refl c.if-known-eq0-6.false (ap meant c.in-Input.is) (omega arith)
 
-pub returns-then-kind-eq-KIND_TYPE : goal.returns-then-kind-eq-KIND_TYPE
-returns-then-kind-eq-KIND_TYPE c = type-order c.if-kind-eq-KIND_TYPE.true c.if-known-ne0.false c.if-known-ne0-2.false c.if-known-ne0-3.false
-
-pub returns : goal.returns
-returns c = unknown-kind c.if-kind-eq-KIND_NODE.false c.if-kind-eq-KIND_INPUT.false c.if-kind-eq-KIND_FUNCTION.false c.if-kind-eq-KIND_TYPE.false
+pub returns-in-Node : goal.returns-in-Node
+returns-in-Node c = node-order (ap meant c.in-Node.is)

@@ -1,18 +1,18 @@
 -- A type: what stands behind the kind, the end of the frame, and then whether the type is free of itself.
+use Rattle.std.proofs.Common.{sym, refl, ◌∙◌}
+use Rattle.language.specs.HandedOn.{handed_on}
+use Rattle.reader.specs.EndedLaws.{ended-stops, ended-behind}
 use Rattle.reader.specs.FrameLaws.{type-stops, type-free, type-not-free}
 use Rattle.reader.proofs.frames.type_frame.Goals as goal
 
-pub type_def-r-requires : goal.type_def-r-requires
-type_def-r-requires c = c.type_def-arg-1.given.0.1
+pub returns-in_err-next : goal.returns-in_err-next
+returns-in_err-next c = type-stops _ _ _ _ c.requires.at_value c.type_def.ensures refl (ended-stops _ _ c.in_err-next.was (handed_on c.from_residual.ensures)) (handed_on c.from_residual.ensures)
 
-pub one_more-requires : goal.one_more-requires
-one_more-requires c = c.requires.fits.few
+pub returns-in_err-n : goal.returns-in_err-n
+returns-in_err-n c = rw (handed_on c.from_residual-in_err-n.ensures ∙ sym c.in_err-n.was) (type-stops _ _ _ _ c.requires.at_value c.type_def.ensures c.one_more.ensures (ended-behind _ _ c.in_ok-next.was c.ended.ensures) c.in_err-n.was)
 
-pub returns-in_default : goal.returns-in_default
-returns-in_default c = type-stops _ _ _ _ c.requires.at_value c.type_def-r.ensures c.one_more.ensures c.ended-x.ensures c.in_default.is
-
-pub returns-then-self_free : goal.returns-then-self_free
-returns-then-self_free c = type-free _ _ _ _ c.requires.at_value c.type_def-r.ensures c.one_more.ensures c.ended-x.ensures c.in-Taken.is c.self_free.ensures c.if-self_free.true
+pub returns-then-not-self_free : goal.returns-then-not-self_free
+returns-then-not-self_free c = type-not-free _ _ _ _ c.requires.at_value c.type_def.ensures c.one_more.ensures (ended-behind _ _ c.in_ok-next.was c.ended.ensures) c.in_ok-n.was c.self_free.ensures c.if-not-self_free.true
 
 pub returns : goal.returns
-returns c = type-not-free _ _ _ _ c.requires.at_value c.type_def-r.ensures c.one_more.ensures c.ended-x.ensures c.in-Taken.is c.self_free.ensures c.if-self_free.false
+returns c = rw (sym c.in_ok-n.was) (type-free _ _ _ _ c.requires.at_value c.type_def.ensures c.one_more.ensures (ended-behind _ _ c.in_ok-next.was c.ended.ensures) c.in_ok-n.was c.self_free.ensures c.if-not-self_free.false)

@@ -1,8 +1,6 @@
 use Prim.Native.Nat.{◌-◌}
-use native.Mathlib.Omega.{arith}
 use lib.ListN.{length}
-use Rattle.text_lines.specs.TextJudge.{one_at_most}
-use Rattle.reader.specs.JudgeLaws.{JudgedTo, judged-start, too-long-judges, frame-behind, frame-before, frame-within, extra-behind, bad-judges, judged-extra, judged-frame, all-judges}
+use Rattle.reader.specs.JudgeLaws.{JudgedTo}
 use Rattle.reader.proofs.lines.judge.Given as goal
 
 abbrev pub invariant-loop-at : goal.invariant-loop-at

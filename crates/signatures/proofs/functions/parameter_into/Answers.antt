@@ -1,13 +1,12 @@
 -- The word of a parameter's type is the next one of the table.
-use Rattle.text.specs.Bytes.{plain_word}
+use Rattle.std.proofs.Common.{sym, ap, ◌∙◌}
+use Rattle.language.specs.HandedOn.{handed_on}
+use Rattle.text.specs.Bytes.{step_of, plain_word}
 use Rattle.index.specs.EnterLaws.{word-refused, word-entered}
 use Rattle.signatures.proofs.functions.parameter_into.Goals as goal
 
-pub returns-in_default : goal.returns-in_default
-returns-in_default c = word-refused plain_word _ c.parameter-x.ensures.0 c.in_default.is c.step_of.ensures
-
-pub shape_of-functions : goal.shape_of-functions
-shape_of-functions c = c.put.auto.row
+pub returns-in_err-f : goal.returns-in_err-f
+returns-in_err-f c = word-refused plain_word _ c.parameter.ensures.0 c.in_err-f.was (handed_on c.from_residual.ensures ∙ sym (ap step_of c.in_err-f.was))
 
 pub returns : goal.returns
-returns c = word-entered plain_word _ c.parameter-x.ensures.0 c.in-Is.is c.put.ensures
+returns c = word-entered plain_word _ c.parameter.ensures.0 c.in_ok-f.was c.put.ensures

@@ -1,4 +1,7 @@
 -- A constructor's entry: its fields' words, and before them how many, and how many of the type itself.
+use Rattle.text.specs.Bytes.{step_of}
+use Rattle.std.proofs.Common.{sym, ap}
+use Rattle.language.specs.HandedOn.{handed_on}
 use native.Mathlib.Omega.{arith}
 use mathlib.Core.Path.{◌∙◌}
 use Rattle.language.specs.Limits.{fields_most}
@@ -9,26 +12,11 @@ use Rattle.index.specs.EnterLaws.{count-refused}
 use Rattle.index.specs.TypeEntry.{constructor-entered}
 use Rattle.signatures.proofs.types.constructor_into.Goals as goal
 
-pub returns-in_default : goal.returns-in_default
-returns-in_default c = count-refused 0 fields_most (field _) c.count-x.ensures constructor_entry c.in_default.is c.step_of.ensures
-
-pub overflow_add-to : goal.overflow_add-to
-overflow_add-to c = omega (arith, c.requires)
+pub returns-in_err-f : goal.returns-in_err-f
+returns-in_err-f c = count-refused 0 fields_most (field _) c.count.ensures constructor_entry c.in_err-f.was (handed_on c.from_residual.ensures ∙ sym (ap step_of c.in_err-f.was))
 
 pub fields_into-y-requires : goal.fields_into-y-requires
-fields_into-y-requires c = record { to_bound = omega (arith, c.requires); place = ends-within (number-moved c.count-x.ensures.0 c.in-Is.is) }
-
-pub overflow_add-to-2 : goal.overflow_add-to-2
-overflow_add-to-2 c = omega (arith, c.requires)
-
-pub own_among-own-requires : goal.own_among-own-requires
-own_among-own-requires c = omega (arith, c.requires)
-
-pub overflow_add-to-3 : goal.overflow_add-to-3
-overflow_add-to-3 c = omega (arith, c.requires)
-
-pub shape_of-types : goal.shape_of-types
-shape_of-types c = c.put-2.auto.row ∙ c.put.auto.row ∙ c.fields_into-y.auto.types
+fields_into-y-requires c = record { to_bound = omega (arith, c.requires); place = ends-within (number-moved c.count.ensures.0 c.in_ok-f.was) }
 
 pub returns : goal.returns
-returns c = constructor-entered _ c.count-x.ensures c.in-Is.is c.fields_into-y.ensures c.own_among-own.ensures c.put.ensures c.put-2.ensures
+returns c = constructor-entered _ c.count.ensures c.in_ok-f.was c.fields_into-y.ensures c.own_among-own.ensures c.put.ensures c.put-2.ensures

@@ -1,19 +1,16 @@
 -- A whole file: initial values, then updates.
+use Rattle.std.proofs.Common.{sym, ◌∙◌}
+use borrow.Author.Rules.{rules}
+use Rattle.language.specs.HandedOn.{handed_on}
 use mathlib.Core.Path.{◌∙◌}
-use Rattle.size_laws.specs.FileLaws.{file-first, file-done}
+use Rattle.size_laws.specs.FileLaws.{file-first, file-done, file-by}
 use Rattle.size_checker.proofs.file.sized_file.Goals as goal
 
-pub shape_of-list-in_default : goal.shape_of-list-in_default
-shape_of-list-in_default c = c.initials-x.auto.list
-
-pub returns-in_default : goal.returns-in_default
-returns-in_default c = file-first (c.frame_counts-counts.ensures.0) c.initials-x.ensures c.in_default.is
+pub returns-in_err-a : goal.returns-in_err-a
+returns-in_err-a c = rw (handed_on c.from_residual.ensures ∙ sym c.in_err-a.was) (file-by (file-first (c.frame_counts-counts.ensures.0) c.initials.ensures.sized c.in_err-a.was) (search rules))
 
 pub channels_from-requires : goal.channels_from-requires
-channels_from-requires c = c.initials-x.ensures.few c.in-Are.is
-
-pub shape_of-list : goal.shape_of-list
-shape_of-list c = c.channels_from.auto.list ∙ c.initials-x.auto.list
+channels_from-requires c = c.initials.ensures.sized.few c.in_ok-a.was
 
 pub returns : goal.returns
-returns c = file-done (c.frame_counts-counts.ensures.0) c.initials-x.ensures c.in-Are.is c.channels_from.ensures
+returns c = file-by (file-done (c.frame_counts-counts.ensures.0) c.initials.ensures.sized c.in_ok-a.was c.channels_from.ensures.sized) (search rules)

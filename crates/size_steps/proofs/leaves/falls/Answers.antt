@@ -1,7 +1,5 @@
 -- A self-call must have a smaller measure; any other call may be made.
-use borrow.Author.Tests.{not-true, not-false}
 use Rattle.size_steps.specs.LeafLaws.{falls-other, falls-self}
-use borrow.Author.Rules.{rules}
 use Rattle.size_steps.proofs.leaves.falls.Goals as goal
 
 pub returns-then-not-calls_itself : goal.returns-then-not-calls_itself

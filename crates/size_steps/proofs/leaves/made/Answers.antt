@@ -1,8 +1,6 @@
 -- A constructor: its size, and its fields.
 use native.Mathlib.Omega.{arith}
-use borrow.Author.Tests.{not-true, not-false}
 use Rattle.size_steps.specs.LeafLaws.{made-too-large, made-differs, made-done}
-use borrow.Author.Rules.{rules}
 use Rattle.size_steps.proofs.leaves.made.Goals as goal
 
 pub returns-then-size-ge-SIZE_MOST : goal.returns-then-size-ge-SIZE_MOST

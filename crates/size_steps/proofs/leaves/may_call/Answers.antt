@@ -1,7 +1,5 @@
 -- A self-call must have a smaller measure, which is worked out for it alone.
-use borrow.Author.Tests.{not-true, not-false}
 use Rattle.size_steps.specs.LeafLaws.{may-call-other, may-call-self}
-use borrow.Author.Rules.{rules}
 use Rattle.size_steps.proofs.leaves.may_call.Goals as goal
 
 pub returns-then-not-calls_itself : goal.returns-then-not-calls_itself

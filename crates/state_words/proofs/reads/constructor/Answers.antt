@@ -1,5 +1,4 @@
 -- The constructor of a cell.
-use borrow.Author.Rules.{rules}
 use Rattle.state_words.specs.ReadLaws.{constructor-beyond, reads-no-constructor, reads-constructor}
 use Rattle.state_words.proofs.reads.constructor.Goals as goal
 

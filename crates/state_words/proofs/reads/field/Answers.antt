@@ -1,5 +1,4 @@
 -- The cell of a field.
-use borrow.Author.Rules.{rules}
 use Rattle.state_words.specs.ReadLaws.{field-beyond, reads-field}
 use Rattle.state_words.proofs.reads.field.Goals as goal
 

@@ -1,5 +1,4 @@
 -- How many fields a cell has.
-use borrow.Author.Rules.{rules}
 use Rattle.state_words.specs.ReadLaws.{count-beyond, reads-count}
 use Rattle.state_words.proofs.reads.fields.Goals as goal
 

@@ -1,5 +1,4 @@
 -- The Int of a cell.
-use borrow.Author.Rules.{rules}
 use Rattle.state_words.specs.ReadLaws.{number-beyond, reads-no-number, reads-number}
 use Rattle.state_words.proofs.reads.number.Goals as goal
 

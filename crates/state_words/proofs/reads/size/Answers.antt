@@ -1,5 +1,4 @@
 -- The size of a constructor's cell.
-use borrow.Author.Rules.{rules}
 use Rattle.state_words.specs.ReadLaws.{size-beyond, reads-no-size, reads-size}
 use Rattle.state_words.proofs.reads.size.Goals as goal
 

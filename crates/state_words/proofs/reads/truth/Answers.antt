@@ -1,5 +1,4 @@
 -- The Bool of a cell.
-use borrow.Author.Rules.{rules}
 use Rattle.state_words.specs.ReadLaws.{truth-beyond, reads-not-true, reads-truth}
 use Rattle.state_words.proofs.reads.truth.Goals as goal
 

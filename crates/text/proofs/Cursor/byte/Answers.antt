@@ -2,7 +2,6 @@
 use native.Mathlib.Omega.{arith}
 use Rattle.text.specs.Places.{pair-at-end, pair-within}
 use Rattle.text.specs.ReadLaws.{byte-end, byte-done}
-use borrow.Author.Rules.{rules}
 use Rattle.text.proofs.Cursor.byte.Goals as goal
 
 pub returns-then-line-from : goal.returns-then-line-from

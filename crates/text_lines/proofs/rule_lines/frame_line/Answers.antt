@@ -1,9 +1,7 @@
 -- Behind each group what is left decides what the line is: the next group behind spaces, the line's end, or nothing good.
-use Prim.Native.Nat.{◌-◌}
 use native.Mathlib.Omega.{arith}
-use lib.ListN.{length}
 use Rattle.text_lines.specs.DigitMarks.{wide-pairs}
-use Rattle.text_lines.specs.GroupWalk.{Grouped, group-missing, group-there, group-cut, group-closed, spaces-within, next-missing, next-there}
+use Rattle.text_lines.specs.GroupWalk.{group-missing, group-there, group-cut, group-closed, spaces-within, next-missing, next-there}
 use Rattle.text_lines.proofs.rule_lines.frame_line.Goals as goal
 
 pub pairs_end-end-requires : goal.pairs_end-end-requires

@@ -1,8 +1,6 @@
 use Prim.Native.Nat.{◌-◌}
-use native.Mathlib.Omega.{arith}
 use lib.ListN.{length}
-use Rattle.text_lines.specs.DigitMarks.{wide-pairs}
-use Rattle.text_lines.specs.GroupWalk.{Grouped, group-missing, group-there, group-cut, group-closed, spaces-within, next-missing, next-there}
+use Rattle.text_lines.specs.GroupWalk.{Grouped}
 use Rattle.text_lines.proofs.rule_lines.frame_line.Given as goal
 
 abbrev pub invariant-loop-end : goal.invariant-loop-end

@@ -19,7 +19,7 @@ pub frame_line-requires : goal.frame_line-requires
 frame_line-requires c = (omega (arith, c.if-text-at.false), c.requires)
 
 pub returns-in_default : goal.returns-in_default
-returns-in_default c = no_extra _ _ c.if-text-at.false c.if-text-at-eq-SEMICOLON.false c.line_close-x.ensures c.in_default.is c.frame_line.ensures
+returns-in_default c = no_extra _ _ c.if-text-at.false c.if-text-at-eq-SEMICOLON.false c.line_close.ensures c.in_default.is c.frame_line.ensures
 
 pub returns : goal.returns
-returns c = empty-line _ _ c.line_close-x.ensures c.in-At.is
+returns c = empty-line _ _ c.line_close.ensures c.in-Some.is

@@ -1,5 +1,4 @@
 use Rattle.text_lines.specs.DigitMarks.{lower-marked}
-use borrow.Author.Rules.{rules}
 use Rattle.text_lines.proofs.rule_lines.rule_marks.Goals as goal
 
 pub returns : goal.returns

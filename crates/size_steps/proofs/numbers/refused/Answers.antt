@@ -1,7 +1,0 @@
-use mathlib.Core.Path.{sym, ap}
-use Rattle.size_steps.specs.Leaves.{refused_of}
-use borrow.Author.Rules.{rules}
-use Rattle.size_steps.proofs.numbers.refused.Goals as goal
-
-pub returns-in-Refused : goal.returns-in-Refused
-returns-in-Refused c = sym (ap refused_of c.in-Refused.is)

@@ -1,8 +1,0 @@
--- The first word of a cell.
-use mathlib.Core.Path.{ap, ◌∙◌}
-use lib.ListN.{get_or}
-use borrow.Author.Rules.{rules}
-use Rattle.state_words.proofs.cell_tag.Goals as goal
-
-pub returns : goal.returns
-returns c = c.word_at.ensures ∙ ap (λ i. get_or c.args.state.now i 0) c.state_length.ensures

@@ -1,8 +1,0 @@
--- A size stored; beyond the sizes nothing changes.
-use mathlib.Core.Path.{sym}
-use lib.Seq.{set_out}
-use borrow.Author.Rules.{rules}
-use Rattle.type_rows.proofs.put_size.Goals as goal
-
-pub returns-else-i-sizes : goal.returns-else-i-sizes
-returns-else-i-sizes c = sym (set_out _ _ _ c.if-i-sizes.false)
