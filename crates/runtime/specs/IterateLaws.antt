@@ -188,3 +188,6 @@ module _ (text : List ℕ) (b : Board) (state scratch slots line : List ℕ) {sc
     is = rw q (told-whole scratch slots (subst (λ d. Told b.cells state x state' (iterate_file text (board_of b) d state line)) (same-lent b state cleared) i.says) (i.clean ∙ cleared.first_is)
         (l ∙ ap (λ n. replicate n 0) (i.long ∙ as_long slots cleared.second_is)));
   }
+
+  pub iterate-unread : {index : List ℕ} {x : Reading} {e : RefusalAt} {r : Answer} → TextRead text x index (read_file text) → x ≡ Err e → r ≡ answer_of x → Iterates text b state scratch slots line r state scratch₁ slots₁
+  iterate-unread v q a = iterate-done (text-unread v q) (cleared.second_is ∙ ap (λ n. replicate n 0) (sym (as_long slots cleared.second_is))) (a ∙ ap answer_of q)

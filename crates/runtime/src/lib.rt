@@ -138,23 +138,6 @@ fn iterate_read(
     )
 }
 
-// An iteration of a text: 1 to 8, and what follows.
-fn iterate_text(
-    text: &[u8],
-    b: Board,
-    state: &mut [u32],
-    scratch: &mut [u32],
-    slots: &mut [u32],
-    line: &[u8],
-) -> Result<(), RefusalAt>
-    requires { Cleared scratch.old }
-    ensures { IteratesRead text.now line.now b state.old scratch.old slots.old result state.new scratch.new slots.new }
-{
-    let mut index = [0u32; INDEX_WORDS];
-    read(text, &mut index)?;
-    iterate_read(text, &index, b, state, scratch, slots, line)
-}
-
 // One iteration of a file on a board with a line of input. After a refusal the state is unchanged; scratch and environment end zero.
 pub fn iterate(
     text: &[u8],
@@ -167,7 +150,11 @@ pub fn iterate(
     ensures { Iterates text.now b state.old scratch.old environment.old line.now result state.new scratch.new environment.new }
 {
     clear_both(scratch, environment);
-    let r = iterate_text(text, b, state, scratch, environment, line);
+    let mut index = [0u32; INDEX_WORDS];
+    if let Err(e) = read(text, &mut index) {
+        return Answer::from(Err(e));
+    }
+    let r = iterate_read(text, &index, b, state, scratch, environment, line);
     clear(environment);
     Answer::from(r)
 }

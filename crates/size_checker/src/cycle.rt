@@ -1,8 +1,10 @@
 // Expressions, arguments, branches and bodies: they call each other, falling by the instances left and by the levels left.
-ghost use Rattle.std.specs.Prelude.{suc, ◌<◌, ◌≤◌};
+ghost use Rattle.std.specs.Prelude.{suc, ◌<◌, ◌≤◌, ◌^◌};
 ghost use Rattle.language.specs.Limits.{byte_range};
 ghost use Rattle.size_steps.specs.Sites.{Room};
+ghost use Rattle.size_steps.specs.Agreement.{table};
 ghost use Rattle.size_steps.specs.Leaves.{Operands, Entered};
+ghost use Rattle.size_steps.specs.Lookups.{Again};
 ghost use Rattle.size_laws.specs.Promises.{lent_by, table_of, buffers_of, SameList, Sizes, ExprPart, SizesAll, Enters, EntersNew, ChecksBody, Applies, SizesBranches, SizesBranch, SizesSplits};
 ghost use Rattle.size_laws.specs.Parts.{LetPart, IfPart, OpPart, AdjPart, FitPart, CompoundPart, CallPart, ConPart, CasePart};
 
@@ -243,6 +245,21 @@ fn apply(
     called(n, a, b)
 }
 
+// A call of an instance that was entered before, record i.
+fn known(
+    source: &Source,
+    instances: &Instances,
+    sizes: &[u8; SCOPE_SIZES],
+    p: Site,
+    f: u32,
+    i: u32,
+) -> Result<Checked, RefusalAt>
+    requires { p.place.line < 2 ^ 16 }
+    ensures { Again source.now.text.now source.now.index.now (table instances.now.list.now instances.now.memo.now) sizes.now p f i result }
+{
+    again(source, instances.list, instances.memo, sizes, p, f, i)
+}
+
 // The numbers of the instance of f at these sizes: those found in the list, or of its body.
 #[cycle(sizing)]
 fn enter(
@@ -262,7 +279,7 @@ fn enter(
     let Some(i) = instances.find(p.used, f, &scope.sizes) else {
         return enter_new(source, instances, scope, p, f, n, m);
     };
-    again(source, instances, &scope.sizes, p, f, i)
+    known(source, instances, &scope.sizes, p, f, i)
 }
 
 // An instance that was not entered before: what is tested before its body, and the body.

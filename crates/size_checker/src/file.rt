@@ -129,7 +129,7 @@ fn initials(
     clear(instances.list);
     if !limited(counts) {
         return Err(RefusalAt {
-            refusal: Refusal::OutsideLimits,
+            refusal: Refusal::Unnamed,
             frame: NO_FRAME,
         });
     }

@@ -6,14 +6,14 @@ ghost use Rattle.size_steps.specs.Agreement.{table};
 ghost use Rattle.size_steps.specs.Lookups.{Again};
 
 use super::numbers::leaf;
-use super::{Checked, Counted, Entry, Instances, SCOPE_SIZES, Site, Source};
+use super::{Checked, Counted, Entry, SCOPE_SIZES, Site, Source};
 use estimate::{after, one_cell};
 use heads::places::line_behind_types;
 use index::channels::declared_word;
 use index::frames::frame_line;
 use index::functions::{conditions_start, measure_start, result_start};
 use index::{INDEX_WORDS, word_at};
-use instances::{numbers, result_word};
+use instances::{MEMO_WORDS, numbers, result_word};
 use language::limits::SIZE_MOST;
 use language::refusals::{Refusal, RefusalAt};
 use sizes::{SizedType, conditions_hold, summed_measure, type_at};
@@ -114,14 +114,15 @@ fn may_call(source: &Source, sizes: &[u8; SCOPE_SIZES], p: Site, f: u32) -> bool
 // measure is tested.
 pub fn again(
     source: &Source,
-    instances: &Instances,
+    list: &[u32],
+    memo: &[u32; MEMO_WORDS],
     sizes: &[u8; SCOPE_SIZES],
     p: Site,
     f: u32,
     i: u32,
 ) -> Result<Checked, RefusalAt>
     requires { p.place.line < 2 ^ 16 }
-    ensures { Again source.now.text.now source.now.index.now (table instances.now.list.now instances.now.memo.now) sizes.now p f i result }
+    ensures { Again source.now.text.now source.now.index.now (table list.now memo.now) sizes.now p f i result }
 {
     if !may_call(source, sizes, p, f) {
         let here = p.place;
@@ -130,8 +131,8 @@ pub fn again(
             frame: here.line + 1,
         });
     }
-    let ty = SizedType::from(result_word(instances.memo, i));
-    leaf(ty, numbers(instances.list, i), p)
+    let ty = SizedType::from(result_word(memo, i));
+    leaf(ty, numbers(list, i), p)
 }
 
 // A constructor whose fields were checked: its size, then that each field is exactly what it must be.

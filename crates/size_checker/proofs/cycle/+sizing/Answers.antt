@@ -345,11 +345,11 @@ enter-enter_new-requires t c = (load_same _ 90 c.decreases 85 (omega arith), (c.
 pub enter-returns-in_default-clause-sized : goal.enter-returns-in_default-clause-sized
 enter-returns-in_default-clause-sized t c = enter-absent c.find.ensures c.in_default.is c.enter_new.ensures.sized
 
-pub enter-again-requires : goal.enter-again-requires
-enter-again-requires t c = c.requires.room.line
+pub enter-known-requires : goal.enter-known-requires
+enter-known-requires t c = c.requires.room.line
 
 pub enter-returns-clause-sized : goal.enter-returns-clause-sized
-enter-returns-clause-sized t c = enter-found c.find.ensures c.in-Some.is c.again.ensures
+enter-returns-clause-sized t c = enter-found c.find.ensures c.in-Some.is c.known.ensures
 
 pub enter_new-prepare-requires : goal.enter_new-prepare-requires
 enter_new-prepare-requires t c = c.requires.room.line
