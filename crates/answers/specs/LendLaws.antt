@@ -99,6 +99,10 @@ module _ {b : Board} {records state scratch slots : ℕ} {given : Bool} (l : Len
 pub as_long : (l : List ℕ) {m : List ℕ} → m ≡ replicate (length l) 0 → length m ≡ length l
 as_long l e = ap length e ∙ length-replicate (length l) 0
 
+-- and so all of their own length is zero
+pub own_zeros : (l : List ℕ) {m : List ℕ} → m ≡ replicate (length l) 0 → m ≡ replicate (length m) 0
+own_zeros l e = e ∙ ap (λ n. replicate n 0) (sym (as_long l e))
+
 -- what is lent counts by its length alone
 pub same-lent : (b : Board) (state : List ℕ) {scratch slots scratch₁ slots₁ : List ℕ} → ClearsBoth scratch slots scratch₁ slots₁ → buffers_lent (board_of b) state scratch₁ slots₁ ≡ buffers_lent (board_of b) state scratch slots
 same-lent b state {scratch} {slots} {scratch₁} {slots₁} c =

@@ -38,7 +38,7 @@ use Rattle.answers.specs.Boards.{board_of, said, answer_of, LendsAll, ClearsBoth
 use Rattle.checker.specs.Checks.{ReadHeld}
 use Rattle.checker.specs.CheckLaws.{order-frame, ordered}
 use Rattle.runtime.specs.Runs.{Iterates, frame_at, Answered, reached, Cleared, Told, told_done, told_refused, Walked, on_state, Lent, IteratesLent, IteratesRead}
-use Rattle.answers.specs.LendLaws.{as_long, same-lent, Enough, enough-is}
+use Rattle.answers.specs.LendLaws.{as_long, own_zeros, same-lent, Enough, enough-is}
 
 -- ---- answers
 pub frame_is : (index : List ℕ) (c : ℕ) {line : ℕ} → line ≡ channel_line_of index c → line + 1 ≡ frame_at index c
@@ -169,7 +169,7 @@ told-whole scratch slots (told_done w) s l = rw (w, s, l) refl
 told-whole scratch slots (told_refused w) s l = rw (w, s, l) refl
 
 pub is-clear : {scratch slots scratch₁ slots₁ : List ℕ} → ClearsBoth scratch slots scratch₁ slots₁ → Cleared scratch₁
-is-clear {scratch} c = record { is = c.first_is ∙ ap (λ n. replicate n 0) (sym (as_long scratch c.first_is)) }
+is-clear {scratch} c = record { is = own_zeros scratch c.first_is }
 
 -- a text that was not read
 pub text-unread : {text index line state scratch slots : List ℕ} {b : Board} {x : Reading} {e : RefusalAt} → TextRead text x index (read_file text) → x ≡ Err e → IteratesRead text line b state scratch slots (Err e) state scratch slots
@@ -190,4 +190,4 @@ module _ (text : List ℕ) (b : Board) (state scratch slots line : List ℕ) {sc
   }
 
   pub iterate-unread : {index : List ℕ} {x : Reading} {e : RefusalAt} {r : Answer} → TextRead text x index (read_file text) → x ≡ Err e → r ≡ answer_of x → Iterates text b state scratch slots line r state scratch₁ slots₁
-  iterate-unread v q a = iterate-done (text-unread v q) (cleared.second_is ∙ ap (λ n. replicate n 0) (sym (as_long slots cleared.second_is))) (a ∙ ap answer_of q)
+  iterate-unread v q a = iterate-done (text-unread v q) (own_zeros slots cleared.second_is) (a ∙ ap answer_of q)

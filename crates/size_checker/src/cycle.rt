@@ -245,7 +245,8 @@ fn apply(
     called(n, a, b)
 }
 
-// A call of an instance that was entered before, record i.
+// A call of an instance that was entered before, record i. It stands by itself, since in the cycle one call cannot read two fields behind
+// a `&mut`.
 fn known(
     source: &Source,
     instances: &Instances,

@@ -33,7 +33,7 @@ use Rattle.reader.specs.Texts.{Reading, TextRead}
 use Rattle.reader.specs.Indexes.{file-frames, ReadIndexed, read-fault}
 use Rattle.answers.specs.declared.Answer.{Answer}
 use Rattle.answers.specs.Boards.{said, refusal_of, answer_of}
-use Rattle.answers.specs.LendLaws.{as_long}
+use Rattle.answers.specs.LendLaws.{as_long, own_zeros}
 use Rattle.writer.specs.Writes.{Writes, frames_indexed, strict_line, strict_lines, Cleared}
 use Rattle.index.specs.Entries.{spell-more}
 
@@ -101,7 +101,7 @@ module _ {text index : List ℕ} (z : ReadIndexed text index) {frames : ℕ} (co
 -- ---- from the text on: a buffer counts by its length alone
 module _ (buffer : List ℕ) {buffer₁ : List ℕ} (cleared : buffer₁ ≡ replicate (length buffer) 0) where
   pub is-cleared : Cleared buffer₁
-  is-cleared = record { is = cleared ∙ ap (λ n. replicate n 0) (sym (as_long buffer cleared)) }
+  is-cleared = record { is = own_zeros buffer cleared }
 
   same-buffer : (o : Result (List ℕ)) → in_buffer o buffer₁ ≡ in_buffer o buffer
   unfolding in_buffer
